@@ -1,0 +1,10 @@
+use Rattle.std.proofs.Common.{◌≡◌, ◌≤◌, ◌-◌, length, take}
+use Rattle.std.specs.Io.KnownBytes.{Appends}
+use Rattle.mon_io.proofs.sink.write_whole.Given as goal
+
+abbrev pub invariant-loop-at : goal.invariant-loop-at
+invariant-loop-at g l =
+    (l.at ≤ length l.bytes) × Appends (g.S.Sink.written l.initial.out) (g.S.Sink.written l.out) (take l.at l.bytes) × (g.S.Sink.faults l.initial.out ≤ g.S.Sink.faults l.out) × (l.at ≡ 0 → l.out ≡ l.initial.out)
+
+abbrev pub decreases-loop-at : goal.decreases-loop-at
+decreases-loop-at g l = length l.bytes - l.at

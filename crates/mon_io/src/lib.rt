@@ -1,0 +1,24 @@
+//! The outside: files by name, and sinks.
+//!
+//! [`Files`] gives the bytes of a name and [`Sink`] takes bytes. What a caller may count on is said by
+//! what a file holds, what a sink has taken and how many faults rose, each as far as it is told.
+//! [`MemFiles`] and [`MemSink`] tell all of it, and fail where they are asked to; [`RealFiles`] and
+//! [`StdSink`] stand at the edge to the system, and tell the counts of faults alone.
+#![tactic(auto)]
+
+mod files;
+mod mem_files;
+mod mem_sink;
+mod name;
+mod real;
+mod sink;
+
+pub use files::{FileFault, Files};
+pub use mem_files::{MemFile, MemFiles};
+pub use mem_sink::MemSink;
+pub use name::Name;
+pub use real::{RealFiles, StdSink};
+pub use sink::{Sink, SinkFailed, write_whole};
+
+#[cfg(test)]
+mod tests;
