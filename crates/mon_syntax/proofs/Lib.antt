@@ -1,0 +1,11 @@
+pub mod Pieces
+pub mod Cutting
+pub mod Numerals
+pub mod Digits
+pub mod Many
+pub mod WordLaws
+pub mod TreeLaws
+pub mod MonitorLaws
+pub mod ClientLaws
+pub mod NameLaws
+pub mod Outcomes

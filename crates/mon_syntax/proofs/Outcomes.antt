@@ -1,0 +1,29 @@
+-- What a parser answers, from what the words give.
+use Rattle.std.proofs.Common.{◌≡◌, ℕ, List, Result, Ok, Err, sym, subst, ◌∙◌}
+use Rattle.mon_syntax.specs.declared.token.Token.{Token}
+use Rattle.mon_syntax.specs.declared.fault.Stop.{Stop}
+use Rattle.mon_syntax.specs.declared.fault.Stop.TheVariants as stops
+use Rattle.mon_syntax.specs.declared.fault.SyntaxFault.{SyntaxFault}
+use Rattle.mon_syntax.specs.Spelling.{Spells}
+use Rattle.mon_syntax.specs.Fault.{IsAt, IsPlace, Parses}
+use Rattle.mon_syntax.specs.Reading.{Fails, IsFaultOf, AreTokens}
+use Rattle.mon_syntax.proofs.Many.{ok_is}
+use Rattle.mon_syntax.proofs.Numerals.{tokens_are}
+
+pub are_tokens : (bytes : List ℕ) (tokens : List Token) → Spells bytes tokens → AreTokens bytes tokens
+unfolding AreTokens
+are_tokens bytes tokens spelled = tokens_are bytes tokens spelled
+
+-- the tree that was read is any that is derived
+pub ok_parses : {Tree : Type 0} (read : Result Tree ℕ) (t tree : Tree) → read ≡ Ok t → read ≡ Ok tree → t ≡ tree
+ok_parses read t tree given again = ok_is t tree (sym given ∙ again)
+
+-- where a tree is derived only memory can fail
+pub err_parses : {Tree : Type 0} (bytes : List ℕ) (tokens : List Token) (read : Result Tree ℕ) (stop : Stop) (fault : SyntaxFault) (tree : Tree)
+    → Fails stop read → IsFaultOf bytes tokens stop fault → read ≡ Ok tree → Parses (Err fault) tree
+err_parses bytes tokens read (stops.Before left) fault tree given is again = absurd cc
+err_parses bytes tokens read stops.OutOfMemory fault tree given is again = subst (λ (f : SyntaxFault). Parses (Err f) tree) (sym is) tt
+
+pub fault_stands : (bytes : List ℕ) (tokens : List Token) (stop : Stop) (fault : SyntaxFault) → IsFaultOf bytes tokens stop fault → IsAt fault (IsPlace bytes tokens)
+fault_stands bytes tokens (stops.Before left) fault is = subst (λ (f : SyntaxFault). IsAt f (IsPlace bytes tokens)) (sym is.1) is.2
+fault_stands bytes tokens stops.OutOfMemory fault is = subst (λ (f : SyntaxFault). IsAt f (IsPlace bytes tokens)) (sym is) tt

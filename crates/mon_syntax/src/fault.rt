@@ -1,0 +1,92 @@
+//! Why tokens give no tree.
+
+ghost use Rattle.std.specs.Prelude.{◌≡◌, ◌⊎◌, ◌≤◌, ◌^◌, length, map, Contains};
+ghost use Rattle.mon_syntax.specs.declared.fault.SyntaxFault.TheVariants as faults;
+ghost use Rattle.mon_syntax.specs.declared.fault.Stop.TheVariants as stops;
+ghost use Rattle.mon_syntax.specs.Fault.{IsPlace};
+ghost use Rattle.mon_syntax.specs.Reading.{IsFaultOf};
+
+use super::token::Token;
+use std::alloc::{AllocError, AllocFailed};
+use thiserror::Error;
+
+/// Why a file gave no tree.
+#[derive(Debug, Drop, Clone, Copy, PartialEq, Eq, Error)]
+pub enum SyntaxFault {
+    /// No tree is derived. The offset is a token's, or the file's length.
+    #[error("the text breaks the grammar at byte {at}")]
+    At { at: u32 },
+    /// There was no memory for the tree.
+    #[error("out of memory")]
+    OutOfMemory,
+}
+
+impl From<AllocError> for SyntaxFault {
+    ghost from_gives = { λ _ e. e ≡ faults.OutOfMemory };
+
+    fn from(_: AllocError) -> Self {
+        SyntaxFault::OutOfMemory
+    }
+}
+
+impl<T: Drop> From<AllocFailed<T>> for SyntaxFault {
+    ghost from_gives = { λ _ e. e ≡ faults.OutOfMemory };
+
+    fn from(_: AllocFailed<T>) -> Self {
+        SyntaxFault::OutOfMemory
+    }
+}
+
+/// Why a production was not read.
+#[derive(Clone, Copy, Debug)]
+pub enum Stop {
+    /// The first token that doesn't fit has so many tokens from itself to the end.
+    Before { left: usize },
+    OutOfMemory,
+}
+
+impl From<AllocError> for Stop {
+    ghost from_gives = { λ _ e. e ≡ stops.OutOfMemory };
+
+    fn from(_: AllocError) -> Self {
+        Stop::OutOfMemory
+    }
+}
+
+impl<T: Drop> From<AllocFailed<T>> for Stop {
+    ghost from_gives = { λ _ e. e ≡ stops.OutOfMemory };
+
+    fn from(_: AllocFailed<T>) -> Self {
+        Stop::OutOfMemory
+    }
+}
+
+/// The stop before these tokens.
+pub fn stop_before(tokens: &[Token]) -> Stop
+    ensures { result ≡ Stop.Before (length tokens.now) }
+{
+    Stop::Before { left: tokens.len() }
+}
+
+fn offset_of(bytes: &[u8], tokens: &[Token], left: usize) -> u32
+    requires { length bytes.now ≤ 65536 }
+    ensures { IsPlace bytes.now tokens.now result }
+{
+    match tokens.get(tokens.len().saturating_sub(left)) {
+        Some(token) => token.at,
+        None => bytes.len() as u32,
+    }
+}
+
+/// The fault of a stop while these tokens of these bytes were read.
+pub fn fault_of(bytes: &[u8], tokens: &[Token], stop: Stop) -> SyntaxFault
+    requires { length bytes.now ≤ 65536 }
+    ensures { IsFaultOf bytes.now tokens.now stop result }
+{
+    match stop {
+        Stop::Before { left } => SyntaxFault::At {
+            at: offset_of(bytes, tokens, left),
+        },
+        Stop::OutOfMemory => SyntaxFault::OutOfMemory,
+    }
+}
