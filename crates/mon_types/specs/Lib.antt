@@ -1,0 +1,6 @@
+pub mod Plain
+pub mod MonitorParts
+pub mod Rules
+pub mod Typed
+pub mod Bodies
+pub mod Checks
