@@ -1,0 +1,5 @@
+pub mod Numbers
+pub mod Bodies
+pub mod Schedule
+pub mod Progressing
+pub mod Letters

@@ -1,0 +1,74 @@
+//! Runs by rounds.
+
+ghost use Rattle.std.specs.Prelude.{◌≤◌, IfOk, MatchOption, length};
+ghost use Rattle.mon_implicit.specs.Steps.{FitsState};
+ghost use Rattle.mon_implicit.specs.Scripted.{FitsScripts};
+ghost use Rattle.mon_implicit.specs.Runs.{Ends};
+ghost use Rattle.mon_implicit.specs.Rounds.{IsNextActor, AreTurnsByRounds};
+ghost use Rattle.mon_implicit.specs.Progress.{IsProgress, IsFirstActor, NoneActs};
+
+use super::commit::Turns;
+use super::progress::{Progress, act, begun, can_act, is_finished};
+use super::script::{Client, Scripts};
+use mon_list::Seq;
+use mon_types::Monitor;
+use std::alloc::{AllocError, Global};
+
+/// The run by rounds of clients that call the monitor's methods. It passes over the clients in file
+/// order, again and again; in a pass each client whose next call's guard holds at that moment makes one
+/// step. It ends where no client can act. A step asks each client at most once.
+///
+/// # Errors
+///
+/// Where memory runs out.
+pub fn turns(alloc: Global, monitor: &Monitor, scripts: &Scripts) -> Result<Turns, AllocError>
+    requires { FitsScripts monitor.now scripts.now }
+    ensures rounds { IfOk result (λ turns. AreTurnsByRounds monitor.now scripts.now turns) }
+    ensures fits { IfOk result (λ turns. FitsState monitor.now turns.state) }
+{
+    let clients = scripts.clients();
+    let mut run = begun(alloc, monitor, clients)?;
+    while let Some(client) = next_actor(monitor, clients, &run) {
+        act(monitor, clients, &mut run, client)?;
+    }
+    let finished = is_finished(clients, &run);
+    let Progress { history, state, .. } = run;
+    Ok(Turns {
+        history: Seq::of(history),
+        state,
+        finished,
+    })
+}
+
+/// The first client that can act, in cyclic order from the one that is asked first.
+fn next_actor(monitor: &Monitor, clients: &[Client], run: &Progress) -> Option<usize>
+    requires scripts { FitsScripts monitor.now clients.now }
+    requires run { IsProgress monitor.now clients.now run.now }
+    ensures { MatchOption result (Ends monitor.now clients.now run.now.history.items run.now.state) (λ client. IsNextActor monitor.now clients.now run.now.history.items run.now.state client) }
+{
+    match first_actor(monitor, clients, run, run.next_asked, clients.len()) {
+        Some(client) => Some(client),
+        None => first_actor(monitor, clients, run, 0, run.next_asked),
+    }
+}
+
+/// The first client of a range that can act.
+fn first_actor(
+    monitor: &Monitor,
+    clients: &[Client],
+    run: &Progress,
+    from: usize,
+    to: usize,
+) -> Option<usize>
+    requires range { to ≤ length clients.now }
+    requires scripts { FitsScripts monitor.now clients.now }
+    requires run { IsProgress monitor.now clients.now run.now }
+    ensures { MatchOption result (NoneActs monitor.now clients.now run.now.history.items run.now.state from to) (λ client. IsFirstActor monitor.now clients.now run.now.history.items run.now.state from to client) }
+{
+    for client in from..to {
+        if can_act(monitor, clients, run, client) {
+            return Some(client);
+        }
+    }
+    None
+}

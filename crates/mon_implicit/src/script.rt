@@ -1,0 +1,63 @@
+//! What clients call.
+
+ghost use Rattle.std.specs.Prelude.{◌≡◌};
+
+use mon_io::Name;
+use mon_list::Seq;
+use mon_types::Value;
+use std::marker::Model;
+
+/// A call of a method, counted from 0, with a value for each of its parameters.
+#[derive(Debug, Drop)]
+pub struct Call {
+    pub method: u32,
+    pub inputs: Seq<Value>,
+}
+
+/// A client: its name and its calls, in order.
+#[derive(Debug, Drop)]
+pub struct Client {
+    pub name: Name,
+    pub calls: Seq<Call>,
+}
+
+/// Clients in file order: at most 32, whose names are distinct identifiers and no keywords, with at
+/// most 16,384 calls in all.
+#[derive(Debug, Drop)]
+pub struct Scripts {
+    clients: Seq<Client>,
+}
+
+impl Model for Scripts {
+    ghost use Rattle.std.specs.Prelude.{List};
+    ghost use Rattle.mon_implicit.specs.declared.script.Client.{Client};
+    ghost use Rattle.mon_implicit.specs.Scripted.{AreClients};
+
+    ghost Value = { List Client };
+
+    ghost view = { λ scripts. scripts.clients };
+
+    ghost invariant = { λ scripts. AreClients scripts.clients };
+}
+
+impl Scripts {
+    ghost use Rattle.mon_implicit.specs.Scripted.{AreClients};
+
+    /// The scripts of these clients. It takes no memory.
+    pub fn of(clients: Vec<Client>) -> Scripts
+        requires { AreClients clients.items }
+        ensures { result ≡ clients.items }
+    {
+        Scripts {
+            clients: Seq::of(clients),
+        }
+    }
+
+    /// The clients.
+    pub fn clients(&self) -> &[Client]
+        ensures clients { result.now ≡ self.now }
+        ensures rule { AreClients self.now }
+    {
+        self.clients.items()
+    }
+}
