@@ -1,0 +1,2 @@
+client A { put(); put(); }
+client B { get(); get(); }

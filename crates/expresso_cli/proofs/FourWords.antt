@@ -1,0 +1,13 @@
+-- The four words of a command.
+use Rattle.std.proofs.Common.{◌≡◌, ℕ, ◌<◌, ◌≤◌, List, [], ◌∷◌, length, get_or, map, arith}
+
+pub four_words : {X : Type 0} (text : X → List ℕ) (words : List X) (command monitor clients : X) (first second third : List ℕ) → 4 ≤ length words → length words < 5
+    → command ≡ get_or words 1 command → monitor ≡ get_or words 2 monitor → clients ≡ get_or words 3 clients
+    → first ≡ text command → second ≡ text monitor → third ≡ text clients
+    → (program : List ℕ) × (map text words ≡ program ∷ first ∷ second ∷ third ∷ [])
+four_words text [] command monitor clients first second third low high one two three x y z = absurd (omega arith)
+four_words text (a ∷ []) command monitor clients first second third low high one two three x y z = absurd (omega arith)
+four_words text (a ∷ b ∷ []) command monitor clients first second third low high one two three x y z = absurd (omega arith)
+four_words text (a ∷ b ∷ c ∷ []) command monitor clients first second third low high one two three x y z = absurd (omega arith)
+four_words text (a ∷ b ∷ c ∷ d ∷ []) command monitor clients first second third low high one two three x y z = (text a, cc (one, two, three, x, y, z))
+four_words text (a ∷ b ∷ c ∷ d ∷ e ∷ more) command monitor clients first second third low high one two three x y z = absurd (omega arith)

@@ -1,0 +1,11 @@
+pub mod FourWords
+pub mod GrowingLists
+pub mod ParsedClients
+pub mod MadeScripts
+pub mod ScriptRules
+pub mod Writing
+pub mod Rows
+pub mod Answering
+pub mod Completeness
+pub mod Telling
+pub mod Refusing

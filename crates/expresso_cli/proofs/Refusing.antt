@@ -1,0 +1,83 @@
+-- A file that one of the steps refuses is no file of the first form.
+use Rattle.std.proofs.Common.{◌≡◌, ◌≢◌, ℕ, List, Err, refl, sym, subst, ◌∙◌}
+use Rattle.mon_syntax.specs.declared.token.Token.{Token}
+use Rattle.mon_syntax.specs.declared.tree.MonitorTree.{MonitorTree}
+use Rattle.mon_syntax.specs.declared.tree.ClientsTree.{ClientsTree}
+use Rattle.mon_syntax.specs.declared.lexing.LexFault.{LexFault}
+use Rattle.mon_syntax.specs.declared.lexing.LexFault.TheVariants as lexing
+use Rattle.mon_syntax.specs.declared.fault.SyntaxFault.{SyntaxFault}
+use Rattle.mon_syntax.specs.declared.fault.SyntaxFault.TheVariants as syntax_faults
+use Rattle.mon_syntax.specs.Spelling.{Spells}
+use Rattle.mon_syntax.specs.Lexing.{Reads}
+use Rattle.mon_syntax.specs.Fault.{Parses}
+use Rattle.mon_syntax.specs.Grammar.{Derives, DerivesClients}
+use Rattle.mon_types.specs.declared.fault.TypeFault.{TypeFault}
+use Rattle.mon_types.specs.declared.fault.TypeFault.TheVariants as type_faults
+use Rattle.mon_types.specs.MonitorParts.{MonitorParts}
+use Rattle.mon_types.specs.Rules.{Breaks, HasCause}
+use Rattle.expresso_cli.specs.declared.script_fault.ScriptFault.{ScriptFault}
+use Rattle.expresso_cli.specs.declared.script_fault.ScriptFault.TheVariants as script_faults
+use Rattle.expresso_cli.specs.Scripts.{BreaksScripts, HasScriptCause}
+use Rattle.expresso_cli.specs.Working.{IsNoMonitor, AreNoScripts}
+
+-- the lexer's completeness, for an answer
+abbrev Lexes : List ℕ → List Token → Type 0
+Lexes bytes tokens = (spelled : List Token) → Spells bytes spelled → tokens ≡ spelled
+
+abbrev LexFails : List ℕ → LexFault → Type 0
+LexFails bytes fault = (spelled : List Token) → Spells bytes spelled → Reads (Err fault) spelled
+
+no_tokens : (bytes : List ℕ) (fault : LexFault) (at : ℕ) → fault ≡ lexing.At at → LexFails bytes fault → (spelled : List Token) → Spells bytes spelled → ⊥
+no_tokens bytes fault at is fails = let here : LexFails bytes (lexing.At at) = subst (LexFails bytes) is fails in here
+
+pub no_tokens_no_monitor : (bytes : List ℕ) (fault : LexFault) (at : ℕ) → fault ≡ lexing.At at → LexFails bytes fault → IsNoMonitor bytes
+no_tokens_no_monitor bytes fault at is fails monitor accepted = no_tokens bytes fault at is fails accepted.tokens accepted.spelled
+
+pub no_tokens_no_scripts : (bytes : List ℕ) (fault : LexFault) (at : ℕ) → fault ≡ lexing.At at → LexFails bytes fault → (monitor : MonitorParts) → AreNoScripts bytes monitor
+no_tokens_no_scripts bytes fault at is fails monitor clients accepted = no_tokens bytes fault at is fails accepted.tokens accepted.spelled
+
+-- ---- a tree is the one that is derived
+
+abbrev ParseFails : List ℕ → List Token → SyntaxFault → Type 0
+ParseFails bytes tokens fault = (tree : MonitorTree) → Derives bytes tokens tree → Parses (Err fault) tree
+
+pub no_tree_no_monitor : (bytes : List ℕ) (tokens slice : List Token) (fault : SyntaxFault) (at : ℕ) → Lexes bytes tokens → slice ≡ tokens → fault ≡ syntax_faults.At at → ParseFails bytes slice fault → IsNoMonitor bytes
+no_tree_no_monitor bytes tokens slice fault at lexes same is fails monitor accepted =
+    let here : ParseFails bytes slice (syntax_faults.At at) = subst (ParseFails bytes slice) is fails in
+    here accepted.tree (subst (λ (t : List Token). Derives bytes t accepted.tree) (sym (same ∙ lexes accepted.tokens accepted.spelled)) accepted.derived)
+
+abbrev ParseClientsFails : List ℕ → List Token → SyntaxFault → Type 0
+ParseClientsFails bytes tokens fault = (tree : ClientsTree) → DerivesClients bytes tokens tree → Parses (Err fault) tree
+
+pub no_tree_no_scripts : (bytes : List ℕ) (tokens slice : List Token) (fault : SyntaxFault) (at : ℕ) → Lexes bytes tokens → slice ≡ tokens → fault ≡ syntax_faults.At at → ParseClientsFails bytes slice fault → (monitor : MonitorParts) → AreNoScripts bytes monitor
+no_tree_no_scripts bytes tokens slice fault at lexes same is fails monitor clients accepted =
+    let here : ParseClientsFails bytes slice (syntax_faults.At at) = subst (ParseClientsFails bytes slice) is fails in
+    here accepted.tree (subst (λ (t : List Token). DerivesClients bytes t accepted.tree) (sym (same ∙ lexes accepted.tokens accepted.spelled)) accepted.derived)
+
+-- ---- a broken rule
+
+broken : (tree : MonitorTree) (fault : TypeFault) → fault ≢ type_faults.OutOfMemory → HasCause tree fault → Breaks tree fault
+broken tree (type_faults.Unknown at) other cause = cause
+broken tree (type_faults.Duplicate at) other cause = cause
+broken tree (type_faults.TooLarge at) other cause = cause
+broken tree (type_faults.TooMany what at) other cause = cause
+broken tree type_faults.OutOfMemory other cause = absurd (other refl)
+
+pub broken_no_monitor : (bytes : List ℕ) (tokens slice : List Token) (tree : MonitorTree) (fault : TypeFault) → Lexes bytes tokens → slice ≡ tokens
+    → ((other : MonitorTree) → Derives bytes slice other → tree ≡ other) → fault ≢ type_faults.OutOfMemory → HasCause tree fault → IsNoMonitor bytes
+broken_no_monitor bytes tokens slice tree fault lexes same parses other cause monitor accepted =
+    let is : tree ≡ accepted.tree = parses accepted.tree (subst (λ (t : List Token). Derives bytes t accepted.tree) (sym (same ∙ lexes accepted.tokens accepted.spelled)) accepted.derived) in
+    accepted.unbroken fault (subst (λ (t : MonitorTree). Breaks t fault) is (broken tree fault other cause))
+
+broken_script : (tree : ClientsTree) (monitor : MonitorParts) (fault : ScriptFault) → fault ≢ script_faults.OutOfMemory → HasScriptCause tree monitor fault → BreaksScripts tree monitor fault
+broken_script tree monitor (script_faults.UnknownMethod at) other cause = cause
+broken_script tree monitor (script_faults.DuplicateClient at) other cause = cause
+broken_script tree monitor (script_faults.TooManyClients at) other cause = cause
+broken_script tree monitor (script_faults.TooManyCalls at) other cause = cause
+broken_script tree monitor script_faults.OutOfMemory other cause = absurd (other refl)
+
+pub broken_no_scripts : (bytes : List ℕ) (tokens slice : List Token) (tree : ClientsTree) (monitor : MonitorParts) (fault : ScriptFault) → Lexes bytes tokens → slice ≡ tokens
+    → ((other : ClientsTree) → DerivesClients bytes slice other → tree ≡ other) → fault ≢ script_faults.OutOfMemory → HasScriptCause tree monitor fault → AreNoScripts bytes monitor
+broken_no_scripts bytes tokens slice tree monitor fault lexes same parses other cause clients accepted =
+    let is : tree ≡ accepted.tree = parses accepted.tree (subst (λ (t : List Token). DerivesClients bytes t accepted.tree) (sym (same ∙ lexes accepted.tokens accepted.spelled)) accepted.derived) in
+    accepted.unbroken fault (subst (λ (t : ClientsTree). BreaksScripts t monitor fault) is (broken_script tree monitor fault other cause))

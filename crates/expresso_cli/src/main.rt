@@ -1,0 +1,44 @@
+//! `expresso`: monitors with implicit signals.
+//!
+//! `expresso turns FILE CLIENTS` reads a monitor and its clients, runs them by rounds of the implicit
+//! machine, and prints the run. The top call is [`expresso`](expresso::expresso); `main` hands it the
+//! words, the files of the system and standard output.
+#![tactic(auto)]
+
+mod expresso;
+mod script_fault;
+mod scripts;
+mod status;
+#[cfg(test)]
+mod tests;
+mod text;
+mod words;
+mod work;
+
+pub use expresso::expresso as run_expresso;
+use mon_io::{RealFiles, StdSink};
+pub use status::{Status, number};
+use std::process::ExitCode;
+use std::{env, io};
+
+/// The exit status where the words can't be read: no number of a `Status`.
+const UNREADABLE_WORDS: u8 = 7;
+
+fn words_given<R: std::rt::Env + AllocGlobal>(rt: &R) -> io::Result<Vec<String>> {
+    Ok(env::args(rt)?.collect(rt.alloc())?)
+}
+
+fn main(rt: HostRuntime) -> ExitCode {
+    match words_given(&rt) {
+        Ok(words) => {
+            let mut files = RealFiles::new(&rt);
+            let mut out = StdSink::new(&rt);
+            let status = expresso::expresso(rt.alloc(), &words, &mut files, &mut out);
+            ExitCode::from(number(status))
+        }
+        Err(error) if error.kind() == io::ErrorKind::OutOfMemory => {
+            ExitCode::from(number(Status::OutOfMemory))
+        }
+        Err(_) => ExitCode::from(UNREADABLE_WORDS),
+    }
+}
