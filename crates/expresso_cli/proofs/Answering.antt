@@ -16,64 +16,64 @@ use Rattle.expresso_cli.specs.declared.work.Answer.TheVariants as answers
 use Rattle.expresso_cli.specs.CommandLine.{Takes, TakesNone}
 use Rattle.expresso_cli.specs.Texts.{turns_text, usage_text, refused_text, read_fault_text}
 use Rattle.expresso_cli.specs.Answers.{Inputs, IsRunText, IsText, Answers}
-use Rattle.expresso_cli.specs.Working.{IsWorked, IsWritten, status_of, text_of, ended}
+use Rattle.expresso_cli.specs.Working.{IsWorked, IsWritten, HasReadCause, status_of, text_of, ended}
 
 -- a status that writes its whole text
-abbrev IsWhole : (List ℕ → Option (List ℕ)) → List (List ℕ) → Status → Type 0
-IsWhole held words status = (before now : Option (List ℕ)) (text : List ℕ) → IsText held words status text → Appends before now text → Answers held words status before now
+abbrev IsWhole : (List ℕ → Option (List ℕ)) → List (List ℕ) → ℕ → ℕ → Status → Type 0
+IsWhole held words rb rn status = (before now : Option (List ℕ)) (text : List ℕ) → IsText held words rb rn status text → Appends before now text → Answers held words rb rn status before now
 
-whole_done : (held : List ℕ → Option (List ℕ)) (words : List (List ℕ)) → IsWhole held words statuses.Done
-whole_done held words before now text is appends = (text, is, appends)
+whole_done : (held : List ℕ → Option (List ℕ)) (words : List (List ℕ)) (rb rn : ℕ) → IsWhole held words rb rn statuses.Done
+whole_done held words rb rn before now text is appends = (text, is, appends)
 
-whole_stalled : (held : List ℕ → Option (List ℕ)) (words : List (List ℕ)) → IsWhole held words statuses.Stalled
-whole_stalled held words before now text is appends = (text, is, appends)
+whole_stalled : (held : List ℕ → Option (List ℕ)) (words : List (List ℕ)) (rb rn : ℕ) → IsWhole held words rb rn statuses.Stalled
+whole_stalled held words rb rn before now text is appends = (text, is, appends)
 
-whole_refused : (held : List ℕ → Option (List ℕ)) (words : List (List ℕ)) → IsWhole held words statuses.Refused
-whole_refused held words before now text is appends = (text, is, appends)
+whole_refused : (held : List ℕ → Option (List ℕ)) (words : List (List ℕ)) (rb rn : ℕ) → IsWhole held words rb rn statuses.Refused
+whole_refused held words rb rn before now text is appends = (text, is, appends)
 
-whole_read_fault : (held : List ℕ → Option (List ℕ)) (words : List (List ℕ)) → IsWhole held words statuses.ReadFault
-whole_read_fault held words before now text is appends = (text, is, appends)
+whole_read_fault : (held : List ℕ → Option (List ℕ)) (words : List (List ℕ)) (rb rn : ℕ) → IsWhole held words rb rn statuses.ReadFault
+whole_read_fault held words rb rn before now text is appends = (text, is, appends)
 
-whole_usage : (held : List ℕ → Option (List ℕ)) (words : List (List ℕ)) → IsWhole held words statuses.Usage
-whole_usage held words before now text is appends = (text, is, appends)
+whole_usage : (held : List ℕ → Option (List ℕ)) (words : List (List ℕ)) (rb rn : ℕ) → IsWhole held words rb rn statuses.Usage
+whole_usage held words rb rn before now text is appends = (text, is, appends)
 
 -- the text was written whole with its status, or a front of it
-pub answers_written : (held : List ℕ → Option (List ℕ)) (words : List (List ℕ)) (status : Status) (text : List ℕ) (result : Status) (before now : Option (List ℕ)) (faults_before faults_now : ℕ)
-    → IsWhole held words status → IsText held words status text → IsWritten status text result before now faults_before faults_now → Answers held words result before now
-answers_written held words status text result before now faults_before faults_now whole is (inl (same, appends)) =
-    subst (λ (s : Status). Answers held words s before now) (sym same) (whole before now text is appends)
-answers_written held words status text result before now faults_before faults_now whole is (inr (same, front, rises)) =
-    subst (λ (s : Status). Answers held words s before now) (sym same) (status, text, is, front)
+pub answers_written : (held : List ℕ → Option (List ℕ)) (words : List (List ℕ)) (rb rn : ℕ) (status : Status) (text : List ℕ) (result : Status) (before now : Option (List ℕ)) (faults_before faults_now : ℕ)
+    → IsWhole held words rb rn status → IsText held words rb rn status text → IsWritten status text result before now faults_before faults_now → Answers held words rb rn result before now
+answers_written held words rb rn status text result before now faults_before faults_now whole is (inl (same, appends)) =
+    subst (λ (s : Status). Answers held words rb rn s before now) (sym same) (whole before now text is appends)
+answers_written held words rb rn status text result before now faults_before faults_now whole is (inr (same, front, rises)) =
+    subst (λ (s : Status). Answers held words rb rn s before now) (sym same) (status, text, is, front)
 
-pub usage_answers : (held : List ℕ → Option (List ℕ)) (words : List (List ℕ)) (result : Status) (before now : Option (List ℕ)) (faults_before faults_now : ℕ)
-    → TakesNone words → IsWritten statuses.Usage usage_text result before now faults_before faults_now → Answers held words result before now
-usage_answers held words result before now faults_before faults_now none written =
-    answers_written held words statuses.Usage usage_text result before now faults_before faults_now (whole_usage held words) (none, refl) written
+pub usage_answers : (held : List ℕ → Option (List ℕ)) (words : List (List ℕ)) (rb rn : ℕ) (result : Status) (before now : Option (List ℕ)) (faults_before faults_now : ℕ)
+    → TakesNone words → IsWritten statuses.Usage usage_text result before now faults_before faults_now → Answers held words rb rn result before now
+usage_answers held words rb rn result before now faults_before faults_now none written =
+    answers_written held words rb rn statuses.Usage usage_text result before now faults_before faults_now (whole_usage held words rb rn) (none, refl) written
 
 false_is_no_truth : IsTrue false → ⊥
 false_is_no_truth h = cc
 
-run_answers : (held : List ℕ → Option (List ℕ)) (words : List (List ℕ)) (monitor : MonitorParts) (clients : List Client) (turns : Turns) (text : List ℕ)
+run_answers : (held : List ℕ → Option (List ℕ)) (words : List (List ℕ)) (rb rn : ℕ) (monitor : MonitorParts) (clients : List Client) (turns : Turns) (text : List ℕ)
     → IsRunText held words monitor clients turns text → (finished : Bool) → turns.finished ≡ finished
     → (result : Status) (before now : Option (List ℕ)) (faults_before faults_now : ℕ)
-    → IsWritten (ended finished) text result before now faults_before faults_now → Answers held words result before now
-run_answers held words monitor clients turns text is true end result before now faults_before faults_now written =
+    → IsWritten (ended finished) text result before now faults_before faults_now → Answers held words rb rn result before now
+run_answers held words rb rn monitor clients turns text is true end result before now faults_before faults_now written =
     let both : IsTrue turns.finished ↔ IsFinished clients turns.history = is.rounds.finished in
-    answers_written held words statuses.Done text result before now faults_before faults_now (whole_done held words)
+    answers_written held words rb rn statuses.Done text result before now faults_before faults_now (whole_done held words rb rn)
     (monitor, clients, turns, is, both.0 (subst IsTrue (sym end) refl)) written
-run_answers held words monitor clients turns text is false end result before now faults_before faults_now written =
+run_answers held words rb rn monitor clients turns text is false end result before now faults_before faults_now written =
     let both : IsTrue turns.finished ↔ IsFinished clients turns.history = is.rounds.finished in
-    answers_written held words statuses.Stalled text result before now faults_before faults_now (whole_stalled held words)
+    answers_written held words rb rn statuses.Stalled text result before now faults_before faults_now (whole_stalled held words rb rn)
     (monitor, clients, turns, is, λ all. false_is_no_truth (subst IsTrue end (both.1 all))) written
 
-pub answer_answers : (held : List ℕ → Option (List ℕ)) (words : List (List ℕ)) (monitor clients : List ℕ) (answer : Answer) (result : Status) (before now : Option (List ℕ)) (faults_before faults_now : ℕ)
-    → Takes words monitor clients → IsWorked held monitor clients answer
-    → IsWritten (status_of answer) (text_of monitor clients answer) result before now faults_before faults_now → Answers held words result before now
-answer_answers held words monitor clients (answers.Unread inputs.Monitor) result before now faults_before faults_now taken worked written =
-    answers_written held words statuses.ReadFault (read_fault_text monitor) result before now faults_before faults_now (whole_read_fault held words) (monitor, clients, taken, inl refl) written
-answer_answers held words monitor clients (answers.Unread inputs.Clients) result before now faults_before faults_now taken worked written =
-    answers_written held words statuses.ReadFault (read_fault_text clients) result before now faults_before faults_now (whole_read_fault held words) (monitor, clients, taken, inr refl) written
-answer_answers held words monitor clients (answers.Refused inputs.Monitor) result before now faults_before faults_now taken (monitor_bytes, clients_bytes, monitor_held, clients_held, none) written =
+pub answer_answers : (held : List ℕ → Option (List ℕ)) (words : List (List ℕ)) (rb rn : ℕ) (monitor clients : List ℕ) (answer : Answer) (result : Status) (before now : Option (List ℕ)) (faults_before faults_now : ℕ)
+    → Takes words monitor clients → IsWorked held monitor clients answer → HasReadCause answer rb rn
+    → IsWritten (status_of answer) (text_of monitor clients answer) result before now faults_before faults_now → Answers held words rb rn result before now
+answer_answers held words rb rn monitor clients (answers.Unread inputs.Monitor) result before now faults_before faults_now taken worked cause written =
+    answers_written held words rb rn statuses.ReadFault (read_fault_text monitor) result before now faults_before faults_now (whole_read_fault held words rb rn) (cause, monitor, clients, taken, inl refl) written
+answer_answers held words rb rn monitor clients (answers.Unread inputs.Clients) result before now faults_before faults_now taken worked cause written =
+    answers_written held words rb rn statuses.ReadFault (read_fault_text clients) result before now faults_before faults_now (whole_read_fault held words rb rn) (cause, monitor, clients, taken, inr refl) written
+answer_answers held words rb rn monitor clients (answers.Refused inputs.Monitor) result before now faults_before faults_now taken (monitor_bytes, clients_bytes, monitor_held, clients_held, none) cause written =
     let files : Inputs held words = record {
       monitor_name = monitor;
       clients_name = clients;
@@ -83,8 +83,8 @@ answer_answers held words monitor clients (answers.Refused inputs.Monitor) resul
       monitor_held = monitor_held;
       clients_held = clients_held;
     } in
-    answers_written held words statuses.Refused (refused_text monitor) result before now faults_before faults_now (whole_refused held words) (files, inl (none, refl)) written
-answer_answers held words monitor clients (answers.Refused inputs.Clients) result before now faults_before faults_now taken (monitor_bytes, clients_bytes, monitor_held, clients_held, (accepted, is_accepted, none)) written =
+    answers_written held words rb rn statuses.Refused (refused_text monitor) result before now faults_before faults_now (whole_refused held words rb rn) (files, inl (none, refl)) written
+answer_answers held words rb rn monitor clients (answers.Refused inputs.Clients) result before now faults_before faults_now taken (monitor_bytes, clients_bytes, monitor_held, clients_held, (accepted, is_accepted, none)) cause written =
     let files : Inputs held words = record {
       monitor_name = monitor;
       clients_name = clients;
@@ -94,8 +94,8 @@ answer_answers held words monitor clients (answers.Refused inputs.Clients) resul
       monitor_held = monitor_held;
       clients_held = clients_held;
     } in
-    answers_written held words statuses.Refused (refused_text clients) result before now faults_before faults_now (whole_refused held words) (files, inr (accepted, is_accepted, none, refl)) written
-answer_answers held words monitor clients (answers.Ran run) result before now faults_before faults_now taken (monitor_bytes, clients_bytes, monitor_held, clients_held, ran) written =
+    answers_written held words rb rn statuses.Refused (refused_text clients) result before now faults_before faults_now (whole_refused held words rb rn) (files, inr (accepted, is_accepted, none, refl)) written
+answer_answers held words rb rn monitor clients (answers.Ran run) result before now faults_before faults_now taken (monitor_bytes, clients_bytes, monitor_held, clients_held, ran) cause written =
     let files : Inputs held words = record {
       monitor_name = monitor;
       clients_name = clients;
@@ -112,7 +112,7 @@ answer_answers held words monitor clients (answers.Ran run) result before now fa
       rounds = ran.rounds;
       printed = refl;
     } in
-    run_answers held words run.monitor run.scripts run.turns (turns_text run.monitor run.scripts run.turns) is_text run.turns.finished refl result before now faults_before faults_now written
+    run_answers held words rb rn run.monitor run.scripts run.turns (turns_text run.monitor run.scripts run.turns) is_text run.turns.finished refl result before now faults_before faults_now written
 
 -- ---- one writer's outcome
 

@@ -1,6 +1,7 @@
 -- Where nothing fails, the status is the one that the words and the files ask for.
 use Rattle.std.proofs.Common.{◌≡◌, ℕ, Bool, true, false, List, [], ◌∷◌, Option, Some, map, sym, ap, subst, ◌∙◌, inl, inr}
-use Rattle.std.specs.Prelude.{IfSome, codes}
+use Rattle.std.specs.Prelude.{IfSome, codes, ◌<◌}
+use native.Mathlib.Omega.{arith}
 use Rattle.mon_io.specs.Outside.{Rises}
 use Rattle.mon_syntax.specs.declared.token.Token.{Token}
 use Rattle.mon_syntax.specs.declared.tree.MonitorTree.{MonitorTree}
@@ -14,7 +15,7 @@ use Rattle.expresso_cli.specs.declared.work.Input.TheVariants as inputs
 use Rattle.expresso_cli.specs.declared.work.Answer.{Answer}
 use Rattle.expresso_cli.specs.declared.work.Answer.TheVariants as answers
 use Rattle.expresso_cli.specs.CommandLine.{Takes}
-use Rattle.expresso_cli.specs.Answers.{IsAccepted, AreAccepted, Holds, Accepts, Rejects, IsRunOrMemory, IsRefusedOrMemory, IsUsageOrMemory}
+use Rattle.expresso_cli.specs.Answers.{IsAccepted, AreAccepted, Holds, Accepts, Rejects, IsRunOrMemory, IsRefusedOrMemory, IsUsageOrMemory, IsUnreadOrMemory}
 use Rattle.expresso_cli.specs.Working.{IsWorked, IsWritten, HasReadCause, status_of, ended}
 
 -- bytes spell one list of tokens at most
@@ -127,3 +128,11 @@ read_fault_rises (answers.Refused input) text result before now rb rn wb wn caus
 read_fault_rises (answers.Refused input) text result before now rb rn wb wn cause (inr (same, front, rises)) fault = let e : statuses.WriteFault ≡ statuses.ReadFault = sym same ∙ fault in absurd cc
 read_fault_rises (answers.Ran run) text result before now rb rn wb wn cause (inl (same, appends)) fault = absurd (no_read_fault run.turns.finished (sym same ∙ fault))
 read_fault_rises (answers.Ran run) text result before now rb rn wb wn cause (inr (same, front, rises)) fault = let e : statuses.WriteFault ≡ statuses.ReadFault = sym same ∙ fault in absurd cc
+
+-- where the count of the files rose, a file wasn't read
+pub unread_shown : (answer : Answer) (text : List ℕ) (result : Status) (before now : Option (List ℕ)) (rb rn wb wn : ℕ) → HasReadCause answer rb rn → IsWritten (status_of answer) text result before now wb wn
+    → rb < rn → (Rises wb wn → ⊥) → IsUnreadOrMemory result
+unread_shown answer text result before now rb rn wb wn cause (inr (same, front, rises)) risen no_write = absurd (no_write rises)
+unread_shown (answers.Unread input) text result before now rb rn wb wn cause (inl (same, appends)) risen no_write = subst IsUnreadOrMemory (sym same) tt
+unread_shown (answers.Refused input) text result before now rb rn wb wn cause (inl (same, appends)) risen no_write = absurd (omega (arith, cause, risen))
+unread_shown (answers.Ran run) text result before now rb rn wb wn cause (inl (same, appends)) risen no_write = absurd (omega (arith, cause, risen))

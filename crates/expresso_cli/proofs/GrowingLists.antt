@@ -1,31 +1,20 @@
 -- Lists that a loop has read so far, and lists joined end to end.
-use Rattle.std.proofs.Common.{◌≡◌, ◌≢◌, ℕ, ◌+◌, ◌<◌, List, [], ◌∷◌, ◌++◌, length, take, drop, get_or, map, Some, sym, ap, subst, ◌∙◌, append_assoc, arith}
+use Rattle.std.proofs.Common.{◌≡◌, ℕ, ◌+◌, ◌<◌, List, [], ◌∷◌, ◌++◌, length, take, drop, get_or, map, Some, sym, ap, subst, ◌∙◌, append_assoc, arith}
 use Rattle.std.specs.List.{All, Any, AllPairs, flat_map, slice_get}
-use Rattle.std.proofs.lemmas.List.{take_more, take-append-drop, map-append, length-map, get_or-map, get_or_default, get_or_append_left, get_or-append-add, length-append}
+use Rattle.std.proofs.lemmas.List.{take-append-drop, map-append, length-map, get_or-map, get_or_append_left, get_or-append-add, length-append}
 use Rattle.std.proofs.lemmas.List.Elements.{All-nil, All-append, All-head, All-tail, All-push, All-same}
-use Rattle.std.proofs.lemmas.List.Quantifiers.{all_pairs_push}
 use Rattle.std.proofs.lemmas.List.Concat.{flat_map-append, get_or-flat_map}
 use Rattle.std.proofs.lemmas.List.Folds.{length-flat_map-take}
 use Rattle.std.proofs.lemmas.Option.{slice_get-get_or}
+use Rattle.mon_implicit.proofs.ScriptTests.{take_next}
 
 -- ---- one more element
-
-pub take_next : {X : Type 0} (xs : List X) (i : ℕ) (x : X) → i < length xs → x ≡ get_or xs i x → take (i + 1) xs ≡ take i xs ++ x ∷ []
-take_next xs i x within is = take_more xs i x within ∙ ap (λ y. take i xs ++ y ∷ []) (sym is)
 
 pub All-next : {X : Type 0} (P : X → Type 0) (xs : List X) (i : ℕ) (x : X) → i < length xs → x ≡ get_or xs i x → All P (take i xs) → P x → All P (take (i + 1) xs)
 All-next P xs i x within is before here = All-same P (take (i + 1) xs) (take i xs ++ x ∷ []) (take_next xs i x within is) (All-push P (take i xs) x before here)
 
 pub map_next : {X Y : Type 0} (f : X → Y) (xs : List X) (ys : List Y) (i : ℕ) (x : X) → i < length xs → x ≡ get_or xs i x → ys ≡ map f (take i xs) → ys ++ f x ∷ [] ≡ map f (take (i + 1) xs)
 map_next f xs ys i x within is so_far = ap (λ zs. zs ++ f x ∷ []) so_far ∙ sym (ap (map f) (take_next xs i x within is) ∙ map-append f (take i xs) (x ∷ []))
-
--- a name that no earlier one has
-pub distinct_next : {X N : Type 0} (name : X → N) (xs : List X) (i : ℕ) (x : X) → i < length xs → x ≡ get_or xs i x
-    → AllPairs (λ a b. name a ≢ name b) (take i xs) → (Any (λ a. name a ≡ name x) (take i xs) → ⊥) → AllPairs (λ a b. name a ≢ name b) (take (i + 1) xs)
-distinct_next name xs i x within is before none =
-    subst (AllPairs (λ a b. name a ≢ name b)) (sym (take_next xs i x within is))
-    (all_pairs_push (λ a b. name a ≢ name b) (take i xs) x before
-    (λ k d below same. none (k, get_or (take i xs) k d, below, get_or_default (take i xs) k (get_or (take i xs) k d) d below, same)))
 
 -- what stands before an element and after it
 pub parts_at : {X : Type 0} (xs : List X) (i : ℕ) (x : X) → i < length xs → x ≡ get_or xs i x → xs ≡ take i xs ++ x ∷ drop (i + 1) xs

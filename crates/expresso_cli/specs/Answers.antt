@@ -13,7 +13,7 @@ use Rattle.mon_implicit.specs.declared.script.Client.{Client}
 use Rattle.mon_implicit.specs.Runs.{IsFinished}
 use Rattle.mon_implicit.specs.Rounds.{AreTurnsByRounds}
 use Rattle.std.specs.Io.KnownBytes.{Appends, Keeps}
-use Rattle.mon_io.specs.Outside.{AppendsFront}
+use Rattle.mon_io.specs.Outside.{AppendsFront, Rises}
 use Rattle.expresso_cli.specs.declared.status.Status.{Status}
 use Rattle.expresso_cli.specs.declared.status.Status.TheVariants.{Done, Refused, Usage, ReadFault, WriteFault, OutOfMemory, Stalled}
 use Rattle.expresso_cli.specs.CommandLine.{Takes, TakesNone}
@@ -70,22 +70,22 @@ IsRefusal held words inputs text =
     × ((clients : List Client) → AreAccepted inputs.clients_bytes monitor clients → ⊥)
     × (text ≡ refused_text inputs.clients_name))
 
--- the whole text of a status, and what is true where it is written
-abbrev pub IsText : (List ℕ → Option (List ℕ)) → List (List ℕ) → Status → List ℕ → Type 0
-IsText held words Done text = (monitor : MonitorParts) × (clients : List Client) × (turns : Turns) × IsRunText held words monitor clients turns text × IsFinished clients turns.history
-IsText held words Stalled text = (monitor : MonitorParts) × (clients : List Client) × (turns : Turns) × IsRunText held words monitor clients turns text × (IsFinished clients turns.history → ⊥)
-IsText held words Refused text = (inputs : Inputs held words) × IsRefusal held words inputs text
-IsText held words Usage text = TakesNone words × (text ≡ usage_text)
-IsText held words ReadFault text = (monitor : List ℕ) × (clients : List ℕ) × Takes words monitor clients × ((text ≡ read_fault_text monitor) ⊎ (text ≡ read_fault_text clients))
-IsText held words WriteFault text = ⊥
-IsText held words OutOfMemory text = ⊥
+-- the whole text of a status, and what is true where it is written; the files' count of faults stands as before the call, and as now
+abbrev pub IsText : (List ℕ → Option (List ℕ)) → List (List ℕ) → ℕ → ℕ → Status → List ℕ → Type 0
+IsText held words faults_before faults_now Done text = (monitor : MonitorParts) × (clients : List Client) × (turns : Turns) × IsRunText held words monitor clients turns text × IsFinished clients turns.history
+IsText held words faults_before faults_now Stalled text = (monitor : MonitorParts) × (clients : List Client) × (turns : Turns) × IsRunText held words monitor clients turns text × (IsFinished clients turns.history → ⊥)
+IsText held words faults_before faults_now Refused text = (inputs : Inputs held words) × IsRefusal held words inputs text
+IsText held words faults_before faults_now Usage text = TakesNone words × (text ≡ usage_text)
+IsText held words faults_before faults_now ReadFault text = Rises faults_before faults_now × (monitor : List ℕ) × (clients : List ℕ) × Takes words monitor clients × ((text ≡ read_fault_text monitor) ⊎ (text ≡ read_fault_text clients))
+IsText held words faults_before faults_now WriteFault text = ⊥
+IsText held words faults_before faults_now OutOfMemory text = ⊥
 
 -- What was written for a status: its whole text; where the sink failed, a proper front of the text whose status this one
 -- replaces; where memory ran out, nothing.
-abbrev pub Answers : (List ℕ → Option (List ℕ)) → List (List ℕ) → Status → Option (List ℕ) → Option (List ℕ) → Type 0
-Answers held words WriteFault before now = (status : Status) × (text : List ℕ) × IsText held words status text × AppendsFront before now text
-Answers held words OutOfMemory before now = Keeps before now
-Answers held words status before now = (text : List ℕ) × IsText held words status text × Appends before now text
+abbrev pub Answers : (List ℕ → Option (List ℕ)) → List (List ℕ) → ℕ → ℕ → Status → Option (List ℕ) → Option (List ℕ) → Type 0
+Answers held words faults_before faults_now WriteFault before now = (status : Status) × (text : List ℕ) × IsText held words faults_before faults_now status text × AppendsFront before now text
+Answers held words faults_before faults_now OutOfMemory before now = Keeps before now
+Answers held words faults_before faults_now status before now = (text : List ℕ) × IsText held words faults_before faults_now status text × Appends before now text
 
 -- ---- completeness: what the status must be where nothing fails
 
@@ -129,3 +129,8 @@ abbrev pub IsUsageOrMemory : Status → Type 0
 IsUsageOrMemory Usage = Unit {0}
 IsUsageOrMemory OutOfMemory = Unit {0}
 IsUsageOrMemory status = ⊥
+
+abbrev pub IsUnreadOrMemory : Status → Type 0
+IsUnreadOrMemory ReadFault = Unit {0}
+IsUnreadOrMemory OutOfMemory = Unit {0}
+IsUnreadOrMemory status = ⊥

@@ -65,7 +65,7 @@ IsWorked held monitor clients (answers.Unread input) = Unit {0}
 IsWorked held monitor clients answer =
     (monitor_bytes : List ℕ) × (clients_bytes : List ℕ) × Holds held monitor monitor_bytes × Holds held clients clients_bytes × IsJudged monitor_bytes clients_bytes answer
 
--- a file couldn't be read only where the count rose
+-- a file couldn't be read only where the count rose; where both were read it didn't
 abbrev pub HasReadCause : Answer → ℕ → ℕ → Type 0
 HasReadCause (answers.Unread input) before now = Rises before now
-HasReadCause answer before now = Unit {0}
+HasReadCause answer before now = now ≡ before

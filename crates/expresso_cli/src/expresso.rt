@@ -1,10 +1,10 @@
 //! The top call.
 
-ghost use Rattle.std.specs.Prelude.{◌≡◌, ◌≤◌, ◌↔◌, ℕ, List, IfOk, IsOk, IsErr, map};
+ghost use Rattle.std.specs.Prelude.{◌≡◌, ◌<◌, ◌≤◌, ◌↔◌, ℕ, List, IfOk, IsOk, IsErr, map};
 ghost use Rattle.std.specs.String.{string_bytes};
 ghost use Rattle.mon_io.specs.Outside.{Rises};
 ghost use Rattle.expresso_cli.specs.CommandLine.{Takes, TakesNone};
-ghost use Rattle.expresso_cli.specs.Answers.{Answers, Accepts, Rejects, IsUsageOrMemory, IsRunOrMemory, IsRefusedOrMemory};
+ghost use Rattle.expresso_cli.specs.Answers.{Answers, Accepts, Rejects, IsUsageOrMemory, IsRunOrMemory, IsRefusedOrMemory, IsUnreadOrMemory};
 ghost use Rattle.expresso_cli.specs.Texts.{usage_text};
 ghost use Rattle.expresso_cli.specs.Working.{HasReadCause, IsWorked, IsWritten, of_input, status_of, text_of};
 
@@ -112,7 +112,7 @@ pub fn expresso<F: Files, S: Sink>(
     // Only the two files that the words name are read.
     requires { (monitor clients : List ℕ) → Takes (map string_bytes words.now.items) monitor clients → F.may_read files.old monitor × F.may_read files.old clients }
     // What was written is what the status says.
-    ensures answer { Answers (F.held files.old) (map string_bytes words.now.items) result (S.written out.old) (S.written out.new) }
+    ensures answer { Answers (F.held files.old) (map string_bytes words.now.items) (F.faults files.old) (F.faults files.new) result (S.written out.old) (S.written out.new) }
     ensures read_fault { result ≡ Status.ReadFault → Rises (F.faults files.old) (F.faults files.new) }
     ensures write_fault { result ≡ Status.WriteFault → Rises (S.faults out.old) (S.faults out.new) }
     // Where no count of faults rose, the words and the files ask for this status, unless memory ran out.
@@ -121,6 +121,7 @@ pub fn expresso<F: Files, S: Sink>(
         → (Rises (F.faults files.old) (F.faults files.new) → ⊥) → (Rises (S.faults out.old) (S.faults out.new) → ⊥) → IsRunOrMemory result }
     ensures rejected { Rejects (F.held files.old) (map string_bytes words.now.items)
         → (Rises (F.faults files.old) (F.faults files.new) → ⊥) → (Rises (S.faults out.old) (S.faults out.new) → ⊥) → IsRefusedOrMemory result }
+    ensures unread { F.faults files.old < F.faults files.new → (Rises (S.faults out.old) (S.faults out.new) → ⊥) → IsUnreadOrMemory result }
     // No call changes what files hold and which may be read.
     ensures held { (name : List ℕ) → F.held files.new name ≡ F.held files.old name }
     ensures may_read { (name : List ℕ) → F.may_read files.new name ↔ F.may_read files.old name }

@@ -14,7 +14,7 @@ use mon_io::Name;
 use mon_list::Seq;
 use mon_syntax::{ClientTree, ClientsTree, Item};
 use mon_types::{Method, Monitor};
-use std::alloc::{AllocError, Global};
+use std::alloc::Global;
 
 /// The most clients of a file.
 const MOST_CLIENTS: usize = 32;
@@ -135,16 +135,9 @@ fn make_client(alloc: Global, monitor: &Monitor, tree: &ClientTree) -> Result<Cl
     ensures { MatchResult result (λ client. IsMadeClient monitor.now tree.now client) (λ fault. BlamesItems monitor.now tree.now.items fault) }
 {
     Ok(Client {
-        name: copy_name(alloc, &tree.name)?,
+        name: tree.name.clone()?,
         calls: Seq::of(make_calls(alloc, monitor, tree.items.items())?),
     })
-}
-
-/// A copy of a name.
-fn copy_name(alloc: Global, name: &Name) -> Result<Name, AllocError>
-    ensures { IfOk result (λ copy. copy ≡ name.now) }
-{
-    Ok(Name::of(Vec::from_slice(alloc, name.bytes())?))
 }
 
 /// The calls that these items stand for.

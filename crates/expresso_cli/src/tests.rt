@@ -1,5 +1,7 @@
 use super::expresso::expresso;
 use super::status::Status;
+use super::work::{read_clients, read_monitor};
+use mon_implicit::{Call, Client, Reply, Scripts, are_clients, fit};
 use mon_io::{MemFile, MemFiles, MemSink, Name};
 use mon_list::Seq;
 use std::alloc::{AllocError, Global};
@@ -199,6 +201,18 @@ fn a_read_that_fails_names_its_file(rt: HostRuntime) -> Result<(), Fail> {
         assert_eq!(rt; outcome.status, Status::ReadFault);
         assert_eq!(rt; outcome.text.as_slice(), text);
     }
+    Ok(())
+}
+
+#[test]
+fn both_files_are_read_before_one_is_refused(rt: HostRuntime) -> Result<(), Fail> {
+    let devices = Devices {
+        failing_read: Some(2),
+        ..SOUND
+    };
+    let outcome = answer(rt.alloc(), TURNS.as_slice(), LOCK, TWO, &devices)?;
+    assert_eq!(rt; outcome.status, Status::ReadFault);
+    assert_eq!(rt; outcome.text.as_slice(), b"read fault: two.cl\n".as_slice());
     Ok(())
 }
 
@@ -422,5 +436,63 @@ fn thirty_two_clients_make_sixteen_thousand_calls(rt: HostRuntime) -> Result<(),
     );
     let more = many_clients(rt.alloc(), 33, 1)?;
     assert!(rt; has_status(rt.alloc(), monitor, more.as_slice(), Status::Refused)?);
+    Ok(())
+}
+
+#[test]
+fn a_checked_monitor_and_its_scripts_take_turns(rt: HostRuntime) -> Result<(), Fail> {
+    let monitor = read_monitor(rt.alloc(), BUFFER)?.ok_or("a monitor")?;
+    assert_eq!(rt; monitor.name().bytes(), b"Buffer".as_slice());
+    assert_eq!(rt; monitor.fields().len(), 1);
+    assert_eq!(rt; monitor.methods().len(), 2);
+    assert_eq!(rt; monitor.blocks().len(), 2);
+    let Some(scripts) = read_clients(rt.alloc(), TWO, &monitor)? else {
+        return Err("scripts".into());
+    };
+    let run = mon_implicit::turns(rt.alloc(), &monitor, &scripts)?;
+    assert!(rt; run.finished);
+    assert_eq!(rt; run.history.items().len(), 4);
+    for commit in run.history.items() {
+        assert_eq!(rt; commit.reply, Reply::Unit);
+    }
+    Ok(())
+}
+
+/// 32 clients, each of so many calls of the first method.
+fn many_calls(alloc: Global, calls: usize) -> Result<Vec<Client>, AllocError> {
+    let mut clients = Vec::new(alloc);
+    for client in 0..32u8 {
+        let letters = [b'c', b'0' + client / 10, b'0' + client % 10];
+        let mut made = Vec::new(alloc);
+        for _ in 0..calls {
+            made.push(Call {
+                method: 0,
+                inputs: Seq::of(Vec::new(alloc)),
+            })?;
+        }
+        clients.push(Client {
+            name: Name::of(Vec::from_slice(alloc, letters.as_slice())?),
+            calls: Seq::of(made),
+        })?;
+    }
+    Ok(clients)
+}
+
+#[test]
+fn scripts_made_by_hand_have_16384_calls_at_most(rt: HostRuntime) -> Result<(), Fail> {
+    let monitor = read_monitor(
+        rt.alloc(),
+        b"monitor M { int x = 0; method p() waituntil (x >= 0) { x = x + 1; } }",
+    )?
+    .ok_or("a monitor")?;
+    let clients = many_calls(rt.alloc(), 512)?;
+    assert!(rt; are_clients(clients.as_slice()));
+    let scripts = Scripts::of(clients);
+    assert!(rt; fit(&monitor, scripts.clients()));
+    let run = mon_implicit::turns(rt.alloc(), &monitor, &scripts)?;
+    assert!(rt; run.finished);
+    assert_eq!(rt; run.history.items().len(), 16384);
+    let more = many_calls(rt.alloc(), 513)?;
+    assert!(rt; !are_clients(more.as_slice()));
     Ok(())
 }

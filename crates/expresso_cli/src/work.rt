@@ -62,7 +62,7 @@ fn broken_script_rule(fault: ScriptFault) -> Result<(), AllocError>
 }
 
 /// The monitor that the bytes stand for, where they are a monitor file of the first form.
-fn read_monitor(alloc: Global, bytes: &[u8]) -> Result<Option<Monitor>, AllocError>
+pub fn read_monitor(alloc: Global, bytes: &[u8]) -> Result<Option<Monitor>, AllocError>
     ensures { IfOk result (λ answer. MatchOption answer (IsNoMonitor bytes.now) (λ monitor. IsAccepted bytes.now monitor)) }
 {
     if bytes.len() as u64 > LONGEST_FILE {
@@ -88,7 +88,7 @@ fn read_monitor(alloc: Global, bytes: &[u8]) -> Result<Option<Monitor>, AllocErr
 }
 
 /// The scripts that the bytes stand for, where they are a client file of the first form.
-fn read_clients(
+pub fn read_clients(
     alloc: Global,
     bytes: &[u8],
     monitor: &Monitor,

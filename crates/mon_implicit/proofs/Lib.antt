@@ -3,3 +3,4 @@ pub mod Bodies
 pub mod Schedule
 pub mod Progressing
 pub mod Letters
+pub mod ScriptTests

@@ -2,10 +2,12 @@
 //!
 //! A client whose next block's guard holds may step, and no other step exists. A step runs the body;
 //! where a value leaves 64 bits, it answers an overflow and the state stays. Definitions: `specs/Steps`
-//! (the step), `specs/Scripted` (clients and their calls), `specs/Runs` and `specs/Rounds`.
+//! (the step), `specs/Scripted` (clients and their calls), `specs/Runs` and `specs/Rounds`. A caller who
+//! puts scripts together tests them by [`are_clients`] and [`fit`].
 #![tactic(auto)]
 
 mod commit;
+mod offered;
 mod progress;
 mod rounds;
 mod script;
@@ -15,6 +17,7 @@ mod step;
 mod tests;
 
 pub use commit::{Commit, Reply, Turns};
+pub use offered::{are_clients, fit};
 pub use rounds::turns;
 pub use script::{Call, Client, Scripts};
 pub use state::State;

@@ -17,6 +17,7 @@ use std::alloc::{AllocError, Global};
 /// The run by rounds of clients that call the monitor's methods. It passes over the clients in file
 /// order, again and again; in a pass each client whose next call's guard holds at that moment makes one
 /// step. It ends where no client can act. A step asks each client at most once.
+/// [`fit`](crate::fit) tests what it requires.
 ///
 /// # Errors
 ///

@@ -43,7 +43,8 @@ impl Model for Scripts {
 impl Scripts {
     ghost use Rattle.mon_implicit.specs.Scripted.{AreClients};
 
-    /// The scripts of these clients. It takes no memory.
+    /// The scripts of these clients. It takes no memory. [`are_clients`](crate::are_clients) tests what it
+    /// requires.
     pub fn of(clients: Vec<Client>) -> Scripts
         requires { AreClients clients.items }
         ensures { result ≡ clients.items }

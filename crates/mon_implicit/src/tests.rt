@@ -38,3 +38,12 @@ fn scripts_hold_their_clients_in_order(rt: HostRuntime) -> Result<(), Fail> {
     assert_eq!(rt; names.as_slice(), b"AB".as_slice());
     Ok(())
 }
+
+#[test]
+fn clients_have_distinct_names(rt: HostRuntime) -> Result<(), Fail> {
+    let mut clients = two_clients(rt.alloc())?;
+    assert!(rt; are_clients(&clients));
+    clients.push(idle_client(rt.alloc(), b'A')?)?;
+    assert!(rt; !are_clients(&clients));
+    Ok(())
+}

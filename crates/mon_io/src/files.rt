@@ -1,4 +1,4 @@
-ghost use Rattle.std.specs.Prelude.{◌≡◌, ◌≤◌, ◌+◌, ◌↔◌, ℕ, List, Option, IfOk, IsErrOf, length};
+ghost use Rattle.std.specs.Prelude.{◌≡◌, ◌≤◌, ◌+◌, ◌↔◌, ℕ, List, Option, IfOk, IsOk, IsErrOf, length};
 ghost use Rattle.mon_io.specs.declared.files.FileFault.TheVariants.{OutOfMemory};
 ghost use Rattle.mon_io.specs.Outside.{IsRead, Rises};
 
@@ -46,13 +46,15 @@ pub trait Files {
     /// The first `limit + 1` bytes of the file of this name, or all where there are fewer: so an
     /// answer longer than `limit` says that the file is too long.
     ///
-    /// `Failed` comes only where the count of faults rose in this call.
+    /// `Failed` comes only where the count of faults rose in this call, and it rises in no call that
+    /// gives bytes.
     fn read_up_to(&mut self, alloc: Global, name: &str, limit: u64) -> Result<Vec<u8>, FileFault>
         requires { may_read self.old name.now }
         ensures told { IfOk result (λ bytes. IsRead (held self.old name.now) limit bytes.items) }
         ensures bound { IfOk result (λ bytes. length bytes.items ≤ limit + 1) }
         ensures cause { IsErrOf result FileFault.Failed → Rises (faults self.old) (faults self.new) }
         ensures later { faults self.old ≤ faults self.new }
+        ensures steady { IsOk result → faults self.new ≡ faults self.old }
         ensures held { (n : List ℕ) → held self.new n ≡ held self.old n }
         ensures may_read { (n : List ℕ) → may_read self.new n ↔ may_read self.old n };
 }

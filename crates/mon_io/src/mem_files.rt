@@ -1,4 +1,4 @@
-ghost use Rattle.std.specs.Prelude.{◌≡◌, ◌≤◌, ◌+◌, ◌⊎◌, ◌↔◌, ℕ, List, [], Option, IfOk, IsErrOf, IsNone, Contains, length, take, option_map, option_copied, OnSome};
+ghost use Rattle.std.specs.Prelude.{◌≡◌, ◌≤◌, ◌+◌, ◌⊎◌, ◌↔◌, ℕ, List, [], Option, IfOk, IsOk, IsErrOf, IsNone, Contains, length, take, option_map, option_copied, OnSome};
 ghost use Rattle.mon_io.specs.FilesInMemory.{IsFailing, bytes_named};
 ghost use Rattle.mon_io.specs.Outside.{IsRead, Rises, next_count};
 
@@ -79,6 +79,7 @@ impl Files for MemFiles {
         ensures bound { IfOk result (λ bytes. length bytes.items ≤ limit + 1) }
         ensures cause { IsErrOf result FileFault.Failed → Rises self.old.faults self.new.faults }
         ensures later { self.old.faults ≤ self.new.faults }
+        ensures steady { IsOk result → self.new.faults ≡ self.old.faults }
 
         // The call fails exactly where it was asked to or the name isn't held, and is counted then.
         ensures failed { IsErrOf result FileFault.Failed ↔ IsFailing self.old self.new.calls name.now }

@@ -1,4 +1,4 @@
-ghost use Rattle.std.specs.Prelude.{◌≡◌, ◌≤◌, ◌+◌, IfOk, IsErrOf, vec_len};
+ghost use Rattle.std.specs.Prelude.{◌≡◌, ◌≤◌, ◌+◌, IfOk, IsOk, IsErrOf, vec_len};
 ghost use Rattle.mon_io.specs.Outside.{Rises};
 
 use crate::files::{FileFault, Files};
@@ -71,6 +71,7 @@ fn read_file<F: Read + Drop>(
     ensures bound { IfOk result (λ bytes. vec_len bytes ≤ most) }
     ensures cause { IsErrOf result FileFault.Failed → Rises faults.old faults.new }
     ensures later { faults.old ≤ faults.new }
+    ensures steady { IsOk result → faults.new ≡ faults.old }
 {
     let mut bytes = Vec::new(alloc);
     while (bytes.len() as u64) < most {
@@ -93,6 +94,7 @@ fn read_some<F: Read>(
     ensures taken { IfOk result (λ count. vec_len bytes.new ≡ vec_len bytes.old + count) }
     ensures cause { IsErrOf result FileFault.Failed → Rises faults.old faults.new }
     ensures later { faults.old ≤ faults.new }
+    ensures steady { IsOk result → faults.new ≡ faults.old }
 {
     let mut chunk = [0u8; CHUNK];
     let room = most.min(CHUNK as u64) as usize;

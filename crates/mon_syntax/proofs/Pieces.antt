@@ -1,9 +1,10 @@
 -- The piece that is computed is the one that starts there, and no other does.
 use Rattle.std.proofs.Common.{◌≡◌, ℕ, suc, ◌+◌, ◌<◌, ◌≤◌, Bool, true, false, cond, eqb, ◌&&◌, List, [], ◌∷◌, ◌++◌, length, take, drop, All, Option, Some, None, refl, sym, ap, subst, ◌∙◌, arith}
-use Rattle.std.specs.Prelude.{nat_lt, IfSome}
+use Rattle.std.specs.Prelude.{nat_eq, nat_lt, IfSome, IsTrue, ◌↔◌}
 use Rattle.std.specs.List.{prefix_len}
 use Rattle.std.proofs.lemmas.Bool.{eqb-true, and_parts, ltb-false, le-ltb}
-use Rattle.std.proofs.lemmas.List.{take-append-drop, length-take, take_at, drop_at}
+use Rattle.std.proofs.lemmas.Bool.Decides.{nat_tests}
+use Rattle.std.proofs.lemmas.List.{append-nil, length-append, take-append-drop, take_all, length-take, take_at, drop_at}
 use Rattle.std.proofs.lemmas.List.Elements.{All-head, All-tail, All-cons, All-nil}
 use Rattle.mon_syntax.specs.declared.token.TokenKind.{TokenKind}
 use Rattle.mon_syntax.specs.declared.token.TokenKind.TheVariants as kinds
@@ -225,6 +226,32 @@ one_start bytes s t x y rest after p q =
     let len : length x ≡ length y = ap (λ (p : Shape × ℕ). p.1) pair in
     let lists : x ++ rest ≡ y ++ after = sym p.front ∙ q.front in
     (shape, sym (take_at x rest (length y) len) ∙ ap (take (length y)) lists ∙ take_at y after (length y) refl, sym (drop_at x rest (length y) len) ∙ ap (drop (length y)) lists ∙ drop_at y after (length y) refl)
+
+-- ---- one word
+
+-- A text that is one word, and no longer than a word may be, is what is computed there.
+pub word_from : (text : List ℕ) → IsShape shapes.Word text → length text ≤ 32 → piece_at text ≡ Some (shapes.Word, length text)
+word_from text spells short =
+    piece_from text shapes.Word text [] (record {
+      front = sym (append-nil text);
+      spells = spells;
+      longest = λ other longer after parts is. omega (arith, ap length parts, length-append longer after);
+      fits = λ run. short;
+    })
+
+-- A word that is computed there is the whole text exactly where it is as long.
+pub word_whole : (text : List ℕ) (n : ℕ) → piece_at text ≡ Some (shapes.Word, n) → length text ≤ 32 → IsTrue (nat_eq n (length text)) ↔ (IsShape shapes.Word text × (length text ≤ 32))
+word_whole text n e short =
+    let s = starts_from text shapes.Word n e in (
+      λ same.
+          let len : n ≡ length text = grind (arith, nat_tests) in
+          (subst (IsShape shapes.Word) (take_all n text (omega arith)) s.0.spells, short),
+      λ whole.
+          let both : Some (shapes.Word, n) ≡ Some (shapes.Word, length text) = sym e ∙ word_from text whole.0 whole.1 in
+          let pair : (shapes.Word, n) ≡ (shapes.Word, length text) = cc in
+          let len : n ≡ length text = ap (λ (p : Shape × ℕ). p.1) pair in
+          grind (arith, nat_tests),
+    )
 
 -- ---- the whole text
 

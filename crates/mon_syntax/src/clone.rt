@@ -3,7 +3,6 @@
 ghost use Rattle.std.specs.Prelude.{◌≡◌, IfOk};
 
 use super::tree::{Addend, Expr, Factor, StmtTree};
-use mon_io::Name;
 use mon_list::{Boxed, Seq};
 use std::alloc::{AllocError, Global};
 
@@ -23,7 +22,7 @@ pub fn copy_expression(alloc: Global, expression: &Expr) -> Result<Expr, AllocEr
         }),
         Expr::Named { at, name } => Ok(Expr::Named {
             at: *at,
-            name: copy_name(alloc, name)?,
+            name: name.clone()?,
         }),
         Expr::Minus { at, of } => Ok(Expr::Minus {
             at: *at,
@@ -109,7 +108,7 @@ pub fn copy_statement(alloc: Global, statement: &StmtTree) -> Result<StmtTree, A
     match statement {
         StmtTree::Set { at, name, value } => Ok(StmtTree::Set {
             at: *at,
-            name: copy_name(alloc, name)?,
+            name: name.clone()?,
             value: copy_expression(alloc, value)?,
         }),
         StmtTree::If {
@@ -141,15 +140,10 @@ fn copy_statements(alloc: Global, statements: &[StmtTree]) -> Result<Vec<StmtTre
     Ok(copies)
 }
 
-fn copy_name(alloc: Global, name: &Name) -> Result<Name, AllocError>
-    ensures { IfOk result (λ copy. copy ≡ name.now) }
-{
-    Ok(Name::of(Vec::from_slice(alloc, name.bytes())?))
-}
-
 #[cfg(test)]
 mod tests {
     use super::*;
+    use mon_io::Name;
     use std::test::Fail;
 
     /// `level - 3`

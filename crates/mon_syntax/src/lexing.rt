@@ -1,12 +1,12 @@
 //! From bytes to tokens.
 
-ghost use Rattle.std.specs.Prelude.{◌≡◌, ◌++◌, ◌<◌, ◌≤◌, ◌^◌, List, length, IfOk, IfErr, OnOk};
+ghost use Rattle.std.specs.Prelude.{◌≡◌, ◌++◌, ◌<◌, ◌≤◌, ◌^◌, ◌↔◌, List, length, IfOk, IfErr, IsTrue, OnOk};
 ghost use Rattle.mon_syntax.specs.declared.token.Token.{Token};
 ghost use Rattle.mon_syntax.specs.declared.lexing.LexFault.TheVariants.{OutOfMemory};
-ghost use Rattle.mon_syntax.specs.Spelling.{Spells, IsStuck, token};
+ghost use Rattle.mon_syntax.specs.Spelling.{IsIdentifier, IsShape, Spells, IsStuck, token};
 ghost use Rattle.mon_syntax.specs.Lexing.{IsAt, Reads};
 
-use super::piece::{Shape, kind_of_word, piece_at};
+use super::piece::{LONGEST_RUN, Shape, kind_of_word, piece_at};
 use super::token::{Token, TokenKind};
 use std::alloc::{AllocError, AllocFailed, Global};
 use thiserror::Error;
@@ -84,6 +84,28 @@ pub fn tokens(alloc: Global, bytes: &[u8]) -> Result<Vec<Token>, LexFault>
         }
     }
     Ok(out)
+}
+
+/// Whether the bytes are one identifier: 1 to 32 letters, digits and underscores, of which the first
+/// is no digit, and no keyword. A blank or anything else before or after it makes them none.
+pub fn is_identifier(bytes: &[u8]) -> bool
+    ensures { IsTrue result ↔ IsIdentifier bytes.now }
+{
+    is_whole_word(bytes) && matches!(kind_of_word(bytes), TokenKind::Ident)
+}
+
+/// Whether the bytes are one identifier or keyword.
+#[tactic(auto, using(crate::proofs::Pieces::word_from))]
+fn is_whole_word(bytes: &[u8]) -> bool
+    ensures { IsTrue result ↔ (IsShape Shape.Word bytes.now × (length bytes.now ≤ 32)) }
+{
+    if LONGEST_RUN < bytes.len() {
+        return false;
+    }
+    match piece_at(bytes) {
+        Some((Shape::Word, len)) => len == bytes.len(),
+        _ => false,
+    }
 }
 
 #[cfg(test)]

@@ -4,6 +4,7 @@
 //! that the grammar of the first form derives from them. Both answer exactly what the definitions say:
 //! `specs/Spelling` (which tokens bytes spell), `specs/Words` and `specs/Grammar` (which words are a
 //! tree's, a rule for each production). The laws of these definitions are functions of `laws`.
+//! [`is_identifier`] tells whether a text is one name.
 #![tactic(auto)]
 
 mod clients_parser;
@@ -23,7 +24,7 @@ pub use clients_parser::parse_clients;
 pub use clone::{copy_expression, copy_statement};
 pub use fault::SyntaxFault;
 pub use laws::{derives_one_tree, each_is_token, names_are_identifiers, one_spelling};
-pub use lexing::{LexFault, tokens};
+pub use lexing::{LexFault, is_identifier, tokens};
 pub use monitor_parser::parse_monitor;
 pub use token::{Token, TokenKind};
 pub use tree::{

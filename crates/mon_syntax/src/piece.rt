@@ -8,7 +8,7 @@ ghost use Rattle.mon_syntax.specs.Pieces.{two_signs, one_sign, sign_of, pair_or_
 use super::token::TokenKind;
 
 /// The most bytes of a word or a number.
-const LONGEST_RUN: usize = 32;
+pub const LONGEST_RUN: usize = 32;
 
 /// What a byte outside comments can begin.
 #[derive(Clone, Copy, Debug, PartialEq, Eq)]

@@ -14,7 +14,7 @@ mod uses;
 use crate::fault::TypeFault;
 use crate::monitor::Monitor;
 use limits::check_limits;
-use making::{blocks_of, copy_name, fields_of, methods_of};
+use making::{blocks_of, fields_of, methods_of};
 use mon_syntax::MonitorTree;
 use names::check_names;
 use std::alloc::{AllocError, Global};
@@ -54,7 +54,7 @@ fn monitor_of(alloc: Global, tree: &MonitorTree) -> Result<Monitor, AllocError>
     requires kept { KeepsRules tree.now }
     ensures { IfOk result (λ monitor. IsTyped tree.now monitor) }
 {
-    let name = copy_name(alloc, &tree.name)?;
+    let name = tree.name.clone()?;
     let fields = fields_of(alloc, tree.decls.items())?;
     let methods = methods_of(alloc, tree.methods.items())?;
     let blocks = blocks_of(alloc, tree.methods.items())?;

@@ -7,7 +7,6 @@ ghost use Rattle.mon_types.specs.Typed.{blocks_from, field_of, literal_value, me
 ghost use Rattle.mon_types.specs.MonitorParts.{greatest_number};
 
 use crate::monitor::{Block, Field, Kind, Method, Value};
-use mon_io::Name;
 use mon_list::Seq;
 use mon_syntax::{Decl, Lit, MethodTree, StmtTree, copy_expression, copy_statement};
 use std::alloc::{AllocError, Global};
@@ -30,17 +29,17 @@ fn field_of(alloc: Global, decl: &Decl) -> Result<Field, AllocError>
 {
     match decl {
         Decl::Const { name, value, .. } => Ok(Field {
-            name: copy_name(alloc, name)?,
+            name: name.clone()?,
             kind: Kind::Int,
             start: Value::Int(number_of(value)),
         }),
         Decl::Int { name, value, .. } => Ok(Field {
-            name: copy_name(alloc, name)?,
+            name: name.clone()?,
             kind: Kind::Int,
             start: Value::Int(number_of(value)),
         }),
         Decl::Flag { name, value, .. } => Ok(Field {
-            name: copy_name(alloc, name)?,
+            name: name.clone()?,
             kind: Kind::Bool,
             start: Value::Bool(*value),
         }),
@@ -64,7 +63,7 @@ pub fn methods_of(alloc: Global, trees: &[MethodTree]) -> Result<Vec<Method>, Al
     let mut methods = Vec::new(alloc);
     for (number, tree) in trees.iter().enumerate() {
         methods.push(Method {
-            name: copy_name(alloc, &tree.name)?,
+            name: tree.name.clone()?,
             inputs: Seq::of(Vec::new(alloc)),
             first: number as u32,
             count: 1,
@@ -97,11 +96,4 @@ fn body_of(alloc: Global, statements: &[StmtTree]) -> Result<Vec<StmtTree>, Allo
         body.push(copy_statement(alloc, statement)?)?;
     }
     Ok(body)
-}
-
-/// A copy of a name.
-pub fn copy_name(alloc: Global, name: &Name) -> Result<Name, AllocError>
-    ensures { IfOk result (λ copy. copy ≡ name.now) }
-{
-    Ok(Name::of(Vec::from_slice(alloc, name.bytes())?))
 }

@@ -1,7 +1,7 @@
 use Rattle.std.proofs.Common.{◌≢◌, AllPairs, subst, ◌∙◌, arith}
 use Rattle.std.proofs.lemmas.Bool.{false≢true}
 use Rattle.std.proofs.lemmas.List.{take_all}
-use Rattle.expresso_cli.proofs.GrowingLists.{distinct_next}
+use Rattle.mon_implicit.proofs.ScriptTests.{distinct_next}
 use Rattle.expresso_cli.proofs.scripts.check_names.Goals as goal
 
 pub loop-i-preserved : goal.loop-i-preserved

@@ -9,6 +9,6 @@ pub returns : goal.returns
 returns c =
     let monitor = c.args.monitor.now in
     let tree = c.args.tree.now in
-    client_made monitor tree c.in_ok-copy_name.field-0 c.of.result c.in_ok-copy_name.ensures
+    client_made monitor tree c.in_ok-clone.field-0 c.of.result c.in_ok-clone.ensures.cases
     (subst (λ (calls : List Call). AreMadeCalls monitor tree.items calls) (sym c.of.ensures)
     (subst (λ (items : List Item). AreMadeCalls monitor items c.in_ok-make_calls.field-0.items) c.items.ensures c.in_ok-make_calls.ensures))

@@ -1,8 +1,8 @@
-use Rattle.std.proofs.Common.{◌≤◌, ◌-◌, vec_len}
+use Rattle.std.proofs.Common.{◌≡◌, ◌≤◌, ◌-◌, vec_len}
 use Rattle.mon_io.proofs.real.read_file.Given as goal
 
 abbrev pub invariant-loop-bytes : goal.invariant-loop-bytes
-invariant-loop-bytes g l = (vec_len l.bytes ≤ l.most) × (l.initial.faults ≤ l.faults)
+invariant-loop-bytes g l = (vec_len l.bytes ≤ l.most) × (l.faults ≡ l.initial.faults)
 
 abbrev pub decreases-loop-bytes : goal.decreases-loop-bytes
 decreases-loop-bytes g l = l.most - vec_len l.bytes

@@ -1,0 +1,67 @@
+-- What the tests of the rules of scripts stand on: the rule from its parts, values beside kinds, distinct names.
+use Rattle.std.proofs.Common.{◌≡◌, ◌≢◌, ◌+◌, ◌<◌, ◌≤◌, ◌↔◌, IsTrue, Bool, ℕ, sum_by, List, [], ◌∷◌, ◌++◌, length, take, get_or, refl, sym, subst, ap, ◌∙◌, arith}
+use Rattle.std.specs.List.{All, AllPairs, Any, zip}
+use Rattle.std.proofs.lemmas.List.{take_more, get_or_default, get_or-take, length-take}
+use Rattle.std.proofs.lemmas.List.Elements.{All-nil, All-cons, All-head, All-tail}
+use Rattle.std.proofs.lemmas.List.Quantifiers.{all_pairs_push}
+use Rattle.mon_syntax.specs.Spelling.{IsIdentifier}
+use Rattle.mon_types.specs.declared.monitor.Kind.{Kind}
+use Rattle.mon_types.specs.declared.monitor.Value.{Value}
+use Rattle.mon_types.specs.MonitorParts.{IsOfKind, AreOfKinds}
+use Rattle.mon_implicit.specs.declared.script.Client.{Client}
+use Rattle.mon_implicit.specs.Scripted.{AreClients}
+
+-- ---- the rule of scripts
+
+-- where all parts but the last hold, the last decides
+pub clients_rule : (clients : List Client) (answer : Bool) → length clients ≤ 32 → All (λ client. IsIdentifier client.name) clients → AllPairs (λ client other. client.name ≢ other.name) clients
+    → IsTrue answer ↔ (sum_by (λ client. length client.calls) clients ≤ 16384) → IsTrue answer ↔ AreClients clients
+clients_rule clients answer few named distinct few_calls = (
+  λ right. record { few = few; names = named; distinct = distinct; few_calls = few_calls.0 right },
+  λ rule. few_calls.1 rule.few_calls,
+)
+
+-- ---- kinds and values
+
+-- the second is a value of the first
+abbrev pub IsPairOfKind : Kind × Value → Type 0
+IsPairOfKind pair = IsOfKind pair.0 pair.1
+
+pub of_kinds_as_long : (kinds : List Kind) (values : List Value) → AreOfKinds kinds values → length kinds ≡ length values
+of_kinds_as_long [] [] held = refl
+of_kinds_as_long [] (value ∷ values) held = absurd held
+of_kinds_as_long (kind ∷ kinds) [] held = absurd held
+of_kinds_as_long (kind ∷ kinds) (value ∷ values) held = omega (arith, of_kinds_as_long kinds values held.1)
+
+pub of_kinds_from_pairs : (kinds : List Kind) (values : List Value) → length kinds ≡ length values → All (λ pair. IsOfKind pair.0 pair.1) (zip kinds values) → AreOfKinds kinds values
+of_kinds_from_pairs [] [] long each = tt
+of_kinds_from_pairs [] (value ∷ values) long each = absurd (omega arith)
+of_kinds_from_pairs (kind ∷ kinds) [] long each = absurd (omega arith)
+of_kinds_from_pairs (kind ∷ kinds) (value ∷ values) long each =
+    (All-head IsPairOfKind (kind, value) (zip kinds values) each, of_kinds_from_pairs kinds values (omega arith) (All-tail IsPairOfKind (kind, value) (zip kinds values) each))
+
+pub pairs_from_of_kinds : (kinds : List Kind) (values : List Value) → AreOfKinds kinds values → All (λ pair. IsOfKind pair.0 pair.1) (zip kinds values)
+pairs_from_of_kinds [] values held = All-nil IsPairOfKind
+pairs_from_of_kinds (kind ∷ kinds) [] held = All-nil IsPairOfKind
+pairs_from_of_kinds (kind ∷ kinds) (value ∷ values) held = All-cons IsPairOfKind (kind, value) (zip kinds values) held.0 (pairs_from_of_kinds kinds values held.1)
+
+-- ---- distinct names
+
+pub take_next : {X : Type 0} (xs : List X) (i : ℕ) (x : X) → i < length xs → x ≡ get_or xs i x → take (i + 1) xs ≡ take i xs ++ x ∷ []
+take_next xs i x within is = take_more xs i x within ∙ ap (λ y. take i xs ++ y ∷ []) (sym is)
+
+-- a name that no earlier one has
+pub distinct_next : {X N : Type 0} (name : X → N) (xs : List X) (i : ℕ) (x : X) → i < length xs → x ≡ get_or xs i x
+    → AllPairs (λ a b. name a ≢ name b) (take i xs) → (Any (λ a. name a ≡ name x) (take i xs) → ⊥) → AllPairs (λ a b. name a ≢ name b) (take (i + 1) xs)
+distinct_next name xs i x within is before none =
+    subst (AllPairs (λ a b. name a ≢ name b)) (sym (take_next xs i x within is))
+    (all_pairs_push (λ a b. name a ≢ name b) (take i xs) x before
+    (λ k d below same. none (k, get_or (take i xs) k d, below, get_or_default (take i xs) k (get_or (take i xs) k d) d below, same)))
+
+-- a name that an earlier one has
+pub not_distinct : {X N : Type 0} (name : X → N) (xs : List X) (i : ℕ) (x : X) → i < length xs → x ≡ get_or xs i x
+    → Any (λ a. name a ≡ name x) (take i xs) → AllPairs (λ a b. name a ≢ name b) xs → ⊥
+not_distinct name xs i x within is (k, y, below, at, same) pairs =
+    let before : k < i = omega (arith, length-take i xs) in
+    let earlier : get_or xs k x ≡ y = get_or_default xs k x y (omega arith) ∙ sym (get_or-take i xs k y before) ∙ at in
+    pairs k i x before within (ap name earlier ∙ same ∙ ap name is)
