@@ -9,3 +9,9 @@ pub mod MonitorLaws
 pub mod ClientLaws
 pub mod NameLaws
 pub mod Outcomes
+pub mod Writing
+pub mod Rows
+pub mod Printing
+pub mod Depths
+pub mod Statements
+pub mod Files

@@ -6,3 +6,7 @@ pub mod Grammar
 pub mod Names
 pub mod Fault
 pub mod Reading
+pub mod Canonical
+pub mod Writing
+pub mod Printing
+pub mod Depths

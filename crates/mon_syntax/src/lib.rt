@@ -1,9 +1,10 @@
-//! Tokens, trees and parsers of monitor and client files.
+//! Tokens, trees, parsers and the printer of monitor and client files.
 //!
 //! [`tokens`] cuts a file's bytes into tokens, and [`parse_monitor`] and [`parse_clients`] read the tree
 //! that the grammar of the first form derives from them. Both answer exactly what the definitions say:
 //! `specs/Spelling` (which tokens bytes spell), `specs/Words` and `specs/Grammar` (which words are a
-//! tree's, a rule for each production). The laws of these definitions are functions of `laws`.
+//! tree's, a rule for each production). [`print_monitor`] writes a tree of the whole language in the
+//! canonical form of `specs/Canonical`. The laws of these definitions are functions of `laws`, and
 //! [`is_identifier`] tells whether a text is one name.
 #![tactic(auto)]
 
@@ -14,11 +15,13 @@ mod laws;
 mod lexing;
 mod monitor_parser;
 mod piece;
+mod printer;
 mod reading;
 #[cfg(test)]
 mod tests;
 mod token;
 mod tree;
+mod writer;
 
 pub use clients_parser::parse_clients;
 pub use clone::{copy_expression, copy_statement};
@@ -26,6 +29,7 @@ pub use fault::SyntaxFault;
 pub use laws::{derives_one_tree, each_is_token, names_are_identifiers, one_spelling};
 pub use lexing::{LexFault, is_identifier, tokens};
 pub use monitor_parser::parse_monitor;
+pub use printer::print_monitor;
 pub use token::{Token, TokenKind};
 pub use tree::{
     Addend, Arg, ClientTree, ClientsTree, Decl, Expr, Factor, InputKind, InputTree, Item, Lit,

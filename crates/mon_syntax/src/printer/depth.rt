@@ -1,0 +1,30 @@
+//! How deep a line stands.
+
+ghost use Rattle.mon_syntax.specs.Canonical.{indent};
+ghost use Rattle.mon_syntax.specs.Depths.{levels};
+ghost use Rattle.mon_syntax.specs.Writing.{Wrote};
+
+use crate::writer::write_piece;
+use mon_io::{Sink, SinkFailed};
+
+/// How deep a line stands: at the margin, or one level deeper than another.
+///
+/// It is a chain on the stack and no number, since statements stand in one another without a bound.
+#[derive(Clone, Copy)]
+pub(crate) enum Depth<'a> {
+    Margin,
+    Below(&'a Depth<'a>),
+}
+
+/// Two blanks for each level.
+pub(crate) fn write_indent<S: Sink>(depth: &Depth, out: &mut S) -> Result<(), SinkFailed>
+    ensures { Wrote (S.written out.old) (S.written out.new) (S.faults out.old) (S.faults out.new) result (indent (levels depth.now)) }
+{
+    match depth {
+        Depth::Margin => Ok(()),
+        Depth::Below(above) => {
+            write_piece(b"  ", out)?;
+            write_indent(above, out)
+        }
+    }
+}
