@@ -10,7 +10,8 @@ use Rattle.mon_syntax.specs.declared.tree.ClientTree.{ClientTree}
 use Rattle.mon_syntax.specs.declared.tree.ClientsTree.{ClientsTree}
 use Rattle.mon_syntax.specs.Spelling.{Spells, IsToken, IsIdentifier, text_of}
 use Rattle.mon_syntax.specs.Words.{Word, ident, numeral, mark, word_of, word, words}
-use Rattle.mon_syntax.specs.Grammar.{Each, IsCallLayer, IsCall, IsClient, AreParsed}
+use Rattle.mon_syntax.specs.Grammar.{Each}
+use Rattle.mon_syntax.specs.ClientGrammar.{IsCallLayer, IsCall, IsClient, AreParsed}
 use Rattle.mon_syntax.proofs.Numerals.{tokens_are}
 use Rattle.expresso_cli.specs.ScriptChecks.{is_call, IsOneCall, HaveCalls}
 
@@ -25,7 +26,7 @@ layer_is_call (Call at name args) ws rule = tt
 layer_is_call (Repeat at times items) ws rule = absurd rule
 
 client_has_calls : (client : ClientTree) → (ws : List Word) × IsClient client ws → All IsOneCall client.items
-client_has_calls client (ws, (calls, each, parts)) =
+client_has_calls client (ws, (word, after, is_word, (name, body, is_name, (left, items, is_left, (calls, right, each, is_right, joined), joined2), joined3), parts)) =
     All-weaker (λ item. (front : List Word) × IsCall item front) IsOneCall (λ item (front, rule). layer_is_call (out-Item item) front rule) client.items
     (one_each IsCall client.items calls each)
 
@@ -40,7 +41,7 @@ have_calls tree parsed =
 abbrev Names : Word → Type 0
 Names (ident name at) = IsIdentifier name
 Names (numeral value at) = Unit {0}
-Names (mark kind) = Unit {0}
+Names (mark kind at) = Unit {0}
 
 word_names : (kind : TokenKind) (text : List ℕ) (at : ℕ) → (kind ≡ kinds.Ident → IsIdentifier text) → Names (word_of kind text at)
 word_names kinds.Ident text at named = named refl
@@ -59,10 +60,10 @@ All-parts P (x ∷ xs) ys all =
     (All-cons P x xs (All-head P x (xs ++ ys) all) more.0, more.1)
 
 client_is_named : (client : ClientTree) (ws : List Word) → IsClient client ws → All Names ws → IsIdentifier client.name
-client_is_named client ws (calls, each, parts) named =
-    let all : All Names (mark kinds.KeyClient ∷ ident client.name client.at ∷ mark kinds.OpenBrace ∷ calls ++ mark kinds.CloseBrace ∷ []) = subst (All Names) parts named in
-    let rest = ident client.name client.at ∷ mark kinds.OpenBrace ∷ calls ++ mark kinds.CloseBrace ∷ [] in
-    All-head Names (ident client.name client.at) (mark kinds.OpenBrace ∷ calls ++ mark kinds.CloseBrace ∷ []) (All-tail Names (mark kinds.KeyClient) rest all)
+client_is_named client ws (word, after, is_word, (name, body, is_name, rest, joined), parts) named =
+    let later = All-parts Names word after (subst (All Names) parts named) in
+    let first = All-parts Names name body (subst (All Names) joined later.1) in
+    All-head Names (ident client.name client.at) [] (subst (All Names) is_name first.0)
 
 clients_are_named : (clients : List ClientTree) (ws : List Word) → Each IsClient clients ws → All Names ws → All (λ client. IsIdentifier client.name) clients
 clients_are_named [] ws each named = All-nil (λ client. IsIdentifier client.name)

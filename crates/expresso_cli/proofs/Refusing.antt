@@ -1,5 +1,5 @@
 -- A file that one of the steps refuses is no file of the first form.
-use Rattle.std.proofs.Common.{◌≡◌, ◌≢◌, ℕ, List, Err, refl, sym, subst, ◌∙◌}
+use Rattle.std.proofs.Common.{◌≡◌, ◌≢◌, ℕ, true, false, List, Err, refl, sym, ap, subst, ◌∙◌}
 use Rattle.mon_syntax.specs.declared.token.Token.{Token}
 use Rattle.mon_syntax.specs.declared.tree.MonitorTree.{MonitorTree}
 use Rattle.mon_syntax.specs.declared.tree.ClientsTree.{ClientsTree}
@@ -10,7 +10,9 @@ use Rattle.mon_syntax.specs.declared.fault.SyntaxFault.TheVariants as syntax_fau
 use Rattle.mon_syntax.specs.Spelling.{Spells}
 use Rattle.mon_syntax.specs.Lexing.{Reads}
 use Rattle.mon_syntax.specs.Fault.{Parses}
-use Rattle.mon_syntax.specs.Grammar.{Derives, DerivesClients}
+use Rattle.mon_syntax.specs.Grammar.{Derives}
+use Rattle.mon_syntax.specs.ClientGrammar.{DerivesClients}
+use Rattle.mon_types.specs.FirstForm.{is_first_form}
 use Rattle.mon_types.specs.declared.fault.TypeFault.{TypeFault}
 use Rattle.mon_types.specs.declared.fault.TypeFault.TheVariants as type_faults
 use Rattle.mon_types.specs.MonitorParts.{MonitorParts}
@@ -53,6 +55,15 @@ pub no_tree_no_scripts : (bytes : List ℕ) (tokens slice : List Token) (fault :
 no_tree_no_scripts bytes tokens slice fault at lexes same is fails monitor clients accepted =
     let here : ParseClientsFails bytes slice (syntax_faults.At at) = subst (ParseClientsFails bytes slice) is fails in
     here accepted.tree (subst (λ (t : List Token). DerivesClients bytes t accepted.tree) (sym (same ∙ lexes accepted.tokens accepted.spelled)) accepted.derived)
+
+-- ---- another form
+
+pub other_form_no_monitor : (bytes : List ℕ) (tokens slice : List Token) (tree : MonitorTree) → Lexes bytes tokens → slice ≡ tokens
+    → ((other : MonitorTree) → Derives bytes slice other → tree ≡ other) → is_first_form tree ≡ false → IsNoMonitor bytes
+other_form_no_monitor bytes tokens slice tree lexes same parses other_form monitor accepted =
+    let is : tree ≡ accepted.tree = parses accepted.tree (subst (λ (t : List Token). Derives bytes t accepted.tree) (sym (same ∙ lexes accepted.tokens accepted.spelled)) accepted.derived) in
+    let both : is_first_form accepted.tree ≡ false = ap is_first_form (sym is) ∙ other_form in
+    let clash : true ≡ false = sym accepted.first_form ∙ both in absurd cc
 
 -- ---- a broken rule
 

@@ -1,10 +1,12 @@
 -- What the program answers.
-use Rattle.std.specs.Prelude.{◌≡◌, ◌≤◌, ◌⊎◌, ℕ, List, length, Option, Some, IfSome}
+use Rattle.std.specs.Prelude.{◌≡◌, ◌≤◌, ◌⊎◌, ℕ, true, List, length, Option, Some, IfSome}
 use Rattle.mon_syntax.specs.declared.token.Token.{Token}
 use Rattle.mon_syntax.specs.declared.tree.MonitorTree.{MonitorTree}
 use Rattle.mon_syntax.specs.declared.tree.ClientsTree.{ClientsTree}
 use Rattle.mon_syntax.specs.Spelling.{Spells}
-use Rattle.mon_syntax.specs.Grammar.{Derives, DerivesClients}
+use Rattle.mon_syntax.specs.Grammar.{Derives}
+use Rattle.mon_syntax.specs.ClientGrammar.{DerivesClients}
+use Rattle.mon_types.specs.FirstForm.{is_first_form}
 use Rattle.mon_types.specs.MonitorParts.{MonitorParts}
 use Rattle.mon_types.specs.Rules.{BreaksNone}
 use Rattle.mon_types.specs.Typed.{IsTyped}
@@ -27,6 +29,7 @@ pub record IsAccepted (bytes : List ℕ) (monitor : MonitorParts) : Type 0 where
   pub short : length bytes ≤ 65536
   pub spelled : Spells bytes tokens
   pub derived : Derives bytes tokens tree
+  pub first_form : is_first_form tree ≡ true
   pub unbroken : BreaksNone tree
   pub typed : IsTyped tree monitor
 

@@ -3,7 +3,7 @@
 ghost use Rattle.std.specs.Prelude.{◌≡◌, ◌≢◌, ◌≤◌, ◌<◌, ◌↔◌, IsTrue, All, AllPairs, Any, IfErr, IfOk, IfSome, MatchResult, OnOk, length, position, []};
 ghost use Rattle.std.specs.Str.{bytes_eq};
 ghost use Rattle.mon_syntax.specs.declared.tree.Item.{out-Item};
-ghost use Rattle.mon_syntax.specs.Grammar.{AreParsed};
+ghost use Rattle.mon_syntax.specs.ClientGrammar.{AreParsed};
 ghost use Rattle.mon_implicit.specs.Scripted.{FitsCall, FitsScripts};
 ghost use Rattle.expresso_cli.specs.Scripts.{BreaksNoScripts, HasScriptCause, IsScripted, calls_in_file, method_named, place_of};
 ghost use Rattle.expresso_cli.specs.ScriptChecks.{AreMadeCalls, AreMadeClients, BreaksAlone, BlamesItem, BlamesItems, HaveCalls, IsMadeCall, IsMadeClient, IsOneCall, calls_among};

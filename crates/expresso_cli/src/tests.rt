@@ -271,7 +271,7 @@ fn has_status(
 
 #[test]
 fn monitor_files_at_the_edge_of_the_first_form(rt: HostRuntime) -> Result<(), Fail> {
-    let table: [(&str, &[u8], Status); 16] = [
+    let table: [(&str, &[u8], Status); 22] = [
         (
             "a lone sign",
             b"monitor M { int x = 0; @ }",
@@ -338,6 +338,32 @@ fn monitor_files_at_the_edge_of_the_first_form(rt: HostRuntime) -> Result<(), Fa
         (
             "an unknown name",
             b"monitor M { int x = 0; method m() waituntil (y == 0) { } }",
+            Status::Refused,
+        ),
+        (
+            "parentheses round a guard and a value",
+            b"monitor M { int x = 0; method m() waituntil ((x == (0))) { x = (x + 1); } }",
+            Status::Done,
+        ),
+        ("a constant", b"monitor M { const C = 1; }", Status::Refused),
+        (
+            "a bool field",
+            b"monitor M { bool b = true; }",
+            Status::Refused,
+        ),
+        (
+            "a parameter",
+            b"monitor M { int x = 0; method m(int n) waituntil (x == 0) { } }",
+            Status::Refused,
+        ),
+        (
+            "a sum in a guard",
+            b"monitor M { int x = 0; method m() waituntil (x + 1 == 0) { } }",
+            Status::Refused,
+        ),
+        (
+            "an if",
+            b"monitor M { int x = 0; method m() waituntil (x == 0) { if (x == 0) { } } }",
             Status::Refused,
         ),
     ];

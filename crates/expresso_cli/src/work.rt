@@ -9,7 +9,7 @@ use super::script_fault::ScriptFault;
 use super::scripts::clients;
 use mon_implicit::{Scripts, Turns, turns};
 use mon_syntax::{LexFault, SyntaxFault, parse_clients, parse_monitor, tokens};
-use mon_types::{Monitor, TypeFault, check};
+use mon_types::{Monitor, TypeFault, check, is_first_form};
 use std::alloc::{AllocError, Global};
 
 /// The greatest length of a file, in bytes.
@@ -78,6 +78,9 @@ pub fn read_monitor(alloc: Global, bytes: &[u8]) -> Result<Option<Monitor>, Allo
         Err(SyntaxFault::At { .. }) => return Ok(None),
         Err(SyntaxFault::OutOfMemory) => return Err(AllocError),
     };
+    if !is_first_form(&tree) {
+        return Ok(None);
+    }
     match check(alloc, &tree) {
         Ok(monitor) => Ok(Some(monitor)),
         Err(fault) => {

@@ -28,7 +28,7 @@ no_step false k o p q e = q e
 no_number : (text : List ℕ) → kind_of_word text ≡ kinds.Number → ⊥
 no_number text = no_step (bytes_eq text (codes "monitor")) kinds.KeyMonitor _ (λ e. cc) (no_step (bytes_eq text (codes "const")) kinds.KeyConst _ (λ e. cc) (no_step (bytes_eq text (codes "int")) kinds.KeyInt _ (λ e. cc) (no_step (bytes_eq text (codes "bool")) kinds.KeyBool _ (λ e. cc) (no_step (bytes_eq text (codes "true")) kinds.KeyTrue _ (λ e. cc) (no_step (bytes_eq text (codes "false")) kinds.KeyFalse _ (λ e. cc) (no_step (bytes_eq text (codes "method")) kinds.KeyMethod _ (λ e. cc) (no_step (bytes_eq text (codes "waituntil")) kinds.KeyWaituntil _ (λ e. cc) (no_step (bytes_eq text (codes "if")) kinds.KeyIf _ (λ e. cc) (no_step (bytes_eq text (codes "else")) kinds.KeyElse _ (λ e. cc) (no_step (bytes_eq text (codes "return")) kinds.KeyReturn _ (λ e. cc) (no_step (bytes_eq text (codes "client")) kinds.KeyClient _ (λ e. cc) (no_step (bytes_eq text (codes "repeat")) kinds.KeyRepeat _ (λ e. cc) (no_step (bytes_eq text (codes "try")) kinds.KeyTry _ (λ e. cc) (no_step (bytes_eq text (codes "local")) kinds.KeyLocal _ (λ e. cc) (λ e. cc)))))))))))))))
 
-text_at : (whole before text after : List ℕ) (t : Token) → whole ≡ before ++ (text ++ after) → t.at ≡ length before → t.len ≡ length text → (text_of whole t ≡ text) × (t.at + t.len ≤ length whole)
+pub text_at : (whole before text after : List ℕ) (t : Token) → whole ≡ before ++ (text ++ after) → t.at ≡ length before → t.len ≡ length text → (text_of whole t ≡ text) × (t.at + t.len ≤ length whole)
 text_at whole before text after t parts at len =
     let dropped : drop t.at whole ≡ text ++ after = ap (drop t.at) parts ∙ drop_at before (text ++ after) t.at (sym at) in
     (ap (take t.len) dropped ∙ take_at text after t.len (sym len), omega (arith, ap length parts, length-append before (text ++ after), length-append text after))

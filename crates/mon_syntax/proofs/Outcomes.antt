@@ -1,13 +1,14 @@
 -- What a parser answers, from what the words give.
-use Rattle.std.proofs.Common.{◌≡◌, ℕ, List, Result, Ok, Err, sym, subst, ◌∙◌}
+use Rattle.std.proofs.Common.{◌≡◌, ℕ, ◌-◌, List, length, drop, Result, Ok, Err, sym, subst, ◌∙◌}
 use Rattle.mon_syntax.specs.declared.token.Token.{Token}
 use Rattle.mon_syntax.specs.declared.fault.Stop.{Stop}
 use Rattle.mon_syntax.specs.declared.fault.Stop.TheVariants as stops
 use Rattle.mon_syntax.specs.declared.fault.SyntaxFault.{SyntaxFault}
 use Rattle.mon_syntax.specs.Spelling.{Spells}
-use Rattle.mon_syntax.specs.Fault.{IsAt, IsPlace, Parses}
-use Rattle.mon_syntax.specs.Reading.{Fails, IsFaultOf, AreTokens}
-use Rattle.mon_syntax.proofs.Many.{ok_is}
+use Rattle.mon_syntax.specs.Grammar.{Rule}
+use Rattle.mon_syntax.specs.Fault.{IsAt, IsFaultAt, Parses}
+use Rattle.mon_syntax.specs.Reading.{Fails, IsFaultOf, AreTokens, first_offset}
+use Rattle.mon_syntax.proofs.Readers.{ok_is}
 use Rattle.mon_syntax.proofs.Numerals.{tokens_are}
 
 pub are_tokens : (bytes : List ℕ) (tokens : List Token) → Spells bytes tokens → AreTokens bytes tokens
@@ -24,6 +25,10 @@ pub err_parses : {Tree : Type 0} (bytes : List ℕ) (tokens : List Token) (read 
 err_parses bytes tokens read (stops.Before left) fault tree given is again = absurd cc
 err_parses bytes tokens read stops.OutOfMemory fault tree given is again = subst (λ (f : SyntaxFault). Parses (Err f) tree) (sym is) tt
 
-pub fault_stands : (bytes : List ℕ) (tokens : List Token) (stop : Stop) (fault : SyntaxFault) → IsFaultOf bytes tokens stop fault → IsAt fault (IsPlace bytes tokens)
-fault_stands bytes tokens (stops.Before left) fault is = subst (λ (f : SyntaxFault). IsAt f (IsPlace bytes tokens)) (sym is.1) is.2
-fault_stands bytes tokens stops.OutOfMemory fault is = subst (λ (f : SyntaxFault). IsAt f (IsPlace bytes tokens)) (sym is) tt
+-- a fault stands where reading stopped
+pub err_place : {Tree : Type 0} (IsTree : Rule Tree) (bytes : List ℕ) (tokens : List Token) (read : Result Tree ℕ) (stop : Stop) (fault : SyntaxFault)
+    → Fails stop read → IsFaultOf bytes tokens stop fault
+    → ((left : ℕ) → read ≡ Err left → IsFaultAt IsTree bytes tokens (first_offset bytes (drop (length tokens - left) tokens)))
+    → IsAt fault (IsFaultAt IsTree bytes tokens)
+err_place IsTree bytes tokens read (stops.Before left) fault given is at = subst (λ (f : SyntaxFault). IsAt f (IsFaultAt IsTree bytes tokens)) (sym is) (at left given)
+err_place IsTree bytes tokens read stops.OutOfMemory fault given is at = subst (λ (f : SyntaxFault). IsAt f (IsFaultAt IsTree bytes tokens)) (sym is) tt

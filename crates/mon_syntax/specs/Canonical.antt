@@ -95,11 +95,12 @@ expression_text expression = (printed expression).text
 abbrev pub indent : ℕ → List ℕ
 indent depth = replicate (2 * depth) 32
 
--- the lines of a statement, by the depth where it stands
+-- ` else {` and its lines, where there are any
 abbrev pub otherwise : ℕ → List (ℕ → List ℕ) → List ℕ
 otherwise depth [] = []
 otherwise depth (first ∷ rest) = codes " else {\n" ++ flat_map (λ lines. lines (depth + 1)) (first ∷ rest) ++ indent depth ++ codes "}"
 
+-- the lines of a statement, by the depth where it stands
 abbrev pub statement_step : StmtTree-F (ℕ → List ℕ) → ℕ → List ℕ
 statement_step (Set at name value) depth = indent depth ++ name ++ codes " = " ++ expression_text value ++ codes ";\n"
 statement_step (If at when body other) depth =

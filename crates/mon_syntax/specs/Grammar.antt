@@ -1,56 +1,68 @@
--- The grammar of the first form of both files: which words are a tree's, a rule for each production.
-use Rattle.std.specs.Prelude.{◌≡◌, ◌≤◌, ℕ, Bool, true, false, List, [], ◌∷◌, ◌++◌, length}
+-- The grammar of monitor files: which words are a tree's, one definition for each production.
+use Rattle.std.specs.Prelude.{◌≡◌, ℕ, zero, suc, ◌≤◌, ◌⊎◌, Bool, true, false, List, [], ◌∷◌, ◌++◌, length, Option, Some, None}
 use Rattle.mon_syntax.specs.declared.token.TokenKind.{TokenKind}
 use Rattle.mon_syntax.specs.declared.token.TokenKind.TheVariants as kinds
 use Rattle.mon_syntax.specs.declared.token.Token.{Token}
 use Rattle.mon_syntax.specs.declared.tree.Lit.{Lit}
 use Rattle.mon_syntax.specs.declared.tree.Decl.{Decl}
 use Rattle.mon_syntax.specs.declared.tree.Decl.TheVariants as decls
+use Rattle.mon_syntax.specs.declared.tree.InputKind.{InputKind}
+use Rattle.mon_syntax.specs.declared.tree.InputKind.TheVariants as inputs
+use Rattle.mon_syntax.specs.declared.tree.InputTree.{InputTree}
 use Rattle.mon_syntax.specs.declared.tree.Op.{Op}
 use Rattle.mon_syntax.specs.declared.tree.Op.TheVariants as ops
-use Rattle.mon_syntax.specs.declared.tree.Expr.{Expr, out-Expr}
-use Rattle.mon_syntax.specs.declared.tree.Expr.TheOpen.{Expr-F, Number, Named, Sum, Compare}
+use Rattle.mon_syntax.specs.declared.tree.Expr.{Expr}
+use Rattle.mon_syntax.specs.declared.tree.Expr.TheVariants as exprs
 use Rattle.mon_syntax.specs.declared.tree.Addend.{Addend, out-Addend}
-use Rattle.mon_syntax.specs.declared.tree.Factor.{Factor}
-use Rattle.mon_syntax.specs.declared.tree.StmtTree.{StmtTree, out-StmtTree}
-use Rattle.mon_syntax.specs.declared.tree.StmtTree.TheOpen.{StmtTree-F, Set}
+use Rattle.mon_syntax.specs.declared.tree.Factor.{Factor, out-Factor}
+use Rattle.mon_syntax.specs.declared.tree.StmtTree.{StmtTree}
+use Rattle.mon_syntax.specs.declared.tree.StmtTree.TheVariants as statements
 use Rattle.mon_syntax.specs.declared.tree.MethodTree.{MethodTree}
 use Rattle.mon_syntax.specs.declared.tree.MonitorTree.{MonitorTree}
-use Rattle.mon_syntax.specs.declared.tree.Item.{Item, out-Item}
-use Rattle.mon_syntax.specs.declared.tree.Item.TheOpen.{Item-F, Call}
-use Rattle.mon_syntax.specs.declared.tree.ClientTree.{ClientTree}
-use Rattle.mon_syntax.specs.declared.tree.ClientsTree.{ClientsTree}
 use Rattle.mon_syntax.specs.Spelling.{Spells}
 use Rattle.mon_syntax.specs.Words.{Word, ident, numeral, mark, words}
 
+-- A rule says which words are a tree's.
+abbrev pub Rule : Type 0 → Type 1
+Rule Tree = Tree → List Word → Type 0
+
+-- ---- how rules are put together
+
+-- the one rule's words, and then the other's
+infixr 20 ◌⌢◌
+abbrev pub ◌⌢◌ : (List Word → Type 0) → (List Word → Type 0) → List Word → Type 0
+(First ⌢ Second) ws = (front : List Word) × (rest : List Word) × First front × Second rest × (ws ≡ front ++ rest)
+
 -- x*: the words of one tree after the other
-abbrev pub Each : {A : Type 0} → (A → List Word → Type 0) → List A → List Word → Type 0
-Each Rule [] ws = ws ≡ []
-Each Rule (tree ∷ trees) ws = (front : List Word) × (rest : List Word) × Rule tree front × Each Rule trees rest × (ws ≡ front ++ rest)
+abbrev pub Each : {Tree : Type 0} → Rule Tree → Rule (List Tree)
+Each IsTree [] ws = ws ≡ []
+Each IsTree (tree ∷ trees) ws = (IsTree tree ⌢ Each IsTree trees) ws
 
--- lit = ["-"] NUM
-abbrev pub minus_sign : Bool → List Word
-minus_sign true = mark kinds.Minus ∷ []
-minus_sign false = []
+-- [x]
+abbrev pub Maybe : {Tree : Type 0} → Rule Tree → Rule (Option Tree)
+Maybe IsTree None ws = ws ≡ []
+Maybe IsTree (Some tree) ws = IsTree tree ws
 
-abbrev pub lit : Lit → List Word
-lit value = minus_sign value.minus ++ numeral value.digits value.at ∷ []
+-- ---- single words
 
--- field = "int" ID "=" lit ";"
-abbrev pub IsField : Decl → List Word → Type 0
-IsField (decls.Int at name value) ws = ws ≡ mark kinds.KeyInt ∷ ident name at ∷ mark kinds.Assign ∷ lit value ++ mark kinds.Semicolon ∷ []
-IsField decl ws = ⊥
+abbrev pub IsIdent : List ℕ → ℕ → List Word → Type 0
+IsIdent name at ws = ws ≡ ident name at ∷ []
 
--- term = ID | NUM
-abbrev pub IsTermLayer : Expr-F Expr Addend Factor → List Word → Type 0
-IsTermLayer (Named at name) ws = ws ≡ ident name at ∷ []
-IsTermLayer (Number at value) ws = ws ≡ numeral value at ∷ []
-IsTermLayer expression ws = ⊥
+abbrev pub IsNumeral : ℕ → ℕ → List Word → Type 0
+IsNumeral value at ws = ws ≡ numeral value at ∷ []
 
-abbrev pub IsTerm : Expr → List Word → Type 0
-IsTerm expression = IsTermLayer (out-Expr expression)
+-- a keyword or a sign, at an offset that the tree keeps
+abbrev pub IsMarkAt : TokenKind → ℕ → List Word → Type 0
+IsMarkAt kind at ws = ws ≡ mark kind at ∷ []
 
--- op = "==" | "!=" | "<" | "<=" | ">" | ">="
+-- a keyword or a sign, wherever it stands
+abbrev pub IsMark : TokenKind → List Word → Type 0
+IsMark kind ws = (at : ℕ) × IsMarkAt kind at ws
+
+abbrev pub truth_word : Bool → TokenKind
+truth_word true = kinds.KeyTrue
+truth_word false = kinds.KeyFalse
+
 abbrev pub op_sign : Op → TokenKind
 op_sign ops.Equal = kinds.Equal
 op_sign ops.Differs = kinds.Differs
@@ -59,87 +71,157 @@ op_sign ops.AtMost = kinds.AtMost
 op_sign ops.More = kinds.More
 op_sign ops.AtLeast = kinds.AtLeast
 
--- guard = term op term
-abbrev pub IsGuardLayer : Expr-F Expr Addend Factor → List Word → Type 0
-IsGuardLayer (Compare op left right) ws = (l : List Word) × (r : List Word) × IsTerm left l × IsTerm right r × (ws ≡ l ++ mark (op_sign op) ∷ r)
-IsGuardLayer expression ws = ⊥
-
-abbrev pub IsGuard : Expr → List Word → Type 0
-IsGuard expression = IsGuardLayer (out-Expr expression)
-
 abbrev pub sum_sign : Bool → TokenKind
 sum_sign true = kinds.Minus
 sum_sign false = kinds.Plus
 
--- ID ("+" | "-") NUM
-abbrev pub IsAddendLayer : ℕ → List ℕ → Bool → Expr-F Expr Addend Factor → List Word → Type 0
-IsAddendLayer at name minus (Number number_at value) ws = ws ≡ ident name at ∷ mark (sum_sign minus) ∷ numeral value number_at ∷ []
-IsAddendLayer at name minus expression ws = ⊥
+-- ---- expressions: each level over the rule of a unary expression
 
-abbrev pub IsSumLayer : Expr-F Expr Addend Factor → List Addend → List Word → Type 0
-IsSumLayer (Named at name) (addend ∷ []) ws = IsAddendLayer at name (out-Addend addend).minus (out-Expr (out-Addend addend).of) ws
-IsSumLayer first rest ws = ⊥
+-- A chain of one part is that part.
+abbrev pub chain : {Part : Type 0} → (Expr → List Part → Expr) → Expr → List Part → Expr
+chain node first [] = first
+chain node first (next ∷ more) = node first (next ∷ more)
 
--- value = NUM | ID | ID ("+" | "-") NUM
-abbrev pub IsValueLayer : Expr-F Expr Addend Factor → List Word → Type 0
-IsValueLayer (Sum first rest) ws = IsSumLayer (out-Expr first) rest ws
-IsValueLayer expression ws = IsTermLayer expression ws
+abbrev pub IsChain : {Part : Type 0} → (Expr → List Part → Expr) → Rule Expr → Rule Part → Rule Expr
+IsChain {Part} node IsFirst IsPart expression ws =
+    (first : Expr) × (rest : List Part) × (expression ≡ chain node first rest) × (IsFirst first ⌢ Each IsPart rest) ws
 
-abbrev pub IsValue : Expr → List Word → Type 0
-IsValue expression = IsValueLayer (out-Expr expression)
+-- product = unary ("*" unary)*
+abbrev pub IsFactor : Rule Expr → Rule Factor
+IsFactor Unary factor = IsMarkAt kinds.Star (out-Factor factor).at ⌢ Unary (out-Factor factor).of
 
--- set = ID "=" value ";"
-abbrev pub IsSetLayer : StmtTree-F StmtTree → List Word → Type 0
-IsSetLayer (Set at name value) ws = (v : List Word) × IsValue value v × (ws ≡ ident name at ∷ mark kinds.Assign ∷ v ++ mark kinds.Semicolon ∷ [])
-IsSetLayer statement ws = ⊥
+abbrev pub IsProduct : Rule Expr → Rule Expr
+IsProduct Unary = IsChain exprs.Product Unary (IsFactor Unary)
 
-abbrev pub IsSet : StmtTree → List Word → Type 0
-IsSet statement = IsSetLayer (out-StmtTree statement)
+-- sum = product (("+" | "-") product)*
+abbrev pub IsAddend : Rule Expr → Rule Addend
+IsAddend Unary addend = IsMark (sum_sign (out-Addend addend).minus) ⌢ IsProduct Unary (out-Addend addend).of
 
--- method = "method" ID "(" ")" "waituntil" "(" guard ")" "{" set* "}"
-pub record IsMethod (method : MethodTree) (ws : List Word) : Type 0 where
-  pub guard : List Word
-  pub body : List Word
-  pub no_inputs : method.inputs ≡ []
-  pub is_guard : IsGuard method.guard guard
-  pub is_body : Each IsSet method.body body
-  pub all : ws ≡ mark kinds.KeyMethod ∷ ident method.name method.at ∷ mark kinds.OpenParen ∷ mark kinds.CloseParen
-      ∷ mark kinds.KeyWaituntil ∷ mark kinds.OpenParen ∷ guard ++ mark kinds.CloseParen
-      ∷ mark kinds.OpenBrace ∷ body ++ mark kinds.CloseBrace ∷ []
+abbrev pub IsSum : Rule Expr → Rule Expr
+IsSum Unary = IsChain exprs.Sum (IsProduct Unary) (IsAddend Unary)
 
--- monitor_file = "monitor" ID "{" field* method* "}"
-pub record IsMonitorFile (tree : MonitorTree) (ws : List Word) : Type 0 where
-  pub at : ℕ
-  pub fields : List Word
-  pub methods : List Word
-  pub are_fields : Each IsField tree.decls fields
-  pub are_methods : Each IsMethod tree.methods methods
-  pub all : ws ≡ mark kinds.KeyMonitor ∷ ident tree.name at ∷ mark kinds.OpenBrace ∷ fields ++ methods ++ mark kinds.CloseBrace ∷ []
+-- comparison = sum [("==" | "!=" | "<" | "<=" | ">" | ">=") sum]
+abbrev pub comparison : Expr → Option (Op × Expr) → Expr
+comparison left None = left
+comparison left (Some (op, right)) = exprs.Compare op left right
 
--- call = ID "(" ")" ";"
-abbrev pub IsCallLayer : Item-F Item → List Word → Type 0
-IsCallLayer (Call at name args) ws = (args ≡ []) × (ws ≡ ident name at ∷ mark kinds.OpenParen ∷ mark kinds.CloseParen ∷ mark kinds.Semicolon ∷ [])
-IsCallLayer item ws = ⊥
+abbrev pub IsCompared : Rule Expr → Rule (Op × Expr)
+IsCompared Unary (op, right) = IsMark (op_sign op) ⌢ IsSum Unary right
 
-abbrev pub IsCall : Item → List Word → Type 0
-IsCall item = IsCallLayer (out-Item item)
+abbrev pub IsComparison : Rule Expr → Rule Expr
+IsComparison Unary expression ws =
+    (left : Expr) × (rest : Option (Op × Expr)) × (expression ≡ comparison left rest) × (IsSum Unary left ⌢ Maybe (IsCompared Unary) rest) ws
 
--- client = "client" ID "{" call* "}"
-abbrev pub IsClient : ClientTree → List Word → Type 0
-IsClient client ws = (calls : List Word) × Each IsCall client.items calls
-    × (ws ≡ mark kinds.KeyClient ∷ ident client.name client.at ∷ mark kinds.OpenBrace ∷ calls ++ mark kinds.CloseBrace ∷ [])
+-- conjunction = comparison ("&&" comparison)*
+abbrev pub both : Expr → List Expr → Expr
+both first rest = exprs.Both (first ∷ rest)
 
--- client_file = client*
-abbrev pub IsClientFile : ClientsTree → List Word → Type 0
-IsClientFile tree ws = Each IsClient tree.clients ws
+abbrev pub IsConjunction : Rule Expr → Rule Expr
+IsConjunction Unary = IsChain both (IsComparison Unary) (λ part. IsMark kinds.And ⌢ IsComparison Unary part)
+
+-- expression = conjunction ("||" conjunction)*
+abbrev pub either : Expr → List Expr → Expr
+either first rest = exprs.Either (first ∷ rest)
+
+abbrev pub IsDisjunction : Rule Expr → Rule Expr
+IsDisjunction Unary = IsChain either (IsConjunction Unary) (λ part. IsMark kinds.Or ⌢ IsConjunction Unary part)
+
+-- atom = NUM | "true" | "false" | ID
+abbrev pub IsAtom : Rule Expr
+IsAtom expression ws =
+    ((value : ℕ) × (at : ℕ) × (expression ≡ exprs.Number at value) × IsNumeral value at ws)
+    ⊎ ((value : Bool) × (at : ℕ) × (expression ≡ exprs.Truth at value) × IsMarkAt (truth_word value) at ws)
+    ⊎ ((name : List ℕ) × (at : ℕ) × (expression ≡ exprs.Named at name) × IsIdent name at ws)
+
+-- What opens a level for what it contains: "-" unary | "!" unary | "(" expression ")". Parentheses give no node.
+abbrev pub IsOpened : Rule Expr → Rule Expr
+IsOpened Unary expression ws =
+    ((at : ℕ) × (of : Expr) × (expression ≡ exprs.Minus at of) × (IsMarkAt kinds.Minus at ⌢ Unary of) ws)
+    ⊎ ((at : ℕ) × (of : Expr) × (expression ≡ exprs.Not at of) × (IsMarkAt kinds.Not at ⌢ Unary of) ws)
+    ⊎ (IsMark kinds.OpenParen ⌢ IsDisjunction Unary expression ⌢ IsMark kinds.CloseParen) ws
+
+-- a unary expression or an atom, where so many levels may still be opened
+abbrev pub IsUnary : ℕ → Rule Expr
+IsUnary zero expression ws = IsAtom expression ws
+IsUnary (suc levels) expression ws = IsAtom expression ws ⊎ IsOpened (IsUnary levels) expression ws
+
+abbrev pub IsExpression : ℕ → Rule Expr
+IsExpression levels = IsDisjunction (IsUnary levels)
+
+-- ---- statements
+
+-- "{" statement* "}"
+abbrev pub IsBlock : Rule StmtTree → Rule (List StmtTree)
+IsBlock Inner body = IsMark kinds.OpenBrace ⌢ Each Inner body ⌢ IsMark kinds.CloseBrace
+
+-- ["else" block]: an absent block and an empty one give the same tree
+abbrev pub IsElse : Rule StmtTree → Rule (List StmtTree)
+IsElse Inner body ws = ((body ≡ []) × (ws ≡ [])) ⊎ (IsMark kinds.KeyElse ⌢ IsBlock Inner body) ws
+
+-- ID "=" expression ";" | "return" expression ";"
+abbrev pub IsSimple : ℕ → Rule StmtTree
+IsSimple levels statement ws =
+    ((at : ℕ) × (name : List ℕ) × (value : Expr) × (statement ≡ statements.Set at name value)
+    × (IsIdent name at ⌢ IsMark kinds.Assign ⌢ IsExpression levels value ⌢ IsMark kinds.Semicolon) ws)
+    ⊎ ((at : ℕ) × (value : Expr) × (statement ≡ statements.Return at value)
+    × (IsMarkAt kinds.KeyReturn at ⌢ IsExpression levels value ⌢ IsMark kinds.Semicolon) ws)
+
+-- "if" "(" expression ")" block ["else" block]
+abbrev pub IsIf : ℕ → Rule StmtTree → Rule StmtTree
+IsIf levels Inner statement ws =
+    (at : ℕ) × (when : Expr) × (body : List StmtTree) × (other : List StmtTree) × (statement ≡ statements.If at when body other)
+    × (IsMarkAt kinds.KeyIf at ⌢ IsMark kinds.OpenParen ⌢ IsExpression levels when ⌢ IsMark kinds.CloseParen ⌢ IsBlock Inner body ⌢ IsElse Inner other) ws
+
+-- a statement, where so many levels may still be opened; each block opens one
+abbrev pub IsStatement : ℕ → Rule StmtTree
+IsStatement zero statement ws = IsSimple zero statement ws
+IsStatement (suc levels) statement ws = IsSimple (suc levels) statement ws ⊎ IsIf (suc levels) (IsStatement levels) statement ws
+
+-- ---- files
+
+-- literal = ["-"] NUM
+abbrev pub after_minus : Bool → (List Word → Type 0) → List Word → Type 0
+after_minus true Rest = IsMark kinds.Minus ⌢ Rest
+after_minus false Rest = Rest
+
+abbrev pub IsLiteral : Rule Lit
+IsLiteral literal = after_minus literal.minus (IsNumeral literal.digits literal.at)
+
+-- declaration = "const" ID "=" literal ";" | "int" ID "=" literal ";" | "bool" ID "=" ("true" | "false") ";"
+abbrev pub IsDeclaration : Rule Decl
+IsDeclaration (decls.Const at name value) = IsMark kinds.KeyConst ⌢ IsIdent name at ⌢ IsMark kinds.Assign ⌢ IsLiteral value ⌢ IsMark kinds.Semicolon
+IsDeclaration (decls.Int at name value) = IsMark kinds.KeyInt ⌢ IsIdent name at ⌢ IsMark kinds.Assign ⌢ IsLiteral value ⌢ IsMark kinds.Semicolon
+IsDeclaration (decls.Flag at name value) = IsMark kinds.KeyBool ⌢ IsIdent name at ⌢ IsMark kinds.Assign ⌢ IsMark (truth_word value) ⌢ IsMark kinds.Semicolon
+
+-- input = ("int" | "bool") ID
+abbrev pub kind_word : InputKind → TokenKind
+kind_word inputs.Int = kinds.KeyInt
+kind_word inputs.Bool = kinds.KeyBool
+
+abbrev pub IsInput : Rule InputTree
+IsInput input = IsMark (kind_word input.kind) ⌢ IsIdent input.name input.at
+
+-- [input ("," input)*]
+abbrev pub AreInputs : Rule (List InputTree)
+AreInputs [] ws = ws ≡ []
+AreInputs (first ∷ rest) ws = (IsInput first ⌢ Each (λ input. IsMark kinds.Comma ⌢ IsInput input) rest) ws
+
+-- method = "method" ID "(" [input ("," input)*] ")" "waituntil" "(" expression ")" "{" statement* "}"
+abbrev pub IsMethod : Rule MethodTree
+IsMethod method =
+    IsMark kinds.KeyMethod ⌢ IsIdent method.name method.at ⌢ IsMark kinds.OpenParen ⌢ AreInputs method.inputs ⌢ IsMark kinds.CloseParen
+    ⌢ IsMark kinds.KeyWaituntil ⌢ IsMark kinds.OpenParen ⌢ IsExpression 64 method.guard ⌢ IsMark kinds.CloseParen
+    ⌢ IsBlock (IsStatement 64) method.body
+
+-- monitor_file = "monitor" ID "{" declaration* method* "}"
+abbrev pub IsMonitorFile : Rule MonitorTree
+IsMonitorFile tree ws =
+    (at : ℕ) × (IsMark kinds.KeyMonitor ⌢ IsIdent tree.name at ⌢ IsMark kinds.OpenBrace
+    ⌢ Each IsDeclaration tree.decls ⌢ Each IsMethod tree.methods ⌢ IsMark kinds.CloseBrace) ws
 
 -- the tokens, with the bytes that they are spelled by, are those of this monitor file
 abbrev pub Derives : List ℕ → List Token → MonitorTree → Type 0
 Derives bytes tokens tree = IsMonitorFile tree (words bytes tokens)
-
--- the same for a client file
-abbrev pub DerivesClients : List ℕ → List Token → ClientsTree → Type 0
-DerivesClients bytes tokens tree = IsClientFile tree (words bytes tokens)
 
 -- some text of at most 65,536 bytes is spelled by tokens that derive this tree
 pub record IsParsed (tree : MonitorTree) : Type 0 where
@@ -148,11 +230,3 @@ pub record IsParsed (tree : MonitorTree) : Type 0 where
   pub short : length bytes ≤ 65536
   pub spelled : Spells bytes tokens
   pub derived : Derives bytes tokens tree
-
--- the same of a client file
-pub record AreParsed (tree : ClientsTree) : Type 0 where
-  pub bytes : List ℕ
-  pub tokens : List Token
-  pub short : length bytes ≤ 65536
-  pub spelled : Spells bytes tokens
-  pub derived : DerivesClients bytes tokens tree

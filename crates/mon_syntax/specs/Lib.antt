@@ -3,6 +3,8 @@ pub mod Pieces
 pub mod Lexing
 pub mod Words
 pub mod Grammar
+pub mod ClientGrammar
+pub mod Offsets
 pub mod Names
 pub mod Fault
 pub mod Reading

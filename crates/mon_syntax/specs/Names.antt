@@ -11,11 +11,12 @@ declared_name (decls.Const at name value) = name
 declared_name (decls.Int at name value) = name
 declared_name (decls.Flag at name value) = name
 
--- the monitor's name, and those of its declarations and methods
+-- the monitor's name, and those of its declarations, methods and inputs
 pub record HasIdentifiers (tree : MonitorTree) : Type 0 where
   pub monitor : IsIdentifier tree.name
   pub decls : All (λ decl. IsIdentifier (declared_name decl)) tree.decls
   pub methods : All (λ method. IsIdentifier method.name) tree.methods
+  pub inputs : All (λ method. All (λ input. IsIdentifier input.name) method.inputs) tree.methods
 
 -- the clients' names
 abbrev pub HasClientIdentifiers : ClientsTree → Type 0

@@ -1,4 +1,4 @@
--- What tokens say: names, numbers, keywords and signs, each name and number with its offset.
+-- What tokens say: names, numbers, keywords and signs, each with its offset.
 use Rattle.std.specs.Prelude.{ℕ, ◌+◌, ◌*◌, ◌-◌, List, map, fold}
 use Rattle.mon_syntax.specs.declared.token.TokenKind.{TokenKind}
 use Rattle.mon_syntax.specs.declared.token.TokenKind.TheVariants as kinds
@@ -9,17 +9,18 @@ use Rattle.mon_syntax.specs.Spelling.{text_of}
 abbrev pub decimal : List ℕ → ℕ
 decimal digits = fold (λ value digit. value * 10 + (digit - 48)) 0 digits
 
--- a token with what it says; the last number of `ident` and `numeral` is the offset
+-- a token with what it says: a name, a number, or a keyword or sign; the last number is the offset
+-- (`word_of` makes no mark of a name or number)
 pub data Word : Type 0 where
   ident : List ℕ → ℕ → Word
   numeral : ℕ → ℕ → Word
-  mark : TokenKind → Word
+  mark : TokenKind → ℕ → Word
 
 -- what a token of this kind, with this text, at this offset, says
 abbrev pub word_of : TokenKind → List ℕ → ℕ → Word
 word_of kinds.Ident text at = ident text at
 word_of kinds.Number text at = numeral (decimal text) at
-word_of kind text at = mark kind
+word_of kind text at = mark kind at
 
 abbrev pub word : List ℕ → Token → Word
 word bytes token = word_of token.kind (text_of bytes token) token.at

@@ -1,15 +1,15 @@
 //! The parser of client files of the first form: one function for each production.
 
-ghost use Rattle.std.specs.Prelude.{◌≡◌, ℕ, ◌⊎◌, ◌≤◌, List, IfOk, IfErr, length, map, Contains};
+ghost use Rattle.std.specs.Prelude.{◌≡◌, ℕ, ◌≤◌, List, IfOk, IfErr, length};
 ghost use Rattle.mon_syntax.specs.declared.tree.ClientsTree.{ClientsTree};
 ghost use Rattle.mon_syntax.specs.Spelling.{Spells};
 ghost use Rattle.mon_syntax.specs.Words.{words};
-ghost use Rattle.mon_syntax.specs.Grammar.{DerivesClients};
-ghost use Rattle.mon_syntax.specs.Fault.{IsAt, IsPlace, Parses};
+ghost use Rattle.mon_syntax.specs.ClientGrammar.{IsClientFile, DerivesClients};
+ghost use Rattle.mon_syntax.specs.Fault.{IsAt, IsFaultAt, Parses};
 ghost use Rattle.mon_syntax.specs.Reading.{Gives, AreTokens, call_at, calls_at, client_at, clients_at, client_file};
 
 use super::fault::{Stop, SyntaxFault, fault_of, stop_before};
-use super::reading::{PlacedName, begins, begins_ident, ident, mark, parens};
+use super::reading::{PlacedName, begins, begins_ident, ident, mark};
 use super::token::{Token, TokenKind};
 use super::tree::{ClientTree, ClientsTree, Item};
 use mon_list::Seq;
@@ -23,7 +23,8 @@ fn call<'a>(alloc: Global, bytes: &[u8], tokens: &'a [Token]) -> Result<(Item, &
     ensures tokens { IfOk result (λ x. AreTokens bytes.now x.1.now) }
 {
     let (PlacedName { at, name }, rest) = ident(alloc, bytes, tokens)?;
-    let rest = parens(rest)?;
+    let rest = mark(TokenKind::OpenParen, rest)?;
+    let rest = mark(TokenKind::CloseParen, rest)?;
     let rest = mark(TokenKind::Semicolon, rest)?;
     let args = Seq::of(Vec::new(alloc));
     Ok((Item::Call { at, name, args }, rest))
@@ -124,8 +125,8 @@ pub fn parse_clients(
     ensures derived { IfOk result (λ tree. DerivesClients bytes.now tokens.now tree) }
     // Where the grammar derives a tree, it is answered, unless memory runs out.
     ensures complete { (tree : ClientsTree) → DerivesClients bytes.now tokens.now tree → Parses result tree }
-    // A fault stands at some token, or at the end.
-    ensures place { IfErr result (λ fault. IsAt fault (IsPlace bytes.now tokens.now)) }
+    // A fault stands at the first token that doesn't fit, or at the end where more is wanted.
+    ensures place { IfErr result (λ fault. IsAt fault (IsFaultAt IsClientFile bytes.now tokens.now)) }
 {
     match whole(alloc, bytes, tokens) {
         Ok(tree) => Ok(tree),

@@ -1,10 +1,9 @@
 //! Why tokens give no tree.
 
-ghost use Rattle.std.specs.Prelude.{◌≡◌, ◌⊎◌, ◌≤◌, ◌^◌, length, map, Contains};
+ghost use Rattle.std.specs.Prelude.{◌≡◌, ◌≤◌, ◌-◌, length, drop};
 ghost use Rattle.mon_syntax.specs.declared.fault.SyntaxFault.TheVariants as faults;
 ghost use Rattle.mon_syntax.specs.declared.fault.Stop.TheVariants as stops;
-ghost use Rattle.mon_syntax.specs.Fault.{IsPlace};
-ghost use Rattle.mon_syntax.specs.Reading.{IsFaultOf};
+ghost use Rattle.mon_syntax.specs.Reading.{IsFaultOf, first_offset};
 
 use super::token::Token;
 use std::alloc::{AllocError, AllocFailed};
@@ -13,7 +12,7 @@ use thiserror::Error;
 /// Why a file gave no tree.
 #[derive(Debug, Drop, Clone, Copy, PartialEq, Eq, Error)]
 pub enum SyntaxFault {
-    /// No tree is derived. The offset is a token's, or the file's length.
+    /// No tree is derived. The offset is that of the first token that doesn't fit, or the file's length.
     #[error("the text breaks the grammar at byte {at}")]
     At { at: u32 },
     /// There was no memory for the tree.
@@ -70,7 +69,7 @@ pub fn stop_before(tokens: &[Token]) -> Stop
 
 fn offset_of(bytes: &[u8], tokens: &[Token], left: usize) -> u32
     requires { length bytes.now ≤ 65536 }
-    ensures { IsPlace bytes.now tokens.now result }
+    ensures { result ≡ first_offset bytes.now (drop (length tokens.now - left) tokens.now) }
 {
     match tokens.get(tokens.len().saturating_sub(left)) {
         Some(token) => token.at,

@@ -5,7 +5,10 @@ ghost use Rattle.mon_syntax.specs.declared.token.Token.{Token};
 ghost use Rattle.mon_syntax.specs.declared.tree.ClientsTree.{ClientsTree};
 ghost use Rattle.mon_syntax.specs.declared.tree.MonitorTree.{MonitorTree};
 ghost use Rattle.mon_syntax.specs.Spelling.{Spells, IsStuck, IsToken};
-ghost use Rattle.mon_syntax.specs.Grammar.{Derives, DerivesClients};
+ghost use Rattle.mon_syntax.specs.Grammar.{Derives};
+ghost use Rattle.mon_syntax.specs.Canonical.{tree_text};
+ghost use Rattle.mon_syntax.specs.Offsets.{unplaced};
+ghost use Rattle.mon_syntax.specs.ClientGrammar.{DerivesClients};
 ghost use Rattle.mon_syntax.specs.Names.{HasIdentifiers, HasClientIdentifiers};
 
 /// Bytes spell one list of tokens at most, and none where they are stuck.
@@ -29,8 +32,14 @@ pub fn derives_one_tree()
         → DerivesClients bytes tokens a → DerivesClients bytes tokens b → a ≡ b }
 {}
 
+/// What is printed of a derived tree spells tokens that derive the same tree, but for offsets.
+pub fn printed_tree_derives()
+    ensures { (bytes : List ℕ) (tokens : List Token) (tree : MonitorTree) → Spells bytes tokens → Derives bytes tokens tree
+        → (printed : List Token) × (again : MonitorTree) × Spells (tree_text tree) printed × Derives (tree_text tree) printed again × (unplaced again ≡ unplaced tree) }
+{}
+
 /// The names of derived trees are identifiers that are no keywords: a monitor's, those of its
-/// declarations and methods, and those of clients.
+/// declarations, methods and inputs, and those of clients.
 pub fn names_are_identifiers()
     ensures monitors { (bytes : List ℕ) (tokens : List Token) (tree : MonitorTree)
         → Spells bytes tokens → Derives bytes tokens tree → HasIdentifiers tree }

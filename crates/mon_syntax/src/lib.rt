@@ -10,6 +10,7 @@
 
 mod clients_parser;
 mod clone;
+mod expression_parser;
 mod fault;
 mod laws;
 mod lexing;
@@ -17,6 +18,7 @@ mod monitor_parser;
 mod piece;
 mod printer;
 mod reading;
+mod statement_parser;
 #[cfg(test)]
 mod tests;
 mod token;
@@ -26,7 +28,9 @@ mod writer;
 pub use clients_parser::parse_clients;
 pub use clone::{copy_expression, copy_statement};
 pub use fault::SyntaxFault;
-pub use laws::{derives_one_tree, each_is_token, names_are_identifiers, one_spelling};
+pub use laws::{
+    derives_one_tree, each_is_token, names_are_identifiers, one_spelling, printed_tree_derives,
+};
 pub use lexing::{LexFault, is_identifier, tokens};
 pub use monitor_parser::parse_monitor;
 pub use printer::print_monitor;

@@ -10,8 +10,6 @@ ghost use Rattle.mon_syntax.specs.Writing.{Wrote};
 mod depth;
 mod expressions;
 mod statements;
-#[cfg(test)]
-mod tests;
 
 use crate::tree::{Decl, InputKind, InputTree, Lit, MethodTree, MonitorTree};
 use crate::writer::{write_piece, write_pieces};

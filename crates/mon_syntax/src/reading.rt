@@ -3,7 +3,7 @@
 ghost use Rattle.std.specs.Prelude.{◌≡◌, ℕ, List, IfOk, Ok};
 ghost use Rattle.mon_syntax.specs.Spelling.{IsToken, IsDecimal, text_of};
 ghost use Rattle.mon_syntax.specs.Words.{decimal, words};
-ghost use Rattle.mon_syntax.specs.Reading.{Gives, AreTokens, IsMark, is_kind, mark_at, begins, begins_ident, ident_at, numeral_at, minus_at, parens_at};
+ghost use Rattle.mon_syntax.specs.Reading.{Gives, AreTokens, IsMarkKind, is_kind, mark_at, placed_at, begins, begins_ident, ident_at, numeral_at};
 
 use super::fault::{Stop, stop_before};
 use super::token::{Token, TokenKind};
@@ -33,8 +33,8 @@ fn is_kind(a: TokenKind, b: TokenKind) -> bool
 /// A keyword or a sign.
 #[tactic(auto, unfolding(crate::specs::Reading::mark_at, crate::specs::Reading::AreTokens))]
 pub fn mark(kind: TokenKind, tokens: &[Token]) -> Result<&[Token], Stop>
-    requires { IsMark kind }
-    ensures gives { (bytes : List ℕ) → Gives (λ rest. words bytes rest.now) result (mark_at kind (words bytes tokens.now)) }
+    requires { IsMarkKind kind }
+    ensures gives { (bytes : List ℕ) → Gives (λ rest. (tt, words bytes rest.now)) result (mark_at kind (words bytes tokens.now)) }
     ensures tokens { (bytes : List ℕ) → AreTokens bytes tokens.now → IfOk result (λ rest. AreTokens bytes rest.now) }
 {
     match tokens {
@@ -43,10 +43,23 @@ pub fn mark(kind: TokenKind, tokens: &[Token]) -> Result<&[Token], Stop>
     }
 }
 
+/// A keyword or a sign, with its offset.
+#[tactic(auto, unfolding(crate::specs::Reading::placed_at, crate::specs::Reading::AreTokens))]
+pub fn placed(kind: TokenKind, tokens: &[Token]) -> Result<(u32, &[Token]), Stop>
+    requires { IsMarkKind kind }
+    ensures gives { (bytes : List ℕ) → Gives (λ x. (x.0, words bytes x.1.now)) result (placed_at kind (words bytes tokens.now)) }
+    ensures tokens { (bytes : List ℕ) → AreTokens bytes tokens.now → IfOk result (λ x. AreTokens bytes x.1.now) }
+{
+    match tokens {
+        [first, rest @ ..] if is_kind(first.kind, kind) => Ok((first.at, rest)),
+        _ => Err(stop_before(tokens)),
+    }
+}
+
 /// Whether this keyword or sign comes next.
 #[tactic(auto, unfolding(crate::specs::Reading::begins))]
 pub fn begins(kind: TokenKind, tokens: &[Token]) -> bool
-    requires { IsMark kind }
+    requires { IsMarkKind kind }
     ensures { (bytes : List ℕ) → result ≡ begins kind (words bytes tokens.now) }
 {
     match tokens {
@@ -148,26 +161,4 @@ pub fn numeral<'a>(bytes: &[u8], tokens: &'a [Token]) -> Result<(PlacedNumber, &
         },
         _ => Err(stop_before(tokens)),
     }
-}
-
-/// ["-"]: whether a minus sign was there.
-#[tactic(auto, unfolding(crate::specs::Reading::minus_at, crate::specs::Reading::AreTokens))]
-pub fn minus(tokens: &[Token]) -> (bool, &[Token])
-    ensures gives { (bytes : List ℕ) → minus_at (words bytes tokens.now) ≡ Ok (result.0, words bytes result.1.now) }
-    ensures tokens { (bytes : List ℕ) → AreTokens bytes tokens.now → AreTokens bytes result.1.now }
-{
-    match tokens {
-        [first, rest @ ..] if is_kind(first.kind, TokenKind::Minus) => (true, rest),
-        _ => (false, tokens),
-    }
-}
-
-/// "(" ")"
-#[tactic(auto, unfolding(crate::specs::Reading::parens_at))]
-pub fn parens(tokens: &[Token]) -> Result<&[Token], Stop>
-    ensures gives { (bytes : List ℕ) → Gives (λ rest. words bytes rest.now) result (parens_at (words bytes tokens.now)) }
-    ensures tokens { (bytes : List ℕ) → AreTokens bytes tokens.now → IfOk result (λ rest. AreTokens bytes rest.now) }
-{
-    let rest = mark(TokenKind::OpenParen, tokens)?;
-    mark(TokenKind::CloseParen, rest)
 }

@@ -1,19 +1,24 @@
-ghost use Rattle.std.specs.Prelude.{◌≤◌, length};
+mod levels;
+mod monitors;
+mod places;
+mod printing;
 
 use super::*;
 use std::alloc::Global;
 use std::test::*;
 
-fn monitor(alloc: Global, text: &[u8]) -> Option<Result<MonitorTree, SyntaxFault>>
-    requires { length text.now ≤ 65536 }
-{
+fn monitor(alloc: Global, text: &[u8]) -> Option<Result<MonitorTree, SyntaxFault>> {
+    if text.len() > 65_536 {
+        return None;
+    }
     let read = tokens(alloc, text).ok()?;
     Some(parse_monitor(alloc, text, &read))
 }
 
-fn clients(alloc: Global, text: &[u8]) -> Option<Result<ClientsTree, SyntaxFault>>
-    requires { length text.now ≤ 65536 }
-{
+fn clients(alloc: Global, text: &[u8]) -> Option<Result<ClientsTree, SyntaxFault>> {
+    if text.len() > 65_536 {
+        return None;
+    }
     let read = tokens(alloc, text).ok()?;
     Some(parse_clients(alloc, text, &read))
 }
@@ -119,25 +124,4 @@ fn clients_have_their_calls(rt: HostRuntime) -> Result<(), Fail> {
         _ => assert!(rt; false, "there are two clients"),
     }
     Ok(())
-}
-
-#[test]
-fn a_fault_stands_where_the_grammar_breaks(rt: HostRuntime) {
-    let monitors = [
-        (b"monitor M { int x = 0 }".as_slice(), 22),
-        (b"monitor M { } x".as_slice(), 14),
-        (b"monitor M {".as_slice(), 11),
-        (b"monitor M { int x = - -1; }".as_slice(), 22),
-        (b"".as_slice(), 0),
-    ];
-    for (text, place) in monitors {
-        match monitor(rt.alloc(), text) {
-            Some(Err(SyntaxFault::At { at })) => assert_eq!(rt; at, place, "in {text:?}"),
-            _ => assert!(rt; false, "no fault in {text:?}"),
-        }
-    }
-    match clients(rt.alloc(), b"client A { put() }") {
-        Some(Err(fault)) => assert_eq!(rt; fault, SyntaxFault::At { at: 17 }),
-        _ => assert!(rt; false, "no fault"),
-    }
 }

@@ -1,7 +1,7 @@
 -- A monitor file of the first form, whose names are known and whose numbers are in range, gives a monitor.
-use Rattle.std.proofs.Common.{◌≡◌, ℕ, ◌+◌, ◌<◌, ◌≤◌, Bool, true, false, not, cond, List, [], ◌∷◌, length, map, zero, suc, subst, ap, ◌∙◌, refl, arith}
+use Rattle.std.proofs.Common.{◌≡◌, ℕ, ◌+◌, ◌<◌, ◌≤◌, Bool, true, false, not, ◌&&◌, cond, List, [], ◌∷◌, length, map, zero, suc, subst, ap, ◌∙◌, refl, arith}
 use Rattle.std.specs.Prelude.{IsSome}
-use Rattle.std.specs.List.{All, Any, position_or_len, position}
+use Rattle.std.specs.List.{All, Any, position_or_len, position, list_all}
 use Rattle.std.specs.Str.{bytes_eq}
 use Rattle.std.proofs.lemmas.Bool.{lt-ltb}
 use Rattle.std.proofs.lemmas.List.{length-map}
@@ -18,8 +18,7 @@ use Rattle.mon_syntax.specs.declared.tree.StmtTree.{StmtTree, out-StmtTree}
 use Rattle.mon_syntax.specs.declared.tree.StmtTree.TheOpen.{StmtTree-F, Set}
 use Rattle.mon_syntax.specs.declared.tree.MethodTree.{MethodTree}
 use Rattle.mon_syntax.specs.declared.tree.MonitorTree.{MonitorTree}
-use Rattle.mon_syntax.specs.Words.{Word}
-use Rattle.mon_syntax.specs.Grammar.{Each, IsField, IsTerm, IsTermLayer, IsGuard, IsGuardLayer, IsAddendLayer, IsSumLayer, IsValue, IsValueLayer, IsSet, IsSetLayer, IsMethod, IsParsed}
+use Rattle.mon_types.specs.FirstForm.{is_name_layer, is_number_layer, is_term_layer, is_term, is_guard_layer, is_guard, is_step, is_value_layer, is_value, is_set_layer, is_set, has_none, is_plain_method, is_int, is_first_form}
 use Rattle.mon_types.specs.declared.monitor.Field.{Field}
 use Rattle.mon_types.specs.declared.monitor.Method.{Method}
 use Rattle.mon_types.specs.declared.monitor.Block.{Block}
@@ -85,75 +84,98 @@ has_field decls name (k, decl, lt, is, same) =
 checked_name : (decls : List Decl) (name : List ℕ) (at : ℕ) (rest : Reads) → AreSound decls (both (name_use name at) rest) → IsSome (field_named (map field_of decls) name)
 checked_name decls name at rest h = has_field decls name (h.names 0 (record { name = name; at = at }) (omega arith))
 
-term_layer : (decls : List Decl) (layer : Expr-F Expr Addend Factor) (ws : List Word) → IsTermLayer layer ws → AreSound decls (layer_reads layer) → IsCheckedTermLayer (map field_of decls) layer
-term_layer decls (Named at name) ws rule h = has_field decls name (h.names 0 (record { name = name; at = at }) (omega arith))
-term_layer decls (Number at value) ws rule h = h.numbers 0 (record { value = value; at = at }) (omega arith)
-term_layer decls layer ws rule h = absurd rule
+-- both tests hold
+passes : (a b : Bool) → (a && b) ≡ true → (a ≡ true) × (b ≡ true)
+passes true b e = (refl, e)
+passes false b e = absurd cc
 
-checked_term : (decls : List Decl) (term : Expr) (ws : List Word) → IsTerm term ws → AreSound decls (reads term) → IsCheckedTerm (map field_of decls) term
-checked_term decls term ws rule h = term_layer decls (out-Expr term) ws rule (sound_out decls term h)
+term_layer : (decls : List Decl) (layer : Expr-F Expr Addend Factor) → is_term_layer layer ≡ true → AreSound decls (layer_reads layer) → IsCheckedTermLayer (map field_of decls) layer
+term_layer decls (Named at name) is h = has_field decls name (h.names 0 (record { name = name; at = at }) (omega arith))
+term_layer decls (Number at value) is h = h.numbers 0 (record { value = value; at = at }) (omega arith)
+term_layer decls layer is h = absurd cc
 
-guard_layer : (decls : List Decl) (layer : Expr-F Expr Addend Factor) (ws : List Word) → IsGuardLayer layer ws → AreSound decls (layer_reads layer) → IsCheckedGuardLayer (map field_of decls) layer
-guard_layer decls (Compare op left right) ws (l, r, is_left, is_right, joined) h =
-    (checked_term decls left l is_left (sound_left decls (reads left) (reads right) h), checked_term decls right r is_right (sound_right decls (reads left) (reads right) h))
-guard_layer decls layer ws rule h = absurd rule
+checked_term : (decls : List Decl) (term : Expr) → is_term term ≡ true → AreSound decls (reads term) → IsCheckedTerm (map field_of decls) term
+checked_term decls term is h = term_layer decls (out-Expr term) is (sound_out decls term h)
 
-checked_guard : (decls : List Decl) (guard : Expr) (ws : List Word) → IsGuard guard ws → AreSound decls (reads guard) → IsCheckedGuard (map field_of decls) guard
-checked_guard decls guard ws rule h = guard_layer decls (out-Expr guard) ws rule (sound_out decls guard h)
+guard_layer : (decls : List Decl) (layer : Expr-F Expr Addend Factor) → is_guard_layer layer ≡ true → AreSound decls (layer_reads layer) → IsCheckedGuardLayer (map field_of decls) layer
+guard_layer decls (Compare op left right) is h =
+    let both = passes (is_term left) (is_term right) is in
+    (checked_term decls left both.0 (sound_left decls (reads left) (reads right) h), checked_term decls right both.1 (sound_right decls (reads left) (reads right) h))
+guard_layer decls layer is h = absurd cc
 
-number_layer : (decls : List Decl) (at : ℕ) (name : List ℕ) (minus : Bool) (layer : Expr-F Expr Addend Factor) (ws : List Word) → IsAddendLayer at name minus layer ws → AreSound decls (layer_reads layer) → IsCheckedNumberLayer layer
-number_layer decls at name minus (Number number_at value) ws rule h = h.numbers 0 (record { value = value; at = number_at }) (omega arith)
-number_layer decls at name minus layer ws rule h = absurd rule
+checked_guard : (decls : List Decl) (guard : Expr) → is_guard guard ≡ true → AreSound decls (reads guard) → IsCheckedGuard (map field_of decls) guard
+checked_guard decls guard is h = guard_layer decls (out-Expr guard) is (sound_out decls guard h)
 
-sum_layer : (decls : List Decl) (layer : Expr-F Expr Addend Factor) (rest : List Addend) (ws : List Word) → IsSumLayer layer rest ws → AreSound decls (both (layer_reads layer) (all (map addend_uses rest))) → IsCheckedSumLayer (map field_of decls) layer rest
-sum_layer decls (Named at name) (addend ∷ []) ws rule h =
+number_layer : (decls : List Decl) (layer : Expr-F Expr Addend Factor) → is_number_layer layer ≡ true → AreSound decls (layer_reads layer) → IsCheckedNumberLayer layer
+number_layer decls (Number at value) is h = h.numbers 0 (record { value = value; at = at }) (omega arith)
+number_layer decls layer is h = absurd cc
+
+sum_layer : (decls : List Decl) (layer : Expr-F Expr Addend Factor) (addend : Addend) → is_name_layer layer ≡ true → is_number_layer (out-Expr (out-Addend addend).of) ≡ true
+    → AreSound decls (both (layer_reads layer) (all (map addend_uses (addend ∷ [])))) → IsCheckedSumLayer (map field_of decls) layer (addend ∷ [])
+sum_layer decls (Named at name) addend is is_number h =
     let right = sound_right decls (name_use name at) (all (addend_uses addend ∷ [])) h in
     let number = sound_left decls (addend_uses addend) (all []) right in
     let here = subst (AreSound decls) (addend_uses-of addend) number in
-    (checked_name decls name at (all (addend_uses addend ∷ [])) h, number_layer decls at name (out-Addend addend).minus (out-Expr (out-Addend addend).of) ws rule (sound_out decls (out-Addend addend).of here))
-sum_layer decls layer rest ws rule h = absurd rule
+    (checked_name decls name at (all (addend_uses addend ∷ [])) h, number_layer decls (out-Expr (out-Addend addend).of) is_number (sound_out decls (out-Addend addend).of here))
+sum_layer decls layer addend is is_number h = absurd cc
 
-value_layer : (decls : List Decl) (layer : Expr-F Expr Addend Factor) (ws : List Word) → IsValueLayer layer ws → AreSound decls (layer_reads layer) → IsCheckedValueLayer (map field_of decls) layer
-value_layer decls (Sum first rest) ws rule h = sum_layer decls (out-Expr first) rest ws rule (subst (λ r. AreSound decls (both r (all (map addend_uses rest)))) (reads-out first) h)
-value_layer decls layer ws rule h = term_layer decls layer ws rule h
+step : (decls : List Decl) (first : Expr) (rest : List Addend) → is_step first rest ≡ true → AreSound decls (both (layer_reads (out-Expr first)) (all (map addend_uses rest))) → IsCheckedSumLayer (map field_of decls) (out-Expr first) rest
+step decls first (addend ∷ []) is h =
+    let shapes = passes (is_name_layer (out-Expr first)) (is_number_layer (out-Expr (out-Addend addend).of)) is in
+    sum_layer decls (out-Expr first) addend shapes.0 shapes.1 h
+step decls first rest is h = absurd cc
 
-checked_value : (decls : List Decl) (value : Expr) (ws : List Word) → IsValue value ws → AreSound decls (reads value) → IsCheckedValue (map field_of decls) value
-checked_value decls value ws rule h = value_layer decls (out-Expr value) ws rule (sound_out decls value h)
+value_layer : (decls : List Decl) (layer : Expr-F Expr Addend Factor) → is_value_layer layer ≡ true → AreSound decls (layer_reads layer) → IsCheckedValueLayer (map field_of decls) layer
+value_layer decls (Sum first rest) is h = step decls first rest is (subst (λ r. AreSound decls (both r (all (map addend_uses rest)))) (reads-out first) h)
+value_layer decls layer is h = term_layer decls layer is h
+
+checked_value : (decls : List Decl) (value : Expr) → is_value value ≡ true → AreSound decls (reads value) → IsCheckedValue (map field_of decls) value
+checked_value decls value is h = value_layer decls (out-Expr value) is (sound_out decls value h)
 
 -- ---- statements and methods
 
-statement_shape : (decls : List Decl) (layer : StmtTree-F StmtTree) (ws : List Word) → IsSetLayer layer ws → AreSound decls (statement_layer layer) → IsCheckedStatementLayer (map field_of decls) layer
-statement_shape decls (Set at name value) ws (v, is_value, joined) h =
-    (checked_name decls name at (reads value) h, checked_value decls value v is_value (sound_right decls (name_use name at) (reads value) h))
-statement_shape decls layer ws rule h = absurd rule
+statement_shape : (decls : List Decl) (layer : StmtTree-F StmtTree) → is_set_layer layer ≡ true → AreSound decls (statement_layer layer) → IsCheckedStatementLayer (map field_of decls) layer
+statement_shape decls (Set at name value) is h =
+    (checked_name decls name at (reads value) h, checked_value decls value is (sound_right decls (name_use name at) (reads value) h))
+statement_shape decls layer is h = absurd cc
 
-checked_body : (decls : List Decl) (body : List StmtTree) (ws : List Word) → Each IsSet body ws → AreSound decls (all (map statement_reads body)) → All (IsCheckedStatement (map field_of decls)) body
-checked_body decls [] ws rule h = All-nil (IsCheckedStatement (map field_of decls))
-checked_body decls (statement ∷ body) ws (front, rest, is_set, are_sets, joined) h = All-cons (IsCheckedStatement (map field_of decls)) statement body
-    (statement_shape decls (out-StmtTree statement) front is_set (sound_left decls (statement_reads statement) (all (map statement_reads body)) h))
-    (checked_body decls body rest are_sets (sound_right decls (statement_reads statement) (all (map statement_reads body)) h))
+checked_body : (decls : List Decl) (body : List StmtTree) → list_all is_set body ≡ true → AreSound decls (all (map statement_reads body)) → All (IsCheckedStatement (map field_of decls)) body
+checked_body decls [] is h = All-nil (IsCheckedStatement (map field_of decls))
+checked_body decls (statement ∷ body) is h =
+    let each = passes (is_set statement) (list_all is_set body) is in
+    All-cons (IsCheckedStatement (map field_of decls)) statement body
+    (statement_shape decls (out-StmtTree statement) each.0 (sound_left decls (statement_reads statement) (all (map statement_reads body)) h))
+    (checked_body decls body each.1 (sound_right decls (statement_reads statement) (all (map statement_reads body)) h))
 
-checked_block : (decls : List Decl) (number : ℕ) (method : MethodTree) (ws : List Word) → IsMethod method ws → AreSound decls (method_reads method) → IsCheckedBlock (map field_of decls) (record { method = number; guard = method.guard; body = method.body })
-checked_block decls number method ws rule h = record {
-  guard = checked_guard decls method.guard rule.guard rule.is_guard (sound_left decls (reads method.guard) (all (map statement_reads method.body)) h);
-  body = checked_body decls method.body rule.body rule.is_body (sound_right decls (reads method.guard) (all (map statement_reads method.body)) h);
-}
+checked_block : (decls : List Decl) (number : ℕ) (method : MethodTree) → is_plain_method method ≡ true → AreSound decls (method_reads method) → IsCheckedBlock (map field_of decls) (record { method = number; guard = method.guard; body = method.body })
+checked_block decls number method is h =
+    let parts = passes (has_none method.inputs) (is_guard method.guard && list_all is_set method.body) is in
+    let shapes = passes (is_guard method.guard) (list_all is_set method.body) parts.1 in
+    record {
+      guard = checked_guard decls method.guard shapes.0 (sound_left decls (reads method.guard) (all (map statement_reads method.body)) h);
+      body = checked_body decls method.body shapes.1 (sound_right decls (reads method.guard) (all (map statement_reads method.body)) h);
+    }
 
-checked_blocks : (decls : List Decl) (number : ℕ) (methods : List MethodTree) (ws : List Word) → Each IsMethod methods ws → AreSound decls (all (map method_reads methods)) → All (IsCheckedBlock (map field_of decls)) (blocks_from number methods)
-checked_blocks decls number [] ws rule h = All-nil (IsCheckedBlock (map field_of decls))
-checked_blocks decls number (method ∷ methods) ws (front, rest, is_method, are_methods, joined) h = All-cons (IsCheckedBlock (map field_of decls)) (record { method = number; guard = method.guard; body = method.body }) (blocks_from (number + 1) methods)
-    (checked_block decls number method front is_method (sound_left decls (method_reads method) (all (map method_reads methods)) h))
-    (checked_blocks decls (number + 1) methods rest are_methods (sound_right decls (method_reads method) (all (map method_reads methods)) h))
+checked_blocks : (decls : List Decl) (number : ℕ) (methods : List MethodTree) → list_all is_plain_method methods ≡ true → AreSound decls (all (map method_reads methods)) → All (IsCheckedBlock (map field_of decls)) (blocks_from number methods)
+checked_blocks decls number [] is h = All-nil (IsCheckedBlock (map field_of decls))
+checked_blocks decls number (method ∷ methods) is h =
+    let each = passes (is_plain_method method) (list_all is_plain_method methods) is in
+    All-cons (IsCheckedBlock (map field_of decls)) (record { method = number; guard = method.guard; body = method.body }) (blocks_from (number + 1) methods)
+    (checked_block decls number method each.0 (sound_left decls (method_reads method) (all (map method_reads methods)) h))
+    (checked_blocks decls (number + 1) methods each.1 (sound_right decls (method_reads method) (all (map method_reads methods)) h))
 
 -- ---- fields, and the order of methods and blocks
 
-int_field : (decl : Decl) (ws : List Word) → IsField decl ws → IsIntField (field_of decl)
-int_field (decls.Int at name value) ws rule = record { kind = refl; start = tt }
-int_field decl ws rule = absurd rule
+int_field : (decl : Decl) → is_int decl ≡ true → IsIntField (field_of decl)
+int_field (decls.Const at name value) is = absurd cc
+int_field (decls.Int at name value) is = record { kind = refl; start = tt }
+int_field (decls.Flag at name value) is = absurd cc
 
-int_fields : (declared : List Decl) (ws : List Word) → Each IsField declared ws → All IsIntField (map field_of declared)
-int_fields [] ws rule = All-nil IsIntField
-int_fields (decl ∷ declared) ws (front, rest, is_field, are_fields, joined) = All-cons IsIntField (field_of decl) (map field_of declared) (int_field decl front is_field) (int_fields declared rest are_fields)
+int_fields : (declared : List Decl) → list_all is_int declared ≡ true → All IsIntField (map field_of declared)
+int_fields [] is = All-nil IsIntField
+int_fields (decl ∷ declared) is =
+    let each = passes (is_int decl) (list_all is_int declared) is in
+    All-cons IsIntField (field_of decl) (map field_of declared) (int_field decl each.0) (int_fields declared each.1)
 
 numbered : (number : ℕ) (methods : List MethodTree) → AreNumbered number (methods_from number methods) (blocks_from number methods)
 numbered number [] = tt
@@ -165,11 +187,13 @@ length-methods_from number (method ∷ methods) = ap suc (length-methods_from (n
 
 -- ---- the monitor
 
-pub is_monitor : (tree : MonitorTree) (name : List ℕ) (fields : List Field) (methods : List Method) (blocks : List Block) → IsParsed tree → KeepsRules tree → fields ≡ map field_of tree.decls → methods ≡ methods_from 0 tree.methods → blocks ≡ blocks_from 0 tree.methods → IsMonitor (record { name = name; fields = fields; methods = methods; blocks = blocks })
-is_monitor tree name fields methods blocks parsed kept fields_are methods_are blocks_are = rw (fields_are, methods_are, blocks_are) (record {
-  few_fields = rw length-map kept.limits.fields;
-  few_methods = rw (length-methods_from 0 tree.methods) kept.limits.methods;
-  ints = int_fields tree.decls parsed.derived.fields parsed.derived.are_fields;
-  numbered = numbered 0 tree.methods;
-  checked = checked_blocks tree.decls 0 tree.methods parsed.derived.methods parsed.derived.are_methods (sound_right tree.decls (all (map start_uses tree.decls)) (file_reads tree) kept.sound);
-})
+pub is_monitor : (tree : MonitorTree) (name : List ℕ) (fields : List Field) (methods : List Method) (blocks : List Block) → is_first_form tree ≡ true → KeepsRules tree → fields ≡ map field_of tree.decls → methods ≡ methods_from 0 tree.methods → blocks ≡ blocks_from 0 tree.methods → IsMonitor (record { name = name; fields = fields; methods = methods; blocks = blocks })
+is_monitor tree name fields methods blocks first_form kept fields_are methods_are blocks_are =
+    let parts = passes (list_all is_int tree.decls) (list_all is_plain_method tree.methods) first_form in
+    rw (fields_are, methods_are, blocks_are) (record {
+      few_fields = rw length-map kept.limits.fields;
+      few_methods = rw (length-methods_from 0 tree.methods) kept.limits.methods;
+      ints = int_fields tree.decls parts.0;
+      numbered = numbered 0 tree.methods;
+      checked = checked_blocks tree.decls 0 tree.methods parts.1 (sound_right tree.decls (all (map start_uses tree.decls)) (file_reads tree) kept.sound);
+    })

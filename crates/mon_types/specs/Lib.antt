@@ -1,4 +1,5 @@
 pub mod Plain
+pub mod FirstForm
 pub mod MonitorParts
 pub mod Rules
 pub mod Typed

@@ -1,8 +1,8 @@
 //! From the tree of a monitor file to a monitor.
 
-ghost use Rattle.std.specs.Prelude.{◌≡◌, IfOk, IfErr, MatchResult};
-ghost use Rattle.mon_syntax.specs.Grammar.{IsParsed};
+ghost use Rattle.std.specs.Prelude.{◌≡◌, true, IfOk, IfErr, MatchResult};
 ghost use Rattle.mon_types.specs.Checks.{KeepsRules};
+ghost use Rattle.mon_types.specs.FirstForm.{is_first_form};
 ghost use Rattle.mon_types.specs.Rules.{Breaks, BreaksNone, HasCause};
 ghost use Rattle.mon_types.specs.Typed.{IsTyped};
 
@@ -20,7 +20,7 @@ use names::check_names;
 use std::alloc::{AllocError, Global};
 use uses::check_uses;
 
-/// The monitor that a tree stands for, where the tree keeps all the rules: a name in a guard or a
+/// The monitor that a tree of the first form stands for, where the tree keeps all the rules: a name in a guard or a
 /// body is a field's, fields and methods have distinct names, a written number is at most
 /// 9223372036854775807, and there are at most 16 fields, 16 methods and 64 statements in a body.
 ///
@@ -28,7 +28,7 @@ use uses::check_uses;
 ///
 /// A rule that is broken, with the place where it is broken; or out of memory.
 pub fn check(alloc: Global, tree: &MonitorTree) -> Result<Monitor, TypeFault>
-    requires { IsParsed tree.now }
+    requires { is_first_form tree.now ≡ true }
     // The monitor is the one that the tree stands for.
     ensures typed { IfOk result (λ monitor. IsTyped tree.now monitor) }
     // No rule is broken where there is a monitor,
@@ -50,7 +50,7 @@ fn check_rules(tree: &MonitorTree) -> Result<(), TypeFault>
 }
 
 fn monitor_of(alloc: Global, tree: &MonitorTree) -> Result<Monitor, AllocError>
-    requires parsed { IsParsed tree.now }
+    requires first_form { is_first_form tree.now ≡ true }
     requires kept { KeepsRules tree.now }
     ensures { IfOk result (λ monitor. IsTyped tree.now monitor) }
 {

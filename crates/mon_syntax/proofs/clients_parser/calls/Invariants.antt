@@ -1,7 +1,7 @@
 use Rattle.std.proofs.Common.{length}
 use Rattle.mon_syntax.specs.Words.{words}
 use Rattle.mon_syntax.specs.Reading.{AreTokens, begins_ident, call_at, calls_at}
-use Rattle.mon_syntax.proofs.Many.{Going}
+use Rattle.mon_syntax.proofs.Going.{Going}
 use Rattle.mon_syntax.proofs.clients_parser.calls.Given as goal
 
 abbrev pub invariant-items : goal.invariant-items

@@ -1,14 +1,14 @@
 use Rattle.mon_syntax.specs.Words.{words}
 use Rattle.mon_syntax.specs.Reading.{monitor_file, client_file}
+use Rattle.mon_syntax.proofs.MonitorReads.{monitor_file_again}
+use Rattle.mon_syntax.proofs.ClientReads.{client_file_again}
 use Rattle.mon_syntax.proofs.Outcomes.{ok_parses}
-use Rattle.mon_syntax.proofs.MonitorLaws as monitors
-use Rattle.mon_syntax.proofs.ClientLaws as clients
 use Rattle.mon_syntax.proofs.laws.derives_one_tree.Goals as goal
 
 pub returns-clause-monitors : goal.returns-clause-monitors
 returns-clause-monitors c = λ bytes tokens a b is_a is_b.
-    ok_parses (monitor_file (words bytes tokens)) a b (monitors.file_again (words bytes tokens) a is_a) (monitors.file_again (words bytes tokens) b is_b)
+    ok_parses (monitor_file (words bytes tokens)) a b (monitor_file_again (words bytes tokens) a is_a) (monitor_file_again (words bytes tokens) b is_b)
 
 pub returns-clause-clients : goal.returns-clause-clients
 returns-clause-clients c = λ bytes tokens a b is_a is_b.
-    ok_parses (client_file (words bytes tokens)) a b (clients.file_again (words bytes tokens) a is_a) (clients.file_again (words bytes tokens) b is_b)
+    ok_parses (client_file (words bytes tokens)) a b (client_file_again (words bytes tokens) a is_a) (client_file_again (words bytes tokens) b is_b)

@@ -2,7 +2,7 @@ use Rattle.std.proofs.Common.{length}
 use Rattle.mon_syntax.specs.declared.token.TokenKind.TheVariants as kinds
 use Rattle.mon_syntax.specs.Words.{words}
 use Rattle.mon_syntax.specs.Reading.{AreTokens, begins, method_at, methods_at}
-use Rattle.mon_syntax.proofs.Many.{Going}
+use Rattle.mon_syntax.proofs.Going.{Going}
 use Rattle.mon_syntax.proofs.monitor_parser.methods.Given as goal
 
 abbrev pub invariant-items : goal.invariant-items

@@ -10,7 +10,7 @@ fields_of-requires c = rw c.items.ensures (starts_in_range c.args.tree.now c.req
 
 pub of-requires : goal.of-requires
 of-requires c =
-    is_monitor c.args.tree.now c.in_ok-name.name c.in_ok-fields.fields.items c.in_ok-methods.methods.items c.in_ok-blocks.blocks.items c.requires.parsed c.requires.kept
+    is_monitor c.args.tree.now c.in_ok-name.name c.in_ok-fields.fields.items c.in_ok-methods.methods.items c.in_ok-blocks.blocks.items c.requires.first_form c.requires.kept
     (c.in_ok-fields.ensures ∙ ap (map field_of) c.items.ensures)
     (c.in_ok-methods.ensures ∙ ap (methods_from 0) c.items-2.ensures)
     (c.in_ok-blocks.ensures ∙ ap (blocks_from 0) c.items-3.ensures)

@@ -1,0 +1,4 @@
+pub mod Differences
+pub mod Linear
+pub mod Negation
+pub mod Truth

@@ -1,0 +1,12 @@
+use Rattle.mon_syntax.specs.Words.{words}
+use Rattle.mon_syntax.specs.Canonical.{tree_text}
+use Rattle.mon_syntax.proofs.CanonicalDerivation.{canonical_derives}
+use Rattle.mon_syntax.proofs.CanonicalSpelling.{printable_spelled}
+use Rattle.mon_syntax.proofs.DerivedPrintable.{derived_printable}
+use Rattle.mon_syntax.proofs.laws.printed_tree_derives.Goals as goal
+
+pub returns : goal.returns
+returns c = λ bytes tokens tree spelled derived.
+    let printed = printable_spelled tree (derived_printable bytes tokens tree spelled derived) in
+    let again = canonical_derives (words bytes tokens) tree derived (words (tree_text tree) printed.0) printed.2 in
+    (printed.0, again.0, printed.1, again.1, again.2)
