@@ -1,5 +1,5 @@
 -- Where nothing fails, the status is the one that the words and the files ask for.
-use Rattle.std.proofs.Common.{◌≡◌, ℕ, Bool, true, false, List, [], ◌∷◌, Option, Some, map, sym, ap, subst, ◌∙◌, inl, inr}
+use Rattle.std.proofs.Common.{◌≡◌, ℕ, Bool, true, false, List, [], ◌∷◌, Option, Some, sym, ap, subst, ◌∙◌, inl, inr}
 use Rattle.std.specs.Prelude.{IfSome, codes, ◌<◌}
 use native.Mathlib.Omega.{arith}
 use Rattle.mon_io.specs.Outside.{Rises}
@@ -8,7 +8,6 @@ use Rattle.mon_syntax.specs.declared.tree.MonitorTree.{MonitorTree}
 use Rattle.mon_syntax.specs.Spelling.{Spells}
 use Rattle.mon_syntax.specs.Grammar.{Derives}
 use Rattle.mon_types.specs.MonitorParts.{MonitorParts}
-use Rattle.mon_types.specs.Typed.{IsTyped, field_of, methods_from, blocks_from}
 use Rattle.expresso_cli.specs.declared.status.Status.{Status}
 use Rattle.expresso_cli.specs.declared.status.Status.TheVariants as statuses
 use Rattle.expresso_cli.specs.declared.work.Input.TheVariants as inputs
@@ -17,6 +16,7 @@ use Rattle.expresso_cli.specs.declared.work.Answer.TheVariants as answers
 use Rattle.expresso_cli.specs.CommandLine.{Takes}
 use Rattle.expresso_cli.specs.Answers.{IsAccepted, AreAccepted, Holds, Accepts, Rejects, IsRunOrMemory, IsRefusedOrMemory, IsUsageOrMemory, IsUnreadOrMemory}
 use Rattle.expresso_cli.specs.Working.{IsWorked, IsWritten, HasReadCause, status_of, ended}
+use Rattle.expresso_cli.proofs.OneMonitor.{one_typed}
 
 -- bytes spell one list of tokens at most
 abbrev pub OneSpelling : Type 0
@@ -25,16 +25,6 @@ OneSpelling = (bytes : List ℕ) (a b : List Token) → Spells bytes a → Spell
 -- tokens derive one tree at most
 abbrev pub OneTree : Type 0
 OneTree = (bytes : List ℕ) (tokens : List Token) (a b : MonitorTree) → Derives bytes tokens a → Derives bytes tokens b → a ≡ b
-
-same_parts : (a b : MonitorParts) → a.name ≡ b.name → a.fields ≡ b.fields → a.methods ≡ b.methods → a.blocks ≡ b.blocks → a ≡ b
-same_parts a b name fields methods blocks = λ i. record { name = name i; fields = fields i; methods = methods i; blocks = blocks i }
-
-one_typed : (s t : MonitorTree) (a b : MonitorParts) → s ≡ t → IsTyped s a → IsTyped t b → a ≡ b
-one_typed s t a b same p q = same_parts a b
-    (p.name ∙ ap (λ (tree : MonitorTree). tree.name) same ∙ sym q.name)
-    (p.fields ∙ ap (λ (tree : MonitorTree). map field_of tree.decls) same ∙ sym q.fields)
-    (p.methods ∙ ap (λ (tree : MonitorTree). methods_from 0 tree.methods) same ∙ sym q.methods)
-    (p.blocks ∙ ap (λ (tree : MonitorTree). blocks_from 0 tree.methods) same ∙ sym q.blocks)
 
 -- bytes stand for one monitor at most
 pub one_monitor : OneSpelling → OneTree → (bytes : List ℕ) (a b : MonitorParts) → IsAccepted bytes a → IsAccepted bytes b → a ≡ b

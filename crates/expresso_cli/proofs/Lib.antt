@@ -6,6 +6,8 @@ pub mod ScriptRules
 pub mod Writing
 pub mod Rows
 pub mod Answering
+pub mod OneMonitor
+pub mod PlainMonitors
 pub mod Completeness
 pub mod Telling
 pub mod Refusing

@@ -1,12 +1,12 @@
 -- Calls and clients, made one after the other.
 use Rattle.std.proofs.Common.{◌≡◌, ℕ, zero, suc, ◌+◌, ◌<◌, List, [], ◌∷◌, ◌++◌, length, take, get_or, All, sym, ap, subst, ◌∙◌}
 use Rattle.std.specs.List.{slice_get}
-use Rattle.std.proofs.lemmas.List.Elements.{All-push}
+use Rattle.std.proofs.lemmas.List.Elements.{All-head, All-tail, All-push}
 use Rattle.mon_syntax.specs.declared.tree.Item.{Item}
 use Rattle.mon_syntax.specs.declared.tree.ClientTree.{ClientTree}
+use Rattle.mon_forms.specs.declared.kind.Kind.{Kind}
 use Rattle.mon_types.specs.declared.monitor.Method.{Method}
-use Rattle.mon_types.specs.declared.monitor.Block.{Block}
-use Rattle.mon_types.specs.MonitorParts.{MonitorParts, IsMonitor, AreNumbered, AreOfKinds}
+use Rattle.mon_types.specs.MonitorParts.{MonitorParts, AreOfKinds}
 use Rattle.mon_implicit.specs.declared.script.Call.{Call as ScriptCall}
 use Rattle.mon_implicit.specs.declared.script.Client.{Client}
 use Rattle.mon_implicit.specs.Steps.{kinds_in}
@@ -14,20 +14,19 @@ use Rattle.mon_implicit.specs.Scripted.{FitsCall}
 use Rattle.expresso_cli.specs.declared.script_fault.ScriptFault.{ScriptFault}
 use Rattle.expresso_cli.specs.declared.script_fault.ScriptFault.TheVariants.{UnknownMethod, DuplicateClient, TooManyClients, TooManyCalls, OutOfMemory}
 use Rattle.expresso_cli.specs.Scripts.{IsUnknown, call_of, client_of}
-use Rattle.expresso_cli.specs.ScriptChecks.{IsKnown, IsMadeCall, AreMadeCalls, IsMadeClient, AreMadeClients, BlamesItem, BlamesItems, calls_among}
+use Rattle.expresso_cli.specs.ScriptChecks.{TakesNoInputs, IsKnown, IsMadeCall, AreMadeCalls, IsMadeClient, AreMadeClients, BlamesItem, BlamesItems, calls_among}
 use Rattle.expresso_cli.proofs.GrowingLists.{All-next, map_next, Any-flat_map}
 
 -- ---- calls fit
 
-no_inputs : (number : ℕ) (methods : List Method) (blocks : List Block) → AreNumbered number methods blocks → (place : ℕ) → AreOfKinds (kinds_in (slice_get methods place)) []
-no_inputs number [] blocks numbered place = tt
-no_inputs number (method ∷ methods) [] numbered place = absurd numbered
-no_inputs number (method ∷ methods) (block ∷ blocks) numbered zero = subst (λ (kinds : List _). AreOfKinds kinds []) (sym numbered.0) tt
-no_inputs number (method ∷ methods) (block ∷ blocks) numbered (suc place) = no_inputs (number + 1) methods blocks numbered.4 place
+no_inputs : (methods : List Method) → All (λ method. method.inputs ≡ []) methods → (place : ℕ) → AreOfKinds (kinds_in (slice_get methods place)) []
+no_inputs [] none place = tt
+no_inputs (method ∷ methods) none zero = subst (λ (kinds : List Kind). AreOfKinds kinds []) (sym (All-head (λ m. m.inputs ≡ []) method methods none)) tt
+no_inputs (method ∷ methods) none (suc place) = no_inputs methods (All-tail (λ m. m.inputs ≡ []) method methods none) place
 
--- a call of a method fits where it has no inputs
-pub call_fits : (monitor : MonitorParts) (place : ℕ) → IsMonitor monitor → place < length monitor.methods → FitsCall monitor (record { method = place; inputs = [] })
-call_fits monitor place rule within = record { method = within; inputs = no_inputs 0 monitor.methods monitor.blocks rule.numbered place }
+-- a call of a method fits where no method has inputs
+pub call_fits : (monitor : MonitorParts) (place : ℕ) → TakesNoInputs monitor → place < length monitor.methods → FitsCall monitor (record { method = place; inputs = [] })
+call_fits monitor place none within = record { method = within; inputs = no_inputs monitor.methods none place }
 
 -- ---- one more call
 

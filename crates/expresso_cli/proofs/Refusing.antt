@@ -1,5 +1,5 @@
 -- A file that one of the steps refuses is no file of the first form.
-use Rattle.std.proofs.Common.{◌≡◌, ◌≢◌, ℕ, true, false, List, Err, refl, sym, ap, subst, ◌∙◌}
+use Rattle.std.proofs.Common.{◌≡◌, ◌≢◌, ℕ, true, false, List, [], ◌∷◌, Err, refl, sym, ap, subst, ◌∙◌, arith}
 use Rattle.mon_syntax.specs.declared.token.Token.{Token}
 use Rattle.mon_syntax.specs.declared.tree.MonitorTree.{MonitorTree}
 use Rattle.mon_syntax.specs.declared.tree.ClientsTree.{ClientsTree}
@@ -13,10 +13,12 @@ use Rattle.mon_syntax.specs.Fault.{Parses}
 use Rattle.mon_syntax.specs.Grammar.{Derives}
 use Rattle.mon_syntax.specs.ClientGrammar.{DerivesClients}
 use Rattle.mon_types.specs.FirstForm.{is_first_form}
-use Rattle.mon_types.specs.declared.fault.TypeFault.{TypeFault}
-use Rattle.mon_types.specs.declared.fault.TypeFault.TheVariants as type_faults
+use Rattle.mon_forms.specs.declared.fault.TypeFault.{TypeFault}
+use Rattle.mon_forms.specs.declared.fault.TypeFault.TheVariants as type_faults
 use Rattle.mon_types.specs.MonitorParts.{MonitorParts}
-use Rattle.mon_types.specs.Rules.{Breaks, HasCause}
+use Rattle.mon_forms.specs.Faults.{IsLeast}
+use Rattle.mon_rules.specs.Rules.{faults_of}
+use Rattle.mon_types.specs.Checked.{HasCause}
 use Rattle.expresso_cli.specs.declared.script_fault.ScriptFault.{ScriptFault}
 use Rattle.expresso_cli.specs.declared.script_fault.ScriptFault.TheVariants as script_faults
 use Rattle.expresso_cli.specs.Scripts.{BreaksScripts, HasScriptCause}
@@ -67,18 +69,19 @@ other_form_no_monitor bytes tokens slice tree lexes same parses other_form monit
 
 -- ---- a broken rule
 
-broken : (tree : MonitorTree) (fault : TypeFault) → fault ≢ type_faults.OutOfMemory → HasCause tree fault → Breaks tree fault
-broken tree (type_faults.Unknown at) other cause = cause
-broken tree (type_faults.Duplicate at) other cause = cause
-broken tree (type_faults.TooLarge at) other cause = cause
-broken tree (type_faults.TooMany what at) other cause = cause
+broken : (tree : MonitorTree) (fault : TypeFault) → fault ≢ type_faults.OutOfMemory → HasCause tree fault → IsLeast (faults_of tree) fault
 broken tree type_faults.OutOfMemory other cause = absurd (other refl)
+broken tree fault other cause = cause
+
+none_least : (faults : List TypeFault) (fault : TypeFault) → faults ≡ [] → IsLeast faults fault → ⊥
+none_least [] fault none least = let (k, within, is) = least.one in omega (arith, within)
+none_least (first ∷ more) fault none least = cc
 
 pub broken_no_monitor : (bytes : List ℕ) (tokens slice : List Token) (tree : MonitorTree) (fault : TypeFault) → Lexes bytes tokens → slice ≡ tokens
     → ((other : MonitorTree) → Derives bytes slice other → tree ≡ other) → fault ≢ type_faults.OutOfMemory → HasCause tree fault → IsNoMonitor bytes
 broken_no_monitor bytes tokens slice tree fault lexes same parses other cause monitor accepted =
     let is : tree ≡ accepted.tree = parses accepted.tree (subst (λ (t : List Token). Derives bytes t accepted.tree) (sym (same ∙ lexes accepted.tokens accepted.spelled)) accepted.derived) in
-    accepted.unbroken fault (subst (λ (t : MonitorTree). Breaks t fault) is (broken tree fault other cause))
+    none_least (faults_of tree) fault (ap faults_of is ∙ accepted.unbroken) (broken tree fault other cause)
 
 broken_script : (tree : ClientsTree) (monitor : MonitorParts) (fault : ScriptFault) → fault ≢ script_faults.OutOfMemory → HasScriptCause tree monitor fault → BreaksScripts tree monitor fault
 broken_script tree monitor (script_faults.UnknownMethod at) other cause = cause

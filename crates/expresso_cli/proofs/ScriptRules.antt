@@ -12,12 +12,11 @@ use Rattle.mon_syntax.specs.declared.tree.ClientTree.{ClientTree}
 use Rattle.mon_syntax.specs.declared.tree.ClientsTree.{ClientsTree}
 use Rattle.mon_syntax.specs.Spelling.{IsIdentifier}
 use Rattle.mon_types.specs.MonitorParts.{MonitorParts}
-use Rattle.mon_types.specs.Rules.{IsRepeated}
 use Rattle.mon_implicit.specs.declared.script.Client.{Client}
 use Rattle.mon_implicit.specs.Scripted.{AreClients}
 use Rattle.expresso_cli.specs.declared.script_fault.ScriptFault.{ScriptFault}
 use Rattle.expresso_cli.specs.declared.script_fault.ScriptFault.TheVariants.{UnknownMethod, DuplicateClient, TooManyClients, TooManyCalls, OutOfMemory}
-use Rattle.expresso_cli.specs.Scripts.{IsUnknown, BreaksNoScripts, HasScriptCause, placed_client, place_of, call_of, client_of, calls_in_file}
+use Rattle.expresso_cli.specs.Scripts.{IsRepeated, IsUnknown, BreaksNoScripts, HasScriptCause, placed_client, place_of, call_of, client_of, calls_in_file}
 use Rattle.expresso_cli.specs.ScriptChecks.{IsKnown, BreaksAlone, BlamesItems, calls_among}
 use Rattle.expresso_cli.proofs.GrowingLists.{parts_at, Any-map, none_of, AllPairs-map, All-flat_map, flat_map_at}
 

@@ -1,5 +1,5 @@
 -- What the program answers.
-use Rattle.std.specs.Prelude.{◌≡◌, ◌≤◌, ◌⊎◌, ℕ, true, List, length, Option, Some, IfSome}
+use Rattle.std.specs.Prelude.{◌≡◌, ◌≤◌, ◌⊎◌, ℕ, true, List, [], length, Option, Some, IfSome}
 use Rattle.mon_syntax.specs.declared.token.Token.{Token}
 use Rattle.mon_syntax.specs.declared.tree.MonitorTree.{MonitorTree}
 use Rattle.mon_syntax.specs.declared.tree.ClientsTree.{ClientsTree}
@@ -8,7 +8,7 @@ use Rattle.mon_syntax.specs.Grammar.{Derives}
 use Rattle.mon_syntax.specs.ClientGrammar.{DerivesClients}
 use Rattle.mon_types.specs.FirstForm.{is_first_form}
 use Rattle.mon_types.specs.MonitorParts.{MonitorParts}
-use Rattle.mon_types.specs.Rules.{BreaksNone}
+use Rattle.mon_rules.specs.Rules.{faults_of}
 use Rattle.mon_types.specs.Typed.{IsTyped}
 use Rattle.mon_implicit.specs.declared.commit.Turns.{Turns}
 use Rattle.mon_implicit.specs.declared.script.Client.{Client}
@@ -30,7 +30,7 @@ pub record IsAccepted (bytes : List ℕ) (monitor : MonitorParts) : Type 0 where
   pub spelled : Spells bytes tokens
   pub derived : Derives bytes tokens tree
   pub first_form : is_first_form tree ≡ true
-  pub unbroken : BreaksNone tree
+  pub unbroken : faults_of tree ≡ []
   pub typed : IsTyped tree monitor
 
 -- the bytes are a client file of the first form that stands for these clients of the monitor

@@ -1,5 +1,5 @@
 -- What the makers of scripts find out about the parts of a client file's tree.
-use Rattle.std.specs.Prelude.{◌≡◌, ℕ, List, map, All, Any}
+use Rattle.std.specs.Prelude.{◌≡◌, ℕ, List, [], map, All, Any}
 use Rattle.std.specs.List.{flat_map}
 use Rattle.mon_syntax.specs.declared.tree.Item.{Item, out-Item}
 use Rattle.mon_syntax.specs.declared.tree.Item.TheOpen.{Item-F, Call, Repeat}
@@ -12,6 +12,10 @@ use Rattle.mon_implicit.specs.Scripted.{FitsCall, FitsScripts}
 use Rattle.expresso_cli.specs.declared.script_fault.ScriptFault.{ScriptFault}
 use Rattle.expresso_cli.specs.declared.script_fault.ScriptFault.TheVariants.{UnknownMethod, OutOfMemory}
 use Rattle.expresso_cli.specs.Scripts.{IsUnknown, BreaksScripts, call_of, client_of}
+
+-- no method takes inputs, as in each monitor of the first form
+abbrev pub TakesNoInputs : MonitorParts → Type 0
+TakesNoInputs monitor = All (λ method. method.inputs ≡ []) monitor.methods
 
 -- the item is one call, as each item of the first form is
 abbrev pub is_call : Item-F Item → Type 0

@@ -1,12 +1,12 @@
 -- The rules of a client file of the first form, where a tree breaks them, and the scripts that it stands for.
-use Rattle.std.specs.Prelude.{◌≡◌, ℕ, List, [], map, Any, Option, IsSomeAnd, IsNone, unwrap_or, position, slice_get}
+use Rattle.std.specs.Prelude.{◌≡◌, ℕ, List, [], ◌∷◌, ◌++◌, map, Any, Option, IsSomeAnd, IsNone, unwrap_or, position, slice_get}
 use Rattle.std.specs.List.{flat_map}
 use Rattle.std.specs.Str.{bytes_eq}
 use Rattle.mon_syntax.specs.declared.tree.Item.{Item, out-Item}
 use Rattle.mon_syntax.specs.declared.tree.Item.TheOpen.{Item-F, Call, Repeat}
 use Rattle.mon_syntax.specs.declared.tree.ClientTree.{ClientTree}
 use Rattle.mon_syntax.specs.declared.tree.ClientsTree.{ClientsTree}
-use Rattle.mon_types.specs.Rules.{PlacedName, IsRepeated}
+use Rattle.mon_rules.specs.Rules.{PlacedName}
 use Rattle.mon_types.specs.MonitorParts.{MonitorParts}
 use Rattle.mon_implicit.specs.declared.script.Call.{Call as ScriptCall}
 use Rattle.mon_implicit.specs.declared.script.Client.{Client}
@@ -35,6 +35,15 @@ calls_in_file tree = flat_map (λ client. client.items) tree.clients
 
 abbrev pub placed_client : ClientTree → PlacedName
 placed_client client = record { name = client.name; at = client.at }
+
+-- an earlier one of the names is the same
+pub record IsRepeated (names : List PlacedName) (at : ℕ) : Type 0 where
+  pub before : List PlacedName
+  pub repeated : PlacedName
+  pub after : List PlacedName
+  pub parts : names ≡ before ++ repeated ∷ after
+  pub earlier : Any (λ other. other.name ≡ repeated.name) before
+  pub here : repeated.at ≡ at
 
 -- The fault names a rule that the tree breaks, and a place where it is broken:
 -- a called name is a method; clients have distinct names; there are at most 32 clients, and 16,384 calls in all.

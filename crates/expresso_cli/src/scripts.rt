@@ -6,7 +6,7 @@ ghost use Rattle.mon_syntax.specs.declared.tree.Item.{out-Item};
 ghost use Rattle.mon_syntax.specs.ClientGrammar.{AreParsed};
 ghost use Rattle.mon_implicit.specs.Scripted.{FitsCall, FitsScripts};
 ghost use Rattle.expresso_cli.specs.Scripts.{BreaksNoScripts, HasScriptCause, IsScripted, calls_in_file, method_named, place_of};
-ghost use Rattle.expresso_cli.specs.ScriptChecks.{AreMadeCalls, AreMadeClients, BreaksAlone, BlamesItem, BlamesItems, HaveCalls, IsMadeCall, IsMadeClient, IsOneCall, calls_among};
+ghost use Rattle.expresso_cli.specs.ScriptChecks.{AreMadeCalls, AreMadeClients, BreaksAlone, BlamesItem, BlamesItems, HaveCalls, IsMadeCall, IsMadeClient, IsOneCall, TakesNoInputs, calls_among};
 
 use crate::script_fault::ScriptFault;
 use mon_implicit::{Call, Client, Scripts};
@@ -22,14 +22,15 @@ const MOST_CLIENTS: usize = 32;
 /// The most calls of a file, all clients together.
 const MOST_CALLS: usize = 16_384;
 
-/// The scripts that a client file's tree stands for, over a monitor.
+/// The scripts that a client file's tree stands for, over a monitor whose methods take no inputs.
 ///
 /// A fault names a rule that the tree breaks, and where: there are at most 32 clients, whose names are
 /// distinct, with at most 16,384 calls in all, each of a method of the monitor. Where no memory is
 /// found, the fault says so.
 #[tactic(auto, using(crate::proofs::ScriptRules::blamed_is_broken, crate::proofs::ParsedClients::have_calls))]
 pub fn clients(alloc: Global, tree: &ClientsTree, monitor: &Monitor) -> Result<Scripts, ScriptFault>
-    requires { AreParsed tree.now }
+    requires parsed { AreParsed tree.now }
+    requires plain { TakesNoInputs monitor.now }
     // The scripts are those that the tree stands for.
     ensures scripted { IfOk result (λ scripts. IsScripted tree.now monitor.now scripts) }
     // No rule is broken where there are scripts,
@@ -119,7 +120,8 @@ fn make_clients(
     monitor: &Monitor,
     trees: &[ClientTree],
 ) -> Result<Vec<Client>, ScriptFault>
-    requires { HaveCalls trees.now }
+    requires calls { HaveCalls trees.now }
+    requires plain { TakesNoInputs monitor.now }
     ensures { MatchResult result (λ made. AreMadeClients monitor.now trees.now made.items) (λ fault. BlamesItems monitor.now (calls_among trees.now) fault) }
 {
     let mut made = Vec::new(alloc);
@@ -131,7 +133,8 @@ fn make_clients(
 
 /// The client that a tree stands for.
 fn make_client(alloc: Global, monitor: &Monitor, tree: &ClientTree) -> Result<Client, ScriptFault>
-    requires { All IsOneCall tree.now.items }
+    requires calls { All IsOneCall tree.now.items }
+    requires plain { TakesNoInputs monitor.now }
     ensures { MatchResult result (λ client. IsMadeClient monitor.now tree.now client) (λ fault. BlamesItems monitor.now tree.now.items fault) }
 {
     Ok(Client {
@@ -143,7 +146,8 @@ fn make_client(alloc: Global, monitor: &Monitor, tree: &ClientTree) -> Result<Cl
 /// The calls that these items stand for.
 #[tactic(auto, using(crate::proofs::MadeScripts::item_blamed))]
 fn make_calls(alloc: Global, monitor: &Monitor, items: &[Item]) -> Result<Vec<Call>, ScriptFault>
-    requires { All IsOneCall items.now }
+    requires calls { All IsOneCall items.now }
+    requires plain { TakesNoInputs monitor.now }
     ensures { MatchResult result (λ calls. AreMadeCalls monitor.now items.now calls.items) (λ fault. BlamesItems monitor.now items.now fault) }
 {
     let mut calls = Vec::new(alloc);
@@ -155,7 +159,8 @@ fn make_calls(alloc: Global, monitor: &Monitor, items: &[Item]) -> Result<Vec<Ca
 
 /// The call that an item stands for. A fault is at a name that is no method's.
 fn make_call(alloc: Global, monitor: &Monitor, item: &Item) -> Result<Call, ScriptFault>
-    requires { IsOneCall item.now }
+    requires call { IsOneCall item.now }
+    requires plain { TakesNoInputs monitor.now }
     ensures { MatchResult result (λ call. IsMadeCall monitor.now item.now call) (λ fault. BlamesItem monitor.now item.now fault) }
 {
     match item {
@@ -173,6 +178,7 @@ fn make_call(alloc: Global, monitor: &Monitor, item: &Item) -> Result<Call, Scri
 /// The number of the first method of this name, which takes no inputs.
 #[tactic(auto, using(crate::proofs::MadeScripts::call_fits))]
 fn method_number(monitor: &Monitor, name: &Name) -> Option<u32>
+    requires { TakesNoInputs monitor.now }
     ensures number { result ≡ method_named monitor.now name.now }
     ensures fits { IfSome result (λ method. FitsCall monitor.now (record { method = method; inputs = [] })) }
 {

@@ -466,8 +466,11 @@ fn thirty_two_clients_make_sixteen_thousand_calls(rt: HostRuntime) -> Result<(),
 }
 
 #[test]
+#[tactic(auto, using(crate::proofs::PlainMonitors::accepted_is_plain))]
 fn a_checked_monitor_and_its_scripts_take_turns(rt: HostRuntime) -> Result<(), Fail> {
-    let monitor = read_monitor(rt.alloc(), BUFFER)?.ok_or("a monitor")?;
+    let Some(monitor) = read_monitor(rt.alloc(), BUFFER)? else {
+        return Err("a monitor".into());
+    };
     assert_eq!(rt; monitor.name().bytes(), b"Buffer".as_slice());
     assert_eq!(rt; monitor.fields().len(), 1);
     assert_eq!(rt; monitor.methods().len(), 2);

@@ -3,6 +3,7 @@
 ghost use Rattle.std.specs.Prelude.{◌≡◌, ◌≢◌, OnOk, ◌≤◌, ℕ, List, Option, Some, None, IfOk, IfSome, IsNone, MatchOption, length};
 ghost use Rattle.mon_implicit.specs.Scripted.{FitsScripts};
 ghost use Rattle.expresso_cli.specs.Answers.{IsAccepted, AreAccepted};
+ghost use Rattle.expresso_cli.specs.ScriptChecks.{TakesNoInputs};
 ghost use Rattle.expresso_cli.specs.Working.{IsNoMonitor, AreNoScripts, IsJudged};
 
 use super::script_fault::ScriptFault;
@@ -90,12 +91,14 @@ pub fn read_monitor(alloc: Global, bytes: &[u8]) -> Result<Option<Monitor>, Allo
     }
 }
 
-/// The scripts that the bytes stand for, where they are a client file of the first form.
+/// The scripts that the bytes stand for, where they are a client file of the first form. No method of
+/// the monitor takes inputs, as in each monitor of that form.
 pub fn read_clients(
     alloc: Global,
     bytes: &[u8],
     monitor: &Monitor,
 ) -> Result<Option<Scripts>, AllocError>
+    requires { TakesNoInputs monitor.now }
     ensures scripts { IfOk result (λ answer. MatchOption answer (AreNoScripts bytes.now monitor.now) (λ scripts. AreAccepted bytes.now monitor.now scripts)) }
     ensures fits { IfOk result (λ answer. IfSome answer (λ scripts. FitsScripts monitor.now scripts)) }
 {
@@ -122,6 +125,7 @@ pub fn read_clients(
 }
 
 /// What the bytes of the two files come to.
+#[tactic(auto, using(crate::proofs::PlainMonitors::accepted_is_plain))]
 pub fn judge(alloc: Global, monitor: &[u8], clients: &[u8]) -> Result<Answer, AllocError>
     ensures { IfOk result (λ answer. IsJudged monitor.now clients.now answer) }
 {

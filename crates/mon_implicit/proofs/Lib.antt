@@ -1,6 +1,9 @@
-pub mod Numbers
-pub mod Bodies
+pub mod Sums
+pub mod Held
 pub mod Schedule
 pub mod Progressing
 pub mod Letters
 pub mod ScriptTests
+pub mod Parts
+pub mod Running
+pub mod StatementForms

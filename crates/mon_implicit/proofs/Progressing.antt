@@ -36,7 +36,7 @@ pub progress_more : (monitor : MonitorParts) (clients : List Client) (run next :
     → next_call clients run.history.items commit.client ≡ Some call
     → count ≡ get_or run.made.items commit.client 0
     → commit.call ≡ count + 1
-    → IsImplicitStep monitor call.method run.state commit.reply next.state
+    → IsImplicitStep monitor call.method call.inputs run.state commit.reply next.state
     → FitsState monitor next.state
     → next.history.items ≡ run.history.items ++ commit ∷ []
     → next.made.items ≡ set run.made.items commit.client (count + 1)

@@ -1,5 +1,5 @@
 -- Blocks by number, one more step of a run so far, and the calls that are left.
-use Rattle.std.proofs.Common.{◌≡◌, ◌<◌, ◌≤◌, ◌+◌, ℕ, suc, zero, cond, eqb, List, [], ◌∷◌, ◌++◌, Some, length, get_or, set, sum_by, refl, arith}
+use Rattle.std.proofs.Common.{◌≡◌, ◌<◌, ◌≤◌, ◌+◌, ℕ, suc, zero, cond, eqb, List, [], ◌∷◌, ◌++◌, Some, length, get_or, set, sum_by, refl, true, sym, subst, arith}
 use Rattle.std.specs.List.{slice_get}
 use Rattle.std.proofs.lemmas.Option.{slice_get_within}
 use Rattle.std.proofs.lemmas.List.Sums.{sum_by-cons}
@@ -7,7 +7,9 @@ use Rattle.std.proofs.lemmas.Bool.Decides.{nat_tests}
 use Rattle.std.proofs.lemmas.Grind.{common_steps}
 use Rattle.mon_types.specs.declared.monitor.Method.{Method}
 use Rattle.mon_types.specs.declared.monitor.Block.{Block}
-use Rattle.mon_types.specs.MonitorParts.{AreNumbered}
+use Rattle.mon_types.specs.declared.monitor.Field.{Field}
+use Rattle.mon_types.specs.MonitorParts.{AreBlocks, fits_block, kinds_of}
+use Rattle.mon_implicit.specs.Steps.{kinds_in}
 use Rattle.mon_implicit.specs.declared.commit.Commit.{Commit}
 use Rattle.mon_implicit.specs.declared.script.Call.{Call}
 use Rattle.mon_implicit.specs.declared.script.Client.{Client}
@@ -18,18 +20,31 @@ use Rattle.mon_implicit.specs.Progress.{AreCounted, calls_left}
 
 -- ---- methods and blocks
 
-pub numbered_first : (number : ℕ) (methods : List Method) (blocks : List Block) (index : ℕ) (other : Method) → AreNumbered number methods blocks → index < length methods → (get_or methods index other).first ≡ number + index
-numbered_first number [] blocks index other numbered within = absurd (omega arith)
-numbered_first number (method ∷ methods) [] index other numbered within = absurd numbered
-numbered_first number (method ∷ methods) (block ∷ blocks) zero other numbered within = omega (arith, numbered.1)
-numbered_first number (method ∷ methods) (block ∷ blocks) (suc index) other numbered within =
-    omega (arith, numbered_first (number + 1) methods blocks index other numbered.4 (omega arith))
+pub numbered_first : (fields : List Field) (number : ℕ) (methods : List Method) (blocks : List Block) (index : ℕ) (other : Method)
+    → AreBlocks fields number methods blocks → index < length methods → (get_or methods index other).first ≡ number + index
+numbered_first fields number [] blocks index other numbered within = absurd (omega arith)
+numbered_first fields number (method ∷ methods) [] index other numbered within = absurd numbered
+numbered_first fields number (method ∷ methods) (block ∷ blocks) zero other numbered within = omega (arith, numbered.1)
+numbered_first fields number (method ∷ methods) (block ∷ blocks) (suc index) other numbered within =
+    omega (arith, numbered_first fields (number + 1) methods blocks index other numbered.5 (omega arith))
 
-pub numbered_lengths : (number : ℕ) (methods : List Method) (blocks : List Block) → AreNumbered number methods blocks → length methods ≡ length blocks
-numbered_lengths number [] [] numbered = refl
-numbered_lengths number [] (block ∷ blocks) numbered = absurd numbered
-numbered_lengths number (method ∷ methods) [] numbered = absurd numbered
-numbered_lengths number (method ∷ methods) (block ∷ blocks) numbered = omega (arith, numbered_lengths (number + 1) methods blocks numbered.4)
+pub numbered_lengths : (fields : List Field) (number : ℕ) (methods : List Method) (blocks : List Block) → AreBlocks fields number methods blocks → length methods ≡ length blocks
+numbered_lengths fields number [] [] numbered = refl
+numbered_lengths fields number [] (block ∷ blocks) numbered = absurd numbered
+numbered_lengths fields number (method ∷ methods) [] numbered = absurd numbered
+numbered_lengths fields number (method ∷ methods) (block ∷ blocks) numbered = omega (arith, numbered_lengths fields (number + 1) methods blocks numbered.5)
+
+-- what the rule says of the block at an index, and of its method's inputs
+pub fits_at : (fields : List Field) (number : ℕ) (methods : List Method) (blocks : List Block) (index : ℕ) (block : Block)
+    → AreBlocks fields number methods blocks → index < length blocks → block ≡ get_or blocks index block
+    → (length (kinds_in (slice_get methods index)) ≤ 6) × (fits_block (record { fields = kinds_of fields; inputs = kinds_in (slice_get methods index) }) block ≡ true)
+fits_at fields number [] [] index block numbered within is = absurd (omega arith)
+fits_at fields number [] (first ∷ blocks) index block numbered within is = absurd numbered
+fits_at fields number (method ∷ methods) [] index block numbered within is = absurd numbered
+fits_at fields number (method ∷ methods) (first ∷ blocks) zero block numbered within is =
+    (numbered.0, subst (λ (which : Block). fits_block (record { fields = kinds_of fields; inputs = method.inputs }) which ≡ true) (sym is) numbered.4)
+fits_at fields number (method ∷ methods) (first ∷ blocks) (suc index) block numbered within is =
+    fits_at fields (number + 1) methods blocks index block numbered.5 (omega arith) is
 
 -- ---- calls that are left
 

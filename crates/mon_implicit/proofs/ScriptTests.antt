@@ -5,7 +5,7 @@ use Rattle.std.proofs.lemmas.List.{take_more, get_or_default, get_or-take, lengt
 use Rattle.std.proofs.lemmas.List.Elements.{All-nil, All-cons, All-head, All-tail}
 use Rattle.std.proofs.lemmas.List.Quantifiers.{all_pairs_push}
 use Rattle.mon_syntax.specs.Spelling.{IsIdentifier}
-use Rattle.mon_types.specs.declared.monitor.Kind.{Kind}
+use Rattle.mon_forms.specs.declared.kind.Kind.{Kind}
 use Rattle.mon_types.specs.declared.monitor.Value.{Value}
 use Rattle.mon_types.specs.MonitorParts.{IsOfKind, AreOfKinds}
 use Rattle.mon_implicit.specs.declared.script.Client.{Client}

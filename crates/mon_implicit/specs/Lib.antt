@@ -2,5 +2,5 @@ pub mod Steps
 pub mod Scripted
 pub mod Runs
 pub mod Rounds
-pub mod Numbers
+pub mod Held
 pub mod Progress

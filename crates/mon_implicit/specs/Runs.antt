@@ -16,14 +16,14 @@ done history client = count_by (λ commit. commit.client == client) history
 abbrev pub next_call : List Client → List Commit → ℕ → Option Call
 next_call clients history client = slice_get (calls_of clients client) (done history client)
 
--- the client has a call left, and its guard is true; a method has one block, which has the method's number
+-- the client has a call left, and its guard is true at the inputs of the call; a method has one block, which has the method's number
 abbrev pub CanAct : MonitorParts → List Client → List Commit → List Value → ℕ → Type 0
-CanAct monitor clients history state client = IsSomeAnd (next_call clients history client) (λ call. guard_truth monitor state call.method ≡ true)
+CanAct monitor clients history state client = IsSomeAnd (next_call clients history client) (λ call. guard_truth monitor state call.method call.inputs ≡ true)
 
 -- the commit is the next call of its client, and its step goes from the state to the next one
 pub record IsNextCommit (monitor : MonitorParts) (clients : List Client) (history : List Commit) (state : List Value) (commit : Commit) (next : List Value) : Type 0 where
   pub number : commit.call ≡ done history commit.client + 1
-  pub step : IsSomeAnd (next_call clients history commit.client) (λ call. IsImplicitStep monitor call.method state commit.reply next)
+  pub step : IsSomeAnd (next_call clients history commit.client) (λ call. IsImplicitStep monitor call.method call.inputs state commit.reply next)
 
 -- Steps one after the other from the start, each client's calls in order; MayAct says who may act after a history, in a state.
 pub data IsRunBy (monitor : MonitorParts) (clients : List Client) (MayAct : List Commit → List Value → ℕ → Type 0) : List Commit → List Value → Type 0 where

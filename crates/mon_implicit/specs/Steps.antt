@@ -1,12 +1,13 @@
 -- The implicit step: what one call does.
 use Rattle.std.specs.Prelude.{◌≡◌, ◌⊎◌, ℕ, Bool, true, false, List, [], map, Option, Some, None, IsSomeAnd, slice_get}
-use Rattle.mon_types.specs.declared.monitor.Kind.{Kind}
+use Rattle.mon_linear.specs.Truth.{truth_of}
+use Rattle.mon_forms.specs.declared.kind.Kind.{Kind}
 use Rattle.mon_types.specs.declared.monitor.Value.{Value}
+use Rattle.mon_types.specs.declared.monitor.Value.TheVariants as values
 use Rattle.mon_types.specs.declared.monitor.Method.{Method}
 use Rattle.mon_types.specs.declared.monitor.Block.{Block}
-use Rattle.mon_types.specs.MonitorParts.{MonitorParts, AreOfKinds}
-use Rattle.mon_types.specs.Plain.{named, plain_value, truth_in}
-use Rattle.mon_types.specs.Bodies.{after, Overflows}
+use Rattle.mon_types.specs.MonitorParts.{MonitorParts, AreOfKinds, kinds_of}
+use Rattle.mon_types.specs.Bodies.{valuation, after, Overflows, result_value}
 use Rattle.mon_implicit.specs.declared.commit.Reply.{Reply}
 use Rattle.mon_implicit.specs.declared.commit.Reply.TheVariants as replies
 
@@ -16,7 +17,7 @@ start_of monitor = map (λ field. field.start) monitor.fields
 
 -- the state gives each field a value of its kind
 abbrev pub FitsState : MonitorParts → List Value → Type 0
-FitsState monitor state = AreOfKinds (map (λ field. field.kind) monitor.fields) state
+FitsState monitor state = AreOfKinds (kinds_of monitor.fields) state
 
 abbrev pub kinds_in : Option Method → List Kind
 kinds_in None = []
@@ -26,21 +27,27 @@ kinds_in (Some method) = method.inputs
 abbrev pub FitsInputs : MonitorParts → ℕ → List Value → Type 0
 FitsInputs monitor method inputs = AreOfKinds (kinds_in (slice_get monitor.methods method)) inputs
 
-abbrev pub block_truth : MonitorParts → List Value → Option Block → Bool
-block_truth monitor state None = false
-block_truth monitor state (Some block) = truth_in (plain_value (named monitor.fields state) block.guard)
+abbrev pub block_truth : List Value → List Value → Option Block → Bool
+block_truth state inputs None = false
+block_truth state inputs (Some block) = truth_of (valuation state inputs) block.guard
 
--- the truth of the guard of a block, by its number
-abbrev pub guard_truth : MonitorParts → List Value → ℕ → Bool
-guard_truth monitor state block = block_truth monitor state (slice_get monitor.blocks block)
+-- the truth of the guard of a block, by its number, at these inputs
+abbrev pub guard_truth : MonitorParts → List Value → ℕ → List Value → Bool
+guard_truth monitor state block inputs = block_truth state inputs (slice_get monitor.blocks block)
 
--- The body runs whole and the reply is that there is no result, or a value overflows and the state stays. The guard isn't asked here.
-abbrev pub BlockSteps : MonitorParts → Block → List Value → Reply → List Value → Type 0
-BlockSteps monitor block state reply next =
-    ((Overflows monitor.fields block.body state → ⊥) × (reply ≡ replies.Unit) × (next ≡ after monitor.fields block.body state))
-    ⊎ (Overflows monitor.fields block.body state × (reply ≡ replies.Overflow) × (next ≡ state))
+-- a result as it is replied
+abbrev pub reply_of : Option Value → Reply
+reply_of None = replies.Unit
+reply_of (Some (values.Int number)) = replies.Int number
+reply_of (Some (values.Bool truth)) = replies.Bool truth
 
--- a step of a block, by its number, from a state in which its guard is true
-pub record IsImplicitStep (monitor : MonitorParts) (block : ℕ) (state : List Value) (reply : Reply) (next : List Value) : Type 0 where
-  pub guard : guard_truth monitor state block ≡ true
-  pub runs : IsSomeAnd (slice_get monitor.blocks block) (λ which. BlockSteps monitor which state reply next)
+-- The body runs whole and the reply is the result in the state after it, or a value overflows and the state stays. The guard isn't asked here.
+abbrev pub BlockSteps : Block → List Value → List Value → Reply → List Value → Type 0
+BlockSteps block inputs state reply next =
+    ((Overflows inputs block state → ⊥) × (reply ≡ reply_of (result_value (after inputs block.body state) inputs block.result)) × (next ≡ after inputs block.body state))
+    ⊎ (Overflows inputs block state × (reply ≡ replies.Overflow) × (next ≡ state))
+
+-- a step of a block, by its number, at these inputs, from a state in which its guard is true
+pub record IsImplicitStep (monitor : MonitorParts) (block : ℕ) (inputs state : List Value) (reply : Reply) (next : List Value) : Type 0 where
+  pub guard : guard_truth monitor state block inputs ≡ true
+  pub runs : IsSomeAnd (slice_get monitor.blocks block) (λ which. BlockSteps which inputs state reply next)

@@ -1,15 +1,18 @@
 //! The implicit machine: a state, a step, and runs by rounds.
 //!
-//! A client whose next block's guard holds may step, and no other step exists. A step runs the body;
-//! where a value leaves 64 bits, it answers an overflow and the state stays. Definitions: `specs/Steps`
-//! (the step), `specs/Scripted` (clients and their calls), `specs/Runs` and `specs/Rounds`. A caller who
-//! puts scripts together tests them by [`are_clients`] and [`fit`].
+//! A client whose next block's guard holds, at the inputs of its call, may step, and no other step
+//! exists. A step runs the body and replies the result; where a value leaves 64 bits, it replies an
+//! overflow and the state stays. Definitions: `specs/Steps` (the step), `specs/Scripted` (clients and
+//! their calls), `specs/Runs` and `specs/Rounds`. A caller who puts scripts together tests them by
+//! [`are_clients`] and [`fit`].
 #![tactic(auto)]
 
 mod commit;
+mod evaluate;
 mod offered;
 mod progress;
 mod rounds;
+mod run;
 mod script;
 mod state;
 mod step;

@@ -1,6 +1,9 @@
-pub mod Lists
-pub mod Uses
-pub mod Names
-pub mod Making
-pub mod Kept
-pub mod Shapes
+pub mod Small
+pub mod Causes
+pub mod KeptMeanings
+pub mod ScopePlaces
+pub mod HeldPlaces
+pub mod StatementsFit
+pub mod MonitorMade
+pub mod StatementSteps
+pub mod BlockSteps

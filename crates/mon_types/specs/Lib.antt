@@ -1,7 +1,7 @@
-pub mod Plain
-pub mod FirstForm
 pub mod MonitorParts
-pub mod Rules
+pub mod FirstForm
 pub mod Typed
 pub mod Bodies
-pub mod Checks
+pub mod Checked
+pub mod KeptMeaning
+pub mod Making

@@ -1,29 +1,32 @@
 -- What contracts see of a monitor, and the rule that each monitor meets.
-use Rattle.std.specs.Prelude.{◌≡◌, ℕ, ◌+◌, ◌≤◌, List, [], ◌∷◌, length, All, IsSome}
-use Rattle.mon_syntax.specs.declared.tree.Expr.{Expr, out-Expr}
-use Rattle.mon_syntax.specs.declared.tree.Expr.TheOpen.{Expr-F, Number, Named, Sum, Compare}
-use Rattle.mon_syntax.specs.declared.tree.Addend.{Addend, out-Addend}
-use Rattle.mon_syntax.specs.declared.tree.Factor.{Factor}
-use Rattle.mon_syntax.specs.declared.tree.StmtTree.{StmtTree, out-StmtTree}
-use Rattle.mon_syntax.specs.declared.tree.StmtTree.TheOpen.{StmtTree-F, Set}
-use Rattle.mon_types.specs.declared.monitor.Kind.{Kind}
-use Rattle.mon_types.specs.declared.monitor.Kind.TheVariants as kinds
+use Rattle.std.specs.Prelude.{◌≡◌, ℕ, ◌+◌, ◌-◌, ◌^◌, ◌≤◌, Bool, true, false, ◌&&◌, nat_lt, List, [], ◌∷◌, length, All, map, Option, Some, None, slice_get, IsSomeAnd, if◌then◌else◌}
+use Rattle.std.specs.List.{list_all}
+use Rattle.mon_linear.specs.declared.form.Term.{Term}
+use Rattle.mon_linear.specs.Linear.{Linear}
+use Rattle.mon_linear.specs.declared.formula.Formula.{Formula}
+use Rattle.mon_linear.specs.declared.formula.Formula.TheOpen.{Formula-F, Row, Flag, All as Every, Any as Some_of}
+use Rattle.mon_linear.specs.declared.formula.Formula.TheFolds.{fold-Formula}
+use Rattle.mon_forms.specs.Forms.{is_within}
+use Rattle.mon_forms.specs.declared.kind.Kind.{Kind}
+use Rattle.mon_forms.specs.declared.kind.Kind.TheVariants as kinds
 use Rattle.mon_types.specs.declared.monitor.Value.{Value}
 use Rattle.mon_types.specs.declared.monitor.Value.TheVariants as values
 use Rattle.mon_types.specs.declared.monitor.Field.{Field}
 use Rattle.mon_types.specs.declared.monitor.Method.{Method}
+use Rattle.mon_types.specs.declared.monitor.Stmt.{Stmt}
+use Rattle.mon_types.specs.declared.monitor.Stmt.TheOpen.{Stmt-F, SetInt, SetBool, If}
+use Rattle.mon_types.specs.declared.monitor.Stmt.TheFolds.{fold-Stmt}
+use Rattle.mon_types.specs.declared.monitor.Ret.{Ret}
+use Rattle.mon_types.specs.declared.monitor.Ret.TheVariants as rets
 use Rattle.mon_types.specs.declared.monitor.Block.{Block}
-use Rattle.mon_types.specs.Plain.{field_named}
+use Rattle.mon_types.specs.declared.monitor.Condition.{Condition}
 
 pub record MonitorParts : Type 0 where
   pub name : List ℕ
   pub fields : List Field
   pub methods : List Method
   pub blocks : List Block
-
--- the greatest written number, 2^63 - 1
-abbrev pub greatest_number : ℕ
-greatest_number = 9223372036854775807
+  pub conditions : List Condition
 
 -- a value has a kind
 abbrev pub IsOfKind : Kind → Value → Type 0
@@ -37,67 +40,75 @@ AreOfKinds [] [] = Unit {0}
 AreOfKinds (kind ∷ more_kinds) (value ∷ more_values) = IsOfKind kind value × AreOfKinds more_kinds more_values
 AreOfKinds some_kinds some_values = ⊥
 
--- a field of the first form holds numbers
-pub record IsIntField (field : Field) : Type 0 where
-  pub kind : field.kind ≡ kinds.Int
-  pub start : IsOfKind kinds.Int field.start
+-- ---- places: field `k` has place `k`, and input `k` place `16 + k`
 
--- the name of a field, or a number in range
-abbrev pub IsCheckedTermLayer : List Field → Expr-F Expr Addend Factor → Type 0
-IsCheckedTermLayer fields (Named at name) = IsSome (field_named fields name)
-IsCheckedTermLayer fields (Number at value) = value ≤ greatest_number
-IsCheckedTermLayer fields expression = ⊥
+-- the kinds of a block's fields and inputs
+pub record Places : Type 0 where
+  pub fields : List Kind
+  pub inputs : List Kind
 
-abbrev pub IsCheckedTerm : List Field → Expr → Type 0
-IsCheckedTerm fields expression = IsCheckedTermLayer fields (out-Expr expression)
+abbrev pub kind_at : Places → ℕ → Option Kind
+kind_at places place = if nat_lt place 16 then slice_get places.fields place else slice_get places.inputs (place - 16)
 
--- a comparison of two terms
-abbrev pub IsCheckedGuardLayer : List Field → Expr-F Expr Addend Factor → Type 0
-IsCheckedGuardLayer fields (Compare op left right) = IsCheckedTerm fields left × IsCheckedTerm fields right
-IsCheckedGuardLayer fields expression = ⊥
+abbrev pub is_kind : Kind → Option Kind → Bool
+is_kind kinds.Int (Some kinds.Int) = true
+is_kind kinds.Bool (Some kinds.Bool) = true
+is_kind wanted kind = false
 
-abbrev pub IsCheckedGuard : List Field → Expr → Type 0
-IsCheckedGuard fields expression = IsCheckedGuardLayer fields (out-Expr expression)
+-- the place of an int, at most 2^31 times
+abbrev pub fits_term : Places → Term → Bool
+fits_term places term = is_kind kinds.Int (kind_at places term.place) && is_within (2 ^ 31) term.times
 
-abbrev pub IsCheckedNumberLayer : Expr-F Expr Addend Factor → Type 0
-IsCheckedNumberLayer (Number at value) = value ≤ greatest_number
-IsCheckedNumberLayer expression = ⊥
+abbrev pub fits_form : Places → Linear → Bool
+fits_form places form = list_all (fits_term places) form.terms && is_within (2 ^ 64) form.constant
 
--- a field's name and a number, added or subtracted
-abbrev pub IsCheckedSumLayer : List Field → Expr-F Expr Addend Factor → List Addend → Type 0
-IsCheckedSumLayer fields (Named at name) (addend ∷ []) = IsSome (field_named fields name) × IsCheckedNumberLayer (out-Expr (out-Addend addend).of)
-IsCheckedSumLayer fields first rest = ⊥
+-- ---- formulas, statements and results whose places are of the right kinds
 
--- a term or such a sum
-abbrev pub IsCheckedValueLayer : List Field → Expr-F Expr Addend Factor → Type 0
-IsCheckedValueLayer fields (Sum first rest) = IsCheckedSumLayer fields (out-Expr first) rest
-IsCheckedValueLayer fields expression = IsCheckedTermLayer fields expression
+abbrev pub formula_step : Places → Formula-F Bool → Bool
+formula_step places (Row form) = fits_form places form
+formula_step places (Flag place is) = is_kind kinds.Bool (kind_at places place)
+formula_step places (Every parts) = list_all (λ part. part) parts
+formula_step places (Some_of parts) = list_all (λ part. part) parts
 
-abbrev pub IsCheckedValue : List Field → Expr → Type 0
-IsCheckedValue fields expression = IsCheckedValueLayer fields (out-Expr expression)
+abbrev pub fits_formula : Places → Formula → Bool
+fits_formula places = fold-Formula Bool (formula_step places)
 
--- an assignment to a field
-abbrev pub IsCheckedStatementLayer : List Field → StmtTree-F StmtTree → Type 0
-IsCheckedStatementLayer fields (Set at name value) = IsSome (field_named fields name) × IsCheckedValue fields value
-IsCheckedStatementLayer fields statement = ⊥
+abbrev pub statement_step : Places → Stmt-F Bool → Bool
+statement_step places (SetInt field form) = is_kind kinds.Int (slice_get places.fields field) && fits_form places form
+statement_step places (SetBool field is) = is_kind kinds.Bool (slice_get places.fields field) && fits_formula places is
+statement_step places (If when body other) = fits_formula places when && (list_all (λ inner. inner) body && list_all (λ inner. inner) other)
 
-abbrev pub IsCheckedStatement : List Field → StmtTree → Type 0
-IsCheckedStatement fields statement = IsCheckedStatementLayer fields (out-StmtTree statement)
+abbrev pub fits_statement : Places → Stmt → Bool
+fits_statement places = fold-Stmt Bool (statement_step places)
 
-pub record IsCheckedBlock (fields : List Field) (block : Block) : Type 0 where
-  pub guard : IsCheckedGuard fields block.guard
-  pub body : All (IsCheckedStatement fields) block.body
+abbrev pub fits_result : Places → Ret → Bool
+fits_result places rets.Nothing = true
+fits_result places (rets.Int form) = fits_form places form
+fits_result places (rets.Bool formula) = fits_formula places formula
 
--- each method has one block, in the order of the methods
-abbrev pub AreNumbered : ℕ → List Method → List Block → Type 0
-AreNumbered number [] [] = Unit {0}
-AreNumbered number (method ∷ methods) (block ∷ blocks) =
-    (method.inputs ≡ []) × (method.first ≡ number) × (method.count ≡ 1) × (block.method ≡ number) × AreNumbered (number + 1) methods blocks
-AreNumbered number methods blocks = ⊥
+abbrev pub fits_block : Places → Block → Bool
+fits_block places block = fits_formula places block.guard && (list_all (fits_statement places) block.body && fits_result places block.result)
+
+-- ---- the rule of a monitor
+
+abbrev pub kinds_of : List Field → List Kind
+kinds_of fields = map (λ field. field.kind) fields
+
+-- each method has at most 6 inputs, and one block, in the order of the methods
+abbrev pub AreBlocks : List Field → ℕ → List Method → List Block → Type 0
+AreBlocks fields number [] [] = Unit {0}
+AreBlocks fields number (method ∷ methods) (block ∷ blocks) =
+    (length method.inputs ≤ 6) × (method.first ≡ number) × (method.count ≡ 1) × (block.method ≡ number)
+    × (fits_block (record { fields = kinds_of fields; inputs = method.inputs }) block ≡ true) × AreBlocks fields (number + 1) methods blocks
+AreBlocks fields number methods blocks = ⊥
+
+-- the block's condition has its guard
+abbrev pub HasCondition : List Condition → Block → Type 0
+HasCondition conditions block = (1 ≤ block.condition) × IsSomeAnd (slice_get conditions (block.condition - 1)) (λ condition. condition.guard ≡ block.guard)
 
 pub record IsMonitor (monitor : MonitorParts) : Type 0 where
   pub few_fields : length monitor.fields ≤ 16
   pub few_methods : length monitor.methods ≤ 16
-  pub ints : All IsIntField monitor.fields
-  pub numbered : AreNumbered 0 monitor.methods monitor.blocks
-  pub checked : All (IsCheckedBlock monitor.fields) monitor.blocks
+  pub starts : All (λ field. IsOfKind field.kind field.start) monitor.fields
+  pub blocks : AreBlocks monitor.fields 0 monitor.methods monitor.blocks
+  pub conditions : All (HasCondition monitor.conditions) monitor.blocks

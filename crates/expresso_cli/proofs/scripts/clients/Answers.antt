@@ -26,7 +26,7 @@ of-requires c =
     let tree = c.args.tree.now in
     let monitor = c.args.monitor.now in
     let made = subst (λ (trees : List ClientTree). AreMadeClients monitor trees c.in_ok-make_clients.field-0.items) c.items.ensures c.in_ok-make_clients.ensures in
-    are_clients monitor tree.clients c.in_ok-make_clients.field-0.items made.same c.in_ok-check_number.ensures.few (names_are_identifiers tree c.requires)
+    are_clients monitor tree.clients c.in_ok-make_clients.field-0.items made.same c.in_ok-check_number.ensures.few (names_are_identifiers tree c.requires.parsed)
     c.in_ok-check_names.ensures.distinct c.in_ok-check_calls.ensures.few
 
 pub returns-clause-unbroken : goal.returns-clause-unbroken

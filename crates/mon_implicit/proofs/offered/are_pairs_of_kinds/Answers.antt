@@ -4,7 +4,7 @@ use Rattle.std.proofs.lemmas.Iterator.{cases_from_all, YieldsList-from_slice, Yi
 use Rattle.std.proofs.lemmas.Iterator.Search.{true_from_All}
 use Rattle.std.proofs.lemmas.Bool.{MatchBool-at_true}
 use Rattle.std.proofs.lemmas.List.Elements.{All-from_all_within}
-use Rattle.mon_types.specs.declared.monitor.Kind.{Kind}
+use Rattle.mon_forms.specs.declared.kind.Kind.{Kind}
 use Rattle.mon_types.specs.declared.monitor.Value.{Value}
 use Rattle.mon_implicit.proofs.ScriptTests.{IsPairOfKind}
 use Rattle.mon_implicit.proofs.offered.are_pairs_of_kinds.Goals as goal

@@ -22,7 +22,7 @@ pub returns-clause-run : goal.returns-clause-run
 returns-clause-run c =
     let counts = c.requires.run.counts in
     let count = get_or_read c.args.run.now.made.items c.args.client c.index.result.now (omega (arith, counts.one_each, c.requires.next.is)) c.index.ensures 0 in
-    let step = rw c.first_block-block.ensures.block at c.run_block-reply.ensures.step in
+    let step = rw (c.first_block-block.ensures.block, c.items.ensures) at c.run_block-reply.ensures.step in
     progress_more c.args.monitor.now c.args.clients.now c.args.run.now _ c.in-Some.call.now
     (record { client = c.args.client; call = c.index.result.now + 1; reply = c.run_block-reply.result })
     c.index.result.now c.requires.run c.requires.next c.in-Some.ensures count refl step c.run_block-reply.ensures.fits

@@ -1,5 +1,15 @@
-use Rattle.mon_types.proofs.Kept.{breaks_none}
+use Rattle.mon_types.proofs.Small.{parsed_is_small}
+use Rattle.mon_types.proofs.Causes.{found_has_cause, none_is_unbroken}
 use Rattle.mon_types.proofs.checker.check.Goals as goal
 
-pub returns-clause-unbroken : goal.returns-clause-unbroken
-returns-clause-unbroken c = breaks_none c.args.tree.now c.in_ok-check_rules.ensures
+pub fault_in_monitor-requires : goal.fault_in_monitor-requires
+fault_in_monitor-requires c = record { small = parsed_is_small c.args.tree.now c.requires }
+
+pub monitor_of-requires : goal.monitor_of-requires
+monitor_of-requires c = record { fine = none_is_unbroken c.args.tree.now c.in_ok-fault.field-0 c.in_ok-fault.ensures c.in-None.is }
+
+pub returns-in-Some-clause-fault : goal.returns-in-Some-clause-fault
+returns-in-Some-clause-fault c = found_has_cause c.args.tree.now c.in_ok-fault.field-0 c.in-Some.fault c.in_ok-fault.ensures c.in-Some.is
+
+pub returns-in_ok-monitor_of-in-None-clause-unbroken : goal.returns-in_ok-monitor_of-in-None-clause-unbroken
+returns-in_ok-monitor_of-in-None-clause-unbroken c = none_is_unbroken c.args.tree.now c.in_ok-fault.field-0 c.in_ok-fault.ensures c.in-None.is

@@ -1,0 +1,52 @@
+-- The places of fields, then those of inputs, rise strictly.
+use Rattle.std.proofs.Common.{◌≡◌, ℕ, zero, suc, ◌+◌, ◌<◌, ◌≤◌, List, [], ◌∷◌, ◌++◌, length, get_or, add-one, refl, sym, subst, arith}
+use Rattle.std.specs.List.Sorted.{IsStrictlyIncreasing}
+use Rattle.mon_syntax.specs.declared.tree.Decl.{Decl}
+use Rattle.mon_syntax.specs.declared.tree.Decl.TheVariants as decls
+use Rattle.mon_syntax.specs.declared.tree.InputKind.{InputKind}
+use Rattle.mon_syntax.specs.declared.tree.InputKind.TheVariants as inputs
+use Rattle.mon_syntax.specs.declared.tree.InputTree.{InputTree}
+use Rattle.mon_forms.specs.declared.scope.Entry.{Entry}
+use Rattle.mon_forms.specs.Scope.{declared_from, field_count, input_meaning, inputs_from, scope_of}
+use Rattle.mon_forms.specs.Forms.{IsOrdered, meaning_places, places_of}
+
+-- each is at least the given one, and above the one before
+abbrev RiseFrom : ℕ → List ℕ → Type 0
+RiseFrom low [] = Unit {0}
+RiseFrom low (place ∷ more) = (low ≤ place) × RiseFrom (place + 1) more
+
+from_lower : (low high : ℕ) (places : List ℕ) → low ≤ high → RiseFrom high places → RiseFrom low places
+from_lower low high [] h rise = tt
+from_lower low high (place ∷ more) h rise = (omega (arith, rise.0), rise.1)
+
+next_above : (low : ℕ) (places : List ℕ) (k : ℕ) → RiseFrom low places → suc k < length places → get_or places k 0 < get_or places (suc k) 0
+next_above low [] k rise h = absurd (omega arith)
+next_above low (place ∷ []) k rise h = absurd (omega arith)
+next_above low (place ∷ other ∷ more) zero rise h = omega (arith, rise.1.0)
+next_above low (place ∷ other ∷ more) (suc k) rise h = next_above (place + 1) (other ∷ more) k rise.1 (omega arith)
+
+increasing : (low : ℕ) (places : List ℕ) → RiseFrom low places → IsStrictlyIncreasing places
+increasing low places rise k h = rw add-one (next_above low places k rise (omega arith))
+
+-- an input of either kind has its place
+input_place : (kind : InputKind) (place : ℕ) (more : List ℕ) → meaning_places (input_meaning kind place) more ≡ place ∷ more
+input_place inputs.Int place more = refl
+input_place inputs.Bool place more = refl
+
+inputs_rise : (place : ℕ) (taken : List InputTree) → RiseFrom place (places_of (inputs_from place taken))
+inputs_rise place [] = tt
+inputs_rise place (input ∷ more) = subst (RiseFrom place) (sym (input_place input.kind place (places_of (inputs_from (place + 1) more)))) (omega arith, inputs_rise (place + 1) more)
+
+declared_rise : (place : ℕ) (declared : List Decl) (later : List Entry) → RiseFrom (place + field_count declared) (places_of later) → RiseFrom place (places_of (declared_from place declared ++ later))
+declared_rise place [] later rise = from_lower place (place + 0) (places_of later) (omega arith) rise
+declared_rise place (decls.Const at name value ∷ more) later rise = declared_rise place more later rise
+declared_rise place (decls.Int at name value ∷ more) later rise =
+    (omega arith, declared_rise (place + 1) more later (from_lower (place + 1 + field_count more) (place + (1 + field_count more)) (places_of later) (omega arith) rise))
+declared_rise place (decls.Flag at name value ∷ more) later rise =
+    (omega arith, declared_rise (place + 1) more later (from_lower (place + 1 + field_count more) (place + (1 + field_count more)) (places_of later) (omega arith) rise))
+
+-- With at most 16 fields the places of a scope rise strictly.
+pub ordered : (declared : List Decl) (taken : List InputTree) → field_count declared ≤ 16 → IsOrdered (scope_of declared taken)
+ordered declared taken few =
+    let places = places_of (inputs_from 16 taken) in
+    increasing 0 (places_of (scope_of declared taken)) (declared_rise 0 declared (inputs_from 16 taken) (from_lower (0 + field_count declared) 16 places (omega arith) (inputs_rise 16 taken)))

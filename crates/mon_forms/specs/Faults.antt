@@ -1,0 +1,61 @@
+-- The order of faults: by place, and at one place by rule.
+use Rattle.std.specs.Prelude.{◌≡◌, ℕ, ◌+◌, Bool, false, ◌&&◌, ◌||◌, nat_lt, ◌==◌, List, [], ◌∷◌, Option, Some, None, Contains, All, if◌then◌else◌}
+use Rattle.mon_forms.specs.declared.fault.Counted.{Counted}
+use Rattle.mon_forms.specs.declared.fault.Counted.TheVariants as counted
+use Rattle.mon_forms.specs.declared.fault.TypeFault.{TypeFault}
+use Rattle.mon_forms.specs.declared.fault.TypeFault.TheVariants as faults
+
+-- where the rule is broken; want of memory breaks no rule and is in no list
+abbrev pub place : TypeFault → ℕ
+place (faults.Unknown at) = at
+place (faults.Duplicate at) = at
+place (faults.WrongType at) = at
+place (faults.NotLinear at) = at
+place (faults.TooLarge at) = at
+place (faults.TooMany what at) = at
+place (faults.ReadOnly at) = at
+place (faults.Misplaced at) = at
+place faults.OutOfMemory = 0
+
+abbrev pub counted_rank : Counted → ℕ
+counted_rank counted.Constants = 0
+counted_rank counted.Fields = 1
+counted_rank counted.Methods = 2
+counted_rank counted.Parameters = 3
+counted_rank counted.Statements = 4
+
+-- in the order of the variants
+abbrev pub rank : TypeFault → ℕ
+rank (faults.Unknown at) = 0
+rank (faults.Duplicate at) = 1
+rank (faults.WrongType at) = 2
+rank (faults.NotLinear at) = 3
+rank (faults.TooLarge at) = 4
+rank (faults.TooMany what at) = 5 + counted_rank what
+rank (faults.ReadOnly at) = 10
+rank (faults.Misplaced at) = 11
+rank faults.OutOfMemory = 12
+
+-- the one comes before the other
+abbrev pub is_before : TypeFault → TypeFault → Bool
+is_before a b = nat_lt (place a) (place b) || (place a == place b && nat_lt (rank a) (rank b))
+
+-- a fault of the list, and none of the list comes before it
+pub record IsLeast (among : List TypeFault) (fault : TypeFault) : Type 0 where
+  pub one : Contains among fault
+  pub least : All (λ other. is_before other fault ≡ false) among
+
+-- the least, where there is one
+abbrev pub earlier : TypeFault → Option TypeFault → Option TypeFault
+earlier fault None = Some fault
+earlier fault (Some other) = if is_before other fault then Some other else Some fault
+
+abbrev pub least : List TypeFault → Option TypeFault
+least [] = None
+least (fault ∷ more) = earlier fault (least more)
+
+-- these, or, where there are none, those: a rule on a whole is asked only where its parts break none
+infixr 30 ◌or_else◌
+abbrev pub ◌or_else◌ : List TypeFault → List TypeFault → List TypeFault
+[] or_else later = later
+(fault ∷ more) or_else later = fault ∷ more

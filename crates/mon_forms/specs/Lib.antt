@@ -1,0 +1,7 @@
+pub mod Scope
+pub mod Forms
+pub mod Faults
+pub mod Sense
+pub mod Plain
+pub mod Making
+pub mod Finding

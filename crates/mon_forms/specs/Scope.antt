@@ -1,0 +1,61 @@
+-- What the names of an expression stand for: constants, fields and the inputs of its method.
+use Rattle.std.specs.Prelude.{ℕ, ◌+◌, ℤ, pos, neg_ℤ, Bool, true, false, nat_le, List, [], ◌∷◌, ◌++◌, Option, Some, None, position, slice_get, if◌then◌else◌}
+use Rattle.std.specs.Str.{bytes_eq}
+use Rattle.mon_syntax.specs.declared.tree.Lit.{Lit}
+use Rattle.mon_syntax.specs.declared.tree.Decl.{Decl}
+use Rattle.mon_syntax.specs.declared.tree.Decl.TheVariants as decls
+use Rattle.mon_syntax.specs.declared.tree.InputKind.{InputKind}
+use Rattle.mon_syntax.specs.declared.tree.InputKind.TheVariants as inputs
+use Rattle.mon_syntax.specs.declared.tree.InputTree.{InputTree}
+use Rattle.mon_forms.specs.declared.scope.Meaning.{Meaning}
+use Rattle.mon_forms.specs.declared.scope.Meaning.TheVariants as meanings
+use Rattle.mon_forms.specs.declared.scope.Entry.{Entry}
+
+-- the greatest written number, 2^63 - 1
+abbrev pub greatest_number : ℕ
+greatest_number = 9223372036854775807
+
+abbrev pub signed : Bool → ℤ → ℤ
+signed true number = neg_ℤ number
+signed false number = number
+
+-- What a constant stands for. A number that is too large is refused where it is written, and stands for 0 elsewhere.
+abbrev pub constant_value : Lit → ℤ
+constant_value literal = if nat_le literal.digits greatest_number then signed literal.minus (pos literal.digits) else pos 0
+
+-- The names of declarations: fields have the places from the given one on, in file order.
+abbrev pub declared_from : ℕ → List Decl → List Entry
+declared_from place [] = []
+declared_from place (decls.Const at name value ∷ more) = record { name = name; meaning = meanings.Number (constant_value value); is_field = false } ∷ declared_from place more
+declared_from place (decls.Int at name value ∷ more) = record { name = name; meaning = meanings.Int place; is_field = true } ∷ declared_from (place + 1) more
+declared_from place (decls.Flag at name value ∷ more) = record { name = name; meaning = meanings.Flag place; is_field = true } ∷ declared_from (place + 1) more
+
+-- how many of the declarations are fields
+abbrev pub field_count : List Decl → ℕ
+field_count [] = 0
+field_count (decls.Const at name value ∷ more) = field_count more
+field_count (decls.Int at name value ∷ more) = 1 + field_count more
+field_count (decls.Flag at name value ∷ more) = 1 + field_count more
+
+abbrev pub input_meaning : InputKind → ℕ → Meaning
+input_meaning inputs.Int place = meanings.Int place
+input_meaning inputs.Bool place = meanings.Flag place
+
+abbrev pub inputs_from : ℕ → List InputTree → List Entry
+inputs_from place [] = []
+inputs_from place (input ∷ more) = record { name = input.name; meaning = input_meaning input.kind place; is_field = false } ∷ inputs_from (place + 1) more
+
+-- the names that a method sees: field `k` has place `k`, and its input `k` has place `16 + k`
+abbrev pub scope_of : List Decl → List InputTree → List Entry
+scope_of declared taken = declared_from 0 declared ++ inputs_from 16 taken
+
+-- where the first entry of this name stands
+abbrev pub index_of : List Entry → List ℕ → Option ℕ
+index_of scope name = position (λ entry. bytes_eq entry.name name) scope
+
+abbrev pub entry_at : List Entry → Option ℕ → Option Entry
+entry_at scope None = None
+entry_at scope (Some index) = slice_get scope index
+
+abbrev pub entry_named : List Entry → List ℕ → Option Entry
+entry_named scope name = entry_at scope (index_of scope name)

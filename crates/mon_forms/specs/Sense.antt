@@ -1,0 +1,172 @@
+-- What the checker finds of an expression: its kind, the rules that it breaks, its flattened form or its formula.
+use Rattle.std.specs.Prelude.{ℕ, pos, neg_ℤ, nat_lt, Bool, true, false, ◌||◌, List, [], ◌∷◌, map, fold, Option, Some, None, if◌then◌else◌}
+use Rattle.std.specs.List.{flat_map}
+use Rattle.mon_syntax.specs.declared.tree.Op.{Op}
+use Rattle.mon_syntax.specs.declared.tree.Op.TheVariants as ops
+use Rattle.mon_syntax.specs.declared.tree.Expr.{Expr}
+use Rattle.mon_syntax.specs.declared.tree.Expr.TheOpen.{Expr-F, Addend-F, Factor-F, Number, Truth, Named, Minus, Not, Product, Sum, Compare, Both, Either}
+use Rattle.mon_syntax.specs.declared.tree.Expr.TheFolds.{fold-Expr}
+use Rattle.mon_linear.specs.declared.formula.Formula.{Formula}
+use Rattle.mon_linear.specs.declared.formula.Formula.TheVariants as formulas
+use Rattle.mon_linear.specs.Negation.{negation}
+use Rattle.mon_forms.specs.declared.kind.Kind.{Kind}
+use Rattle.mon_forms.specs.declared.kind.Kind.TheVariants as kinds
+use Rattle.mon_forms.specs.declared.fault.TypeFault.{TypeFault}
+use Rattle.mon_forms.specs.declared.fault.TypeFault.TheVariants as faults
+use Rattle.mon_forms.specs.declared.scope.Meaning.{Meaning}
+use Rattle.mon_forms.specs.declared.scope.Meaning.TheVariants as meanings
+use Rattle.mon_forms.specs.declared.scope.Entry.{Entry}
+use Rattle.mon_forms.specs.Scope.{greatest_number, entry_named}
+use Rattle.mon_forms.specs.Forms.{Form, number_form, name_form, plus, minus, scaled, raised, product, is_constant, is_limited, linear_of}
+use Rattle.mon_forms.specs.Faults.{◌or_else◌}
+
+-- ---- kinds
+
+-- is it a kind other than the wanted one? An unknown name has either kind, as wanted.
+abbrev pub is_other : Kind → Option Kind → Bool
+is_other kinds.Int (Some kinds.Bool) = true
+is_other kinds.Bool (Some kinds.Int) = true
+is_other wanted kind = false
+
+abbrev pub meaning_kind : Meaning → Kind
+meaning_kind (meanings.Number number) = kinds.Int
+meaning_kind (meanings.Int place) = kinds.Int
+meaning_kind (meanings.Flag place) = kinds.Bool
+
+abbrev pub entry_kind : Option Entry → Option Kind
+entry_kind None = None
+entry_kind (Some entry) = Some (meaning_kind entry.meaning)
+
+-- ---- formulas
+
+-- left <= right, and left < right
+abbrev pub at_most : List Entry → Form → Form → Formula
+at_most scope left right = formulas.Row (linear_of scope (minus left right))
+
+abbrev pub less : List Entry → Form → Form → Formula
+less scope left right = formulas.Row (linear_of scope (raised (pos 1) (minus left right)))
+
+abbrev pub compared : List Entry → Op → Form → Form → Formula
+compared scope ops.Equal left right = formulas.All (at_most scope left right ∷ at_most scope right left ∷ [])
+compared scope ops.Differs left right = formulas.Any (less scope right left ∷ less scope left right ∷ [])
+compared scope ops.Less left right = less scope left right
+compared scope ops.AtMost left right = at_most scope left right
+compared scope ops.More left right = less scope right left
+compared scope ops.AtLeast left right = at_most scope right left
+
+abbrev pub truth_formula : Bool → Formula
+truth_formula true = formulas.All []
+truth_formula false = formulas.Any []
+
+-- a bool name; no rule looks at the formula of another name
+abbrev pub meaning_formula : Meaning → Formula
+meaning_formula (meanings.Number number) = formulas.All []
+meaning_formula (meanings.Int place) = formulas.All []
+meaning_formula (meanings.Flag place) = formulas.Flag place true
+
+abbrev pub entry_formula : Option Entry → Formula
+entry_formula None = formulas.All []
+entry_formula (Some entry) = meaning_formula entry.meaning
+
+-- ---- what is found of an expression
+
+-- `first` is the offset of its first token; an int expression has a form, a bool expression a formula
+pub record Sense : Type 0 where
+  pub first : ℕ
+  pub kind : Option Kind
+  pub faults : List TypeFault
+  pub form : Form
+  pub formula : Formula
+
+-- a factor after the first, with the offset of its `*`
+pub record FactorSense : Type 0 where
+  pub at : ℕ
+  pub of : Sense
+
+-- a part of a sum after the first
+pub record AddendSense : Type 0 where
+  pub minus : Bool
+  pub of : Sense
+
+-- ---- the rules, each with its place
+
+abbrev pub unknown : ℕ → Option Entry → List TypeFault
+unknown at None = faults.Unknown at ∷ []
+unknown at (Some entry) = []
+
+abbrev pub large_number : ℕ → ℕ → List TypeFault
+large_number at value = if nat_lt greatest_number value then faults.TooLarge at ∷ [] else []
+
+abbrev pub wrong_type : Kind → Sense → List TypeFault
+wrong_type wanted part = if is_other wanted part.kind then faults.WrongType part.first ∷ [] else []
+
+abbrev pub large_form : ℕ → Form → List TypeFault
+large_form at form = if is_limited form then [] else faults.TooLarge at ∷ []
+
+-- what the parts break, or, where they break nothing, which of them are of another kind
+abbrev pub part_faults : Kind → List Sense → List TypeFault
+part_faults wanted parts = flat_map (λ part. part.faults) parts or_else flat_map (wrong_type wanted) parts
+
+-- from left to right: of the product before a `*` and the factor after it one is constant, and their product is not too large
+abbrev pub product_faults : ℕ → Form → List FactorSense → List TypeFault
+product_faults first form [] = []
+product_faults first form (factor ∷ rest) =
+    if is_constant form || is_constant factor.of.form
+    then large_form first (product form factor.of.form) or_else product_faults first (product form factor.of.form) rest
+    else faults.NotLinear factor.at ∷ []
+
+-- ---- forms of products and sums
+
+abbrev pub product_form : Form → List FactorSense → Form
+product_form form rest = fold (λ before factor. product before factor.of.form) form rest
+
+abbrev pub signed_form : AddendSense → Form
+signed_form addend = if addend.minus then scaled (neg_ℤ (pos 1)) addend.of.form else addend.of.form
+
+abbrev pub sum_form : Form → List AddendSense → Form
+sum_form form rest = fold (λ before addend. plus before (signed_form addend)) form rest
+
+-- ---- one layer, given what is found of its parts
+
+abbrev pub first_of : List Sense → ℕ
+first_of [] = 0
+first_of (part ∷ more) = part.first
+
+-- an int expression, and a bool one
+abbrev pub int_sense : ℕ → List TypeFault → Form → Sense
+int_sense first broken form = record { first = first; kind = Some kinds.Int; faults = broken; form = form; formula = formulas.All [] }
+
+abbrev pub bool_sense : List Entry → ℕ → List TypeFault → Formula → Sense
+bool_sense scope first broken formula = record { first = first; kind = Some kinds.Bool; faults = broken; form = number_form scope (pos 0); formula = formula }
+
+abbrev pub sense_step : List Entry → Expr-F Sense AddendSense FactorSense → Sense
+sense_step scope (Number at value) = int_sense at (large_number at value) (number_form scope (pos value))
+sense_step scope (Truth at value) = bool_sense scope at [] (truth_formula value)
+sense_step scope (Named at name) = record {
+  first = at;
+  kind = entry_kind (entry_named scope name);
+  faults = unknown at (entry_named scope name);
+  form = name_form scope name;
+  formula = entry_formula (entry_named scope name);
+}
+sense_step scope (Minus at of) =
+    int_sense at (part_faults kinds.Int (of ∷ []) or_else large_form at (scaled (neg_ℤ (pos 1)) of.form)) (scaled (neg_ℤ (pos 1)) of.form)
+sense_step scope (Not at of) = bool_sense scope at (part_faults kinds.Bool (of ∷ [])) (negation of.formula)
+sense_step scope (Product first rest) =
+    int_sense first.first (part_faults kinds.Int (first ∷ map (λ factor. factor.of) rest) or_else product_faults first.first first.form rest) (product_form first.form rest)
+sense_step scope (Sum first rest) =
+    int_sense first.first (part_faults kinds.Int (first ∷ map (λ addend. addend.of) rest) or_else large_form first.first (sum_form first.form rest)) (sum_form first.form rest)
+sense_step scope (Compare op left right) =
+    bool_sense scope left.first (part_faults kinds.Int (left ∷ right ∷ []) or_else large_form left.first (minus left.form right.form)) (compared scope op left.form right.form)
+sense_step scope (Both parts) = bool_sense scope (first_of parts) (part_faults kinds.Bool parts) (formulas.All (map (λ part. part.formula) parts))
+sense_step scope (Either parts) = bool_sense scope (first_of parts) (part_faults kinds.Bool parts) (formulas.Any (map (λ part. part.formula) parts))
+
+abbrev pub addend_step : Addend-F Sense AddendSense FactorSense → AddendSense
+addend_step addend = record { minus = addend.minus; of = addend.of }
+
+abbrev pub factor_step : Factor-F Sense AddendSense FactorSense → FactorSense
+factor_step factor = record { at = factor.at; of = factor.of }
+
+-- what is found of an expression in a scope
+abbrev pub sense : List Entry → Expr → Sense
+sense scope = fold-Expr Sense AddendSense FactorSense (sense_step scope) addend_step factor_step

@@ -1,0 +1,176 @@
+//! The first rule that an expression breaks.
+
+ghost use Rattle.std.specs.Prelude.{◌≡◌, ℕ, IfOk, IsTrue};
+ghost use Rattle.std.specs.List.{flat_map};
+ghost use Rattle.mon_syntax.specs.declared.tree.Expr.TheVariants as exprs;
+ghost use Rattle.mon_forms.specs.Faults.{least};
+ghost use Rattle.mon_forms.specs.Making.{has_small_numbers};
+ghost use Rattle.mon_forms.specs.Scope.{entry_named};
+ghost use Rattle.mon_forms.specs.Sense.{large_number, sense, unknown};
+
+use crate::earlier::earlier_of;
+use crate::fault::TypeFault;
+use crate::scope::{Entry, find};
+use crate::whole_fault::{
+    fault_of_comparison, fault_of_minus, fault_of_not, fault_of_parts, fault_of_product,
+    fault_of_sum,
+};
+use mon_list::{Boxed, Seq};
+use mon_syntax::{Addend, Expr, Factor};
+use std::alloc::{AllocError, Global};
+
+/// The greatest written number.
+const GREATEST: u128 = 9_223_372_036_854_775_807;
+
+/// The first rule that an expression breaks, if any. It fails only for want of memory.
+#[cycle(fault_in)]
+pub fn fault_in(
+    alloc: Global,
+    scope: &[Entry],
+    expression: &Expr,
+) -> Result<Option<TypeFault>, AllocError>
+    requires { IsTrue (has_small_numbers scope.now) }
+    ensures { IfOk result (λ fault. fault ≡ least (sense scope.now expression.now).faults) }
+{
+    match expression {
+        Expr::Number { at, value } => Ok(large_number(*at, *value)),
+        Expr::Truth { .. } => Ok(None),
+        Expr::Named { at, name } => Ok(unknown(scope, *at, name.bytes())),
+        Expr::Minus { at, of } => fault_in_minus(alloc, scope, *at, of),
+        Expr::Not { of, .. } => fault_in_not(alloc, scope, of),
+        Expr::Product { first, rest } => {
+            let (first, rest) = (first.get(), rest.items());
+            let one = fault_in(alloc, scope, first)?;
+            let other = fault_in_factors(alloc, scope, rest)?;
+            fault_of_product(alloc, scope, first, rest, earlier_of(one, other))
+        }
+        Expr::Sum { first, rest } => {
+            let (first, rest) = (first.get(), rest.items());
+            let one = fault_in(alloc, scope, first)?;
+            let other = fault_in_addends(alloc, scope, rest)?;
+            fault_of_sum(alloc, scope, first, rest, earlier_of(one, other))
+        }
+        Expr::Compare { left, right, .. } => {
+            let (left, right) = (left.get(), right.get());
+            let one = fault_in(alloc, scope, left)?;
+            let other = fault_in(alloc, scope, right)?;
+            fault_of_comparison(alloc, scope, left, right, earlier_of(one, other))
+        }
+        Expr::Both { parts } => fault_in_joined(alloc, scope, parts),
+        Expr::Either { parts } => fault_in_joined(alloc, scope, parts),
+    }
+}
+
+#[cycle(fault_in)]
+fn fault_in_minus(
+    alloc: Global,
+    scope: &[Entry],
+    at: u32,
+    of: &Boxed<Expr>,
+) -> Result<Option<TypeFault>, AllocError>
+    requires { IsTrue (has_small_numbers scope.now) }
+    ensures { IfOk result (λ fault. fault ≡ least (sense scope.now (exprs.Minus at of.now)).faults) }
+{
+    let of = of.get();
+    let part = fault_in(alloc, scope, of)?;
+    fault_of_minus(alloc, scope, at, of, part)
+}
+
+#[cycle(fault_in)]
+fn fault_in_not(
+    alloc: Global,
+    scope: &[Entry],
+    of: &Boxed<Expr>,
+) -> Result<Option<TypeFault>, AllocError>
+    requires { IsTrue (has_small_numbers scope.now) }
+    ensures { IfOk result (λ fault. (at : ℕ) → fault ≡ least (sense scope.now (exprs.Not at of.now)).faults) }
+{
+    let of = of.get();
+    let part = fault_in(alloc, scope, of)?;
+    Ok(fault_of_not(scope, of, part))
+}
+
+/// In parts that are joined by `and` or by `or`.
+#[cycle(fault_in)]
+fn fault_in_joined(
+    alloc: Global,
+    scope: &[Entry],
+    parts: &Seq<Expr>,
+) -> Result<Option<TypeFault>, AllocError>
+    requires { IsTrue (has_small_numbers scope.now) }
+    ensures both { IfOk result (λ fault. fault ≡ least (sense scope.now (exprs.Both parts.now)).faults) }
+    ensures either { IfOk result (λ fault. fault ≡ least (sense scope.now (exprs.Either parts.now)).faults) }
+{
+    let parts = parts.items();
+    let part = fault_in_parts(alloc, scope, parts)?;
+    Ok(fault_of_parts(scope, parts, part))
+}
+
+#[cycle(fault_in)]
+fn fault_in_factors(
+    alloc: Global,
+    scope: &[Entry],
+    factors: &[Factor],
+) -> Result<Option<TypeFault>, AllocError>
+    requires { IsTrue (has_small_numbers scope.now) }
+    ensures { IfOk result (λ fault. fault ≡ least (flat_map (λ factor. (sense scope.now factor.of).faults) factors.now)) }
+{
+    let mut fault = None;
+    for factor in factors {
+        fault = earlier_of(fault, fault_in(alloc, scope, &factor.of)?);
+    }
+    Ok(fault)
+}
+
+#[cycle(fault_in)]
+fn fault_in_addends(
+    alloc: Global,
+    scope: &[Entry],
+    addends: &[Addend],
+) -> Result<Option<TypeFault>, AllocError>
+    requires { IsTrue (has_small_numbers scope.now) }
+    ensures { IfOk result (λ fault. fault ≡ least (flat_map (λ addend. (sense scope.now addend.of).faults) addends.now)) }
+{
+    let mut fault = None;
+    for addend in addends {
+        fault = earlier_of(fault, fault_in(alloc, scope, &addend.of)?);
+    }
+    Ok(fault)
+}
+
+#[cycle(fault_in)]
+fn fault_in_parts(
+    alloc: Global,
+    scope: &[Entry],
+    parts: &[Expr],
+) -> Result<Option<TypeFault>, AllocError>
+    requires { IsTrue (has_small_numbers scope.now) }
+    ensures { IfOk result (λ fault. fault ≡ least (flat_map (λ part. (sense scope.now part).faults) parts.now)) }
+{
+    let mut fault = None;
+    for part in parts {
+        fault = earlier_of(fault, fault_in(alloc, scope, part)?);
+    }
+    Ok(fault)
+}
+
+/// A written number above the greatest one.
+pub fn large_number(at: u32, value: u128) -> Option<TypeFault>
+    ensures { result ≡ least (large_number at value) }
+{
+    if value > GREATEST {
+        Some(TypeFault::TooLarge { at })
+    } else {
+        None
+    }
+}
+
+/// A name that no entry has.
+fn unknown(scope: &[Entry], at: u32, name: &[u8]) -> Option<TypeFault>
+    ensures { result ≡ least (unknown at (entry_named scope.now name.now)) }
+{
+    match find(scope, name) {
+        Some(_) => None,
+        None => Some(TypeFault::Unknown { at }),
+    }
+}

@@ -1,0 +1,64 @@
+-- What is found of each form of a statement.
+use Rattle.std.proofs.Common.{◌≡◌, ℕ, ◌+◌, ◌-◌, zero, suc, List, [], ◌∷◌, ◌++◌, length, take, map, sym, ap, ◌∙◌, refl, arith, Some, Result, Ok, Err}
+use Rattle.std.specs.List.{flat_map}
+use Rattle.std.proofs.lemmas.List.{length-map, map-append, take-map}
+use Rattle.std.proofs.lemmas.List.Folds.{flat_map-map}
+use Rattle.mon_syntax.specs.declared.tree.Expr.{Expr}
+use Rattle.mon_syntax.specs.declared.tree.StmtTree.{StmtTree}
+use Rattle.mon_syntax.specs.declared.tree.StmtTree.TheVariants.{If, rolls-If}
+use Rattle.mon_syntax.specs.declared.tree.StmtTree.TheOpen as layers
+use Rattle.mon_syntax.specs.declared.tree.StmtTree.TheFolds.{fold-roll-StmtTree}
+use Rattle.mon_forms.specs.declared.kind.Kind.TheVariants as kinds
+use Rattle.mon_forms.specs.declared.scope.Entry.{Entry}
+use Rattle.mon_forms.specs.Sense.{sense}
+use Rattle.mon_rules.specs.Rules.{Finding, expected, finding, finding_step, misplaced, early_returns}
+use Rattle.mon_rules.specs.Parts.{block_faults, counted}
+use Rattle.mon_rules.proofs.CountedDown.{counted_ok, counted_err, counted_below}
+
+finding-If : (scope : List Entry) (at : ℕ) (when : Expr) (body other : List StmtTree) → finding scope (If at when body other) ≡ finding_step scope (layers.If at when (map (finding scope) body) (map (finding scope) other))
+finding-If scope at when body other = ap (finding scope) (sym (rolls-If at when body other)) ∙ fold-roll-StmtTree Finding (finding_step scope) (layers.If at when body other)
+
+pub faults-If : (scope : List Entry) (at : ℕ) (when : Expr) (body other : List StmtTree) → (finding scope (If at when body other)).faults ≡ expected (Some kinds.Bool) (sense scope when) ++ (block_faults scope body ++ block_faults scope other)
+faults-If scope at when body other =
+    ap (λ f. f.faults) (finding-If scope at when body other)
+    ∙ ap (λ faults. expected (Some kinds.Bool) (sense scope when) ++ (faults ++ flat_map (λ inner. inner.faults ++ misplaced inner.returns) (map (finding scope) other))) (flat_map-map (λ inner. inner.faults ++ misplaced inner.returns) (finding scope) body)
+    ∙ ap (λ faults. expected (Some kinds.Bool) (sense scope when) ++ (block_faults scope body ++ faults)) (flat_map-map (λ inner. inner.faults ++ misplaced inner.returns) (finding scope) other)
+
+abbrev pub places_in : List Entry → List StmtTree → List ℕ
+places_in scope statements = flat_map (λ statement. (finding scope statement).places) statements
+
+places-If : (scope : List Entry) (at : ℕ) (when : Expr) (body other : List StmtTree) → (finding scope (If at when body other)).places ≡ at ∷ (places_in scope body ++ places_in scope other)
+places-If scope at when body other =
+    ap (λ f. f.places) (finding-If scope at when body other)
+    ∙ ap (λ places. at ∷ (places ++ flat_map (λ inner. inner.places) (map (finding scope) other))) (flat_map-map (λ inner. inner.places) (finding scope) body)
+    ∙ ap (λ places. at ∷ (places_in scope body ++ places)) (flat_map-map (λ inner. inner.places) (finding scope) other)
+
+-- an `if` counts as one, and then come the statements in it
+pub counted-If_ok : (scope : List Entry) (at : ℕ) (when : Expr) (body other : List StmtTree) (left rest : ℕ) (r : Result ℕ ℕ) → (left ≡ 0 → ⊥) → Ok rest ≡ counted (places_in scope body) (left - 1) → r ≡ counted (places_in scope other) rest → r ≡ counted (finding scope (If at when body other)).places left
+counted-If_ok scope at when body other left rest r some first second =
+    second ∙ sym (counted_ok (places_in scope body) (places_in scope other) (left - 1) rest first) ∙ sym (counted_below at left (places_in scope body ++ places_in scope other) some)
+    ∙ ap (λ places. counted places left) (sym (places-If scope at when body other))
+
+pub counted-If_err : (scope : List Entry) (at : ℕ) (when : Expr) (body other : List StmtTree) (left place : ℕ) → (left ≡ 0 → ⊥) → Err place ≡ counted (places_in scope body) (left - 1) → Err place ≡ counted (finding scope (If at when body other)).places left
+counted-If_err scope at when body other left place some first =
+    counted_err (places_in scope body) (places_in scope other) (left - 1) place first ∙ sym (counted_below at left (places_in scope body ++ places_in scope other) some)
+    ∙ ap (λ places. counted places left) (sym (places-If scope at when body other))
+
+-- ---- returns
+
+early_front : (found : List Finding) (n : ℕ) → n + 1 ≡ length found → early_returns found ≡ flat_map (λ f. f.returns) (take n found)
+early_front [] n is = absurd (omega (arith, is))
+early_front (f ∷ []) zero is = refl
+early_front (f ∷ []) (suc n) is = absurd (omega (arith, is))
+early_front (f ∷ g ∷ more) zero is = absurd (omega (arith, is))
+early_front (f ∷ g ∷ more) (suc n) is = ap (λ places. f.returns ++ places) (early_front (g ∷ more) n (omega (arith, is)))
+
+-- all statements but the last
+pub early_is : (scope : List Entry) (body : List StmtTree) (n : ℕ) → n + 1 ≡ length body → flat_map (λ s. (finding scope s).returns) (take n body) ≡ early_returns (map (finding scope) body)
+early_is scope body n is =
+    let last : n + 1 ≡ length (map (finding scope) body) = is ∙ sym (length-map body (finding scope)) in
+    sym (early_front (map (finding scope) body) n last ∙ ap (flat_map (λ f. f.returns)) (take-map (finding scope) n body) ∙ flat_map-map (λ f. f.returns) (finding scope) (take n body))
+
+pub misplaced-flat_map : {X : Type 0} (returns : X → List ℕ) (xs : List X) → misplaced (flat_map returns xs) ≡ flat_map (λ x. misplaced (returns x)) xs
+misplaced-flat_map returns [] = refl
+misplaced-flat_map returns (x ∷ xs) = map-append _ (returns x) (flat_map returns xs) ∙ ap (λ faults. misplaced (returns x) ++ faults) (misplaced-flat_map returns xs)

@@ -1,0 +1,4 @@
+pub mod Least
+pub mod RepeatedNames
+pub mod CountedDown
+pub mod Findings

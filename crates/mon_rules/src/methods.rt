@@ -1,0 +1,49 @@
+//! The rules of methods.
+
+ghost use Rattle.std.specs.Prelude.{◌≡◌, ◌≤◌, All, IfOk, length};
+ghost use Rattle.std.specs.List.{flat_map};
+ghost use Rattle.mon_forms.specs.Faults.{least};
+ghost use Rattle.mon_rules.specs.Rules.{method_faults};
+
+use crate::limits::over_inputs;
+use crate::names::repeated_input;
+use crate::statements::{fault_in_body, fault_in_expected};
+use mon_forms::{Kind, TypeFault, earlier_of, scope_numbers_are_small, scope_of};
+use mon_syntax::{Decl, MethodTree};
+use std::alloc::{AllocError, Global};
+
+/// The first fault in methods.
+pub(crate) fn fault_in_methods(
+    alloc: Global,
+    decls: &[Decl],
+    methods: &[MethodTree],
+) -> Result<Option<TypeFault>, AllocError>
+    requires declared { length decls.now ≤ 65536 }
+    requires taken { All (λ method. length method.inputs ≤ 65536) methods.now }
+    ensures { IfOk result (λ fault. fault ≡ least (flat_map (method_faults decls.now) methods.now)) }
+{
+    let mut fault = None;
+    for method in methods {
+        fault = earlier_of(fault, fault_in_method(alloc, decls, method)?);
+    }
+    Ok(fault)
+}
+
+fn fault_in_method(
+    alloc: Global,
+    decls: &[Decl],
+    method: &MethodTree,
+) -> Result<Option<TypeFault>, AllocError>
+    requires declared { length decls.now ≤ 65536 }
+    requires taken { length method.now.inputs ≤ 65536 }
+    ensures { IfOk result (λ fault. fault ≡ least (method_faults decls.now method.now)) }
+{
+    let inputs = method.inputs.items();
+    let scope = scope_of(alloc, decls, inputs)?;
+    let names = scope.items();
+    scope_numbers_are_small();
+    let guard = fault_in_expected(alloc, names, Some(Kind::Bool), &method.guard)?;
+    let body = fault_in_body(alloc, names, method.body.items())?;
+    let inputs_fault = earlier_of(repeated_input(decls, inputs), over_inputs(inputs));
+    Ok(earlier_of(earlier_of(inputs_fault, guard), body))
+}

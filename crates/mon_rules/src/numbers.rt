@@ -1,0 +1,30 @@
+//! Numbers of declarations.
+
+ghost use Rattle.std.specs.Prelude.{◌≡◌};
+ghost use Rattle.std.specs.List.{flat_map};
+ghost use Rattle.mon_forms.specs.Faults.{least};
+ghost use Rattle.mon_rules.specs.Rules.{literal_faults};
+
+use mon_forms::{TypeFault, earlier_of, large_number};
+use mon_syntax::Decl;
+
+/// The first of the written numbers of declarations that is too large.
+pub(crate) fn large_literal(decls: &[Decl]) -> Option<TypeFault>
+    ensures { result ≡ least (flat_map literal_faults decls.now) }
+{
+    let mut fault = None;
+    for decl in decls {
+        fault = earlier_of(fault, literal_fault(decl));
+    }
+    fault
+}
+
+fn literal_fault(decl: &Decl) -> Option<TypeFault>
+    ensures { result ≡ least (literal_faults decl.now) }
+{
+    match decl {
+        Decl::Const { value, .. } => large_number(value.at, value.digits),
+        Decl::Int { value, .. } => large_number(value.at, value.digits),
+        Decl::Flag { .. } => None,
+    }
+}

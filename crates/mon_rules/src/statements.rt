@@ -1,0 +1,188 @@
+//! The rules of expressions, statements and bodies.
+
+ghost use Rattle.std.specs.Prelude.{◌≡◌, IfOk, IsTrue, List, map};
+ghost use Rattle.std.specs.List.{flat_map};
+ghost use Rattle.mon_forms.specs.declared.scope.Entry.{Entry};
+ghost use Rattle.mon_forms.specs.Faults.{least};
+ghost use Rattle.mon_forms.specs.Making.{has_small_numbers};
+ghost use Rattle.mon_forms.specs.Scope.{entry_named};
+ghost use Rattle.mon_forms.specs.Sense.{sense};
+ghost use Rattle.mon_rules.specs.Rules.{body_faults, early_returns, expected, finding, misplaced, target_faults};
+ghost use Rattle.mon_rules.specs.Parts.{block_faults, set_faults, unwanted};
+
+use crate::limits::over_statements;
+use mon_forms::{
+    Entry, Kind, TypeFault, earlier_of, fault_in, find, first_place, is_other, kind_of,
+    kind_of_name,
+};
+use mon_syntax::{Expr, StmtTree};
+use std::alloc::{AllocError, Global};
+
+/// The first fault in an expression, of the wanted kind where one is wanted.
+pub(crate) fn fault_in_expected(
+    alloc: Global,
+    scope: &[Entry],
+    wanted: Option<Kind>,
+    expression: &Expr,
+) -> Result<Option<TypeFault>, AllocError>
+    requires numbers { IsTrue (has_small_numbers scope.now) }
+    ensures { IfOk result (λ fault. fault ≡ least (expected wanted (sense scope.now expression.now))) }
+{
+    match fault_in(alloc, scope, expression)? {
+        Some(fault) => Ok(Some(fault)),
+        None => Ok(wrong_type(scope, wanted, expression)),
+    }
+}
+
+/// An expression without faults is of another kind than the wanted one.
+fn wrong_type(scope: &[Entry], wanted: Option<Kind>, expression: &Expr) -> Option<TypeFault>
+    ensures { result ≡ least (unwanted wanted (sense scope.now expression.now)) }
+{
+    match wanted {
+        None => None,
+        Some(kind) => {
+            if is_other(kind, kind_of(scope, expression)) {
+                Some(TypeFault::WrongType {
+                    at: first_place(expression),
+                })
+            } else {
+                None
+            }
+        }
+    }
+}
+
+/// The first fault in an assignment.
+fn fault_in_set(
+    alloc: Global,
+    scope: &[Entry],
+    at: u32,
+    name: &[u8],
+    value: &Expr,
+) -> Result<Option<TypeFault>, AllocError>
+    requires numbers { IsTrue (has_small_numbers scope.now) }
+    ensures { IfOk result (λ fault. fault ≡ least (set_faults scope.now at name.now value.now)) }
+{
+    let target = target_fault(scope, at, name);
+    let valued = fault_in_expected(alloc, scope, kind_of_name(scope, name), value)?;
+    Ok(earlier_of(target, valued))
+}
+
+/// The target of an assignment is a field.
+fn target_fault(scope: &[Entry], at: u32, name: &[u8]) -> Option<TypeFault>
+    ensures { result ≡ least (target_faults at (entry_named scope.now name.now)) }
+{
+    match find(scope, name) {
+        None => Some(TypeFault::Unknown { at }),
+        Some(index) => if scope[index].is_field {
+            None
+        } else {
+            Some(TypeFault::ReadOnly { at })
+        },
+    }
+}
+
+/// The first fault in a statement and its inner ones.
+#[cycle(fault_in_statement)]
+fn fault_in_statement(
+    alloc: Global,
+    scope: &[Entry],
+    statement: &StmtTree,
+) -> Result<Option<TypeFault>, AllocError>
+    requires numbers { IsTrue (has_small_numbers scope.now) }
+    ensures { IfOk result (λ fault. fault ≡ least (finding scope.now statement.now).faults) }
+{
+    match statement {
+        StmtTree::Set { at, name, value } => fault_in_set(alloc, scope, *at, name.bytes(), value),
+        StmtTree::If {
+            when,
+            then,
+            other,
+            ..
+        } => {
+            let condition = fault_in_expected(alloc, scope, Some(Kind::Bool), when)?;
+            let chosen = fault_in_block(alloc, scope, then.items())?;
+            let otherwise = fault_in_block(alloc, scope, other.items())?;
+            Ok(earlier_of(condition, earlier_of(chosen, otherwise)))
+        }
+        StmtTree::Return { value, .. } => fault_in(alloc, scope, value),
+    }
+}
+
+/// The first fault in the statements of an `if`, where no `return` stands.
+#[cycle(fault_in_statement)]
+fn fault_in_block(
+    alloc: Global,
+    scope: &[Entry],
+    statements: &[StmtTree],
+) -> Result<Option<TypeFault>, AllocError>
+    requires numbers { IsTrue (has_small_numbers scope.now) }
+    ensures { IfOk result (λ fault. fault ≡ least (block_faults scope.now statements.now)) }
+{
+    let mut fault = None;
+    for statement in statements {
+        let inner = fault_in_statement(alloc, scope, statement)?;
+        fault = earlier_of(fault, earlier_of(inner, misplaced_return(statement)));
+    }
+    Ok(fault)
+}
+
+/// A `return` where none may stand.
+fn misplaced_return(statement: &StmtTree) -> Option<TypeFault>
+    ensures { (scope : List Entry) → result ≡ least (misplaced (finding scope statement.now).returns) }
+{
+    match statement {
+        StmtTree::Set { .. } => None,
+        StmtTree::If { .. } => None,
+        StmtTree::Return { at, .. } => Some(TypeFault::Misplaced { at: *at }),
+    }
+}
+
+/// The first fault in a body.
+pub(crate) fn fault_in_body(
+    alloc: Global,
+    scope: &[Entry],
+    body: &[StmtTree],
+) -> Result<Option<TypeFault>, AllocError>
+    requires numbers { IsTrue (has_small_numbers scope.now) }
+    ensures { IfOk result (λ fault. fault ≡ least (body_faults scope.now body.now)) }
+{
+    let inner = fault_in_each(alloc, scope, body)?;
+    Ok(earlier_of(earlier_of(inner, early_return(body)), over_statements(body)))
+}
+
+fn fault_in_each(
+    alloc: Global,
+    scope: &[Entry],
+    body: &[StmtTree],
+) -> Result<Option<TypeFault>, AllocError>
+    requires numbers { IsTrue (has_small_numbers scope.now) }
+    ensures { IfOk result (λ fault. fault ≡ least (flat_map (λ statement. (finding scope.now statement).faults) body.now)) }
+{
+    let mut fault = None;
+    for statement in body {
+        fault = earlier_of(fault, fault_in_statement(alloc, scope, statement)?);
+    }
+    Ok(fault)
+}
+
+/// The first `return` that is not the last statement of its body.
+fn early_return(body: &[StmtTree]) -> Option<TypeFault>
+    ensures { (scope : List Entry) → result ≡ least (misplaced (early_returns (map (finding scope) body.now))) }
+{
+    match body.len().checked_sub(1) {
+        None => None,
+        Some(last) => any_return(&body[..last]),
+    }
+}
+
+/// The first `return` of statements among which none may stand.
+fn any_return(statements: &[StmtTree]) -> Option<TypeFault>
+    ensures { (scope : List Entry) → result ≡ least (misplaced (flat_map (λ statement. (finding scope statement).returns) statements.now)) }
+{
+    let mut fault = None;
+    for statement in statements {
+        fault = earlier_of(fault, misplaced_return(statement));
+    }
+    fault
+}

@@ -1,0 +1,148 @@
+-- A tree that is parsed from a short file has few declarations and inputs.
+use Rattle.std.proofs.Common.{ℕ, ◌+◌, ◌≤◌, List, [], ◌∷◌, length, All, sym, ap, subst, ◌∙◌, arith, length-append}
+use Rattle.std.proofs.lemmas.List.{length-map}
+use Rattle.std.proofs.lemmas.List.Elements.{All-nil, All-cons}
+use Rattle.mon_syntax.specs.declared.token.TokenKind.{TokenKind}
+use Rattle.mon_syntax.specs.declared.token.TokenKind.TheVariants as kinds
+use Rattle.mon_syntax.specs.declared.token.Token.{Token}
+use Rattle.mon_syntax.specs.declared.piece.Shape.{Shape}
+use Rattle.mon_syntax.specs.declared.piece.Shape.TheVariants as shapes
+use Rattle.mon_syntax.specs.declared.tree.Decl.{Decl}
+use Rattle.mon_syntax.specs.declared.tree.Decl.TheVariants as decls
+use Rattle.mon_syntax.specs.declared.tree.InputTree.{InputTree}
+use Rattle.mon_syntax.specs.declared.tree.MethodTree.{MethodTree}
+use Rattle.mon_syntax.specs.declared.tree.MonitorTree.{MonitorTree}
+use Rattle.mon_syntax.specs.Words.{Word, word, words}
+use Rattle.mon_syntax.specs.Spelling.{IsShape, Piece, AreCut, token, tokens_from, Spells}
+use Rattle.mon_syntax.specs.Grammar.{Rule, ◌⌢◌, Each, IsIdent, IsMark, IsLiteral, IsExpression, IsBlock, IsStatement, IsDeclaration, IsInput, AreInputs, IsMethod, IsMonitorFile, IsParsed, truth_word, kind_word}
+use Rattle.mon_rules.specs.Rules.{IsSmall}
+
+-- ---- tokens and bytes
+
+text_long : (shape : Shape) (text : List ℕ) (at : ℕ) → IsShape shape text → length (token shape text at) ≤ length text
+text_long shapes.Blank text at is = omega arith
+text_long shapes.Comment text at is = omega arith
+text_long shapes.Word text at is = subst (λ (t : List ℕ). 1 ≤ length t) (sym is.4) (omega arith)
+text_long shapes.Number text at is = subst (λ (t : List ℕ). 1 ≤ length t) (sym is.4) (omega arith)
+text_long (shapes.Sign kind) text at is = let some = is.0 in omega arith
+
+tokens_few : (bytes : List ℕ) (at : ℕ) (pieces : List Piece) (rest : List ℕ) → AreCut bytes pieces rest → length (tokens_from at pieces) ≤ length bytes
+tokens_few bytes at [] rest cut = omega arith
+tokens_few bytes at (piece ∷ pieces) rest cut =
+    let here = text_long piece.shape piece.text at cut.1.spells in
+    let later = tokens_few cut.0 (at + length piece.text) pieces rest cut.2 in
+    let whole = ap (λ (b : List ℕ). length b) cut.1.front ∙ length-append piece.text cut.0 in
+    let all = length-append (token piece.shape piece.text at) (tokens_from (at + length piece.text) pieces) in
+    omega arith
+
+words_few : (bytes : List ℕ) (tokens : List Token) → Spells bytes tokens → length (words bytes tokens) ≤ length bytes
+words_few bytes tokens spelled =
+    let few = tokens_few bytes 0 spelled.0 [] spelled.1 in
+    let same = ap (λ (t : List Token). length t) spelled.2 in
+    let each = length-map tokens (word bytes) in
+    omega arith
+
+-- ---- words
+
+-- the rule takes so many words at least
+record Takes (Says : List Word → Type 0) (count : ℕ) : Type 0 where
+  takes : (ws : List Word) → Says ws → count ≤ length ws
+
+takes_mark : (kind : TokenKind) → Takes (IsMark kind) 1
+takes_mark kind = record { takes = λ ws is. subst (λ (w : List Word). 1 ≤ length w) (sym is.1) (omega arith) }
+
+in_order : (First Second : List Word → Type 0) (count more : ℕ) → Takes First count → Takes Second more → Takes (First ⌢ Second) (count + more)
+in_order First Second count more one other = record {
+  takes = λ ws is.
+      let here = one.takes is.0 is.2 in
+      let later = other.takes is.1 is.3 in
+      let whole = ap (λ (w : List Word). length w) is.4 ∙ length-append is.0 is.1 in
+      omega arith;
+}
+
+in_first : (First Second : List Word → Type 0) (count : ℕ) → Takes First count → Takes (First ⌢ Second) count
+in_first First Second count one = record {
+  takes = λ ws is.
+      let here = one.takes is.0 is.2 in
+      let whole = ap (λ (w : List Word). length w) is.4 ∙ length-append is.0 is.1 in
+      omega arith;
+}
+
+in_second : (First Second : List Word → Type 0) (count : ℕ) → Takes Second count → Takes (First ⌢ Second) count
+in_second First Second count other = record {
+  takes = λ ws is.
+      let later = other.takes is.1 is.3 in
+      let whole = ap (λ (w : List Word). length w) is.4 ∙ length-append is.0 is.1 in
+      omega arith;
+}
+
+takes_each : {Tree : Type 0} (IsTree : Rule Tree) → ((tree : Tree) → Takes (IsTree tree) 1) → (trees : List Tree) → Takes (Each IsTree trees) (length trees)
+takes_each IsTree one [] = record { takes = λ ws is. omega arith }
+takes_each IsTree one (tree ∷ trees) = record {
+  takes = λ ws is.
+      let both = (in_order (IsTree tree) (Each IsTree trees) 1 (length trees) (one tree) (takes_each IsTree one trees)).takes ws is in
+      omega arith;
+}
+
+takes_declaration : (declared : Decl) → Takes (IsDeclaration declared) 1
+takes_declaration (decls.Const at name value) = in_first (IsMark kinds.KeyConst) (IsIdent name at ⌢ IsMark kinds.Assign ⌢ IsLiteral value ⌢ IsMark kinds.Semicolon) 1 (takes_mark kinds.KeyConst)
+takes_declaration (decls.Int at name value) = in_first (IsMark kinds.KeyInt) (IsIdent name at ⌢ IsMark kinds.Assign ⌢ IsLiteral value ⌢ IsMark kinds.Semicolon) 1 (takes_mark kinds.KeyInt)
+takes_declaration (decls.Flag at name value) = in_first (IsMark kinds.KeyBool) (IsIdent name at ⌢ IsMark kinds.Assign ⌢ IsMark (truth_word value) ⌢ IsMark kinds.Semicolon) 1 (takes_mark kinds.KeyBool)
+
+takes_input : (input : InputTree) → Takes (IsInput input) 1
+takes_input input = in_first (IsMark (kind_word input.kind)) (IsIdent input.name input.at) 1 (takes_mark (kind_word input.kind))
+
+takes_inputs : (inputs : List InputTree) → Takes (AreInputs inputs) (length inputs)
+takes_inputs [] = record { takes = λ ws is. omega arith }
+takes_inputs (first ∷ rest) = record {
+  takes = λ ws is.
+      let both = (in_order (IsInput first) (Each (λ input. IsMark kinds.Comma ⌢ IsInput input) rest) 1 (length rest) (takes_input first) later).takes ws is in
+      omega arith;
+}
+  where
+    later : Takes (Each (λ input. IsMark kinds.Comma ⌢ IsInput input) rest) (length rest)
+    later = takes_each (λ input. IsMark kinds.Comma ⌢ IsInput input) (λ input. in_first (IsMark kinds.Comma) (IsInput input) 1 (takes_mark kinds.Comma)) rest
+
+-- ---- methods
+
+-- what comes after a method's inputs
+abbrev After : MethodTree → List Word → Type 0
+After method = IsMark kinds.CloseParen ⌢ IsMark kinds.KeyWaituntil ⌢ IsMark kinds.OpenParen ⌢ IsExpression 64 method.guard ⌢ IsMark kinds.CloseParen ⌢ IsBlock (IsStatement 64) method.body
+
+method_takes : (method : MethodTree) → Takes (IsMethod method) (length method.inputs)
+method_takes method =
+    in_second (IsMark kinds.KeyMethod) (IsIdent method.name method.at ⌢ IsMark kinds.OpenParen ⌢ AreInputs method.inputs ⌢ After method) (length method.inputs)
+    (in_second (IsIdent method.name method.at) (IsMark kinds.OpenParen ⌢ AreInputs method.inputs ⌢ After method) (length method.inputs)
+    (in_second (IsMark kinds.OpenParen) (AreInputs method.inputs ⌢ After method) (length method.inputs)
+    (in_first (AreInputs method.inputs) (After method) (length method.inputs) (takes_inputs method.inputs))))
+
+methods_take : (limit : ℕ) (methods : List MethodTree) (ws : List Word) → Each IsMethod methods ws → length ws ≤ limit → All (λ method. length method.inputs ≤ limit) methods
+methods_take limit [] ws each short = All-nil (λ method. length method.inputs ≤ limit)
+methods_take limit (method ∷ methods) ws each short =
+    let whole = ap (λ (w : List Word). length w) each.4 ∙ length-append each.0 each.1 in
+    let here = (method_takes method).takes each.0 each.2 in
+    All-cons (λ one. length one.inputs ≤ limit) method methods (omega arith) (methods_take limit methods each.1 each.3 (omega arith))
+
+-- ---- files
+
+file_small : (tree : MonitorTree) (ws : List Word) (limit : ℕ) → IsMonitorFile tree ws → length ws ≤ limit → (length tree.decls ≤ limit) × All (λ method. length method.inputs ≤ limit) tree.methods
+file_small tree ws limit file short =
+    let opened = file.1 in
+    let named = opened.3 in
+    let braced = named.3 in
+    let declared = braced.3 in
+    let methods = declared.3 in
+    let one = ap (λ (w : List Word). length w) opened.4 ∙ length-append opened.0 opened.1 in
+    let two = ap (λ (w : List Word). length w) named.4 ∙ length-append named.0 named.1 in
+    let three = ap (λ (w : List Word). length w) braced.4 ∙ length-append braced.0 braced.1 in
+    let four = ap (λ (w : List Word). length w) declared.4 ∙ length-append declared.0 declared.1 in
+    let five = ap (λ (w : List Word). length w) methods.4 ∙ length-append methods.0 methods.1 in
+    let few = (takes_each IsDeclaration takes_declaration tree.decls).takes declared.0 declared.2 in
+    (omega arith, methods_take limit tree.methods methods.0 methods.2 (omega arith))
+
+pub parsed_is_small : (tree : MonitorTree) → IsParsed tree → IsSmall tree
+parsed_is_small tree parsed =
+    let few = words_few parsed.bytes parsed.tokens parsed.spelled in
+    let short = parsed.short in
+    let small = file_small tree (words parsed.bytes parsed.tokens) 65536 parsed.derived (omega arith) in
+    record { declared = small.0; taken = small.1 }

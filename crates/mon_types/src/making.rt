@@ -1,0 +1,33 @@
+//! From the tree of a file that breaks no rule to a monitor.
+
+ghost use Rattle.std.specs.Prelude.{◌≡◌, [], IfOk};
+ghost use Rattle.mon_rules.specs.Rules.{faults_of};
+ghost use Rattle.mon_types.specs.Typed.{IsTyped};
+
+mod blocks;
+mod conditions;
+mod fields;
+mod methods;
+mod statements;
+
+use crate::monitor::Monitor;
+use blocks::blocks_of;
+use fields::fields_of;
+use methods::methods_of;
+use mon_syntax::MonitorTree;
+use std::alloc::{AllocError, Global};
+
+/// The monitor that a tree stands for, where the tree breaks no rule. It fails only for want of memory.
+pub(crate) fn monitor_of(alloc: Global, tree: &MonitorTree) -> Result<Monitor, AllocError>
+    requires fine { faults_of tree.now ≡ [] }
+    ensures { IfOk result (λ monitor. IsTyped tree.now monitor) }
+{
+    let decls = tree.decls.items();
+    let trees = tree.methods.items();
+    let name = tree.name.clone()?;
+    let fields = fields_of(alloc, decls)?;
+    let methods = methods_of(alloc, trees)?;
+    let mut conditions = Vec::new(alloc);
+    let blocks = blocks_of(alloc, decls, trees, &mut conditions)?;
+    Ok(Monitor::of(name, fields, methods, blocks, conditions))
+}

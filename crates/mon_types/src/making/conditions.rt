@@ -1,0 +1,92 @@
+//! Conditions: the classes of equal guards.
+
+ghost use Rattle.std.specs.Prelude.{◌≡◌, ◌≤◌, All, IfOk, MatchOption, IsSomeAnd, length, map, nat_le, slice_get};
+ghost use Rattle.std.specs.List.{list_any};
+ghost use Rattle.mon_types.specs.Making.{IsNumbered};
+ghost use Rattle.mon_types.specs.Typed.{reads_inputs, reads_term};
+
+use crate::monitor::Condition;
+use mon_linear::{Formula, Lin, Term, copy_formula, same_formula};
+use mon_syntax::{Expr, copy_expression};
+use std::alloc::{AllocError, Global};
+
+/// The number of the condition with this guard. Where there is none it is added.
+pub(crate) fn number_of(
+    alloc: Global,
+    conditions: &mut Vec<Condition>,
+    guard: &Formula,
+    shown: &Expr,
+) -> Result<u32, AllocError>
+    requires { length conditions.old.items ≤ 16 }
+    ensures { IfOk result (λ number. IsNumbered conditions.old.items guard.now shown.now number conditions.new.items) }
+{
+    match condition_with(conditions.as_slice(), guard) {
+        Some(index) => Ok(index as u32 + 1),
+        None => {
+            let condition = Condition {
+                guard: copy_formula(alloc, guard)?,
+                reads_inputs: reads_inputs(guard),
+                shown: copy_expression(alloc, shown)?,
+            };
+            let before = conditions.len();
+            conditions.push(condition)?;
+            Ok(before as u32 + 1)
+        }
+    }
+}
+
+/// The index of the condition with this guard.
+fn condition_with(conditions: &[Condition], guard: &Formula) -> Option<usize>
+    ensures { MatchOption result (All (λ condition. condition.guard ≡ guard.now → ⊥) conditions.now) (λ index. IsSomeAnd (slice_get conditions.now index) (λ condition. condition.guard ≡ guard.now)) }
+{
+    for (index, condition) in conditions.iter().enumerate() {
+        if same_formula(&condition.guard, guard) {
+            return Some(index);
+        }
+    }
+    None
+}
+
+/// Whether a guard reads inputs.
+#[cycle(reads_inputs)]
+fn reads_inputs(guard: &Formula) -> bool
+    ensures { result ≡ reads_inputs guard.now }
+{
+    match guard {
+        Formula::Row(form) => form_reads_inputs(form),
+        Formula::Flag { place, .. } => is_input(*place),
+        Formula::All(parts) => any_reads_inputs(parts.items()),
+        Formula::Any(parts) => any_reads_inputs(parts.items()),
+    }
+}
+
+#[cycle(reads_inputs)]
+fn any_reads_inputs(parts: &[Formula]) -> bool
+    ensures { result ≡ list_any (λ part. part) (map reads_inputs parts.now) }
+{
+    for part in parts {
+        if reads_inputs(part) {
+            return true;
+        }
+    }
+    false
+}
+
+fn form_reads_inputs(form: &Lin) -> bool
+    ensures { result ≡ list_any reads_term form.now.terms }
+{
+    form.terms().iter().any(is_of_input)
+}
+
+fn is_of_input(term: &Term) -> bool
+    ensures { result ≡ reads_term term.now }
+{
+    is_input(term.place)
+}
+
+/// Whether a place is an input's.
+fn is_input(place: u32) -> bool
+    ensures { result ≡ nat_le 16 place }
+{
+    16 <= place
+}

@@ -1,0 +1,59 @@
+//! The fields of a monitor.
+
+ghost use Rattle.std.specs.Prelude.{◌≡◌, ◌++◌, ◌≤◌, [], All, IfOk};
+ghost use Rattle.std.specs.List.{flat_map};
+ghost use Rattle.mon_forms.specs.Scope.{greatest_number};
+ghost use Rattle.mon_rules.specs.Rules.{literal_faults};
+ghost use Rattle.mon_types.specs.Typed.{field_of, literal_value};
+
+use crate::monitor::{Field, Value};
+use mon_forms::Kind;
+use mon_syntax::{Decl, Lit};
+use std::alloc::{AllocError, Global};
+
+/// The fields of these declarations.
+pub(crate) fn fields_of(alloc: Global, decls: &[Decl]) -> Result<Vec<Field>, AllocError>
+    requires { All (λ decl. literal_faults decl ≡ []) decls.now }
+    ensures { IfOk result (λ fields. fields.items ≡ flat_map field_of decls.now) }
+{
+    let mut fields = Vec::new(alloc);
+    for decl in decls {
+        push_field(&mut fields, decl)?;
+    }
+    Ok(fields)
+}
+
+/// Adds the field of a declaration. A constant is no field.
+fn push_field(fields: &mut Vec<Field>, decl: &Decl) -> Result<(), AllocError>
+    requires { literal_faults decl.now ≡ [] }
+    ensures { IfOk result (λ _. fields.new.items ≡ fields.old.items ++ field_of decl.now) }
+{
+    match decl {
+        Decl::Const { .. } => Ok(()),
+        Decl::Int { name, value, .. } => {
+            fields.push(Field {
+                name: name.clone()?,
+                kind: Kind::Int,
+                start: Value::Int(number_of(value)),
+            })?;
+            Ok(())
+        }
+        Decl::Flag { name, value, .. } => {
+            fields.push(Field {
+                name: name.clone()?,
+                kind: Kind::Bool,
+                start: Value::Bool(*value),
+            })?;
+            Ok(())
+        }
+    }
+}
+
+/// The number that a literal stands for.
+fn number_of(literal: &Lit) -> i64
+    requires { literal.now.digits ≤ greatest_number }
+    ensures { result ≡ literal_value literal.now }
+{
+    let magnitude = literal.digits as i64;
+    if literal.minus { -magnitude } else { magnitude }
+}

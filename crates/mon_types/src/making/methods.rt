@@ -1,0 +1,47 @@
+//! The methods of a monitor.
+
+ghost use Rattle.std.specs.Prelude.{◌≡◌, ◌≤◌, IfOk, length, map};
+ghost use Rattle.mon_types.specs.Typed.{input_kind, methods_from};
+
+use crate::monitor::Method;
+use mon_forms::Kind;
+use mon_list::Seq;
+use mon_syntax::{InputKind, InputTree, MethodTree};
+use std::alloc::{AllocError, Global};
+
+/// The methods of these trees, each with one block.
+pub(crate) fn methods_of(alloc: Global, trees: &[MethodTree]) -> Result<Vec<Method>, AllocError>
+    requires { length trees.now ≤ 16 }
+    ensures { IfOk result (λ methods. methods.items ≡ methods_from 0 trees.now) }
+{
+    let mut methods = Vec::new(alloc);
+    for (number, tree) in trees.iter().enumerate() {
+        methods.push(Method {
+            name: tree.name.clone()?,
+            inputs: Seq::of(kinds_of(alloc, tree.inputs.items())?),
+            first: number as u32,
+            count: 1,
+        })?;
+    }
+    Ok(methods)
+}
+
+/// The kinds of these inputs.
+fn kinds_of(alloc: Global, inputs: &[InputTree]) -> Result<Vec<Kind>, AllocError>
+    ensures { IfOk result (λ kinds. kinds.items ≡ map (λ input. input_kind input.kind) inputs.now) }
+{
+    let mut kinds = Vec::new(alloc);
+    for input in inputs {
+        kinds.push(input_kind(input.kind))?;
+    }
+    Ok(kinds)
+}
+
+fn input_kind(kind: InputKind) -> Kind
+    ensures { result ≡ input_kind kind }
+{
+    match kind {
+        InputKind::Int => Kind::Int,
+        InputKind::Bool => Kind::Bool,
+    }
+}
