@@ -1,7 +1,12 @@
 -- Calls and clients, made one after the other.
-use Rattle.std.proofs.Common.{◌≡◌, ℕ, zero, suc, ◌+◌, ◌<◌, List, [], ◌∷◌, ◌++◌, length, take, get_or, All, sym, ap, subst, ◌∙◌}
-use Rattle.std.specs.List.{slice_get}
-use Rattle.std.proofs.lemmas.List.Elements.{All-head, All-tail, All-push}
+use Rattle.std.proofs.Common.{◌≡◌, ◌==◌, ◌&&◌, ℕ, ◌+◌, ◌<◌, Bool, List, [], ◌∷◌, ◌++◌, length, take, get_or, Option, Some, All, sym, ap, subst, ◌∙◌}
+use Rattle.std.specs.List.{position, slice_get}
+use Rattle.std.specs.Str.{bytes_eq}
+use Rattle.std.proofs.lemmas.Bool.{and_parts, eqb-true}
+use Rattle.std.proofs.lemmas.List.{nil_from_length}
+use Rattle.std.proofs.lemmas.List.Elements.{All-push}
+use Rattle.std.proofs.lemmas.List.Quantifiers.{position-Some}
+use Rattle.std.proofs.lemmas.Option.{slice_get-get_or}
 use Rattle.mon_syntax.specs.declared.tree.Item.{Item}
 use Rattle.mon_syntax.specs.declared.tree.ClientTree.{ClientTree}
 use Rattle.mon_forms.specs.declared.kind.Kind.{Kind}
@@ -13,20 +18,31 @@ use Rattle.mon_implicit.specs.Steps.{kinds_in}
 use Rattle.mon_implicit.specs.Scripted.{FitsCall}
 use Rattle.expresso_cli.specs.declared.script_fault.ScriptFault.{ScriptFault}
 use Rattle.expresso_cli.specs.declared.script_fault.ScriptFault.TheVariants.{UnknownMethod, DuplicateClient, TooManyClients, TooManyCalls, OutOfMemory}
-use Rattle.expresso_cli.specs.Scripts.{IsUnknown, call_of, client_of}
-use Rattle.expresso_cli.specs.ScriptChecks.{TakesNoInputs, IsKnown, IsMadeCall, AreMadeCalls, IsMadeClient, AreMadeClients, BlamesItem, BlamesItems, calls_among}
+use Rattle.expresso_cli.specs.Scripts.{IsUnknown, method_called, call_of, client_of}
+use Rattle.expresso_cli.specs.ScriptChecks.{IsKnown, IsMadeCall, AreMadeCalls, IsMadeClient, AreMadeClients, BlamesItem, BlamesItems, calls_among}
 use Rattle.expresso_cli.proofs.GrowingLists.{All-next, map_next, Any-flat_map}
 
 -- ---- calls fit
 
-no_inputs : (methods : List Method) → All (λ method. method.inputs ≡ []) methods → (place : ℕ) → AreOfKinds (kinds_in (slice_get methods place)) []
-no_inputs [] none place = tt
-no_inputs (method ∷ methods) none zero = subst (λ (kinds : List Kind). AreOfKinds kinds []) (sym (All-head (λ m. m.inputs ≡ []) method methods none)) tt
-no_inputs (method ∷ methods) none (suc place) = no_inputs methods (All-tail (λ m. m.inputs ≡ []) method methods none) place
+-- whether a call of this name without arguments is one of the method
+abbrev pub is_called : List ℕ → Method → Bool
+is_called name method = bytes_eq method.name name && length method.inputs == 0
 
--- a call of a method fits where no method has inputs
-pub call_fits : (monitor : MonitorParts) (place : ℕ) → TakesNoInputs monitor → place < length monitor.methods → FitsCall monitor (record { method = place; inputs = [] })
-call_fits monitor place none within = record { method = within; inputs = no_inputs monitor.methods none place }
+called_at : (methods : List Method) (name : List ℕ) (place : ℕ) → position (is_called name) methods ≡ Some place → (place < length methods) × AreOfKinds (kinds_in (slice_get methods place)) []
+called_at [] name place found = absurd cc
+called_at (method ∷ more) name place found =
+    let at = position-Some (is_called name) (method ∷ more) place method found in
+    let here = get_or (method ∷ more) place method in
+    let parts = and_parts (bytes_eq here.name name) (length here.inputs == 0) at.1 in
+    let within : place < length (method ∷ more) = at.0 in (
+      within,
+      subst (λ (found : Option Method). AreOfKinds (kinds_in found) []) (sym (slice_get-get_or (method ∷ more) place method within))
+          (subst (λ (kinds : List Kind). AreOfKinds kinds []) (sym (nil_from_length here.inputs (eqb-true (length here.inputs) 0 parts.1))) tt),
+    )
+
+-- a call without arguments fits the method that it calls
+pub call_fits : (monitor : MonitorParts) (name : List ℕ) (place : ℕ) → method_called monitor name ≡ Some place → FitsCall monitor (record { method = place; inputs = [] })
+call_fits monitor name place found = let at = called_at monitor.methods name place found in record { method = at.0; inputs = at.1 }
 
 -- ---- one more call
 

@@ -1,16 +1,20 @@
--- A tree stands for one monitor at most.
+-- A tree stands for one monitor at most, and so do bytes.
 use Rattle.std.proofs.Common.{◌≡◌, ◌⊎◌, ℕ, zero, suc, ◌+◌, ◌-◌, List, [], ◌∷◌, ◌++◌, length, All, inl, inr, refl, sym, ap, subst, ◌∙◌}
 use Rattle.std.specs.List.{slice_get}
 use Rattle.std.specs.Option.{IsSomeAnd}
 use Rattle.std.proofs.lemmas.List.Elements.{All-head, All-tail}
 use Rattle.mon_linear.specs.declared.formula.Formula.{Formula}
+use Rattle.mon_syntax.specs.declared.token.Token.{Token}
 use Rattle.mon_syntax.specs.declared.tree.Decl.{Decl}
 use Rattle.mon_syntax.specs.declared.tree.MethodTree.{MethodTree}
 use Rattle.mon_syntax.specs.declared.tree.MonitorTree.{MonitorTree}
+use Rattle.mon_syntax.specs.Grammar.{Derives}
 use Rattle.mon_types.specs.declared.monitor.Block.{Block}
 use Rattle.mon_types.specs.declared.monitor.Condition.{Condition}
 use Rattle.mon_types.specs.MonitorParts.{MonitorParts}
 use Rattle.mon_types.specs.Typed.{IsTyped, IsBlockOf, AreBlocksOf, AreConditions, condition_of}
+use Rattle.expresso_cli.specs.MonitorFiles.{IsAccepted}
+use Rattle.expresso_cli.proofs.MonitorFaults.{OneSpelling, OneTree}
 
 -- ---- conditions with distinct guards
 
@@ -107,5 +111,12 @@ one_of_tree : (tree : MonitorTree) (a b : MonitorParts) → IsTyped tree a → I
 one_of_tree tree a b p q = same_parts a b (p.name ∙ sym q.name) (p.fields ∙ sym q.fields) (p.methods ∙ sym q.methods)
     (one_rest tree.decls 0 [] tree.methods a.blocks b.blocks a.conditions b.conditions none_twice p.blocks q.blocks p.conditions q.conditions)
 
-pub one_typed : (s t : MonitorTree) (a b : MonitorParts) → s ≡ t → IsTyped s a → IsTyped t b → a ≡ b
+one_typed : (s t : MonitorTree) (a b : MonitorParts) → s ≡ t → IsTyped s a → IsTyped t b → a ≡ b
 one_typed s t a b same p q = one_of_tree t a b (subst (λ (tree : MonitorTree). IsTyped tree a) same p) q
+
+-- bytes stand for one monitor at most
+pub one_monitor : OneSpelling → OneTree → (bytes : List ℕ) (s t : MonitorTree) (a b : MonitorParts) → IsAccepted bytes s a → IsAccepted bytes t b → a ≡ b
+one_monitor one_spelling one_tree bytes s t a b p q =
+    let tokens = one_spelling bytes p.tokens q.tokens p.spelled q.spelled in
+    let derived : Derives bytes q.tokens s = subst (λ (t : List Token). Derives bytes t s) tokens p.derived in
+    one_typed s t a b (one_tree bytes q.tokens s t derived q.derived) p.typed q.typed

@@ -1,24 +1,25 @@
 -- What was judged of the bytes that were read is true of the bytes that are held.
-use Rattle.std.proofs.Common.{◌≡◌, ℕ, ◌≤◌, List, length, Option, Some, None, refl, sym, ap, subst, ◌∙◌, arith}
+use Rattle.std.proofs.Common.{◌≡◌, ℕ, ◌<◌, ◌≤◌, List, length, Option, Some, None, refl, sym, ap, subst, ◌∙◌, arith}
 use Rattle.std.proofs.lemmas.List.{take_all, length-take}
-use Rattle.std.specs.Prelude.{IfSome, Result, Ok, Err, IfOk}
-use Rattle.std.specs.declared.alloc.AllocError.{AllocError}
-use Rattle.std.specs.Io.KnownBytes.{Keeps}
+use Rattle.std.specs.Prelude.{IfSome}
 use Rattle.mon_io.specs.Outside.{IsRead}
+use Rattle.mon_syntax.specs.declared.tree.MonitorTree.{MonitorTree}
 use Rattle.mon_types.specs.MonitorParts.{MonitorParts}
 use Rattle.mon_implicit.specs.declared.script.Client.{Client}
-use Rattle.expresso_cli.specs.declared.work.Input.TheVariants as inputs
-use Rattle.expresso_cli.specs.declared.work.Answer.{Answer}
-use Rattle.expresso_cli.specs.declared.work.Answer.TheVariants as answers
-use Rattle.expresso_cli.specs.Answers.{IsAccepted, AreAccepted}
-use Rattle.expresso_cli.specs.Working.{IsNoMonitor, AreNoScripts, IsJudged, IsWorked}
+use Rattle.mon_text.specs.declared.refusal.Refusal.{Refusal}
+use Rattle.mon_text.specs.declared.refusal.Refusal.TheVariants as refusals
+use Rattle.expresso_cli.specs.declared.monitor_file.MonitorFault.{MonitorFault}
+use Rattle.expresso_cli.specs.declared.monitor_file.MonitorFault.TheVariants as faults
+use Rattle.expresso_cli.specs.MonitorFiles.{IsAccepted, IsFirstFault, monitor_fault_text}
+use Rattle.expresso_cli.specs.Answers.{AreAccepted, Holds, IsMonitorRefusal}
+use Rattle.expresso_cli.specs.Working.{AreNoScripts}
 
 -- the bytes that are held, where they are told, or else those that were read
-told : Option (List ℕ) → List ℕ → List ℕ
+pub told : Option (List ℕ) → List ℕ → List ℕ
 told None bytes = bytes
 told (Some all) bytes = all
 
-is_told : (o : Option (List ℕ)) (bytes : List ℕ) → IfSome o (λ all. all ≡ told o bytes)
+pub is_told : (o : Option (List ℕ)) (bytes : List ℕ) → IfSome o (λ all. all ≡ told o bytes)
 unfolding told
 is_told None bytes = tt
 is_told (Some all) bytes = refl
@@ -34,53 +35,51 @@ unfolding told
 held_short None bytes read short = refl
 held_short (Some all) bytes read short = read ∙ take_all 65537 all (omega arith)
 
-accepted_told : (o : Option (List ℕ)) (bytes : List ℕ) (monitor : MonitorParts) → IsRead o 65536 bytes → IsAccepted bytes monitor → IsAccepted (told o bytes) monitor
-accepted_told o bytes monitor read accepted = subst (λ (b : List ℕ). IsAccepted b monitor) (read_short o bytes read accepted.short) accepted
+-- no more is read than is held
+held_long : (o : Option (List ℕ)) (bytes : List ℕ) → IsRead o 65536 bytes → 65536 < length bytes → 65536 < length (told o bytes)
+unfolding told
+held_long None bytes read long = long
+held_long (Some all) bytes read long = omega (arith, ap length read, length-take 65537 all)
 
-scripts_told : (o : Option (List ℕ)) (bytes : List ℕ) (monitor : MonitorParts) (clients : List Client) → IsRead o 65536 bytes → AreAccepted bytes monitor clients → AreAccepted (told o bytes) monitor clients
+pub accepted_told : (o : Option (List ℕ)) (bytes : List ℕ) (tree : MonitorTree) (monitor : MonitorParts) → IsRead o 65536 bytes → IsAccepted bytes tree monitor → IsAccepted (told o bytes) tree monitor
+accepted_told o bytes tree monitor read accepted = subst (λ (b : List ℕ). IsAccepted b tree monitor) (read_short o bytes read accepted.short) accepted
+
+pub scripts_told : (o : Option (List ℕ)) (bytes : List ℕ) (monitor : MonitorParts) (clients : List Client) → IsRead o 65536 bytes → AreAccepted bytes monitor clients → AreAccepted (told o bytes) monitor clients
 scripts_told o bytes monitor clients read accepted = subst (λ (b : List ℕ). AreAccepted b monitor clients) (read_short o bytes read accepted.short) accepted
 
-no_monitor_told : (o : Option (List ℕ)) (bytes : List ℕ) → IsRead o 65536 bytes → IsNoMonitor bytes → IsNoMonitor (told o bytes)
-no_monitor_told o bytes read none monitor accepted = none monitor (subst (λ (b : List ℕ). IsAccepted b monitor) (sym (held_short o bytes read accepted.short)) accepted)
-
-no_scripts_told : (o : Option (List ℕ)) (bytes : List ℕ) (monitor : MonitorParts) → IsRead o 65536 bytes → AreNoScripts bytes monitor → AreNoScripts (told o bytes) monitor
+pub no_scripts_told : (o : Option (List ℕ)) (bytes : List ℕ) (monitor : MonitorParts) → IsRead o 65536 bytes → AreNoScripts bytes monitor → AreNoScripts (told o bytes) monitor
 no_scripts_told o bytes monitor read none clients accepted = none clients (subst (λ (b : List ℕ). AreAccepted b monitor clients) (sym (held_short o bytes read accepted.short)) accepted)
 
--- what was judged of what was read is what the two files come to
-pub judged_worked : (held : List ℕ → Option (List ℕ)) (monitor clients mb cb : List ℕ) (answer : Answer) → IsRead (held monitor) 65536 mb → IsRead (held clients) 65536 cb → IsJudged mb cb answer → IsWorked held monitor clients answer
-judged_worked held monitor clients mb cb (answers.Unread input) mr cr judged = tt
-judged_worked held monitor clients mb cb (answers.Refused inputs.Monitor) mr cr judged =
-    (told (held monitor) mb, told (held clients) cb, is_told (held monitor) mb, is_told (held clients) cb, no_monitor_told (held monitor) mb mr judged)
-judged_worked held monitor clients mb cb (answers.Refused inputs.Clients) mr cr (other, accepted, none) = (
-  told (held monitor) mb,
-  told (held clients) cb,
-  is_told (held monitor) mb,
-  is_told (held clients) cb,
-  (other, accepted_told (held monitor) mb other mr accepted, no_scripts_told (held clients) cb other cr none),
-)
-judged_worked held monitor clients mb cb (answers.Ran run) mr cr judged = (
-  told (held monitor) mb,
-  told (held clients) cb,
-  is_told (held monitor) mb,
-  is_told (held clients) cb,
-  record {
-    monitor_accepted = accepted_told (held monitor) mb run.monitor mr judged.monitor_accepted;
-    clients_accepted = scripts_told (held clients) cb run.monitor run.scripts cr judged.clients_accepted;
-    rounds = judged.rounds;
-  },
-)
+-- ---- the first fault
 
-pub keeps_same : (o : Option (List ℕ)) → Keeps o o
-keeps_same None = tt
-keeps_same (Some all) = refl
+-- a fault at a place is one of a short file
+placed_short : (bytes : List ℕ) (at : ℕ) (what : Refusal) → IsFirstFault bytes (faults.At at what) → length bytes ≤ 65536
+placed_short bytes at refusals.Lex first = first.short
+placed_short bytes at refusals.Syntax first = first.short
+placed_short bytes at what first = first.short
 
--- two reads, the second after the first, and what was judged of their bytes
-pub work_worked : (held later : List ℕ → Option (List ℕ)) (monitor clients mb cb ms cs : List ℕ) (result : Result Answer AllocError)
-    → later clients ≡ held clients → IsRead (held monitor) 65536 mb → IsRead (later clients) 65536 cb → ms ≡ mb → cs ≡ cb
-    → IfOk result (λ answer. IsJudged ms cs answer) → IfOk result (λ answer. IsWorked held monitor clients answer)
-work_worked held later monitor clients mb cb ms cs (Err e) same mr cr mi ci judged = tt
-work_worked held later monitor clients mb cb ms cs (Ok answer) same mr cr mi ci judged =
-    judged_worked held monitor clients ms cs answer
-    (subst (λ (b : List ℕ). IsRead (held monitor) 65536 b) (sym mi) mr)
-    (subst (λ (b : List ℕ). IsRead (held clients) 65536 b) (sym ci) (subst (λ (o : Option (List ℕ)). IsRead o 65536 cb) same cr))
-    judged
+pub fault_told : (o : Option (List ℕ)) (bytes : List ℕ) (fault : MonitorFault) → IsRead o 65536 bytes → IsFirstFault bytes fault → IsFirstFault (told o bytes) fault
+fault_told o bytes faults.TooLong read first = held_long o bytes read first
+fault_told o bytes (faults.At at what) read first = subst (λ (b : List ℕ). IsFirstFault b (faults.At at what)) (read_short o bytes read (placed_short bytes at what first)) first
+fault_told o bytes faults.OutOfMemory read first = first
+
+fault_text_told : (o : Option (List ℕ)) (file bytes : List ℕ) (fault : MonitorFault) → IsRead o 65536 bytes → IsFirstFault bytes fault → monitor_fault_text file bytes fault ≡ monitor_fault_text file (told o bytes) fault
+fault_text_told o file bytes faults.TooLong read first = refl
+fault_text_told o file bytes (faults.At at what) read first = ap (λ (b : List ℕ). monitor_fault_text file b (faults.At at what)) (read_short o bytes read (placed_short bytes at what first))
+fault_text_told o file bytes faults.OutOfMemory read first = refl
+
+-- the line of the fault of what was read is that of what is held
+pub refusal_told : (held : List ℕ → Option (List ℕ)) (file bytes : List ℕ) (fault : MonitorFault) → IsRead (held file) 65536 bytes → IsFirstFault bytes fault → IsMonitorRefusal held file (monitor_fault_text file bytes fault)
+refusal_told held file bytes fault read first = record {
+  bytes = told (held file) bytes;
+  fault = fault;
+  read = is_told (held file) bytes;
+  first = fault_told (held file) bytes fault read first;
+  printed = fault_text_told (held file) file bytes fault read first;
+}
+
+-- ---- bytes that are told
+
+-- bytes that a name tells are those that it holds
+pub holds_same : (held : List ℕ → Option (List ℕ)) (file all bytes : List ℕ) → held file ≡ Some all → Holds held file bytes → bytes ≡ all
+holds_same held file all bytes told holds = let equal : all ≡ bytes = subst (λ (o : Option (List ℕ)). IfSome o (λ x. x ≡ bytes)) told holds in sym equal

@@ -1,37 +1,27 @@
 -- What the program answers.
-use Rattle.std.specs.Prelude.{◌≡◌, ◌≤◌, ◌⊎◌, ℕ, true, List, [], length, Option, Some, IfSome}
+use Rattle.std.specs.Prelude.{◌≡◌, ◌≤◌, ◌⊎◌, ℕ, List, length, Any, Option, Some, IfSome}
+use Rattle.std.specs.Io.KnownBytes.{Appends, Keeps}
+use Rattle.mon_io.specs.Outside.{AppendsFront, Rises}
 use Rattle.mon_syntax.specs.declared.token.Token.{Token}
 use Rattle.mon_syntax.specs.declared.tree.MonitorTree.{MonitorTree}
 use Rattle.mon_syntax.specs.declared.tree.ClientsTree.{ClientsTree}
 use Rattle.mon_syntax.specs.Spelling.{Spells}
-use Rattle.mon_syntax.specs.Grammar.{Derives}
 use Rattle.mon_syntax.specs.ClientGrammar.{DerivesClients}
-use Rattle.mon_types.specs.FirstForm.{is_first_form}
+use Rattle.mon_syntax.specs.Canonical.{tree_text}
 use Rattle.mon_types.specs.MonitorParts.{MonitorParts}
-use Rattle.mon_rules.specs.Rules.{faults_of}
-use Rattle.mon_types.specs.Typed.{IsTyped}
 use Rattle.mon_implicit.specs.declared.commit.Turns.{Turns}
 use Rattle.mon_implicit.specs.declared.script.Client.{Client}
 use Rattle.mon_implicit.specs.Runs.{IsFinished}
 use Rattle.mon_implicit.specs.Rounds.{AreTurnsByRounds}
-use Rattle.std.specs.Io.KnownBytes.{Appends, Keeps}
-use Rattle.mon_io.specs.Outside.{AppendsFront, Rises}
+use Rattle.mon_text.specs.TurnsText.{turns_text}
+use Rattle.mon_text.specs.FaultText.{unread_text}
 use Rattle.expresso_cli.specs.declared.status.Status.{Status}
 use Rattle.expresso_cli.specs.declared.status.Status.TheVariants.{Done, Refused, Usage, ReadFault, WriteFault, OutOfMemory, Stalled}
-use Rattle.expresso_cli.specs.CommandLine.{Takes, TakesNone}
+use Rattle.expresso_cli.specs.declared.monitor_file.MonitorFault.{MonitorFault}
+use Rattle.expresso_cli.specs.CommandLine.{Command, check, turns, Takes, TakesNone, files_of}
+use Rattle.expresso_cli.specs.MonitorFiles.{IsAccepted, IsFirstFault, monitor_fault_text}
 use Rattle.expresso_cli.specs.Scripts.{BreaksNoScripts, IsScripted}
-use Rattle.expresso_cli.specs.Texts.{turns_text, usage_text, refused_text, read_fault_text}
-
--- the bytes are a monitor file of the first form that stands for this monitor
-pub record IsAccepted (bytes : List ℕ) (monitor : MonitorParts) : Type 0 where
-  pub tokens : List Token
-  pub tree : MonitorTree
-  pub short : length bytes ≤ 65536
-  pub spelled : Spells bytes tokens
-  pub derived : Derives bytes tokens tree
-  pub first_form : is_first_form tree ≡ true
-  pub unbroken : faults_of tree ≡ []
-  pub typed : IsTyped tree monitor
+use Rattle.expresso_cli.specs.Texts.{usage_text, other_form_text}
 
 -- the bytes are a client file of the first form that stands for these clients of the monitor
 pub record AreAccepted (bytes : List ℕ) (monitor : MonitorParts) (clients : List Client) : Type 0 where
@@ -47,39 +37,80 @@ pub record AreAccepted (bytes : List ℕ) (monitor : MonitorParts) (clients : Li
 abbrev pub Holds : (List ℕ → Option (List ℕ)) → List ℕ → List ℕ → Type 0
 Holds held name bytes = IfSome (held name) (λ all. all ≡ bytes)
 
--- the two files that the words name, with their bytes
-pub record Inputs (held : List ℕ → Option (List ℕ)) (words : List (List ℕ)) : Type 0 where
-  pub monitor_name : List ℕ
-  pub clients_name : List ℕ
+-- ---- the text of each command; `read` fields say what a name holds where that is told
+
+-- the canonical form of the tree that the file has
+pub record IsCheckText (held : List ℕ → Option (List ℕ)) (file text : List ℕ) : Type 0 where
+  pub bytes : List ℕ
+  pub tree : MonitorTree
+  pub monitor : MonitorParts
+  pub read : Holds held file bytes
+  pub accepted : IsAccepted bytes tree monitor
+  pub printed : text ≡ tree_text tree
+
+-- the text of the run by rounds of the monitor and the clients that the two files stand for
+pub record IsTurnsText (held : List ℕ → Option (List ℕ)) (monitor_file clients_file : List ℕ) (clients : List Client) (run : Turns) (text : List ℕ) : Type 0 where
   pub monitor_bytes : List ℕ
   pub clients_bytes : List ℕ
-  pub taken : Takes words monitor_name clients_name
-  pub monitor_held : Holds held monitor_name monitor_bytes
-  pub clients_held : Holds held clients_name clients_bytes
+  pub tree : MonitorTree
+  pub monitor : MonitorParts
+  pub monitor_read : Holds held monitor_file monitor_bytes
+  pub clients_read : Holds held clients_file clients_bytes
+  pub monitor_accepted : IsAccepted monitor_bytes tree monitor
+  pub clients_accepted : AreAccepted clients_bytes monitor clients
+  pub rounds : AreTurnsByRounds monitor clients run
+  pub printed : text ≡ turns_text monitor clients run
 
--- the text is that of the run by rounds of the monitor and clients that the two files stand for
-pub record IsRunText (held : List ℕ → Option (List ℕ)) (words : List (List ℕ)) (monitor : MonitorParts) (clients : List Client) (turns : Turns) (text : List ℕ) : Type 0 where
-  pub inputs : Inputs held words
-  pub monitor_accepted : IsAccepted inputs.monitor_bytes monitor
-  pub clients_accepted : AreAccepted inputs.clients_bytes monitor clients
-  pub rounds : AreTurnsByRounds monitor clients turns
-  pub printed : text ≡ turns_text monitor clients turns
+-- the text of a command whose work is done; of `turns`, that no client has a call left
+abbrev pub IsDoneText : (List ℕ → Option (List ℕ)) → Command → List ℕ → Type 0
+IsDoneText held (check file) text = IsCheckText held file text
+IsDoneText held (turns monitor clients) text = (scripts : List Client) × (run : Turns) × IsTurnsText held monitor clients scripts run text × IsFinished scripts run.history
 
--- no monitor, or else no scripts, and the line names that file
-abbrev pub IsRefusal : (held : List ℕ → Option (List ℕ)) (words : List (List ℕ)) → Inputs held words → List ℕ → Type 0
-IsRefusal held words inputs text =
-    (((monitor : MonitorParts) → IsAccepted inputs.monitor_bytes monitor → ⊥) × (text ≡ refused_text inputs.monitor_name))
-    ⊎ ((monitor : MonitorParts) × IsAccepted inputs.monitor_bytes monitor
-    × ((clients : List Client) → AreAccepted inputs.clients_bytes monitor clients → ⊥)
-    × (text ≡ refused_text inputs.clients_name))
+-- some client has a call left
+abbrev pub IsStalledText : (List ℕ → Option (List ℕ)) → Command → List ℕ → Type 0
+IsStalledText held (check file) text = ⊥
+IsStalledText held (turns monitor clients) text = (scripts : List Client) × (run : Turns) × IsTurnsText held monitor clients scripts run text × (IsFinished scripts run.history → ⊥)
 
--- the whole text of a status, and what is true where it is written; the files' count of faults stands as before the call, and as now
+-- ---- refusals
+
+-- the line of the first fault of the monitor file
+pub record IsMonitorRefusal (held : List ℕ → Option (List ℕ)) (file text : List ℕ) : Type 0 where
+  pub bytes : List ℕ
+  pub fault : MonitorFault
+  pub read : Holds held file bytes
+  pub first : IsFirstFault bytes fault
+  pub printed : text ≡ monitor_fault_text file bytes fault
+
+-- the monitor file is accepted, and the client file is not of the first form
+pub record IsClientsRefusal (held : List ℕ → Option (List ℕ)) (monitor_file clients_file text : List ℕ) : Type 0 where
+  pub monitor_bytes : List ℕ
+  pub clients_bytes : List ℕ
+  pub tree : MonitorTree
+  pub monitor : MonitorParts
+  pub monitor_read : Holds held monitor_file monitor_bytes
+  pub clients_read : Holds held clients_file clients_bytes
+  pub monitor_accepted : IsAccepted monitor_bytes tree monitor
+  pub none : (clients : List Client) → AreAccepted clients_bytes monitor clients → ⊥
+  pub printed : text ≡ other_form_text clients_file
+
+abbrev pub IsRefusedText : (List ℕ → Option (List ℕ)) → Command → List ℕ → Type 0
+IsRefusedText held (check file) text = IsMonitorRefusal held file text
+IsRefusedText held (turns monitor clients) text = IsMonitorRefusal held monitor text ⊎ IsClientsRefusal held monitor clients text
+
+-- a read fault's line that names one of the command's files; which of them, no clause says
+abbrev pub IsUnreadText : Command → List ℕ → Type 0
+IsUnreadText command text = Any (λ file. text ≡ unread_text file) (files_of command)
+
+-- ---- what a status says
+
+-- The whole text of a status, and what is true where it is written. The files' count of faults is given as it was before the call and as it
+-- is now.
 abbrev pub IsText : (List ℕ → Option (List ℕ)) → List (List ℕ) → ℕ → ℕ → Status → List ℕ → Type 0
-IsText held words faults_before faults_now Done text = (monitor : MonitorParts) × (clients : List Client) × (turns : Turns) × IsRunText held words monitor clients turns text × IsFinished clients turns.history
-IsText held words faults_before faults_now Stalled text = (monitor : MonitorParts) × (clients : List Client) × (turns : Turns) × IsRunText held words monitor clients turns text × (IsFinished clients turns.history → ⊥)
-IsText held words faults_before faults_now Refused text = (inputs : Inputs held words) × IsRefusal held words inputs text
+IsText held words faults_before faults_now Done text = (command : Command) × Takes words command × IsDoneText held command text
+IsText held words faults_before faults_now Stalled text = (command : Command) × Takes words command × IsStalledText held command text
+IsText held words faults_before faults_now Refused text = (command : Command) × Takes words command × IsRefusedText held command text
 IsText held words faults_before faults_now Usage text = TakesNone words × (text ≡ usage_text)
-IsText held words faults_before faults_now ReadFault text = Rises faults_before faults_now × (monitor : List ℕ) × (clients : List ℕ) × Takes words monitor clients × ((text ≡ read_fault_text monitor) ⊎ (text ≡ read_fault_text clients))
+IsText held words faults_before faults_now ReadFault text = (command : Command) × Takes words command × IsUnreadText command text × Rises faults_before faults_now
 IsText held words faults_before faults_now WriteFault text = ⊥
 IsText held words faults_before faults_now OutOfMemory text = ⊥
 
@@ -92,41 +123,46 @@ Answers held words faults_before faults_now status before now = (text : List ℕ
 
 -- ---- completeness: what the status must be where nothing fails
 
--- both files tell their bytes, which stand for a monitor and its clients
-pub record Accepts (held : List ℕ → Option (List ℕ)) (words : List (List ℕ)) : Type 0 where
-  pub monitor_name : List ℕ
-  pub clients_name : List ℕ
-  pub monitor_bytes : List ℕ
-  pub clients_bytes : List ℕ
-  pub taken : Takes words monitor_name clients_name
-  pub monitor_held : held monitor_name ≡ Some monitor_bytes
-  pub clients_held : held clients_name ≡ Some clients_bytes
-  pub monitor : MonitorParts
-  pub clients : List Client
-  pub monitor_accepted : IsAccepted monitor_bytes monitor
-  pub clients_accepted : AreAccepted clients_bytes monitor clients
+-- the files of the command tell their bytes, which are accepted
+abbrev pub AcceptsFiles : (List ℕ → Option (List ℕ)) → Command → Type 0
+AcceptsFiles held (check file) = (bytes : List ℕ) × (tree : MonitorTree) × (monitor : MonitorParts) × (held file ≡ Some bytes) × IsAccepted bytes tree monitor
+AcceptsFiles held (turns monitor_file clients_file) =
+    (monitor_bytes : List ℕ) × (clients_bytes : List ℕ) × (tree : MonitorTree) × (monitor : MonitorParts) × (clients : List Client)
+    × (held monitor_file ≡ Some monitor_bytes) × (held clients_file ≡ Some clients_bytes)
+    × IsAccepted monitor_bytes tree monitor × AreAccepted clients_bytes monitor clients
 
--- both files tell their bytes, and one of them is not of the first form
-pub record Rejects (held : List ℕ → Option (List ℕ)) (words : List (List ℕ)) : Type 0 where
-  pub monitor_name : List ℕ
-  pub clients_name : List ℕ
-  pub monitor_bytes : List ℕ
-  pub clients_bytes : List ℕ
-  pub taken : Takes words monitor_name clients_name
-  pub monitor_held : held monitor_name ≡ Some monitor_bytes
-  pub clients_held : held clients_name ≡ Some clients_bytes
-  pub none : (monitor : MonitorParts) (clients : List Client) → IsAccepted monitor_bytes monitor → AreAccepted clients_bytes monitor clients → ⊥
+-- they tell their bytes, and one of them is not accepted
+abbrev pub RejectsFiles : (List ℕ → Option (List ℕ)) → Command → Type 0
+RejectsFiles held (check file) = (bytes : List ℕ) × (held file ≡ Some bytes) × ((tree : MonitorTree) (monitor : MonitorParts) → IsAccepted bytes tree monitor → ⊥)
+RejectsFiles held (turns monitor_file clients_file) =
+    (monitor_bytes : List ℕ) × (clients_bytes : List ℕ) × (held monitor_file ≡ Some monitor_bytes) × (held clients_file ≡ Some clients_bytes)
+    × ((tree : MonitorTree) (monitor : MonitorParts) (clients : List Client) → IsAccepted monitor_bytes tree monitor → AreAccepted clients_bytes monitor clients → ⊥)
 
-abbrev pub IsRunOrMemory : Status → Type 0
-IsRunOrMemory Done = Unit {0}
-IsRunOrMemory Stalled = Unit {0}
-IsRunOrMemory OutOfMemory = Unit {0}
-IsRunOrMemory status = ⊥
+-- the words are a command's whose files are accepted; or are not
+abbrev pub Accepts : (List ℕ → Option (List ℕ)) → List (List ℕ) → Type 0
+Accepts held words = (command : Command) × Takes words command × AcceptsFiles held command
+
+abbrev pub Rejects : (List ℕ → Option (List ℕ)) → List (List ℕ) → Type 0
+Rejects held words = (command : Command) × Takes words command × RejectsFiles held command
+
+-- ---- which statuses may come
+
+abbrev pub IsWorkedOrMemory : Status → Type 0
+IsWorkedOrMemory Done = Unit {0}
+IsWorkedOrMemory Stalled = Unit {0}
+IsWorkedOrMemory OutOfMemory = Unit {0}
+IsWorkedOrMemory status = ⊥
 
 abbrev pub IsRefusedOrMemory : Status → Type 0
 IsRefusedOrMemory Refused = Unit {0}
 IsRefusedOrMemory OutOfMemory = Unit {0}
 IsRefusedOrMemory status = ⊥
+
+abbrev pub IsStoppedOrMemory : Status → Type 0
+IsStoppedOrMemory Refused = Unit {0}
+IsStoppedOrMemory ReadFault = Unit {0}
+IsStoppedOrMemory OutOfMemory = Unit {0}
+IsStoppedOrMemory status = ⊥
 
 abbrev pub IsUsageOrMemory : Status → Type 0
 IsUsageOrMemory Usage = Unit {0}

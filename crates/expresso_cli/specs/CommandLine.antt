@@ -1,10 +1,27 @@
 -- The command line.
 use Rattle.std.specs.Prelude.{◌≡◌, ℕ, List, [], ◌∷◌, codes}
 
--- four words, the program's name first: its name, `turns`, a monitor file and a client file
-abbrev pub Takes : List (List ℕ) → List ℕ → List ℕ → Type 0
-Takes words monitor clients = (program : List ℕ) × (words ≡ program ∷ codes "turns" ∷ monitor ∷ clients ∷ [])
+-- a command, with the words that name its files
+pub data Command : Type 0 where
+  -- checks a monitor file
+  check : List ℕ → Command
+  -- runs the clients of the second file on the monitor of the first
+  turns : List ℕ → List ℕ → Command
+
+-- the words of a command, after the program's name
+abbrev pub words_of : Command → List (List ℕ)
+words_of (check monitor) = codes "check" ∷ monitor ∷ []
+words_of (turns monitor clients) = codes "turns" ∷ monitor ∷ clients ∷ []
+
+-- the words, the program's name first, are those of the command
+abbrev pub Takes : List (List ℕ) → Command → Type 0
+Takes words command = (program : List ℕ) × (words ≡ program ∷ words_of command)
 
 -- the words are no command
 abbrev pub TakesNone : List (List ℕ) → Type 0
-TakesNone words = (monitor clients : List ℕ) → Takes words monitor clients → ⊥
+TakesNone words = (command : Command) → Takes words command → ⊥
+
+-- the files that a command reads, in order
+abbrev pub files_of : Command → List (List ℕ)
+files_of (check monitor) = monitor ∷ []
+files_of (turns monitor clients) = monitor ∷ clients ∷ []

@@ -1,8 +1,10 @@
 pub mod CommandLine
+pub mod Commands
+pub mod MonitorFiles
 pub mod Scripts
 pub mod ScriptChecks
 pub mod Texts
-pub mod Writing
 pub mod Answers
 pub mod Working
+pub mod Turning
 pub mod Exit

@@ -1,5 +1,5 @@
 -- What the makers of scripts find out about the parts of a client file's tree.
-use Rattle.std.specs.Prelude.{◌≡◌, ℕ, List, [], map, All, Any}
+use Rattle.std.specs.Prelude.{◌≡◌, ℕ, List, map, All, Any}
 use Rattle.std.specs.List.{flat_map}
 use Rattle.mon_syntax.specs.declared.tree.Item.{Item, out-Item}
 use Rattle.mon_syntax.specs.declared.tree.Item.TheOpen.{Item-F, Call, Repeat}
@@ -12,10 +12,6 @@ use Rattle.mon_implicit.specs.Scripted.{FitsCall, FitsScripts}
 use Rattle.expresso_cli.specs.declared.script_fault.ScriptFault.{ScriptFault}
 use Rattle.expresso_cli.specs.declared.script_fault.ScriptFault.TheVariants.{UnknownMethod, OutOfMemory}
 use Rattle.expresso_cli.specs.Scripts.{IsUnknown, BreaksScripts, call_of, client_of}
-
--- no method takes inputs, as in each monitor of the first form
-abbrev pub TakesNoInputs : MonitorParts → Type 0
-TakesNoInputs monitor = All (λ method. method.inputs ≡ []) monitor.methods
 
 -- the item is one call, as each item of the first form is
 abbrev pub is_call : Item-F Item → Type 0
@@ -33,7 +29,7 @@ HaveCalls clients = All (λ client. All IsOneCall client.items) clients
 abbrev pub calls_among : List ClientTree → List Item
 calls_among clients = flat_map (λ client. client.items) clients
 
--- the item doesn't call a name that is no method
+-- the item doesn't call a name that is no method without inputs
 abbrev pub IsKnown : MonitorParts → Item → Type 0
 IsKnown monitor item = (at : ℕ) → IsUnknown monitor at item → ⊥
 
@@ -65,7 +61,7 @@ pub record AreMadeClients (monitor : MonitorParts) (trees : List ClientTree) (cl
 abbrev pub BreaksAlone : ClientsTree → ScriptFault → Type 0
 BreaksAlone tree fault = (monitor : MonitorParts) → BreaksScripts tree monitor fault
 
--- the fault is at this item, which calls a name that is no method
+-- the fault is at this item, which calls a name that is no method without inputs
 abbrev pub BlamesItem : MonitorParts → Item → ScriptFault → Type 0
 BlamesItem monitor item (UnknownMethod at) = IsUnknown monitor at item
 BlamesItem monitor item fault = ⊥

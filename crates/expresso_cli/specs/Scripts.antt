@@ -1,5 +1,5 @@
 -- The rules of a client file of the first form, where a tree breaks them, and the scripts that it stands for.
-use Rattle.std.specs.Prelude.{◌≡◌, ℕ, List, [], ◌∷◌, ◌++◌, map, Any, Option, IsSomeAnd, IsNone, unwrap_or, position, slice_get}
+use Rattle.std.specs.Prelude.{◌≡◌, ◌==◌, ◌&&◌, ℕ, List, [], ◌∷◌, ◌++◌, length, map, Any, Option, IsSomeAnd, IsNone, unwrap_or, position, slice_get}
 use Rattle.std.specs.List.{flat_map}
 use Rattle.std.specs.Str.{bytes_eq}
 use Rattle.mon_syntax.specs.declared.tree.Item.{Item, out-Item}
@@ -13,17 +13,17 @@ use Rattle.mon_implicit.specs.declared.script.Client.{Client}
 use Rattle.expresso_cli.specs.declared.script_fault.ScriptFault.{ScriptFault}
 use Rattle.expresso_cli.specs.declared.script_fault.ScriptFault.TheVariants.{UnknownMethod, DuplicateClient, TooManyClients, TooManyCalls, OutOfMemory}
 
--- the number of the first method of this name
-abbrev pub method_named : MonitorParts → List ℕ → Option ℕ
-method_named monitor name = position (λ method. bytes_eq method.name name) monitor.methods
+-- the number of the method that a call of this name without arguments calls: the first of this name that takes no inputs
+abbrev pub method_called : MonitorParts → List ℕ → Option ℕ
+method_called monitor name = position (λ method. bytes_eq method.name name && length method.inputs == 0) monitor.methods
 
 abbrev pub place_of : Item-F Item → ℕ
 place_of (Call at name args) = at
 place_of (Repeat at times items) = at
 
--- an item is a call of a name that is no method
+-- an item is a call of a name that is no method without inputs
 abbrev pub IsUnknownLayer : MonitorParts → ℕ → Item-F Item → Type 0
-IsUnknownLayer monitor at (Call here name args) = (here ≡ at) × IsNone (method_named monitor name)
+IsUnknownLayer monitor at (Call here name args) = (here ≡ at) × IsNone (method_called monitor name)
 IsUnknownLayer monitor at item = ⊥
 
 abbrev pub IsUnknown : MonitorParts → ℕ → Item → Type 0
@@ -46,7 +46,7 @@ pub record IsRepeated (names : List PlacedName) (at : ℕ) : Type 0 where
   pub here : repeated.at ≡ at
 
 -- The fault names a rule that the tree breaks, and a place where it is broken:
--- a called name is a method; clients have distinct names; there are at most 32 clients, and 16,384 calls in all.
+-- a called name is a method without inputs; clients have distinct names; there are at most 32 clients, and 16,384 calls in all.
 abbrev pub BreaksScripts : ClientsTree → MonitorParts → ScriptFault → Type 0
 BreaksScripts tree monitor (UnknownMethod at) = Any (IsUnknown monitor at) (calls_in_file tree)
 BreaksScripts tree monitor (DuplicateClient at) = IsRepeated (map placed_client tree.clients) at
@@ -67,7 +67,7 @@ HasScriptCause tree monitor fault = BreaksScripts tree monitor fault
 
 -- a call without inputs; no script of the first form has another item
 abbrev pub call_layer : MonitorParts → Item-F Item → ScriptCall
-call_layer monitor (Call at name args) = record { method = unwrap_or (method_named monitor name) 0; inputs = [] }
+call_layer monitor (Call at name args) = record { method = unwrap_or (method_called monitor name) 0; inputs = [] }
 call_layer monitor (Repeat at times items) = record { method = 0; inputs = [] }
 
 abbrev pub call_of : MonitorParts → Item → ScriptCall

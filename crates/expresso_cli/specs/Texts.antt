@@ -1,89 +1,9 @@
--- What the program prints.
-use Rattle.std.specs.Prelude.{ℕ, ◌+◌, ◌-◌, Bool, true, false, List, [], ◌∷◌, ◌++◌, Option, Some, None, slice_get, codes, decimal}
-use Rattle.std.specs.Fmt.{signed_decimal}
-use Rattle.std.specs.List.{flat_map}
-use Rattle.mon_types.specs.declared.monitor.Value.{Value}
-use Rattle.mon_types.specs.declared.monitor.Value.TheVariants as values
-use Rattle.mon_types.specs.declared.monitor.Field.{Field}
-use Rattle.mon_types.specs.declared.monitor.Method.{Method}
-use Rattle.mon_types.specs.MonitorParts.{MonitorParts}
-use Rattle.mon_implicit.specs.declared.commit.Reply.{Reply}
-use Rattle.mon_implicit.specs.declared.commit.Reply.TheVariants as replies
-use Rattle.mon_implicit.specs.declared.commit.Commit.{Commit}
-use Rattle.mon_implicit.specs.declared.commit.Turns.{Turns}
-use Rattle.mon_implicit.specs.declared.script.Call.{Call}
-use Rattle.mon_implicit.specs.declared.script.Client.{Client}
-use Rattle.mon_implicit.specs.Scripted.{calls_of}
-use Rattle.mon_implicit.specs.Runs.{done, next_call}
-
-abbrev pub truth_text : Bool → List ℕ
-truth_text true = codes "true"
-truth_text false = codes "false"
-
-abbrev pub value_text : Value → List ℕ
-value_text (values.Int number) = signed_decimal number
-value_text (values.Bool truth) = truth_text truth
-
-abbrev pub reply_text : Reply → List ℕ
-reply_text replies.Unit = codes "-"
-reply_text (replies.Int number) = signed_decimal number
-reply_text (replies.Bool truth) = truth_text truth
-reply_text replies.Overflow = codes "overflow"
-
-abbrev pub client_name : Option Client → List ℕ
-client_name None = []
-client_name (Some client) = client.name
-
-abbrev pub method_name : Option Method → List ℕ
-method_name None = []
-method_name (Some method) = method.name
-
-abbrev pub called_name : MonitorParts → Option Call → List ℕ
-called_name monitor None = []
-called_name monitor (Some call) = method_name (slice_get monitor.methods call.method)
-
--- `A.1 put()`: a client and its call, by its number from 1; a call of the first form has no inputs
-abbrev pub call_text : MonitorParts → List Client → ℕ → ℕ → List ℕ
-call_text monitor clients client number =
-    client_name (slice_get clients client) ++ codes "." ++ decimal number ++ codes " " ++ called_name monitor (slice_get (calls_of clients client) (number - 1)) ++ codes "()"
-
--- `A.1 put() = -` and a line feed
-abbrev pub commit_text : MonitorParts → List Client → Commit → List ℕ
-commit_text monitor clients commit = call_text monitor clients commit.client commit.call ++ codes " = " ++ reply_text commit.reply ++ codes "\n"
-
--- `A.1 put() blocked` and a line feed, where the client has a call left
-abbrev pub blocked_text : MonitorParts → List Client → List Commit → ℕ → Option Call → List ℕ
-blocked_text monitor clients history client None = []
-blocked_text monitor clients history client (Some call) = call_text monitor clients client (done history client + 1) ++ codes " blocked\n"
-
--- the same for each client from a number on, in file order
-abbrev pub blocked_from : MonitorParts → List Client → List Commit → ℕ → List Client → List ℕ
-blocked_from monitor clients history client [] = []
-blocked_from monitor clients history client (first ∷ rest) =
-    blocked_text monitor clients history client (next_call clients history client) ++ blocked_from monitor clients history (client + 1) rest
-
--- `done`, or `stalled` and who is blocked
-abbrev pub end_text : MonitorParts → List Client → List Commit → Bool → List ℕ
-end_text monitor clients history true = codes "done\n"
-end_text monitor clients history false = codes "stalled\n" ++ blocked_from monitor clients history 0 clients
-
--- ` name=value` for each field
-abbrev pub fields_text : List Field → List Value → List ℕ
-fields_text (field ∷ fields) (value ∷ values) = codes " " ++ field.name ++ codes "=" ++ value_text value ++ fields_text fields values
-fields_text fields values = []
-
--- a line for each commit, then how the run ended, then the last state
-abbrev pub turns_text : MonitorParts → List Client → Turns → List ℕ
-turns_text monitor clients turns =
-    flat_map (commit_text monitor clients) turns.history
-    ++ end_text monitor clients turns.history turns.finished
-    ++ codes "state" ++ fields_text monitor.fields turns.state ++ codes "\n"
+-- What the program itself prints. Runs and faults are texts of `mon_text`, and the canonical form is one of `mon_syntax`.
+use Rattle.std.specs.Prelude.{ℕ, List, ◌++◌, codes}
 
 abbrev pub usage_text : List ℕ
-usage_text = codes "usage:\nexpresso turns FILE CLIENTS\n"
+usage_text = codes "usage:\nexpresso check FILE\nexpresso turns FILE CLIENTS\n"
 
-abbrev pub refused_text : List ℕ → List ℕ
-refused_text name = codes "refused: " ++ name ++ codes ": not of the first form\n"
-
-abbrev pub read_fault_text : List ℕ → List ℕ
-read_fault_text name = codes "read fault: " ++ name ++ codes "\n"
+-- a client file isn't of the first form
+abbrev pub other_form_text : List ℕ → List ℕ
+other_form_text file = codes "refused: " ++ file ++ codes ": not of the first form\n"

@@ -1,19 +1,22 @@
 //! `expresso`: monitors with implicit signals.
 //!
-//! `expresso turns FILE CLIENTS` reads a monitor and its clients, runs them by rounds of the implicit
-//! machine, and prints the run. The top call is [`expresso`](expresso::expresso); `main` hands it the
-//! words, the files of the system and standard output.
+//! `expresso check FILE` checks a monitor and prints its canonical form. `expresso turns FILE CLIENTS` runs
+//! clients on a monitor by rounds of the implicit machine, and prints the run. The top call is
+//! [`expresso`](expresso::expresso); `main` hands it the words, the files of the system and standard output.
 #![tactic(auto)]
 
+mod check;
+mod client_file;
+mod command;
 mod expresso;
+mod monitor_file;
 mod script_fault;
 mod scripts;
 mod status;
 #[cfg(test)]
 mod tests;
 mod text;
-mod words;
-mod work;
+mod turns;
 
 pub use expresso::expresso as run_expresso;
 use mon_io::{RealFiles, StdSink};

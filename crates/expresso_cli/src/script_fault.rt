@@ -9,7 +9,7 @@ use thiserror::Error;
 /// A rule that a client file breaks, with the offset of the place where it is broken.
 #[derive(Debug, Drop, Error)]
 pub enum ScriptFault {
-    /// A called name is no method.
+    /// A called name is no method without inputs.
     #[error("unknown method at {at}")]
     UnknownMethod { at: u32 },
     /// A client has the name of an earlier one.

@@ -1,12 +1,12 @@
 //! From a client file's tree to the scripts that it stands for.
 
-ghost use Rattle.std.specs.Prelude.{◌≡◌, ◌≢◌, ◌≤◌, ◌<◌, ◌↔◌, IsTrue, All, AllPairs, Any, IfErr, IfOk, IfSome, MatchResult, OnOk, length, position, []};
+ghost use Rattle.std.specs.Prelude.{◌≡◌, ◌≢◌, ◌≤◌, ◌<◌, ◌↔◌, ◌==◌, ◌&&◌, IsTrue, All, AllPairs, Any, IfErr, IfOk, IfSome, MatchResult, OnOk, length, position, []};
 ghost use Rattle.std.specs.Str.{bytes_eq};
 ghost use Rattle.mon_syntax.specs.declared.tree.Item.{out-Item};
 ghost use Rattle.mon_syntax.specs.ClientGrammar.{AreParsed};
 ghost use Rattle.mon_implicit.specs.Scripted.{FitsCall, FitsScripts};
-ghost use Rattle.expresso_cli.specs.Scripts.{BreaksNoScripts, HasScriptCause, IsScripted, calls_in_file, method_named, place_of};
-ghost use Rattle.expresso_cli.specs.ScriptChecks.{AreMadeCalls, AreMadeClients, BreaksAlone, BlamesItem, BlamesItems, HaveCalls, IsMadeCall, IsMadeClient, IsOneCall, TakesNoInputs, calls_among};
+ghost use Rattle.expresso_cli.specs.Scripts.{BreaksNoScripts, HasScriptCause, IsScripted, calls_in_file, method_called, place_of};
+ghost use Rattle.expresso_cli.specs.ScriptChecks.{AreMadeCalls, AreMadeClients, BreaksAlone, BlamesItem, BlamesItems, HaveCalls, IsMadeCall, IsMadeClient, IsOneCall, calls_among};
 
 use crate::script_fault::ScriptFault;
 use mon_implicit::{Call, Client, Scripts};
@@ -22,15 +22,14 @@ const MOST_CLIENTS: usize = 32;
 /// The most calls of a file, all clients together.
 const MOST_CALLS: usize = 16_384;
 
-/// The scripts that a client file's tree stands for, over a monitor whose methods take no inputs.
+/// The scripts that a client file's tree of the first form stands for.
 ///
 /// A fault names a rule that the tree breaks, and where: there are at most 32 clients, whose names are
-/// distinct, with at most 16,384 calls in all, each of a method of the monitor. Where no memory is
-/// found, the fault says so.
+/// distinct, with at most 16,384 calls in all, each of a method of the monitor without inputs. Where no
+/// memory is found, the fault says so.
 #[tactic(auto, using(crate::proofs::ScriptRules::blamed_is_broken, crate::proofs::ParsedClients::have_calls))]
 pub fn clients(alloc: Global, tree: &ClientsTree, monitor: &Monitor) -> Result<Scripts, ScriptFault>
     requires parsed { AreParsed tree.now }
-    requires plain { TakesNoInputs monitor.now }
     // The scripts are those that the tree stands for.
     ensures scripted { IfOk result (λ scripts. IsScripted tree.now monitor.now scripts) }
     // No rule is broken where there are scripts,
@@ -121,7 +120,6 @@ fn make_clients(
     trees: &[ClientTree],
 ) -> Result<Vec<Client>, ScriptFault>
     requires calls { HaveCalls trees.now }
-    requires plain { TakesNoInputs monitor.now }
     ensures { MatchResult result (λ made. AreMadeClients monitor.now trees.now made.items) (λ fault. BlamesItems monitor.now (calls_among trees.now) fault) }
 {
     let mut made = Vec::new(alloc);
@@ -134,7 +132,6 @@ fn make_clients(
 /// The client that a tree stands for.
 fn make_client(alloc: Global, monitor: &Monitor, tree: &ClientTree) -> Result<Client, ScriptFault>
     requires calls { All IsOneCall tree.now.items }
-    requires plain { TakesNoInputs monitor.now }
     ensures { MatchResult result (λ client. IsMadeClient monitor.now tree.now client) (λ fault. BlamesItems monitor.now tree.now.items fault) }
 {
     Ok(Client {
@@ -147,7 +144,6 @@ fn make_client(alloc: Global, monitor: &Monitor, tree: &ClientTree) -> Result<Cl
 #[tactic(auto, using(crate::proofs::MadeScripts::item_blamed))]
 fn make_calls(alloc: Global, monitor: &Monitor, items: &[Item]) -> Result<Vec<Call>, ScriptFault>
     requires calls { All IsOneCall items.now }
-    requires plain { TakesNoInputs monitor.now }
     ensures { MatchResult result (λ calls. AreMadeCalls monitor.now items.now calls.items) (λ fault. BlamesItems monitor.now items.now fault) }
 {
     let mut calls = Vec::new(alloc);
@@ -157,10 +153,9 @@ fn make_calls(alloc: Global, monitor: &Monitor, items: &[Item]) -> Result<Vec<Ca
     Ok(calls)
 }
 
-/// The call that an item stands for. A fault is at a name that is no method's.
+/// The call that an item stands for. A fault is at a name that no method without inputs has.
 fn make_call(alloc: Global, monitor: &Monitor, item: &Item) -> Result<Call, ScriptFault>
     requires call { IsOneCall item.now }
-    requires plain { TakesNoInputs monitor.now }
     ensures { MatchResult result (λ call. IsMadeCall monitor.now item.now call) (λ fault. BlamesItem monitor.now item.now fault) }
 {
     match item {
@@ -175,28 +170,26 @@ fn make_call(alloc: Global, monitor: &Monitor, item: &Item) -> Result<Call, Scri
     }
 }
 
-/// The number of the first method of this name, which takes no inputs.
-#[tactic(auto, using(crate::proofs::MadeScripts::call_fits))]
+/// The number of the first method of this name that takes no inputs.
 fn method_number(monitor: &Monitor, name: &Name) -> Option<u32>
-    requires { TakesNoInputs monitor.now }
-    ensures number { result ≡ method_named monitor.now name.now }
+    ensures number { result ≡ method_called monitor.now name.now }
     ensures fits { IfSome result (λ method. FitsCall monitor.now (record { method = method; inputs = [] })) }
 {
     let place = method_place(monitor.methods(), name)?;
     Some(place as u32)
 }
 
-/// The place of the first method of this name.
+/// The place of the first method of this name that takes no inputs.
 fn method_place(methods: &[Method], name: &Name) -> Option<usize>
-    ensures place { result ≡ position (λ method. bytes_eq method.name name.now) methods.now }
+    ensures place { result ≡ position (λ method. bytes_eq method.name name.now && length method.inputs == 0) methods.now }
     ensures within { IfSome result (λ place. place < length methods.now) }
 {
-    methods.iter().position(|method| is_named(method, name))
+    methods.iter().position(|method| is_called(method, name))
 }
 
-/// Whether the method has this name.
-fn is_named(method: &Method, name: &Name) -> bool
-    ensures { result ≡ bytes_eq method.now.name name.now }
+/// Whether a call of this name without arguments is one of the method.
+fn is_called(method: &Method, name: &Name) -> bool
+    ensures { result ≡ (bytes_eq method.now.name name.now && length method.now.inputs == 0) }
 {
-    method.name.bytes() == name.bytes()
+    method.name.bytes() == name.bytes() && method.inputs.items().is_empty()
 }

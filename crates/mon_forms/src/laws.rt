@@ -1,6 +1,6 @@
 //! What follows from the definitions alone.
 
-ghost use Rattle.std.specs.Prelude.{◌≡◌, ◌≤◌, false, List, [], Some, None};
+ghost use Rattle.std.specs.Prelude.{◌≡◌, ◌≤◌, false, IsTrue, List, [], Some, None};
 ghost use Rattle.mon_syntax.specs.declared.tree.Decl.{Decl};
 ghost use Rattle.mon_syntax.specs.declared.tree.Expr.{Expr};
 ghost use Rattle.mon_syntax.specs.declared.tree.InputTree.{InputTree};
@@ -10,6 +10,7 @@ ghost use Rattle.mon_forms.specs.declared.fault.TypeFault.{TypeFault};
 ghost use Rattle.mon_forms.specs.declared.scope.Entry.{Entry};
 ghost use Rattle.mon_forms.specs.Scope.{field_count, scope_of};
 ghost use Rattle.mon_forms.specs.Forms.{IsOrdered, linear_of};
+ghost use Rattle.mon_forms.specs.Making.{has_small_numbers};
 ghost use Rattle.mon_forms.specs.Faults.{IsLeast, least};
 ghost use Rattle.mon_forms.specs.Sense.{is_other, sense};
 ghost use Rattle.mon_forms.specs.Plain.{number_in, truth_in, plain_value};
@@ -32,4 +33,9 @@ pub fn least_is_least()
 /// With at most 16 fields the places of fields and inputs rise strictly in their scope.
 pub fn scope_is_ordered()
     ensures { (declared : List Decl) (taken : List InputTree) → field_count declared ≤ 16 → IsOrdered (scope_of declared taken) }
+{}
+
+/// The numbers of a method's scope are small enough for the forms that are made in it.
+pub fn scope_numbers_are_small()
+    ensures { (declared : List Decl) (taken : List InputTree) → IsTrue (has_small_numbers (scope_of declared taken)) }
 {}

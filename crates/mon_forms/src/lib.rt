@@ -24,6 +24,6 @@ pub use fault::{Counted, TypeFault};
 pub use finding::{first_place, is_other, kind_of, kind_of_name};
 pub use first_fault::{fault_in, large_number};
 pub use kind::Kind;
-pub use laws::{forms_keep_meaning, least_is_least, scope_is_ordered};
-pub use making::{form_of, formula_of, scope_numbers_are_small};
+pub use laws::{forms_keep_meaning, least_is_least, scope_is_ordered, scope_numbers_are_small};
+pub use making::{form_of, formula_of};
 pub use scope::{Entry, Meaning, find, scope_of};

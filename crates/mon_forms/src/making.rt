@@ -1,10 +1,8 @@
 //! The forms of int expressions and the formulas of bool ones, where they break no rule.
 
-ghost use Rattle.std.specs.Prelude.{◌≡◌, ℕ, true, false, [], IfOk, IsTrue, All, List, map};
+ghost use Rattle.std.specs.Prelude.{◌≡◌, ℕ, true, false, [], IfOk, IsTrue, All, map};
 ghost use Rattle.mon_forms.specs.declared.kind.Kind.TheVariants as kinds;
-ghost use Rattle.mon_syntax.specs.declared.tree.Decl.{Decl};
-ghost use Rattle.mon_syntax.specs.declared.tree.InputTree.{InputTree};
-ghost use Rattle.mon_forms.specs.Scope.{entry_named, scope_of};
+ghost use Rattle.mon_forms.specs.Scope.{entry_named};
 ghost use Rattle.mon_forms.specs.Forms.{is_limited, linear_of, minus, product, IsFormOf, IsOrdered};
 ghost use Rattle.mon_forms.specs.Sense.{is_other, sense, sum_form, product_form, product_faults, at_most, less, compared, truth_formula, entry_formula, meaning_formula};
 ghost use Rattle.mon_forms.specs.Making.{has_small_numbers, IsInt, IsBool, addend_sense, factor_sense};
@@ -261,8 +259,3 @@ pub(crate) fn difference(
     form.add(true, &other);
     Ok(form)
 }
-
-/// The numbers of a method's scope are small enough for the forms that are made in it.
-pub fn scope_numbers_are_small()
-    ensures { (declared : List Decl) (taken : List InputTree) → IsTrue (has_small_numbers (scope_of declared taken)) }
-{}

@@ -291,6 +291,18 @@ fn the_first_fault_of_an_expression_is_found(rt: HostRuntime) {
             b"9223372036854775808 < z".as_slice(),
             TypeFault::TooLarge { at: 98 },
         ),
+        (
+            b"2147483648 * x < -x".as_slice(),
+            TypeFault::TooLarge { at: 98 },
+        ),
+        (
+            b"b && 2147483648 * x + x > 0".as_slice(),
+            TypeFault::TooLarge { at: 103 },
+        ),
+        (
+            b"x * 65536 * 32769 * 0".as_slice(),
+            TypeFault::TooLarge { at: 98 },
+        ),
     ];
     for (text, fault) in texts {
         assert!(rt; breaks(rt.alloc(), text, fault), "{fault:?} in {text:?}");
@@ -304,6 +316,10 @@ fn numbers_at_their_limits_break_no_rule(rt: HostRuntime) {
         b"-(2147483648 * x)".as_slice(),
         b"9223372036854775807".as_slice(),
         b"x < 9223372036854775807 + 1".as_slice(),
+        b"2147483648 * x < y".as_slice(),
+        b"2147483648 * x <= x".as_slice(),
+        b"1073741824 * x + 1073741824 * x".as_slice(),
+        b"x * 65536 * 32768 * 0".as_slice(),
     ];
     for text in texts {
         assert!(rt; breaks_none(rt.alloc(), text), "a fault in {text:?}");

@@ -1,1 +1,3 @@
 pub mod WrittenBytes
+pub mod Writing
+pub mod Rows

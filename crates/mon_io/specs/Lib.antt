@@ -1,3 +1,4 @@
 pub mod FilesInMemory
 pub mod Outside
 pub mod SinkInMemory
+pub mod Writing

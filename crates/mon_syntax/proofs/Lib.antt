@@ -32,8 +32,6 @@ pub mod SpelledExpressions
 pub mod CanonicalSpelling
 pub mod DerivedPrintable
 pub mod NameLaws
-pub mod Writing
-pub mod Rows
 pub mod Printing
 pub mod Depths
 pub mod Statements

@@ -9,6 +9,5 @@ pub mod Names
 pub mod Fault
 pub mod Reading
 pub mod Canonical
-pub mod Writing
 pub mod Printing
 pub mod Depths

@@ -1,10 +1,10 @@
 //! Tokens, trees, parsers and the printer of monitor and client files.
 //!
-//! [`tokens`] cuts a file's bytes into tokens, and [`parse_monitor`] and [`parse_clients`] read the tree
-//! that the grammar of the first form derives from them. Both answer exactly what the definitions say:
-//! `specs/Spelling` (which tokens bytes spell), `specs/Words` and `specs/Grammar` (which words are a
-//! tree's, a rule for each production). [`print_monitor`] writes a tree of the whole language in the
-//! canonical form of `specs/Canonical`. The laws of these definitions are functions of `laws`, and
+//! [`tokens`] cuts a file's bytes into tokens. From them [`parse_monitor`] reads the tree that the grammar of
+//! monitor files derives, and [`parse_clients`] the one of client files of the first form. Both answer exactly
+//! what the definitions say: `specs/Spelling` (which tokens bytes spell), `specs/Words`, `specs/Grammar` and
+//! `specs/ClientGrammar` (which words are a tree's, a rule for each production). [`print_monitor`] writes a tree
+//! in the canonical form of `specs/Canonical`. The laws of these definitions are functions of `laws`, and
 //! [`is_identifier`] tells whether a text is one name.
 #![tactic(auto)]
 
@@ -23,7 +23,6 @@ mod statement_parser;
 mod tests;
 mod token;
 mod tree;
-mod writer;
 
 pub use clients_parser::parse_clients;
 pub use clone::{copy_expression, copy_statement};

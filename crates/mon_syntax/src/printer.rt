@@ -5,18 +5,17 @@ ghost use Rattle.std.specs.List.{flat_map};
 ghost use Rattle.std.specs.Io.KnownBytes.{Appends};
 ghost use Rattle.mon_io.specs.Outside.{AppendsFront, Rises};
 ghost use Rattle.mon_syntax.specs.Canonical.{tree_text, declaration_text, method_text, input_texts, kind_text, literal_text, minus_text, joined};
-ghost use Rattle.mon_syntax.specs.Writing.{Wrote};
+ghost use Rattle.mon_io.specs.Writing.{Wrote};
 
 mod depth;
 mod expressions;
 mod statements;
 
 use crate::tree::{Decl, InputKind, InputTree, Lit, MethodTree, MonitorTree};
-use crate::writer::{write_piece, write_pieces};
 use depth::Depth;
 use expressions::{truth_bytes, write_around};
 use itoa::Buffer;
-use mon_io::{Name, Sink, SinkFailed};
+use mon_io::{Name, Sink, SinkFailed, write_piece, write_pieces};
 use statements::write_block;
 
 /// Writes a monitor in canonical form, piece by piece. It takes no memory.

@@ -103,11 +103,20 @@ values_from v place [] = []
 values_from v place (kinds.Int ∷ more) = values.Int (v.number place) ∷ values_from v (place + 1) more
 values_from v place (kinds.Bool ∷ more) = values.Bool (v.flag place) ∷ values_from v (place + 1) more
 
--- the valuation with the fields' values replaced by those of a state
+-- the number of a value, or the truth of one, where it has such; else the one that was there
+abbrev pub number_or : ℤ → Option Value → ℤ
+number_or kept (Some (values.Int number)) = number
+number_or kept value = kept
+
+abbrev pub truth_or : Bool → Option Value → Bool
+truth_or kept (Some (values.Bool truth)) = truth
+truth_or kept value = kept
+
+-- the valuation with the fields' values replaced by those of a state: a field's number or truth, by its kind
 abbrev pub with_state : Valuation → List Value → Valuation
 with_state v state = record {
-  number = λ place. if nat_lt place 16 then number_in (value_at state [] place) else v.number place;
-  flag = λ place. if nat_lt place 16 then truth_in (value_at state [] place) else v.flag place;
+  number = λ place. if nat_lt place 16 then number_or (v.number place) (slice_get state place) else v.number place;
+  flag = λ place. if nat_lt place 16 then truth_or (v.flag place) (slice_get state place) else v.flag place;
 }
 
 -- wherever the one formula is true, the other is after the body, run without regard to 64 bits

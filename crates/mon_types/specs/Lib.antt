@@ -1,5 +1,4 @@
 pub mod MonitorParts
-pub mod FirstForm
 pub mod Typed
 pub mod Bodies
 pub mod Checked

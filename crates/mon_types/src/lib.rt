@@ -4,17 +4,18 @@
 //! Definitions: `specs/Typed` (the monitor of a tree), `specs/MonitorParts` (the rule that every monitor
 //! meets), `specs/Bodies` (what bodies do over whole numbers without bounds, when one overflows, and valid
 //! triples); the rules of trees are `mon_rules/specs/Rules`, and forms and formulas those of `mon_forms`.
-//! [`is_first_form`] tells whether a tree is of the first form.
 #![tactic(auto)]
 
+mod candidate;
 mod checker;
-mod first_form;
 mod laws;
 mod making;
 mod monitor;
+#[cfg(test)]
+mod tests;
 
+pub use candidate::Candidate;
 pub use checker::check;
-pub use first_form::is_first_form;
 pub use laws::forms_keep_meaning;
 pub use mon_forms::{Counted, Kind, TypeFault};
 pub use monitor::{Block, Condition, Field, Method, Monitor, Ret, Stmt, Value};

@@ -2,10 +2,9 @@
 
 ghost use Rattle.mon_syntax.specs.Canonical.{indent};
 ghost use Rattle.mon_syntax.specs.Depths.{levels};
-ghost use Rattle.mon_syntax.specs.Writing.{Wrote};
+ghost use Rattle.mon_io.specs.Writing.{Wrote};
 
-use crate::writer::write_piece;
-use mon_io::{Sink, SinkFailed};
+use mon_io::{Sink, SinkFailed, write_piece};
 
 /// How deep a line stands: at the margin, or one level deeper than another.
 ///

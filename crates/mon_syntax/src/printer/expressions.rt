@@ -4,12 +4,11 @@ ghost use Rattle.std.specs.Prelude.{◌≡◌, ◌++◌, decimal};
 ghost use Rattle.std.specs.List.{flat_map};
 ghost use Rattle.mon_syntax.specs.Canonical.{printed, expression_text, truth_text, op_text, addend_sign};
 ghost use Rattle.mon_syntax.specs.Printing.{part_text, later_factor, later_addend, joined_parts};
-ghost use Rattle.mon_syntax.specs.Writing.{Wrote};
+ghost use Rattle.mon_io.specs.Writing.{Wrote};
 
 use crate::tree::{Addend, Expr, Factor, Op};
-use crate::writer::{write_piece, write_pieces};
 use itoa::Buffer;
-use mon_io::{Sink, SinkFailed};
+use mon_io::{Sink, SinkFailed, write_piece, write_pieces};
 
 // An expression, with no parentheses around it.
 #[cycle(write_expression)]

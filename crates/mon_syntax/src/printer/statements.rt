@@ -5,13 +5,12 @@ ghost use Rattle.std.specs.List.{flat_map};
 ghost use Rattle.mon_syntax.specs.Canonical.{statement_text, expression_text, indent};
 ghost use Rattle.mon_syntax.specs.Printing.{statements_text, block_text, else_text};
 ghost use Rattle.mon_syntax.specs.Depths.{levels};
-ghost use Rattle.mon_syntax.specs.Writing.{Wrote};
+ghost use Rattle.mon_io.specs.Writing.{Wrote};
 
 use super::depth::{Depth, write_indent};
 use super::expressions::write_around;
 use crate::tree::{Expr, StmtTree};
-use crate::writer::write_piece;
-use mon_io::{Sink, SinkFailed};
+use mon_io::{Sink, SinkFailed, write_piece};
 
 /// Writes the lines of statements, one level deeper, and the brace that ends them.
 #[cycle(write_statement)]

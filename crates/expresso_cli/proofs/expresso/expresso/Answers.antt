@@ -1,45 +1,78 @@
-use Rattle.expresso_cli.proofs.Answering.{usage_answers, answer_answers, usage_no_read_fault}
-use Rattle.expresso_cli.proofs.Completeness.{accepted_runs, rejected_refused, usage_shown, answer_no_write_fault, unread_shown, write_fault_rises, read_fault_rises}
+use Rattle.std.proofs.Common.{[], ◌∷◌}
+use Rattle.std.proofs.lemmas.List.Elements.{All-head, All-tail}
+use Rattle.expresso_cli.specs.CommandLine.{check, turns}
+use Rattle.expresso_cli.proofs.Answering.{command_answers, usage_answers}
+use Rattle.expresso_cli.proofs.Completeness.{accepted_runs, rejected_refused, rejected_stops}
 use Rattle.expresso_cli.proofs.expresso.expresso.Goals as goal
 
-pub returns-in_default-clause-answer : goal.returns-in_default-clause-answer
-returns-in_default-clause-answer g c = usage_answers _ _ _ _ _ _ _ _ _ c.in_default.ensures c.show_usage.ensures
+pub check_file-requires : goal.check_file-requires
+check_file-requires g c =
+    let taken = rw c.in-Some-Check.field-0-is at c.in-Some-Check.ensures in
+    All-head (g.F.Files.may_read c.args.files.now) c.in-Some-Check.file.now [] (c.requires (check c.in-Some-Check.file.now) taken)
 
-pub returns-in_default-clause-read_fault : goal.returns-in_default-clause-read_fault
-returns-in_default-clause-read_fault g c = λ fault. absurd (usage_no_read_fault _ _ _ _ _ _ c.show_usage.ensures fault)
+pub take_turns-requires-clause-monitor : goal.take_turns-requires-clause-monitor
+take_turns-requires-clause-monitor g c =
+    let taken = rw c.in-Some-Turns.field-0-is at c.in-Some-Turns.ensures in
+    All-head (g.F.Files.may_read c.args.files.now) c.in-Some-Turns.monitor.now (c.in-Some-Turns.clients.now ∷ []) (c.requires (turns c.in-Some-Turns.monitor.now c.in-Some-Turns.clients.now) taken)
 
-pub returns-in_default-clause-usage : goal.returns-in_default-clause-usage
-returns-in_default-clause-usage g c = λ none no_rise. usage_shown _ _ _ _ _ _ c.show_usage.ensures no_rise
+pub take_turns-requires-clause-clients : goal.take_turns-requires-clause-clients
+take_turns-requires-clause-clients g c =
+    let taken = rw c.in-Some-Turns.field-0-is at c.in-Some-Turns.ensures in
+    All-head (g.F.Files.may_read c.args.files.now) c.in-Some-Turns.clients.now [] (All-tail (g.F.Files.may_read c.args.files.now) c.in-Some-Turns.monitor.now (c.in-Some-Turns.clients.now ∷ []) (c.requires (turns c.in-Some-Turns.monitor.now c.in-Some-Turns.clients.now) taken))
 
-pub returns-in_default-clause-accepted : goal.returns-in_default-clause-accepted
-returns-in_default-clause-accepted g c = λ accepts no_read no_write. absurd (c.in_default.ensures accepts.monitor_name accepts.clients_name accepts.taken)
+pub returns-in-Some-Check-clause-usage : goal.returns-in-Some-Check-clause-usage
+returns-in-Some-Check-clause-usage g c =
+    let taken = rw c.in-Some-Check.field-0-is at c.in-Some-Check.ensures in
+    λ none no_rise. absurd (none (check c.in-Some-Check.file.now) taken)
 
-pub returns-in_default-clause-rejected : goal.returns-in_default-clause-rejected
-returns-in_default-clause-rejected g c = λ rejects no_read no_write. absurd (c.in_default.ensures rejects.monitor_name rejects.clients_name rejects.taken)
+pub returns-in-Some-Check-clause-accepted : goal.returns-in-Some-Check-clause-accepted
+returns-in-Some-Check-clause-accepted g c =
+    let taken = rw c.in-Some-Check.field-0-is at c.in-Some-Check.ensures in
+    accepted_runs _ _ (check c.in-Some-Check.file.now) _ _ _ _ _ _ _ taken c.check_file.ensures.ended
 
-pub work-requires-clause-monitor : goal.work-requires-clause-monitor
-work-requires-clause-monitor g c = (c.requires c.in-Some.monitor.now c.in-Some.clients.now c.in-Some.ensures).0
+pub returns-in-Some-Check-clause-rejected : goal.returns-in-Some-Check-clause-rejected
+returns-in-Some-Check-clause-rejected g c =
+    let taken = rw c.in-Some-Check.field-0-is at c.in-Some-Check.ensures in
+    rejected_refused _ _ (check c.in-Some-Check.file.now) _ _ _ _ _ _ _ taken c.check_file.ensures.ended
 
-pub work-requires-clause-clients : goal.work-requires-clause-clients
-work-requires-clause-clients g c = (c.requires c.in-Some.monitor.now c.in-Some.clients.now c.in-Some.ensures).1
+pub returns-in-Some-Check-clause-stopped : goal.returns-in-Some-Check-clause-stopped
+returns-in-Some-Check-clause-stopped g c =
+    let taken = rw c.in-Some-Check.field-0-is at c.in-Some-Check.ensures in
+    rejected_stops _ _ (check c.in-Some-Check.file.now) _ _ _ _ _ _ _ taken c.check_file.ensures.ended
 
-pub returns-in-Ok-clause-answer : goal.returns-in-Ok-clause-answer
-returns-in-Ok-clause-answer g c = answer_answers _ _ _ _ c.in-Some.monitor.now c.in-Some.clients.now c.in-Ok.answer _ _ _ _ _ c.in-Some.ensures c.in-Ok.ensures.worked c.in-Ok.ensures.cause c.write_answer.ensures
+pub returns-in-Some-Turns-clause-answer : goal.returns-in-Some-Turns-clause-answer
+returns-in-Some-Turns-clause-answer g c =
+    let taken = rw c.in-Some-Turns.field-0-is at c.in-Some-Turns.ensures in
+    command_answers _ _ (turns c.in-Some-Turns.monitor.now c.in-Some-Turns.clients.now) _ _ _ _ _ _ _ taken c.take_turns.ensures.ended.answer
 
-pub returns-in-Ok-clause-read_fault : goal.returns-in-Ok-clause-read_fault
-returns-in-Ok-clause-read_fault g c = λ fault. read_fault_rises c.in-Ok.answer _ _ _ _ _ _ _ _ c.in-Ok.ensures.cause c.write_answer.ensures fault
+pub returns-in-Some-Turns-clause-usage : goal.returns-in-Some-Turns-clause-usage
+returns-in-Some-Turns-clause-usage g c =
+    let taken = rw c.in-Some-Turns.field-0-is at c.in-Some-Turns.ensures in
+    λ none no_rise. absurd (none (turns c.in-Some-Turns.monitor.now c.in-Some-Turns.clients.now) taken)
 
-pub returns-in-Ok-clause-write_fault : goal.returns-in-Ok-clause-write_fault
-returns-in-Ok-clause-write_fault g c = λ fault. write_fault_rises _ _ _ _ _ _ _ (answer_no_write_fault c.in-Ok.answer) c.write_answer.ensures fault
+pub returns-in-Some-Turns-clause-accepted : goal.returns-in-Some-Turns-clause-accepted
+returns-in-Some-Turns-clause-accepted g c =
+    let taken = rw c.in-Some-Turns.field-0-is at c.in-Some-Turns.ensures in
+    accepted_runs _ _ (turns c.in-Some-Turns.monitor.now c.in-Some-Turns.clients.now) _ _ _ _ _ _ _ taken c.take_turns.ensures.ended
 
-pub returns-in-Ok-clause-usage : goal.returns-in-Ok-clause-usage
-returns-in-Ok-clause-usage g c = λ none no_rise. absurd (none c.in-Some.monitor.now c.in-Some.clients.now c.in-Some.ensures)
+pub returns-in-Some-Turns-clause-rejected : goal.returns-in-Some-Turns-clause-rejected
+returns-in-Some-Turns-clause-rejected g c =
+    let taken = rw c.in-Some-Turns.field-0-is at c.in-Some-Turns.ensures in
+    rejected_refused _ _ (turns c.in-Some-Turns.monitor.now c.in-Some-Turns.clients.now) _ _ _ _ _ _ _ taken c.take_turns.ensures.ended
 
-pub returns-in-Ok-clause-accepted : goal.returns-in-Ok-clause-accepted
-returns-in-Ok-clause-accepted g c = λ accepts no_read no_write. accepted_runs c.one_spelling.ensures.one c.derives_one_tree.ensures.monitors _ _ c.in-Some.monitor.now c.in-Some.clients.now c.in-Ok.answer _ _ _ _ _ _ _ _ c.in-Some.ensures c.in-Ok.ensures.worked c.in-Ok.ensures.cause c.write_answer.ensures accepts no_read no_write
+pub returns-in-Some-Turns-clause-stopped : goal.returns-in-Some-Turns-clause-stopped
+returns-in-Some-Turns-clause-stopped g c =
+    let taken = rw c.in-Some-Turns.field-0-is at c.in-Some-Turns.ensures in
+    rejected_stops _ _ (turns c.in-Some-Turns.monitor.now c.in-Some-Turns.clients.now) _ _ _ _ _ _ _ taken c.take_turns.ensures.ended
 
-pub returns-in-Ok-clause-rejected : goal.returns-in-Ok-clause-rejected
-returns-in-Ok-clause-rejected g c = λ rejects no_read no_write. rejected_refused c.one_spelling.ensures.one c.derives_one_tree.ensures.monitors _ _ c.in-Some.monitor.now c.in-Some.clients.now c.in-Ok.answer _ _ _ _ _ _ _ _ c.in-Some.ensures c.in-Ok.ensures.worked c.in-Ok.ensures.cause c.write_answer.ensures rejects no_read no_write
+pub returns-in-None-clause-answer : goal.returns-in-None-clause-answer
+returns-in-None-clause-answer g c = usage_answers _ _ _ _ _ _ _ _ _ c.in-None.ensures c.show_usage.ensures
 
-pub returns-in-Ok-clause-unread : goal.returns-in-Ok-clause-unread
-returns-in-Ok-clause-unread g c = λ risen no_write. unread_shown c.in-Ok.answer _ _ _ _ _ _ _ _ c.in-Ok.ensures.cause c.write_answer.ensures risen no_write
+pub returns-in-None-clause-accepted : goal.returns-in-None-clause-accepted
+returns-in-None-clause-accepted g c = λ accepts no_read no_write. absurd (c.in-None.ensures accepts.0 accepts.1)
+
+pub returns-in-None-clause-rejected : goal.returns-in-None-clause-rejected
+returns-in-None-clause-rejected g c = λ rejects no_read no_write. absurd (c.in-None.ensures rejects.0 rejects.1)
+
+pub returns-in-None-clause-stopped : goal.returns-in-None-clause-stopped
+returns-in-None-clause-stopped g c = λ rejects no_write. absurd (c.in-None.ensures rejects.0 rejects.1)

@@ -2,7 +2,7 @@ use Rattle.std.proofs.Common.{codes, refl}
 use Rattle.std.specs.List.{flat_map}
 use Rattle.mon_syntax.specs.Canonical.{declaration_text, method_text}
 use Rattle.mon_syntax.proofs.Files.{text-tree}
-use Rattle.mon_syntax.proofs.Writing.{wrote_both, wrote_fails, wrote_longer, wrote_same}
+use Rattle.mon_io.proofs.Writing.{wrote_both, wrote_fails, wrote_longer, wrote_same}
 use Rattle.mon_syntax.proofs.printer.print_monitor.Goals as goal
 
 pub returns-in_err-write_pieces : goal.returns-in_err-write_pieces

@@ -1,6 +1,6 @@
 use Rattle.std.proofs.Common.{refl}
 use Rattle.mon_syntax.specs.Canonical.{declaration_text}
-use Rattle.mon_syntax.proofs.Rows.{row_went, row_stopped}
+use Rattle.mon_io.proofs.Rows.{row_went, row_stopped}
 use Rattle.mon_syntax.proofs.printer.write_declarations.Goals as goal
 
 pub loop-declaration-preserved : goal.loop-declaration-preserved

@@ -4,8 +4,8 @@ use Rattle.std.specs.List.{flat_map}
 use Rattle.mon_syntax.specs.Canonical.{input_text}
 use Rattle.mon_syntax.proofs.Files.{inputs-cut}
 use Rattle.mon_syntax.proofs.Printing.{after_first}
-use Rattle.mon_syntax.proofs.Rows.{row_stopped}
-use Rattle.mon_syntax.proofs.Writing.{wrote_both, wrote_same}
+use Rattle.mon_io.proofs.Rows.{row_stopped}
+use Rattle.mon_io.proofs.Writing.{wrote_both, wrote_same}
 use Rattle.mon_syntax.proofs.printer.write_inputs.Goals as goal
 
 pub returns : goal.returns

@@ -1,7 +1,7 @@
 use Rattle.std.proofs.Common.{◌++◌, Ok, take, codes}
 use Rattle.std.specs.List.{flat_map}
 use Rattle.mon_syntax.specs.Canonical.{input_text}
-use Rattle.mon_syntax.specs.Writing.{Wrote}
+use Rattle.mon_io.specs.Writing.{Wrote}
 use Rattle.mon_syntax.proofs.printer.write_inputs.Given as goal
 
 abbrev pub invariant-loop-input : goal.invariant-loop-input

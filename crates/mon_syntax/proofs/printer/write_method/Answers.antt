@@ -3,7 +3,7 @@ use Rattle.mon_syntax.specs.Canonical.{joined, input_texts, expression_text}
 use Rattle.mon_syntax.specs.Printing.{block_text}
 use Rattle.mon_syntax.proofs.Depths.{levels-inner}
 use Rattle.mon_syntax.proofs.Files.{text-method}
-use Rattle.mon_syntax.proofs.Writing.{wrote_both, wrote_fails, wrote_longer, wrote_same}
+use Rattle.mon_io.proofs.Writing.{wrote_both, wrote_fails, wrote_longer, wrote_same}
 use Rattle.mon_syntax.proofs.printer.write_method.Goals as goal
 
 pub returns-in_err-write_pieces : goal.returns-in_err-write_pieces

@@ -1,6 +1,6 @@
 use Rattle.std.proofs.Common.{refl}
 use Rattle.mon_syntax.specs.Canonical.{method_text}
-use Rattle.mon_syntax.proofs.Rows.{row_went, row_stopped}
+use Rattle.mon_io.proofs.Rows.{row_went, row_stopped}
 use Rattle.mon_syntax.proofs.printer.write_methods.Goals as goal
 
 pub loop-method-preserved : goal.loop-method-preserved

@@ -1,5 +1,5 @@
 use Rattle.std.proofs.Common.{rules}
-use Rattle.mon_syntax.proofs.Writing.{wrote_both, wrote_fails, wrote_longer, wrote_same}
+use Rattle.mon_io.proofs.Writing.{wrote_both, wrote_fails, wrote_longer, wrote_same}
 use Rattle.mon_syntax.proofs.Depths.{indent-Margin, indent-Below}
 use Rattle.mon_syntax.proofs.printer.depth.+write_indent.Goals as goal
 

@@ -2,8 +2,8 @@ use Rattle.std.proofs.Common.{◌++◌, ◌∙◌, codes, ap, refl}
 use Rattle.std.proofs.lemmas.List.{take_all}
 use Rattle.std.specs.List.{flat_map}
 use Rattle.mon_syntax.specs.Printing.{part_text, later_factor, later_addend}
-use Rattle.mon_syntax.proofs.Rows.{row_went, row_stopped}
-use Rattle.mon_syntax.proofs.Writing.{wrote_both, wrote_fails, wrote_longer, wrote_same}
+use Rattle.mon_io.proofs.Rows.{row_went, row_stopped}
+use Rattle.mon_io.proofs.Writing.{wrote_both, wrote_fails, wrote_longer, wrote_same}
 use Rattle.mon_syntax.proofs.Printing.{after_first, joined_parts-cut, part_text-open, later_factor-of, later_addend-of, text-Product, text-Sum, text-Compare, text-Both, text-Either}
 use Rattle.mon_syntax.proofs.printer.expressions.+write_expression.Goals as goal
 

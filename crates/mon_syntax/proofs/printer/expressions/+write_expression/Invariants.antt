@@ -1,7 +1,7 @@
 use Rattle.std.proofs.Common.{◌++◌, Ok, take}
 use Rattle.std.specs.List.{flat_map}
 use Rattle.mon_syntax.specs.Printing.{part_text, later_factor, later_addend}
-use Rattle.mon_syntax.specs.Writing.{Wrote}
+use Rattle.mon_io.specs.Writing.{Wrote}
 use Rattle.mon_syntax.proofs.printer.expressions.+write_expression.Given as goal
 
 abbrev pub invariant-write_factors-loop-factor : goal.invariant-write_factors-loop-factor

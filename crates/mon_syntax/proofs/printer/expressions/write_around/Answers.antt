@@ -1,4 +1,4 @@
-use Rattle.mon_syntax.proofs.Writing.{wrote_both, wrote_fails, wrote_longer}
+use Rattle.mon_io.proofs.Writing.{wrote_both, wrote_fails, wrote_longer}
 use Rattle.mon_syntax.proofs.printer.expressions.write_around.Goals as goal
 
 pub returns-in_err-write_expression : goal.returns-in_err-write_expression

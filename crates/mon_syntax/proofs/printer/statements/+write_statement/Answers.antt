@@ -2,10 +2,10 @@ use Rattle.std.proofs.Common.{◌≤◌, ap, refl, codes, length, arith}
 use Rattle.mon_syntax.specs.Canonical.{statement_text}
 use Rattle.mon_syntax.specs.Depths.{levels}
 use Rattle.mon_syntax.specs.Printing.{statements_text, else_text, block_text}
-use Rattle.mon_syntax.proofs.Rows.{row_stopped}
+use Rattle.mon_io.proofs.Rows.{row_stopped}
 use Rattle.mon_syntax.proofs.Depths.{levels-Below}
 use Rattle.mon_syntax.proofs.Statements.{text-Set, text-If, text-Return, else_text-some}
-use Rattle.mon_syntax.proofs.Writing.{wrote_both, wrote_fails, wrote_longer, wrote_same}
+use Rattle.mon_io.proofs.Writing.{wrote_both, wrote_fails, wrote_longer, wrote_same}
 use Rattle.mon_syntax.proofs.printer.statements.+write_statement.Goals as goal
 
 pub write_block-returns-in_err-write_indent : goal.write_block-returns-in_err-write_indent

@@ -1,7 +1,7 @@
 use Rattle.std.proofs.Common.{Ok, take}
 use Rattle.mon_syntax.specs.Depths.{levels}
 use Rattle.mon_syntax.specs.Printing.{statements_text}
-use Rattle.mon_syntax.specs.Writing.{Wrote}
+use Rattle.mon_io.specs.Writing.{Wrote}
 use Rattle.mon_syntax.proofs.printer.statements.+write_statement.Given as goal
 
 abbrev pub invariant-write_statements-loop-statement : goal.invariant-write_statements-loop-statement

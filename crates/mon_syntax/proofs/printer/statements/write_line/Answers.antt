@@ -1,4 +1,4 @@
-use Rattle.mon_syntax.proofs.Writing.{wrote_both}
+use Rattle.mon_io.proofs.Writing.{wrote_both}
 use Rattle.mon_syntax.proofs.printer.statements.write_line.Goals as goal
 
 pub returns : goal.returns

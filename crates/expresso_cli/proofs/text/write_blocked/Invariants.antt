@@ -1,8 +1,0 @@
-use Rattle.std.proofs.Common.{Ok, take}
-use Rattle.expresso_cli.specs.Texts.{blocked_from}
-use Rattle.expresso_cli.specs.Writing.{Wrote}
-use Rattle.expresso_cli.proofs.text.write_blocked.Given as goal
-
-abbrev pub invariant-loop-client : goal.invariant-loop-client
-invariant-loop-client g l =
-    Wrote (g.S.Sink.written l.initial.out) (g.S.Sink.written l.out) (g.S.Sink.faults l.initial.out) (g.S.Sink.faults l.out) (Ok tt) (blocked_from l.monitor l.clients l.history 0 (take l.client l.clients))

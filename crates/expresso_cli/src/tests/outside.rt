@@ -1,0 +1,107 @@
+use super::super::status::Status;
+use super::{BUFFER, CHECK, Devices, SOUND, TURNS, TWO, TWO_RUN, answer};
+use std::test::Fail;
+
+#[test]
+fn other_words_get_the_usage(rt: HostRuntime) -> Result<(), Fail> {
+    let none: [&str; 0] = [];
+    let table: [&[&str]; 8] = [
+        &["expresso", "turns", "m.mon"],
+        &["expresso", "check"],
+        &["expresso", "check", "m.mon", "c.cl"],
+        &["expresso", "frob", "x"],
+        &["expresso", "Check", "m.mon"],
+        &["expresso"],
+        &none,
+        &["expresso", "turns", "m.mon", "c.cl", "more"],
+    ];
+    for words in table {
+        let outcome = answer(rt.alloc(), words, BUFFER, TWO, &SOUND)?;
+        assert_eq!(rt; outcome.status, Status::Usage);
+        assert_eq!(rt;
+            outcome.text.as_slice(),
+            b"usage:\nexpresso check FILE\nexpresso turns FILE CLIENTS\n".as_slice()
+        );
+    }
+    Ok(())
+}
+
+#[test]
+fn a_read_that_fails_names_its_file(rt: HostRuntime) -> Result<(), Fail> {
+    let table: [(&[&str], u64, &[u8]); 3] = [
+        (TURNS.as_slice(), 1, b"read fault: m.mon\n"),
+        (TURNS.as_slice(), 2, b"read fault: c.cl\n"),
+        (CHECK.as_slice(), 1, b"read fault: m.mon\n"),
+    ];
+    for (words, call, line) in table {
+        let devices = Devices {
+            failing_read: Some(call),
+            ..SOUND
+        };
+        let outcome = answer(rt.alloc(), words, BUFFER, TWO, &devices)?;
+        assert_eq!(rt; outcome.status, Status::ReadFault);
+        assert_eq!(rt; outcome.text.as_slice(), line);
+    }
+    Ok(())
+}
+
+#[test]
+fn both_files_are_read_before_one_is_refused(rt: HostRuntime) -> Result<(), Fail> {
+    let devices = Devices {
+        failing_read: Some(2),
+        ..SOUND
+    };
+    let outcome = answer(rt.alloc(), TURNS.as_slice(), b"monitor", TWO, &devices)?;
+    assert_eq!(rt; outcome.status, Status::ReadFault);
+    assert_eq!(rt; outcome.text.as_slice(), b"read fault: c.cl\n".as_slice());
+    Ok(())
+}
+
+#[test]
+fn a_file_that_is_not_held_is_a_read_fault(rt: HostRuntime) -> Result<(), Fail> {
+    let words = ["expresso", "turns", "b.mon", "c.cl"];
+    let outcome = answer(rt.alloc(), words.as_slice(), BUFFER, TWO, &SOUND)?;
+    assert_eq!(rt; outcome.status, Status::ReadFault);
+    assert_eq!(rt; outcome.text.as_slice(), b"read fault: b.mon\n".as_slice());
+    Ok(())
+}
+
+#[test]
+fn a_sink_of_ten_bytes_takes_a_front_of_the_text(rt: HostRuntime) -> Result<(), Fail> {
+    let devices = Devices { room: 10, ..SOUND };
+    let outcome = answer(rt.alloc(), TURNS.as_slice(), BUFFER, TWO, &devices)?;
+    assert_eq!(rt; outcome.status, Status::WriteFault);
+    assert_eq!(rt; outcome.text.as_slice(), b"A.1 put() ".as_slice());
+    let outcome = answer(rt.alloc(), CHECK.as_slice(), BUFFER, b"", &devices)?;
+    assert_eq!(rt; outcome.status, Status::WriteFault);
+    assert_eq!(rt; outcome.text.as_slice(), b"monitor Bu".as_slice());
+    let outcome = answer(rt.alloc(), CHECK.as_slice(), b"@", b"", &devices)?;
+    assert_eq!(rt; outcome.status, Status::WriteFault);
+    assert_eq!(rt; outcome.text.as_slice(), b"refused: m".as_slice());
+    Ok(())
+}
+
+#[test]
+fn a_write_that_fails_leaves_a_front_of_the_text(rt: HostRuntime) -> Result<(), Fail> {
+    let mut sound = 0;
+    for call in 1..200 {
+        let devices = Devices {
+            failing_write: Some(call),
+            ..SOUND
+        };
+        let outcome = answer(rt.alloc(), TURNS.as_slice(), BUFFER, TWO, &devices)?;
+        if outcome.status == Status::Done {
+            assert_eq!(rt; outcome.text.as_slice(), TWO_RUN);
+            sound = call;
+            break;
+        }
+        assert_eq!(rt; outcome.status, Status::WriteFault);
+        assert!(rt; TWO_RUN.starts_with(outcome.text.as_slice()));
+        assert!(rt; outcome.text.len() < TWO_RUN.len());
+    }
+    assert!(rt;
+        sound > 5,
+        "a run with no fault comes after one for each of more than four pieces"
+    );
+    Ok(())
+}

@@ -1,0 +1,209 @@
+use super::super::status::Status;
+use super::{BUFFER, TWO, TWO_RUN, turns};
+use std::alloc::{AllocError, Global};
+use std::test::Fail;
+
+const LOCK: &[u8] = b"monitor Lock {
+  bool held = false;
+  method acquire() waituntil (!held) {
+    held = true;
+  }
+  method release() waituntil (held) {
+    held = false;
+  }
+}
+";
+
+const UP: &[u8] = b"monitor Up {
+  int x = 9223372036854775807;
+  method inc() waituntil (x > 0) {
+    x = x + 1;
+  }
+}
+";
+
+const LEVEL: &[u8] = b"monitor Level {
+  int count = 0;
+  method reach(int n) waituntil (n <= count) {
+  }
+  method add() waituntil (true) {
+    count = count + 1;
+  }
+}
+";
+
+/// Whether `turns` prints exactly this, with this status.
+fn prints(
+    alloc: Global,
+    monitor: &[u8],
+    clients: &[u8],
+    status: Status,
+    text: &[u8],
+) -> Result<bool, AllocError> {
+    let outcome = turns(alloc, monitor, clients)?;
+    Ok(outcome.status == status && outcome.text.as_slice() == text)
+}
+
+#[test]
+fn a_buffer_of_one_place_takes_turns(rt: HostRuntime) -> Result<(), Fail> {
+    assert!(rt; prints(rt.alloc(), BUFFER, TWO, Status::Done, TWO_RUN)?);
+    Ok(())
+}
+
+#[test]
+fn an_overflow_is_answered_and_the_state_stays(rt: HostRuntime) -> Result<(), Fail> {
+    let run = b"A.1 inc() = overflow\ndone\nstate x=9223372036854775807\n";
+    assert!(rt; prints(rt.alloc(), UP, b"client A { inc(); }", Status::Done, run)?);
+    Ok(())
+}
+
+#[test]
+fn a_client_whose_guard_is_false_is_blocked(rt: HostRuntime) -> Result<(), Fail> {
+    let run = b"stalled\nA.1 get() blocked\nstate count=0\n";
+    assert!(rt;
+        prints(
+            rt.alloc(),
+            BUFFER,
+            b"client A { get(); }",
+            Status::Stalled,
+            run
+        )?
+    );
+    Ok(())
+}
+
+#[test]
+fn no_clients_are_done_at_once(rt: HostRuntime) -> Result<(), Fail> {
+    let run = b"done\nstate count=0\n";
+    assert!(rt; prints(rt.alloc(), BUFFER, b"", Status::Done, run)?);
+    Ok(())
+}
+
+#[test]
+fn a_lock_is_held_by_one_client(rt: HostRuntime) -> Result<(), Fail> {
+    let clients = b"client A { acquire(); release(); } client B { acquire(); release(); }";
+    let run = b"A.1 acquire() = -
+A.2 release() = -
+B.1 acquire() = -
+B.2 release() = -
+done
+state held=false
+";
+    assert!(rt; prints(rt.alloc(), LOCK, clients, Status::Done, run)?);
+    Ok(())
+}
+
+#[test]
+fn results_are_numbers_or_truth_values(rt: HostRuntime) -> Result<(), Fail> {
+    let monitor = b"monitor M { int x = -9223372036854775807; bool low = false;
+        method down() waituntil (x < 0) { x = x - 1; low = x < -9223372036854775807; return x; }
+        method is_low() waituntil (true) { return low; }
+        method sum() waituntil (true) { low = false; return x - 1; } }";
+    let clients = b"client A { is_low(); down(); down(); is_low(); sum(); }";
+    let run = b"A.1 is_low() = false
+A.2 down() = -9223372036854775808
+A.3 down() = overflow
+A.4 is_low() = true
+A.5 sum() = overflow
+done
+state x=-9223372036854775808 low=true
+";
+    assert!(rt; prints(rt.alloc(), monitor, clients, Status::Done, run)?);
+    Ok(())
+}
+
+#[test]
+fn a_branch_may_change_its_own_condition(rt: HostRuntime) -> Result<(), Fail> {
+    let monitor = b"monitor M { int x = 1; int y = 0; method m() waituntil (y < 2) {
+        if (x > 0) { x = 0; y = y + 1; } else { x = 1; y = y + 2; } } }";
+    let clients = b"client A { m(); } client B { m(); m(); }";
+    let run = b"A.1 m() = -
+B.1 m() = -
+stalled
+B.2 m() blocked
+state x=1 y=3
+";
+    assert!(rt; prints(rt.alloc(), monitor, clients, Status::Stalled, run)?);
+    Ok(())
+}
+
+#[test]
+fn client_files_are_of_the_first_form(rt: HostRuntime) -> Result<(), Fail> {
+    let line = b"refused: c.cl: not of the first form\n";
+    let table: [(&str, &[u8]); 6] = [
+        ("an unknown method", b"client A { pull(); }"),
+        ("a method with an input", b"client A { reach(); }"),
+        ("an argument", b"client A { reach(1); }"),
+        ("a client used twice", b"client A { } client A { add(); }"),
+        ("no client", b"add();"),
+        ("no token", b"client A { @ }"),
+    ];
+    for (name, clients) in table {
+        let refused = prints(rt.alloc(), LEVEL, clients, Status::Refused, line)?;
+        assert!(rt; refused, "{name}");
+    }
+    let run = b"A.1 add() = -\nA.2 add() = -\ndone\nstate count=2\n";
+    let clients = b"client A { add(); add(); } // a comment";
+    assert!(rt; prints(rt.alloc(), LEVEL, clients, Status::Done, run)?);
+    Ok(())
+}
+
+#[test]
+fn the_monitor_is_refused_before_its_clients(rt: HostRuntime) -> Result<(), Fail> {
+    let monitor = b"monitor M { method m() waituntil (y) { } }";
+    let line = b"refused: m.mon:1:35: unknown name\n";
+    assert!(rt; prints(rt.alloc(), monitor, b"client", Status::Refused, line)?);
+    Ok(())
+}
+
+#[test]
+fn both_files_have_at_most_65536_bytes(rt: HostRuntime) -> Result<(), Fail> {
+    let mut monitor = Vec::from_slice(rt.alloc(), BUFFER)?;
+    monitor.resize(65_536, b' ')?;
+    let mut clients = Vec::from_slice(rt.alloc(), TWO)?;
+    clients.resize(65_536, b' ')?;
+    assert!(rt; prints(rt.alloc(), &monitor, &clients, Status::Done, TWO_RUN)?);
+    clients.push(b' ')?;
+    let line = b"refused: c.cl: not of the first form\n";
+    assert!(rt; prints(rt.alloc(), &monitor, &clients, Status::Refused, line)?);
+    monitor.push(b' ')?;
+    let line = b"refused: m.mon: more than 65536 bytes\n";
+    assert!(rt; prints(rt.alloc(), &monitor, &clients, Status::Refused, line)?);
+    Ok(())
+}
+
+/// A file of so many clients, each with so many calls of `p`.
+fn many_clients(alloc: Global, clients: u8, calls: usize) -> Result<Vec<u8>, AllocError> {
+    let mut text = Vec::new(alloc);
+    for client in 0..clients {
+        text.extend_from_slice(b"client c")?;
+        text.push(b'0' + client / 10)?;
+        text.push(b'0' + client % 10)?;
+        text.extend_from_slice(b"{")?;
+        for _ in 0..calls {
+            text.extend_from_slice(b"p();")?;
+        }
+        text.extend_from_slice(b"}")?;
+    }
+    Ok(text)
+}
+
+#[test]
+fn thirty_two_clients_make_sixteen_thousand_calls(rt: HostRuntime) -> Result<(), Fail> {
+    let monitor =
+        b"monitor M { int x = 0; method p() waituntil (x >= 0) { x = x + 1; } }".as_slice();
+    let clients = many_clients(rt.alloc(), 32, 500)?;
+    let outcome = turns(rt.alloc(), monitor, clients.as_slice())?;
+    assert_eq!(rt; outcome.status, Status::Done);
+    assert!(rt;
+        outcome
+            .text
+            .ends_with(b"c31.500 p() = -\ndone\nstate x=16000\n")
+    );
+    let more = many_clients(rt.alloc(), 33, 1)?;
+    assert_eq!(rt;
+        turns(rt.alloc(), monitor, more.as_slice())?.status,
+        Status::Refused
+    );
+    Ok(())
+}

@@ -1,0 +1,27 @@
+//! Texts written piece by piece to a sink. No writer takes memory.
+
+ghost use Rattle.std.specs.List.{flat_map};
+ghost use Rattle.mon_io.specs.Writing.{Wrote};
+
+use crate::sink::{Sink, SinkFailed, write_whole};
+
+/// Writes these pieces whole, one after the other, and takes no memory.
+///
+/// After `SinkFailed` some of the first bytes of the row were taken, and not all.
+pub fn write_pieces<S: Sink>(pieces: &[&[u8]], out: &mut S) -> Result<(), SinkFailed>
+    ensures { Wrote (S.written out.old) (S.written out.new) (S.faults out.old) (S.faults out.new) result (flat_map (λ piece. piece.now) pieces.now) }
+{
+    for piece in pieces {
+        write_piece(piece, out)?;
+    }
+    Ok(())
+}
+
+/// Writes these bytes whole as [`write_whole`] does, with its clauses as one, for a text of several parts.
+///
+/// After `SinkFailed` some of the first of them were taken, and not all.
+pub fn write_piece<S: Sink>(piece: &[u8], out: &mut S) -> Result<(), SinkFailed>
+    ensures { Wrote (S.written out.old) (S.written out.new) (S.faults out.old) (S.faults out.new) result piece.now }
+{
+    write_whole(out, piece)
+}

@@ -1,0 +1,10 @@
+-- The line of a `Fault`.
+use Rattle.std.specs.Prelude.{ℕ, List}
+use Rattle.mon_text.specs.declared.fault.Fault.{Fault}
+use Rattle.mon_text.specs.declared.fault.Fault.TheVariants as faults
+use Rattle.mon_text.specs.FaultText.{too_long_text, unread_text, place_text}
+
+abbrev pub fault_text : Fault → List ℕ
+fault_text (faults.TooLong file) = too_long_text file.now
+fault_text (faults.Unread file) = unread_text file.now
+fault_text (faults.Place file bytes at what) = place_text file.now bytes.now at what

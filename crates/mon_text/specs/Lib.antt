@@ -1,0 +1,3 @@
+pub mod TurnsText
+pub mod FaultText
+pub mod Faults

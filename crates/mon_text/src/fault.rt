@@ -1,0 +1,111 @@
+//! The line that is printed of a fault of a file.
+
+ghost use Rattle.std.specs.Prelude.{◌≡◌, ◌≤◌, OnOk, OnErr};
+ghost use Rattle.std.specs.Io.KnownBytes.{Appends};
+ghost use Rattle.mon_io.specs.Outside.{AppendsFront, Rises};
+ghost use Rattle.mon_io.specs.Writing.{Wrote};
+ghost use Rattle.mon_text.specs.FaultText.{counted_text, place_text, refusal_text};
+ghost use Rattle.mon_text.specs.Faults.{fault_text};
+
+use crate::position::{column_at, line_at};
+use crate::refusal::Refusal;
+use itoa::Buffer;
+use mon_io::{Sink, SinkFailed, write_pieces};
+use mon_types::Counted;
+
+/// Why a file isn't accepted. `file` is the word that names it.
+#[derive(Clone, Copy, Debug)]
+pub enum Fault<'a> {
+    /// It has more than 65,536 bytes.
+    TooLong {
+        file: &'a str,
+    },
+    /// It couldn't be read.
+    Unread {
+        file: &'a str,
+    },
+    /// Something is wrong at an offset of its bytes.
+    Place {
+        file: &'a str,
+        bytes: &'a [u8],
+        at: u32,
+        what: Refusal,
+    },
+}
+
+/// Writes the line of a fault, with the line and the column of its place, and takes no memory.
+///
+/// After `SinkFailed` some of the first bytes of the line were taken, and not all.
+pub fn write_fault<S: Sink>(fault: &Fault, out: &mut S) -> Result<(), SinkFailed>
+    ensures written { OnOk result (Appends (S.written out.old) (S.written out.new) (fault_text fault.now)) }
+    ensures front { OnErr result (AppendsFront (S.written out.old) (S.written out.new) (fault_text fault.now)) }
+    ensures cause { OnErr result (Rises (S.faults out.old) (S.faults out.new)) }
+    ensures later { S.faults out.old ≤ S.faults out.new }
+{
+    match fault {
+        Fault::TooLong { file } => write_pieces(
+            &[b"refused: ", file.as_bytes(), b": more than 65536 bytes\n"],
+            out,
+        ),
+        Fault::Unread { file } => write_pieces(&[b"read fault: ", file.as_bytes(), b"\n"], out),
+        Fault::Place {
+            file,
+            bytes,
+            at,
+            what,
+        } => write_place(file, bytes, *at, *what, out),
+    }
+}
+
+// `refused: m.mon:1:59: syntax` and a line feed.
+fn write_place<S: Sink>(
+    file: &str,
+    bytes: &[u8],
+    at: u32,
+    what: Refusal,
+    out: &mut S,
+) -> Result<(), SinkFailed>
+    ensures { Wrote (S.written out.old) (S.written out.new) (S.faults out.old) (S.faults out.new) result (place_text file.now bytes.now at what) }
+{
+    let mut digits = Buffer::new();
+    let line = digits.format(line_at(bytes, at)).as_bytes();
+    write_pieces(&[b"refused: ", file.as_bytes(), b":", line], out)?;
+    let column = digits.format(column_at(bytes, at)).as_bytes();
+    write_pieces(&[b":", column, b": ", refusal_bytes(what), b"\n"], out)
+}
+
+// What is wrong, as bytes.
+fn refusal_bytes(what: Refusal) -> &'static [u8]
+    ensures { result.now ≡ refusal_text what }
+{
+    match what {
+        Refusal::Lex => b"no token starts here",
+        Refusal::Syntax => b"syntax",
+        Refusal::Unknown => b"unknown name",
+        Refusal::Duplicate => b"name used twice",
+        Refusal::WrongType => b"wrong type",
+        Refusal::NotLinear => b"product of two variables",
+        Refusal::TooLarge => b"number too large",
+        Refusal::TooMany(counted) => counted_bytes(counted),
+        Refusal::ReadOnly => b"not a field",
+        Refusal::Misplaced => b"misplaced return",
+        Refusal::UnknownMethod => b"unknown method",
+        Refusal::WrongCount => b"wrong number of arguments",
+        Refusal::DuplicateClient => b"client used twice",
+        Refusal::TooManyClients => b"too many clients",
+        Refusal::TooManyCalls => b"too many calls",
+    }
+}
+
+// What there is too much of, as bytes.
+fn counted_bytes(counted: Counted) -> &'static [u8]
+    ensures { result.now ≡ counted_text counted }
+{
+    match counted {
+        Counted::Constants => b"too many constants",
+        Counted::Fields => b"too many fields",
+        Counted::Methods => b"too many methods",
+        Counted::Parameters => b"too many parameters",
+        Counted::Statements => b"too many statements",
+    }
+}

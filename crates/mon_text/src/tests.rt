@@ -1,0 +1,2 @@
+mod fault_text;
+mod turns_text;

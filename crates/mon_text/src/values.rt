@@ -1,0 +1,38 @@
+//! Values and replies as they are printed.
+
+ghost use Rattle.std.specs.Prelude.{◌≡◌};
+ghost use Rattle.mon_syntax.specs.Canonical.{truth_text};
+ghost use Rattle.mon_text.specs.TurnsText.{value_text, reply_text};
+
+use itoa::Buffer;
+use mon_implicit::Reply;
+use mon_types::Value;
+
+/// A value as bytes. A number's digits stand in the buffer.
+pub(crate) fn value_bytes<'a>(value: Value, digits: &'a mut Buffer) -> &'a [u8]
+    ensures { result.now ≡ value_text value }
+{
+    match value {
+        Value::Int(number) => digits.format(number).as_bytes(),
+        Value::Bool(truth) => truth_bytes(truth),
+    }
+}
+
+/// A reply as bytes. A number's digits stand in the buffer.
+pub(crate) fn reply_bytes<'a>(reply: Reply, digits: &'a mut Buffer) -> &'a [u8]
+    ensures { result.now ≡ reply_text reply }
+{
+    match reply {
+        Reply::Unit => b"-",
+        Reply::Int(number) => digits.format(number).as_bytes(),
+        Reply::Bool(truth) => truth_bytes(truth),
+        Reply::Overflow => b"overflow",
+    }
+}
+
+// A truth value as bytes.
+fn truth_bytes(truth: bool) -> &'static [u8]
+    ensures { result.now ≡ truth_text truth }
+{
+    if truth { b"true" } else { b"false" }
+}
