@@ -320,6 +320,9 @@ fn numbers_at_their_limits_break_no_rule(rt: HostRuntime) {
         b"2147483648 * x <= x".as_slice(),
         b"1073741824 * x + 1073741824 * x".as_slice(),
         b"x * 65536 * 32768 * 0".as_slice(),
+        b"2 * y".as_slice(),
+        b"(x - x) * y".as_slice(),
+        b"y * (x - x) * y".as_slice(),
     ];
     for text in texts {
         assert!(rt; breaks_none(rt.alloc(), text), "a fault in {text:?}");
