@@ -48,7 +48,7 @@ check_done held file bytes slice tree monitor rb rn result before now wb wn same
       bytes = told (held file) slice;
       tree = tree;
       monitor = monitor;
-      read = is_told (held file) slice;
+      told = is_told (held file) slice;
       accepted = accepted_told (held file) slice tree monitor here accepted;
       printed = refl;
     })

@@ -15,7 +15,8 @@ use Rattle.expresso_cli.specs.declared.turns.RunFault.{RunFault}
 use Rattle.expresso_cli.specs.declared.turns.RunFault.TheVariants as run_faults
 use Rattle.expresso_cli.specs.CommandLine.{turns}
 use Rattle.expresso_cli.specs.MonitorFiles.{IsAccepted, IsFirstFault, monitor_fault_text}
-use Rattle.expresso_cli.specs.Answers.{AreAccepted, AcceptsFiles, RejectsFiles, IsTurnsText}
+use Rattle.expresso_cli.specs.Answers.{AcceptsFiles, RejectsFiles, IsTurnsText}
+use Rattle.expresso_cli.specs.ClientFiles.{AreAccepted}
 use Rattle.expresso_cli.specs.Texts.{other_form_text}
 use Rattle.expresso_cli.specs.Working.{AreNoScripts, HasEnded, IsCommandText, IsWritten, ended}
 use Rattle.expresso_cli.specs.Turning.{HasRunCause, IsRun}
@@ -83,8 +84,8 @@ module _ (one_spelling : OneSpelling) (one_tree : OneTree) (held : List ℕ → 
         clients_bytes = told (held clients) cs;
         tree = why.0;
         monitor = why.1;
-        monitor_read = is_told (held monitor) ms;
-        clients_read = is_told (held clients) cs;
+        monitor_told = is_told (held monitor) ms;
+        clients_told = is_told (held clients) cs;
         monitor_accepted = of_held;
         none = none_held;
         printed = refl;
@@ -113,8 +114,8 @@ module _ (one_spelling : OneSpelling) (one_tree : OneTree) (held : List ℕ → 
     clients_bytes = told (held clients) cs;
     tree = ran.tree;
     monitor = run.monitor;
-    monitor_read = is_told (held monitor) ms;
-    clients_read = is_told (held clients) cs;
+    monitor_told = is_told (held monitor) ms;
+    clients_told = is_told (held clients) cs;
     monitor_accepted = accepted_told (held monitor) ms ran.tree run.monitor read.monitor_read ran.monitor_accepted;
     clients_accepted = scripts_told (held clients) cs run.monitor run.scripts read.clients_read ran.clients_accepted;
     rounds = ran.rounds;

@@ -11,7 +11,8 @@ use Rattle.mon_text.specs.declared.refusal.Refusal.TheVariants as refusals
 use Rattle.expresso_cli.specs.declared.monitor_file.MonitorFault.{MonitorFault}
 use Rattle.expresso_cli.specs.declared.monitor_file.MonitorFault.TheVariants as faults
 use Rattle.expresso_cli.specs.MonitorFiles.{IsAccepted, IsFirstFault, monitor_fault_text}
-use Rattle.expresso_cli.specs.Answers.{AreAccepted, Holds, IsMonitorRefusal}
+use Rattle.expresso_cli.specs.Answers.{Holds, IsMonitorRefusal}
+use Rattle.expresso_cli.specs.ClientFiles.{AreAccepted}
 use Rattle.expresso_cli.specs.Working.{AreNoScripts}
 
 -- the bytes that are held, where they are told, or else those that were read
@@ -73,7 +74,7 @@ pub refusal_told : (held : List ℕ → Option (List ℕ)) (file bytes : List �
 refusal_told held file bytes fault read first = record {
   bytes = told (held file) bytes;
   fault = fault;
-  read = is_told (held file) bytes;
+  told = is_told (held file) bytes;
   first = fault_told (held file) bytes fault read first;
   printed = fault_text_told (held file) file bytes fault read first;
 }

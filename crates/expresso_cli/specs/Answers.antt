@@ -1,12 +1,8 @@
 -- What the program answers.
-use Rattle.std.specs.Prelude.{◌≡◌, ◌≤◌, ◌⊎◌, ℕ, List, length, Any, Option, Some, IfSome}
+use Rattle.std.specs.Prelude.{◌≡◌, ◌⊎◌, ℕ, List, Any, Option, Some, IfSome}
 use Rattle.std.specs.Io.KnownBytes.{Appends, Keeps}
 use Rattle.mon_io.specs.Outside.{AppendsFront, Rises}
-use Rattle.mon_syntax.specs.declared.token.Token.{Token}
 use Rattle.mon_syntax.specs.declared.tree.MonitorTree.{MonitorTree}
-use Rattle.mon_syntax.specs.declared.tree.ClientsTree.{ClientsTree}
-use Rattle.mon_syntax.specs.Spelling.{Spells}
-use Rattle.mon_syntax.specs.ClientGrammar.{DerivesClients}
 use Rattle.mon_syntax.specs.Canonical.{tree_text}
 use Rattle.mon_types.specs.MonitorParts.{MonitorParts}
 use Rattle.mon_implicit.specs.declared.commit.Turns.{Turns}
@@ -20,31 +16,21 @@ use Rattle.expresso_cli.specs.declared.status.Status.TheVariants.{Done, Refused,
 use Rattle.expresso_cli.specs.declared.monitor_file.MonitorFault.{MonitorFault}
 use Rattle.expresso_cli.specs.CommandLine.{Command, check, turns, Takes, TakesNone, files_of}
 use Rattle.expresso_cli.specs.MonitorFiles.{IsAccepted, IsFirstFault, monitor_fault_text}
-use Rattle.expresso_cli.specs.Scripts.{BreaksNoScripts, IsScripted}
+use Rattle.expresso_cli.specs.ClientFiles.{AreAccepted}
 use Rattle.expresso_cli.specs.Texts.{usage_text, other_form_text}
-
--- the bytes are a client file of the first form that stands for these clients of the monitor
-pub record AreAccepted (bytes : List ℕ) (monitor : MonitorParts) (clients : List Client) : Type 0 where
-  pub tokens : List Token
-  pub tree : ClientsTree
-  pub short : length bytes ≤ 65536
-  pub spelled : Spells bytes tokens
-  pub derived : DerivesClients bytes tokens tree
-  pub unbroken : BreaksNoScripts tree monitor
-  pub scripted : IsScripted tree monitor clients
 
 -- the bytes are those held by a name, where they are told
 abbrev pub Holds : (List ℕ → Option (List ℕ)) → List ℕ → List ℕ → Type 0
 Holds held name bytes = IfSome (held name) (λ all. all ≡ bytes)
 
--- ---- the text of each command; `read` fields say what a name holds where that is told
+-- ---- the text of each command
 
 -- the canonical form of the tree that the file has
 pub record IsCheckText (held : List ℕ → Option (List ℕ)) (file text : List ℕ) : Type 0 where
   pub bytes : List ℕ
   pub tree : MonitorTree
   pub monitor : MonitorParts
-  pub read : Holds held file bytes
+  pub told : Holds held file bytes
   pub accepted : IsAccepted bytes tree monitor
   pub printed : text ≡ tree_text tree
 
@@ -54,8 +40,8 @@ pub record IsTurnsText (held : List ℕ → Option (List ℕ)) (monitor_file cli
   pub clients_bytes : List ℕ
   pub tree : MonitorTree
   pub monitor : MonitorParts
-  pub monitor_read : Holds held monitor_file monitor_bytes
-  pub clients_read : Holds held clients_file clients_bytes
+  pub monitor_told : Holds held monitor_file monitor_bytes
+  pub clients_told : Holds held clients_file clients_bytes
   pub monitor_accepted : IsAccepted monitor_bytes tree monitor
   pub clients_accepted : AreAccepted clients_bytes monitor clients
   pub rounds : AreTurnsByRounds monitor clients run
@@ -77,7 +63,7 @@ IsStalledText held (turns monitor clients) text = (scripts : List Client) × (ru
 pub record IsMonitorRefusal (held : List ℕ → Option (List ℕ)) (file text : List ℕ) : Type 0 where
   pub bytes : List ℕ
   pub fault : MonitorFault
-  pub read : Holds held file bytes
+  pub told : Holds held file bytes
   pub first : IsFirstFault bytes fault
   pub printed : text ≡ monitor_fault_text file bytes fault
 
@@ -87,8 +73,8 @@ pub record IsClientsRefusal (held : List ℕ → Option (List ℕ)) (monitor_fil
   pub clients_bytes : List ℕ
   pub tree : MonitorTree
   pub monitor : MonitorParts
-  pub monitor_read : Holds held monitor_file monitor_bytes
-  pub clients_read : Holds held clients_file clients_bytes
+  pub monitor_told : Holds held monitor_file monitor_bytes
+  pub clients_told : Holds held clients_file clients_bytes
   pub monitor_accepted : IsAccepted monitor_bytes tree monitor
   pub none : (clients : List Client) → AreAccepted clients_bytes monitor clients → ⊥
   pub printed : text ≡ other_form_text clients_file

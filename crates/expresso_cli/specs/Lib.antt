@@ -1,6 +1,7 @@
 pub mod CommandLine
 pub mod Commands
 pub mod MonitorFiles
+pub mod ClientFiles
 pub mod Scripts
 pub mod ScriptChecks
 pub mod Texts

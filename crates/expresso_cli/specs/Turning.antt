@@ -9,7 +9,7 @@ use Rattle.expresso_cli.specs.declared.turns.Run.{Run}
 use Rattle.expresso_cli.specs.declared.turns.RunFault.{RunFault}
 use Rattle.expresso_cli.specs.declared.turns.RunFault.TheVariants as faults
 use Rattle.expresso_cli.specs.MonitorFiles.{IsAccepted, IsFirstFault}
-use Rattle.expresso_cli.specs.Answers.{AreAccepted}
+use Rattle.expresso_cli.specs.ClientFiles.{AreAccepted}
 use Rattle.expresso_cli.specs.Working.{AreNoScripts}
 
 -- the run by rounds of the monitor and the clients that the bytes stand for

@@ -15,7 +15,8 @@ use Rattle.expresso_cli.specs.declared.monitor_file.MonitorFault.{MonitorFault}
 use Rattle.expresso_cli.specs.declared.monitor_file.MonitorFault.TheVariants as faults
 use Rattle.expresso_cli.specs.CommandLine.{Command}
 use Rattle.expresso_cli.specs.MonitorFiles.{IsFirstFault}
-use Rattle.expresso_cli.specs.Answers.{AreAccepted, AcceptsFiles, RejectsFiles, IsDoneText, IsStalledText, IsRefusedText, IsUnreadText, IsWorkedOrMemory, IsRefusedOrMemory, IsStoppedOrMemory, IsUnreadOrMemory}
+use Rattle.expresso_cli.specs.Answers.{AcceptsFiles, RejectsFiles, IsDoneText, IsStalledText, IsRefusedText, IsUnreadText, IsWorkedOrMemory, IsRefusedOrMemory, IsStoppedOrMemory, IsUnreadOrMemory}
+use Rattle.expresso_cli.specs.ClientFiles.{AreAccepted}
 
 -- the first fault of the file, unless memory ran out
 abbrev pub HasMonitorCause : List ℕ → MonitorFault → Type 0

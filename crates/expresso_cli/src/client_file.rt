@@ -2,7 +2,7 @@
 
 ghost use Rattle.std.specs.Prelude.{◌≢◌, OnOk, IfOk, IfSome, MatchOption};
 ghost use Rattle.mon_implicit.specs.Scripted.{FitsScripts};
-ghost use Rattle.expresso_cli.specs.Answers.{AreAccepted};
+ghost use Rattle.expresso_cli.specs.ClientFiles.{AreAccepted};
 ghost use Rattle.expresso_cli.specs.Working.{AreNoScripts};
 
 use crate::monitor_file::LONGEST_FILE;
