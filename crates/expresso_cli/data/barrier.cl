@@ -1,0 +1,3 @@
+client A { arrive(); leave(); }
+client B { arrive(); leave(); }
+client C { arrive(); leave(); }
