@@ -4,7 +4,7 @@
 //! exists. A step runs the body and replies the result; where a value leaves 64 bits, it replies an
 //! overflow and the state stays. Definitions: `specs/Steps` (the step), `specs/Scripted` (clients and
 //! their calls), `specs/Runs` and `specs/Rounds`. A caller who puts scripts together tests them by
-//! [`are_clients`] and [`fit`].
+//! [`are_clients`] and [`fit`], and a call alone by [`call_fits`].
 #![tactic(auto)]
 
 mod commit;
@@ -20,7 +20,7 @@ mod step;
 mod tests;
 
 pub use commit::{Commit, Reply, Turns};
-pub use offered::{are_clients, fit};
+pub use offered::{are_clients, call_fits, fit};
 pub use rounds::turns;
 pub use script::{Call, Client, Scripts};
 pub use state::State;

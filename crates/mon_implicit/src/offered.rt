@@ -95,7 +95,7 @@ fn calls_fit(monitor: &Monitor, calls: &[Call]) -> bool
 }
 
 /// Whether a call is of a method of the monitor, with a value for each parameter.
-pub(crate) fn call_fits(monitor: &Monitor, call: &Call) -> bool
+pub fn call_fits(monitor: &Monitor, call: &Call) -> bool
     ensures { IsTrue result ↔ FitsCall monitor.now call.now }
 {
     match monitor.methods().get(call.method as usize) {

@@ -31,6 +31,7 @@ impl State {
     {
         &self.values[..self.len]
     }
+
     /// The state with no field.
     pub(crate) fn empty() -> State
         ensures { result ≡ [] }
@@ -60,7 +61,7 @@ impl State {
     }
 
     /// A copy. It takes no memory.
-    pub(crate) fn duplicate(&self) -> State
+    pub fn duplicate(&self) -> State
         ensures { result ≡ self.now }
     {
         State {

@@ -3,7 +3,6 @@ ghost use Rattle.mon_implicit.specs.Scripted.{AreClients};
 ghost use Rattle.mon_implicit.specs.Steps.{FitsState};
 
 use super::*;
-use crate::offered::call_fits;
 use mon_io::Name;
 use mon_list::Seq;
 use mon_syntax::{parse_monitor, tokens};
