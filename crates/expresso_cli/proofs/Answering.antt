@@ -1,45 +1,46 @@
 -- What was written for a command is what the status says.
-use Rattle.std.proofs.Common.{ℕ, List, Option, refl, sym, subst, inl, inr}
+use Rattle.std.proofs.Common.{ℕ, List, refl, sym, subst, inl, inr}
 use Rattle.std.specs.Io.KnownBytes.{Appends}
+use Rattle.mon_io.specs.Outside.{FilesSeen, SinkSeen}
 use Rattle.expresso_cli.specs.declared.status.Status.{Status}
 use Rattle.expresso_cli.specs.declared.status.Status.TheVariants as statuses
 use Rattle.expresso_cli.specs.CommandLine.{Command, Takes, TakesNone}
 use Rattle.expresso_cli.specs.Texts.{usage_text}
 use Rattle.expresso_cli.specs.Answers.{IsText, Answers}
-use Rattle.expresso_cli.specs.Working.{AnswersCommand, IsCommandText, IsWritten}
+use Rattle.expresso_cli.specs.inner.Ending.{AnswersCommand, IsCommandText, IsWritten}
 
 -- a text that was written whole answers its status
-whole_answers : (held : List ℕ → Option (List ℕ)) (words : List (List ℕ)) (rb rn : ℕ) (status : Status) (text : List ℕ) (before now : Option (List ℕ)) → IsText held words rb rn status text → Appends before now text → Answers held words rb rn status before now
-whole_answers held words rb rn statuses.Done text before now is appends = (text, is, appends)
-whole_answers held words rb rn statuses.Stalled text before now is appends = (text, is, appends)
-whole_answers held words rb rn statuses.Refused text before now is appends = (text, is, appends)
-whole_answers held words rb rn statuses.Usage text before now is appends = (text, is, appends)
-whole_answers held words rb rn statuses.ReadFault text before now is appends = (text, is, appends)
-whole_answers held words rb rn statuses.WriteFault text before now is appends = absurd is
-whole_answers held words rb rn statuses.OutOfMemory text before now is appends = absurd is
+whole_answers : (words : List (List ℕ)) (files files_now : FilesSeen) (status : Status) (text : List ℕ) (out out_now : SinkSeen) → IsText words files files_now status text → Appends out.written out_now.written text → Answers words files files_now status out out_now
+whole_answers words files files_now statuses.Done text out out_now is appends = (text, is, appends)
+whole_answers words files files_now statuses.Stalled text out out_now is appends = (text, is, appends)
+whole_answers words files files_now statuses.Refused text out out_now is appends = (text, is, appends)
+whole_answers words files files_now statuses.Usage text out out_now is appends = (text, is, appends)
+whole_answers words files files_now statuses.ReadFault text out out_now is appends = (text, is, appends)
+whole_answers words files files_now statuses.WriteFault text out out_now is appends = absurd is
+whole_answers words files files_now statuses.OutOfMemory text out out_now is appends = absurd is
 
 -- the text was written whole with its status, or a front of it
-answers_written : (held : List ℕ → Option (List ℕ)) (words : List (List ℕ)) (rb rn : ℕ) (status : Status) (text : List ℕ) (result : Status) (before now : Option (List ℕ)) (wb wn : ℕ)
-    → IsText held words rb rn status text → IsWritten status text result before now wb wn → Answers held words rb rn result before now
-answers_written held words rb rn status text result before now wb wn is (inl (same, appends)) =
-    subst (λ (s : Status). Answers held words rb rn s before now) (sym same) (whole_answers held words rb rn status text before now is appends)
-answers_written held words rb rn status text result before now wb wn is (inr (same, front, rises)) =
-    subst (λ (s : Status). Answers held words rb rn s before now) (sym same) (status, text, is, front)
+answers_written : (words : List (List ℕ)) (files files_now : FilesSeen) (status : Status) (text : List ℕ) (result : Status) (out out_now : SinkSeen)
+    → IsText words files files_now status text → IsWritten status text result out out_now → Answers words files files_now result out out_now
+answers_written words files files_now status text result out out_now is (inl (same, appends)) =
+    subst (λ (s : Status). Answers words files files_now s out out_now) (sym same) (whole_answers words files files_now status text out out_now is appends)
+answers_written words files files_now status text result out out_now is (inr (same, front, rises)) =
+    subst (λ (s : Status). Answers words files files_now s out out_now) (sym same) (status, text, is, front)
 
 -- a text of the command is one of the words that ask for it
-command_text : (held : List ℕ → Option (List ℕ)) (words : List (List ℕ)) (command : Command) (rb rn : ℕ) (status : Status) (text : List ℕ) → Takes words command → IsCommandText held command rb rn status text → IsText held words rb rn status text
-command_text held words command rb rn statuses.Done text taken is = (command, taken, is)
-command_text held words command rb rn statuses.Stalled text taken is = (command, taken, is)
-command_text held words command rb rn statuses.Refused text taken is = (command, taken, is)
-command_text held words command rb rn statuses.ReadFault text taken (line, risen) = (command, taken, line, risen)
-command_text held words command rb rn status text taken is = absurd is
+command_text : (words : List (List ℕ)) (command : Command) (files files_now : FilesSeen) (status : Status) (text : List ℕ) → Takes words command → IsCommandText command files files_now status text → IsText words files files_now status text
+command_text words command files files_now statuses.Done text taken is = (command, taken, is)
+command_text words command files files_now statuses.Stalled text taken is = (command, taken, is)
+command_text words command files files_now statuses.Refused text taken is = (command, taken, is)
+command_text words command files files_now statuses.ReadFault text taken (line, risen) = (command, taken, line, risen)
+command_text words command files files_now status text taken is = absurd is
 
-pub command_answers : (held : List ℕ → Option (List ℕ)) (words : List (List ℕ)) (command : Command) (rb rn : ℕ) (result : Status) (before now : Option (List ℕ)) (wb wn : ℕ)
-    → Takes words command → AnswersCommand held command rb rn result before now wb wn → Answers held words rb rn result before now
-command_answers held words command rb rn result before now wb wn taken (inl (status, text, is, written)) =
-    answers_written held words rb rn status text result before now wb wn (command_text held words command rb rn status text taken is) written
-command_answers held words command rb rn result before now wb wn taken (inr (same, keeps)) = subst (λ (s : Status). Answers held words rb rn s before now) (sym same) keeps
+pub command_answers : (words : List (List ℕ)) (command : Command) (files files_now : FilesSeen) (result : Status) (out out_now : SinkSeen)
+    → Takes words command → AnswersCommand command files files_now result out out_now → Answers words files files_now result out out_now
+command_answers words command files files_now result out out_now taken (inl (status, text, is, written)) =
+    answers_written words files files_now status text result out out_now (command_text words command files files_now status text taken is) written
+command_answers words command files files_now result out out_now taken (inr (same, keeps)) = subst (λ (s : Status). Answers words files files_now s out out_now) (sym same) keeps
 
-pub usage_answers : (held : List ℕ → Option (List ℕ)) (words : List (List ℕ)) (rb rn : ℕ) (result : Status) (before now : Option (List ℕ)) (wb wn : ℕ)
-    → TakesNone words → IsWritten statuses.Usage usage_text result before now wb wn → Answers held words rb rn result before now
-usage_answers held words rb rn result before now wb wn none written = answers_written held words rb rn statuses.Usage usage_text result before now wb wn (none, refl) written
+pub usage_answers : (words : List (List ℕ)) (files files_now : FilesSeen) (result : Status) (out out_now : SinkSeen)
+    → TakesNone words → IsWritten statuses.Usage usage_text result out out_now → Answers words files files_now result out out_now
+usage_answers words files files_now result out out_now none written = answers_written words files files_now statuses.Usage usage_text result out out_now (none, refl) written

@@ -1,11 +1,11 @@
 -- Where nothing fails, the status is the one that the words and the files ask for.
-use Rattle.std.proofs.Common.{◌≡◌, ℕ, List, [], ◌∷◌, Option, sym, ap, subst, ◌∙◌}
+use Rattle.std.proofs.Common.{◌≡◌, ℕ, List, [], ◌∷◌, sym, ap, subst, ◌∙◌}
 use Rattle.std.specs.Prelude.{codes}
-use Rattle.mon_io.specs.Outside.{Rises}
+use Rattle.mon_io.specs.Outside.{FilesSeen, SinkSeen}
 use Rattle.expresso_cli.specs.declared.status.Status.{Status}
 use Rattle.expresso_cli.specs.CommandLine.{Command, check, turns, Takes}
-use Rattle.expresso_cli.specs.Answers.{Accepts, Rejects, AcceptsFiles, RejectsFiles, IsWorkedOrMemory, IsRefusedOrMemory, IsStoppedOrMemory}
-use Rattle.expresso_cli.specs.Working.{HasEnded}
+use Rattle.expresso_cli.specs.Answers.{IsSound, Accepts, Rejects, AcceptsFiles, RejectsFiles, IsWorkedOrMemory, IsRefusedOrMemory, IsStoppedOrMemory}
+use Rattle.expresso_cli.specs.inner.Ending.{HasEnded}
 
 -- ---- words ask for one command at most
 
@@ -32,19 +32,19 @@ one_command words (turns m c) (turns n d) (p, is) (q, also) =
 -- ---- what the words and the files ask for
 
 -- accepted files are worked on
-pub accepted_runs : (held : List ℕ → Option (List ℕ)) (words : List (List ℕ)) (command : Command) (rb rn : ℕ) (result : Status) (before now : Option (List ℕ)) (wb wn : ℕ)
-    → Takes words command → HasEnded held command rb rn result before now wb wn → Accepts held words → (Rises rb rn → ⊥) → (Rises wb wn → ⊥) → IsWorkedOrMemory result
-accepted_runs held words command rb rn result before now wb wn taken has_ended (other, also, accepts) no_read no_write =
-    has_ended.accepted (subst (AcceptsFiles held) (one_command words other command also taken) accepts) no_read no_write
+pub accepted_runs : (words : List (List ℕ)) (command : Command) (files files_now : FilesSeen) (result : Status) (out out_now : SinkSeen)
+    → Takes words command → HasEnded command files files_now result out out_now → Accepts files.held words → IsSound files.faults files_now.faults → IsSound out.faults out_now.faults → IsWorkedOrMemory result
+accepted_runs words command files files_now result out out_now taken has_ended (other, also, accepts) no_read no_write =
+    has_ended.accepted (subst (AcceptsFiles files.held) (one_command words other command also taken) accepts) no_read no_write
 
 -- rejected files are refused
-pub rejected_refused : (held : List ℕ → Option (List ℕ)) (words : List (List ℕ)) (command : Command) (rb rn : ℕ) (result : Status) (before now : Option (List ℕ)) (wb wn : ℕ)
-    → Takes words command → HasEnded held command rb rn result before now wb wn → Rejects held words → (Rises rb rn → ⊥) → (Rises wb wn → ⊥) → IsRefusedOrMemory result
-rejected_refused held words command rb rn result before now wb wn taken has_ended (other, also, rejects) no_read no_write =
-    has_ended.rejected (subst (RejectsFiles held) (one_command words other command also taken) rejects) no_read no_write
+pub rejected_refused : (words : List (List ℕ)) (command : Command) (files files_now : FilesSeen) (result : Status) (out out_now : SinkSeen)
+    → Takes words command → HasEnded command files files_now result out out_now → Rejects files.held words → IsSound files.faults files_now.faults → IsSound out.faults out_now.faults → IsRefusedOrMemory result
+rejected_refused words command files files_now result out out_now taken has_ended (other, also, rejects) no_read no_write =
+    has_ended.rejected (subst (RejectsFiles files.held) (one_command words other command also taken) rejects) no_read no_write
 
 -- and are not worked on even where a count of faults stands at its end
-pub rejected_stops : (held : List ℕ → Option (List ℕ)) (words : List (List ℕ)) (command : Command) (rb rn : ℕ) (result : Status) (before now : Option (List ℕ)) (wb wn : ℕ)
-    → Takes words command → HasEnded held command rb rn result before now wb wn → Rejects held words → (Rises wb wn → ⊥) → IsStoppedOrMemory result
-rejected_stops held words command rb rn result before now wb wn taken has_ended (other, also, rejects) no_write =
-    has_ended.stopped (subst (RejectsFiles held) (one_command words other command also taken) rejects) no_write
+pub rejected_stops : (words : List (List ℕ)) (command : Command) (files files_now : FilesSeen) (result : Status) (out out_now : SinkSeen)
+    → Takes words command → HasEnded command files files_now result out out_now → Rejects files.held words → IsSound out.faults out_now.faults → IsStoppedOrMemory result
+rejected_stops words command files files_now result out out_now taken has_ended (other, also, rejects) no_write =
+    has_ended.stopped (subst (RejectsFiles files.held) (one_command words other command also taken) rejects) no_write

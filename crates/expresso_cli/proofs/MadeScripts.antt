@@ -7,11 +7,11 @@ use Rattle.std.proofs.lemmas.List.{nil_from_length}
 use Rattle.std.proofs.lemmas.List.Elements.{All-push}
 use Rattle.std.proofs.lemmas.List.Quantifiers.{position-Some}
 use Rattle.std.proofs.lemmas.Option.{slice_get-get_or}
-use Rattle.mon_syntax.specs.declared.tree.Item.{Item}
-use Rattle.mon_syntax.specs.declared.tree.ClientTree.{ClientTree}
-use Rattle.mon_forms.specs.declared.kind.Kind.{Kind}
-use Rattle.mon_types.specs.declared.monitor.Method.{Method}
-use Rattle.mon_types.specs.MonitorParts.{MonitorParts, AreOfKinds}
+use Rattle.mon_tree.specs.declared.tree.Item.{Item}
+use Rattle.mon_tree.specs.declared.tree.ClientTree.{ClientTree}
+use Rattle.mon_base.specs.declared.kind.Kind.{Kind}
+use Rattle.mon_monitor.specs.declared.monitor.Method.{Method}
+use Rattle.mon_monitor.specs.MonitorParts.{MonitorParts, AreOfKinds}
 use Rattle.mon_implicit.specs.declared.script.Call.{Call as ScriptCall}
 use Rattle.mon_implicit.specs.declared.script.Client.{Client}
 use Rattle.mon_implicit.specs.Steps.{kinds_in}

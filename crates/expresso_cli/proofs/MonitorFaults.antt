@@ -1,24 +1,23 @@
 -- Why bytes are no monitor file: the first fault of each step, and that an accepted file has none.
 use Rattle.std.proofs.Common.{◌≡◌, ◌≢◌, ℕ, ◌≤◌, List, [], ◌∷◌, length, Err, refl, sym, ap, subst, ◌∙◌, arith}
-use Rattle.mon_syntax.specs.declared.token.Token.{Token}
-use Rattle.mon_syntax.specs.declared.tree.MonitorTree.{MonitorTree}
+use Rattle.mon_tokens.specs.declared.token.Token.{Token}
+use Rattle.mon_tree.specs.declared.tree.MonitorTree.{MonitorTree}
 use Rattle.mon_syntax.specs.declared.fault.SyntaxFault.{SyntaxFault}
 use Rattle.mon_syntax.specs.declared.fault.SyntaxFault.TheVariants as parsing
-use Rattle.mon_syntax.specs.Spelling.{Spells, IsStuck}
+use Rattle.mon_tokens.specs.Spelling.{Spells, IsStuck}
 use Rattle.mon_syntax.specs.Fault.{IsAt as IsUnfitAt, IsFaultAt, Parses}
 use Rattle.mon_syntax.specs.Grammar.{Derives, IsMonitorFile}
 use Rattle.mon_forms.specs.declared.fault.TypeFault.{TypeFault}
 use Rattle.mon_forms.specs.declared.fault.TypeFault.TheVariants as rules
 use Rattle.mon_forms.specs.Faults.{IsLeast}
 use Rattle.mon_rules.specs.Rules.{faults_of}
-use Rattle.mon_types.specs.MonitorParts.{MonitorParts}
+use Rattle.mon_monitor.specs.MonitorParts.{MonitorParts}
 use Rattle.mon_types.specs.Checked.{HasCause}
 use Rattle.mon_text.specs.declared.refusal.Refusal.{Refusal}
 use Rattle.mon_text.specs.declared.refusal.Refusal.TheVariants as refusals
 use Rattle.expresso_cli.specs.declared.monitor_file.MonitorFault.{MonitorFault}
 use Rattle.expresso_cli.specs.declared.monitor_file.MonitorFault.TheVariants as faults
-use Rattle.expresso_cli.specs.MonitorFiles.{IsAccepted, IsBrokenFile, IsFirstFault, fault_of}
-use Rattle.expresso_cli.specs.Working.{HasMonitorCause, fault_of_parser}
+use Rattle.expresso_cli.specs.MonitorFiles.{HasMonitorCause, IsAccepted, IsBrokenFile, IsFirstFault, fault_of, fault_of_parser, printed_count}
 
 -- ---- the cause of a fault
 
@@ -44,7 +43,7 @@ of_rule bytes tokens tree (rules.Duplicate at) short spelled derived cause = bro
 of_rule bytes tokens tree (rules.WrongType at) short spelled derived cause = broken_file bytes tokens tree (rules.WrongType at) at refusals.WrongType short spelled derived cause refl
 of_rule bytes tokens tree (rules.NotLinear at) short spelled derived cause = broken_file bytes tokens tree (rules.NotLinear at) at refusals.NotLinear short spelled derived cause refl
 of_rule bytes tokens tree (rules.TooLarge at) short spelled derived cause = broken_file bytes tokens tree (rules.TooLarge at) at refusals.TooLarge short spelled derived cause refl
-of_rule bytes tokens tree (rules.TooMany what at) short spelled derived cause = broken_file bytes tokens tree (rules.TooMany what at) at (refusals.TooMany what) short spelled derived cause refl
+of_rule bytes tokens tree (rules.TooMany what at) short spelled derived cause = broken_file bytes tokens tree (rules.TooMany what at) at (refusals.TooMany (printed_count what)) short spelled derived cause refl
 of_rule bytes tokens tree (rules.ReadOnly at) short spelled derived cause = broken_file bytes tokens tree (rules.ReadOnly at) at refusals.ReadOnly short spelled derived cause refl
 of_rule bytes tokens tree (rules.Misplaced at) short spelled derived cause = broken_file bytes tokens tree (rules.Misplaced at) at refusals.Misplaced short spelled derived cause refl
 of_rule bytes tokens tree rules.OutOfMemory short spelled derived cause = tt

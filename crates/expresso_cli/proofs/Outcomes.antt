@@ -1,12 +1,48 @@
--- One writer's outcome as a status.
-use Rattle.std.proofs.Common.{◌≡◌, ℕ, List, Option, Result, Ok, Err, IsOk, IsErr, inl, inr, refl}
-use Rattle.mon_io.specs.declared.sink.SinkFailed.{SinkFailed}
-use Rattle.mon_io.specs.Writing.{Wrote}
+-- Texts that aren't empty, and a text that was written to a sink that was silent before.
+use Rattle.std.proofs.Common.{◌≡◌, ◌≢◌, ℕ, suc, ◌<◌, ◌++◌, ◌∷◌, [], List, length, length-append, refl, subst, arith}
+use Rattle.mon_io.specs.Outside.{SinkSeen}
+use Rattle.mon_tree.specs.declared.tree.MonitorTree.{MonitorTree}
+use Rattle.mon_monitor.specs.MonitorParts.{MonitorParts}
+use Rattle.mon_implicit.specs.declared.commit.Turns.{Turns}
+use Rattle.mon_implicit.specs.declared.script.Client.{Client}
+use Rattle.mon_printer.specs.Canonical.{tree_text}
+use Rattle.mon_text.specs.FaultText.{unread_text}
+use Rattle.mon_text.specs.TurnsText.{turns_text}
 use Rattle.expresso_cli.specs.declared.status.Status.{Status}
-use Rattle.expresso_cli.specs.declared.status.Status.TheVariants as statuses
-use Rattle.expresso_cli.specs.Working.{IsWritten}
+use Rattle.expresso_cli.specs.declared.monitor_file.MonitorFault.{MonitorFault}
+use Rattle.expresso_cli.specs.declared.monitor_file.MonitorFault.TheVariants as faults
+use Rattle.expresso_cli.specs.MonitorFiles.{monitor_fault_text}
+use Rattle.expresso_cli.specs.Texts.{usage_text, other_form_text}
+use Rattle.expresso_cli.specs.inner.Ending.{IsWritten}
 
-pub is_written : (status : Status) (text : List ℕ) (result : Status) (before now : Option (List ℕ)) (wb wn : ℕ) (outcome : Result (Unit {0}) SinkFailed)
-    → Wrote before now wb wn outcome text → (IsOk outcome → result ≡ status) → (IsErr outcome → result ≡ statuses.WriteFault) → IsWritten status text result before now wb wn
-is_written status text result before now wb wn (Ok u) wrote whole fault = inl (whole refl, wrote.written)
-is_written status text result before now wb wn (Err e) wrote whole fault = inr (fault refl, wrote.front, wrote.cause)
+-- nothing was written between the first view of the sink and the second
+pub written_since : (status : Status) (text : List ℕ) (result : Status) (out mid out_now : SinkSeen) → mid ≡ out → IsWritten status text result mid out_now → IsWritten status text result out out_now
+written_since status text result out mid out_now silent written = subst (λ (s : SinkSeen). IsWritten status text result s out_now) silent written
+
+-- ---- texts that aren't empty
+
+positive : (n : ℕ) → 0 < suc n
+positive n = omega arith
+
+some_end : (xs : List ℕ) (x : ℕ) → 0 < length (xs ++ x ∷ [])
+some_end xs x = omega (arith, length-append xs (x ∷ []))
+
+pub some_usage : 0 < length usage_text
+some_usage = positive _
+
+pub some_unread : (file : List ℕ) → 0 < length (unread_text file)
+some_unread file = positive _
+
+pub some_other_form : (file : List ℕ) → 0 < length (other_form_text file)
+some_other_form file = positive _
+
+pub some_tree : (tree : MonitorTree) → 0 < length (tree_text tree)
+some_tree tree = positive _
+
+pub some_turns : (monitor : MonitorParts) (clients : List Client) (turns : Turns) → 0 < length (turns_text monitor clients turns)
+some_turns monitor clients turns = some_end _ 10
+
+pub some_fault : (file bytes : List ℕ) (fault : MonitorFault) → fault ≢ faults.OutOfMemory → 0 < length (monitor_fault_text file bytes fault)
+some_fault file bytes faults.TooLong other = positive _
+some_fault file bytes (faults.At at what) other = positive _
+some_fault file bytes faults.OutOfMemory other = absurd (other refl)

@@ -1,18 +1,18 @@
 -- What follows of a client file that is parsed: its items are calls, and its clients' names are identifiers.
 use Rattle.std.proofs.Common.{◌≡◌, ℕ, List, [], ◌∷◌, ◌++◌, All, refl, subst}
 use Rattle.std.proofs.lemmas.List.Elements.{All-nil, All-cons, All-head, All-tail, All-map, All-weaker}
-use Rattle.mon_syntax.specs.declared.token.TokenKind.{TokenKind}
-use Rattle.mon_syntax.specs.declared.token.TokenKind.TheVariants as kinds
-use Rattle.mon_syntax.specs.declared.token.Token.{Token}
-use Rattle.mon_syntax.specs.declared.tree.Item.{Item, out-Item}
-use Rattle.mon_syntax.specs.declared.tree.Item.TheOpen.{Item-F, Call, Repeat}
-use Rattle.mon_syntax.specs.declared.tree.ClientTree.{ClientTree}
-use Rattle.mon_syntax.specs.declared.tree.ClientsTree.{ClientsTree}
-use Rattle.mon_syntax.specs.Spelling.{Spells, IsToken, IsIdentifier, text_of}
-use Rattle.mon_syntax.specs.Words.{Word, ident, numeral, mark, word_of, word, words}
+use Rattle.mon_tokens.specs.declared.token.TokenKind.{TokenKind}
+use Rattle.mon_tokens.specs.declared.token.TokenKind.TheVariants as kinds
+use Rattle.mon_tokens.specs.declared.token.Token.{Token}
+use Rattle.mon_tree.specs.declared.tree.Item.{Item, out-Item}
+use Rattle.mon_tree.specs.declared.tree.Item.TheOpen.{Item-F, Call, Repeat}
+use Rattle.mon_tree.specs.declared.tree.ClientTree.{ClientTree}
+use Rattle.mon_tree.specs.declared.tree.ClientsTree.{ClientsTree}
+use Rattle.mon_tokens.specs.Spelling.{Spells, IsToken, IsIdentifier, text_of}
+use Rattle.mon_tokens.specs.Words.{Word, ident, numeral, mark, word_of, word, words}
 use Rattle.mon_syntax.specs.Grammar.{Each}
 use Rattle.mon_syntax.specs.ClientGrammar.{IsCallLayer, IsCall, IsClient, AreParsed}
-use Rattle.mon_syntax.proofs.Numerals.{tokens_are}
+use Rattle.mon_tokens.proofs.Numerals.{tokens_are}
 use Rattle.expresso_cli.specs.ScriptChecks.{is_call, IsOneCall, HaveCalls}
 
 -- ---- items

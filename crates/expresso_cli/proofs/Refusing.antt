@@ -1,20 +1,20 @@
 -- A file that one of the steps refuses is no client file of the first form.
 use Rattle.std.proofs.Common.{◌≡◌, ◌≢◌, ℕ, List, Err, refl, sym, subst, ◌∙◌}
-use Rattle.mon_syntax.specs.declared.token.Token.{Token}
-use Rattle.mon_syntax.specs.declared.tree.ClientsTree.{ClientsTree}
-use Rattle.mon_syntax.specs.declared.lexing.LexFault.{LexFault}
-use Rattle.mon_syntax.specs.declared.lexing.LexFault.TheVariants as lexing
+use Rattle.mon_tokens.specs.declared.token.Token.{Token}
+use Rattle.mon_tree.specs.declared.tree.ClientsTree.{ClientsTree}
+use Rattle.mon_tokens.specs.declared.lexing.LexFault.{LexFault}
+use Rattle.mon_tokens.specs.declared.lexing.LexFault.TheVariants as lexing
 use Rattle.mon_syntax.specs.declared.fault.SyntaxFault.{SyntaxFault}
 use Rattle.mon_syntax.specs.declared.fault.SyntaxFault.TheVariants as syntax_faults
-use Rattle.mon_syntax.specs.Spelling.{Spells}
-use Rattle.mon_syntax.specs.Lexing.{Reads}
+use Rattle.mon_tokens.specs.Spelling.{Spells}
+use Rattle.mon_tokens.specs.Lexing.{Reads}
 use Rattle.mon_syntax.specs.Fault.{Parses}
 use Rattle.mon_syntax.specs.ClientGrammar.{DerivesClients}
-use Rattle.mon_types.specs.MonitorParts.{MonitorParts}
+use Rattle.mon_monitor.specs.MonitorParts.{MonitorParts}
 use Rattle.expresso_cli.specs.declared.script_fault.ScriptFault.{ScriptFault}
 use Rattle.expresso_cli.specs.declared.script_fault.ScriptFault.TheVariants as script_faults
 use Rattle.expresso_cli.specs.Scripts.{BreaksScripts, HasScriptCause}
-use Rattle.expresso_cli.specs.Working.{AreNoScripts}
+use Rattle.expresso_cli.specs.ClientFiles.{AreNoScripts}
 
 -- the lexer's completeness, for an answer
 abbrev Lexes : List ℕ → List Token → Type 0

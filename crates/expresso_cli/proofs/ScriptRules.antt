@@ -7,11 +7,11 @@ use Rattle.std.proofs.Math.Seq.{get_or-append_seam}
 use Rattle.std.proofs.lemmas.List.Elements.{All-map}
 use Rattle.std.proofs.lemmas.List.Concat.{length-flat_map}
 use Rattle.std.proofs.lemmas.Option.{slice_get_past}
-use Rattle.mon_syntax.specs.declared.tree.Item.{Item, out-Item}
-use Rattle.mon_syntax.specs.declared.tree.ClientTree.{ClientTree}
-use Rattle.mon_syntax.specs.declared.tree.ClientsTree.{ClientsTree}
-use Rattle.mon_syntax.specs.Spelling.{IsIdentifier}
-use Rattle.mon_types.specs.MonitorParts.{MonitorParts}
+use Rattle.mon_tree.specs.declared.tree.Item.{Item, out-Item}
+use Rattle.mon_tree.specs.declared.tree.ClientTree.{ClientTree}
+use Rattle.mon_tree.specs.declared.tree.ClientsTree.{ClientsTree}
+use Rattle.mon_tokens.specs.Spelling.{IsIdentifier}
+use Rattle.mon_monitor.specs.MonitorParts.{MonitorParts}
 use Rattle.mon_implicit.specs.declared.script.Client.{Client}
 use Rattle.mon_implicit.specs.Scripted.{AreClients}
 use Rattle.expresso_cli.specs.declared.script_fault.ScriptFault.{ScriptFault}

@@ -3,8 +3,8 @@ use Rattle.std.proofs.Common.{◌≡◌, ℕ, ◌<◌, ◌≤◌, List, length, 
 use Rattle.std.proofs.lemmas.List.{take_all, length-take}
 use Rattle.std.specs.Prelude.{IfSome}
 use Rattle.mon_io.specs.Outside.{IsRead}
-use Rattle.mon_syntax.specs.declared.tree.MonitorTree.{MonitorTree}
-use Rattle.mon_types.specs.MonitorParts.{MonitorParts}
+use Rattle.mon_tree.specs.declared.tree.MonitorTree.{MonitorTree}
+use Rattle.mon_monitor.specs.MonitorParts.{MonitorParts}
 use Rattle.mon_implicit.specs.declared.script.Client.{Client}
 use Rattle.mon_text.specs.declared.refusal.Refusal.{Refusal}
 use Rattle.mon_text.specs.declared.refusal.Refusal.TheVariants as refusals
@@ -12,8 +12,7 @@ use Rattle.expresso_cli.specs.declared.monitor_file.MonitorFault.{MonitorFault}
 use Rattle.expresso_cli.specs.declared.monitor_file.MonitorFault.TheVariants as faults
 use Rattle.expresso_cli.specs.MonitorFiles.{IsAccepted, IsFirstFault, monitor_fault_text}
 use Rattle.expresso_cli.specs.Answers.{Holds, IsMonitorRefusal}
-use Rattle.expresso_cli.specs.ClientFiles.{AreAccepted}
-use Rattle.expresso_cli.specs.Working.{AreNoScripts}
+use Rattle.expresso_cli.specs.ClientFiles.{AreAccepted, AreNoScripts}
 
 -- the bytes that are held, where they are told, or else those that were read
 pub told : Option (List ℕ) → List ℕ → List ℕ

@@ -1,10 +1,10 @@
 -- What the program answers.
 use Rattle.std.specs.Prelude.{◌≡◌, ◌⊎◌, ℕ, List, Any, Option, Some, IfSome}
 use Rattle.std.specs.Io.KnownBytes.{Appends, Keeps}
-use Rattle.mon_io.specs.Outside.{AppendsFront, Rises}
-use Rattle.mon_syntax.specs.declared.tree.MonitorTree.{MonitorTree}
-use Rattle.mon_syntax.specs.Canonical.{tree_text}
-use Rattle.mon_types.specs.MonitorParts.{MonitorParts}
+use Rattle.mon_io.specs.Outside.{FilesSeen, SinkSeen, AppendsFront, Rises}
+use Rattle.mon_tree.specs.declared.tree.MonitorTree.{MonitorTree}
+use Rattle.mon_printer.specs.Canonical.{tree_text}
+use Rattle.mon_monitor.specs.MonitorParts.{MonitorParts}
 use Rattle.mon_implicit.specs.declared.commit.Turns.{Turns}
 use Rattle.mon_implicit.specs.declared.script.Client.{Client}
 use Rattle.mon_implicit.specs.Runs.{IsFinished}
@@ -89,23 +89,22 @@ IsUnreadText command text = Any (λ file. text ≡ unread_text file) (files_of c
 
 -- ---- what a status says
 
--- The whole text of a status, and what is true where it is written. The files' count of faults is given as it was before the call and as it
--- is now.
-abbrev pub IsText : (List ℕ → Option (List ℕ)) → List (List ℕ) → ℕ → ℕ → Status → List ℕ → Type 0
-IsText held words faults_before faults_now Done text = (command : Command) × Takes words command × IsDoneText held command text
-IsText held words faults_before faults_now Stalled text = (command : Command) × Takes words command × IsStalledText held command text
-IsText held words faults_before faults_now Refused text = (command : Command) × Takes words command × IsRefusedText held command text
-IsText held words faults_before faults_now Usage text = TakesNone words × (text ≡ usage_text)
-IsText held words faults_before faults_now ReadFault text = (command : Command) × Takes words command × IsUnreadText command text × Rises faults_before faults_now
-IsText held words faults_before faults_now WriteFault text = ⊥
-IsText held words faults_before faults_now OutOfMemory text = ⊥
+-- The whole text of a status, and what is true where it is written. The files were seen before the call, and are seen now.
+abbrev pub IsText : List (List ℕ) → FilesSeen → FilesSeen → Status → List ℕ → Type 0
+IsText words files files_now Done text = (command : Command) × Takes words command × IsDoneText files.held command text
+IsText words files files_now Stalled text = (command : Command) × Takes words command × IsStalledText files.held command text
+IsText words files files_now Refused text = (command : Command) × Takes words command × IsRefusedText files.held command text
+IsText words files files_now Usage text = TakesNone words × (text ≡ usage_text)
+IsText words files files_now ReadFault text = (command : Command) × Takes words command × IsUnreadText command text × Rises files.faults files_now.faults
+IsText words files files_now WriteFault text = ⊥
+IsText words files files_now OutOfMemory text = ⊥
 
 -- What was written for a status: its whole text; where the sink failed, a proper front of the text whose status this one
 -- replaces; where memory ran out, nothing.
-abbrev pub Answers : (List ℕ → Option (List ℕ)) → List (List ℕ) → ℕ → ℕ → Status → Option (List ℕ) → Option (List ℕ) → Type 0
-Answers held words faults_before faults_now WriteFault before now = (status : Status) × (text : List ℕ) × IsText held words faults_before faults_now status text × AppendsFront before now text
-Answers held words faults_before faults_now OutOfMemory before now = Keeps before now
-Answers held words faults_before faults_now status before now = (text : List ℕ) × IsText held words faults_before faults_now status text × Appends before now text
+abbrev pub Answers : List (List ℕ) → FilesSeen → FilesSeen → Status → SinkSeen → SinkSeen → Type 0
+Answers words files files_now WriteFault out out_now = (status : Status) × (text : List ℕ) × IsText words files files_now status text × AppendsFront out.written out_now.written text
+Answers words files files_now OutOfMemory out out_now = Keeps out.written out_now.written
+Answers words files files_now status out out_now = (text : List ℕ) × IsText words files files_now status text × Appends out.written out_now.written text
 
 -- ---- completeness: what the status must be where nothing fails
 
@@ -132,6 +131,10 @@ abbrev pub Rejects : (List ℕ → Option (List ℕ)) → List (List ℕ) → Ty
 Rejects held words = (command : Command) × Takes words command × RejectsFiles held command
 
 -- ---- which statuses may come
+
+-- no fault of a device rose in the call
+abbrev pub IsSound : ℕ → ℕ → Type 0
+IsSound before now = Rises before now → ⊥
 
 abbrev pub IsWorkedOrMemory : Status → Type 0
 IsWorkedOrMemory Done = Unit {0}

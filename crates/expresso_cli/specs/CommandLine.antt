@@ -1,5 +1,5 @@
 -- The command line.
-use Rattle.std.specs.Prelude.{◌≡◌, ℕ, List, [], ◌∷◌, codes}
+use Rattle.std.specs.Prelude.{◌≡◌, ℕ, List, [], ◌∷◌, All, codes}
 
 -- a command, with the words that name its files
 pub data Command : Type 0 where
@@ -25,3 +25,7 @@ TakesNone words = (command : Command) → Takes words command → ⊥
 abbrev pub files_of : Command → List (List ℕ)
 files_of (check monitor) = monitor ∷ []
 files_of (turns monitor clients) = monitor ∷ clients ∷ []
+
+-- each file that the words name is one that may be read
+abbrev pub MayReadFiles : (List ℕ → Type 0) → List (List ℕ) → Type 0
+MayReadFiles may_read words = (command : Command) → Takes words command → All may_read (files_of command)

@@ -6,6 +6,5 @@ pub mod Scripts
 pub mod ScriptChecks
 pub mod Texts
 pub mod Answers
-pub mod Working
-pub mod Turning
 pub mod Exit
+pub mod inner

@@ -1,11 +1,11 @@
 -- What the makers of scripts find out about the parts of a client file's tree.
 use Rattle.std.specs.Prelude.{◌≡◌, ℕ, List, map, All, Any}
 use Rattle.std.specs.List.{flat_map}
-use Rattle.mon_syntax.specs.declared.tree.Item.{Item, out-Item}
-use Rattle.mon_syntax.specs.declared.tree.Item.TheOpen.{Item-F, Call, Repeat}
-use Rattle.mon_syntax.specs.declared.tree.ClientTree.{ClientTree}
-use Rattle.mon_syntax.specs.declared.tree.ClientsTree.{ClientsTree}
-use Rattle.mon_types.specs.MonitorParts.{MonitorParts}
+use Rattle.mon_tree.specs.declared.tree.Item.{Item, out-Item}
+use Rattle.mon_tree.specs.declared.tree.Item.TheOpen.{Item-F, Call, Repeat}
+use Rattle.mon_tree.specs.declared.tree.ClientTree.{ClientTree}
+use Rattle.mon_tree.specs.declared.tree.ClientsTree.{ClientsTree}
+use Rattle.mon_monitor.specs.MonitorParts.{MonitorParts}
 use Rattle.mon_implicit.specs.declared.script.Call.{Call as ScriptCall}
 use Rattle.mon_implicit.specs.declared.script.Client.{Client}
 use Rattle.mon_implicit.specs.Scripted.{FitsCall, FitsScripts}

@@ -2,15 +2,15 @@
 
 ghost use Rattle.std.specs.Prelude.{◌≢◌, OnOk, IfOk, IfSome, MatchOption};
 ghost use Rattle.mon_implicit.specs.Scripted.{FitsScripts};
-ghost use Rattle.expresso_cli.specs.ClientFiles.{AreAccepted};
-ghost use Rattle.expresso_cli.specs.Working.{AreNoScripts};
+ghost use Rattle.expresso_cli.specs.ClientFiles.{AreAccepted, AreNoScripts};
 
 use crate::monitor_file::LONGEST_FILE;
 use crate::script_fault::ScriptFault;
 use crate::scripts::clients;
 use mon_implicit::Scripts;
-use mon_syntax::{LexFault, SyntaxFault, parse_clients, tokens};
-use mon_types::Monitor;
+use mon_monitor::Monitor;
+use mon_syntax::{SyntaxFault, parse_clients};
+use mon_tokens::{LexFault, tokens};
 use std::alloc::{AllocError, Global};
 
 /// The fault is a broken rule, unless memory ran out.
@@ -29,8 +29,11 @@ pub fn read_clients(
     bytes: &[u8],
     monitor: &Monitor,
 ) -> Result<Option<Scripts>, AllocError>
-    ensures scripts { IfOk result (λ answer. MatchOption answer (AreNoScripts bytes.now monitor.now) (λ scripts. AreAccepted bytes.now monitor.now scripts)) }
-    ensures fits { IfOk result (λ answer. IfSome answer (λ scripts. FitsScripts monitor.now scripts)) }
+    ensures scripts { IfOk result (λ answer. MatchOption answer
+        (AreNoScripts bytes.now monitor.now)
+        (λ scripts. AreAccepted bytes.now monitor.now scripts)) }
+    ensures fits { IfOk result (λ answer.
+        IfSome answer (λ scripts. FitsScripts monitor.now scripts)) }
 {
     if bytes.len() as u64 > LONGEST_FILE {
         return Ok(None);

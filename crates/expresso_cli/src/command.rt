@@ -15,7 +15,9 @@ pub enum Command<'a> {
 
 /// The command that the words, the program's name first, ask for; nothing for any other words.
 pub fn command_of<'a>(words: &'a Vec<String>) -> Option<Command<'a>>
-    ensures { MatchOption result (TakesNone (map string_bytes words.now.items)) (λ command. Takes (map string_bytes words.now.items) (command_meant command)) }
+    ensures { MatchOption result
+        (TakesNone (map string_bytes words.now.items))
+        (λ command. Takes (map string_bytes words.now.items) (command_meant command)) }
 {
     match words.as_slice() {
         [_, command, file] if command.as_str() == "check" => Some(Command::Check {

@@ -1,10 +1,10 @@
 //! The top call.
 
-ghost use Rattle.std.specs.Prelude.{◌≡◌, ◌<◌, ◌↔◌, ℕ, List, All, map};
+ghost use Rattle.std.specs.Prelude.{◌≡◌, ◌<◌, ◌≤◌, ◌↔◌, ℕ, List, map};
 ghost use Rattle.std.specs.String.{string_bytes};
 ghost use Rattle.mon_io.specs.Outside.{Rises};
-ghost use Rattle.expresso_cli.specs.CommandLine.{Command as Asked, Takes, TakesNone, files_of};
-ghost use Rattle.expresso_cli.specs.Answers.{Answers, Accepts, Rejects, IsUsageOrMemory, IsWorkedOrMemory, IsRefusedOrMemory, IsStoppedOrMemory, IsUnreadOrMemory};
+ghost use Rattle.expresso_cli.specs.CommandLine.{MayReadFiles, TakesNone};
+ghost use Rattle.expresso_cli.specs.Answers.{Answers, IsSound, Accepts, Rejects, IsUsageOrMemory, IsWorkedOrMemory, IsRefusedOrMemory, IsStoppedOrMemory, IsUnreadOrMemory};
 
 use crate::check::check_file;
 use crate::command::{Command, command_of};
@@ -29,23 +29,33 @@ pub fn expresso<F: Files, S: Sink>(
     out: &mut S,
 ) -> Status
     // Only the files that the words name are read.
-    requires { (command : Asked) → Takes (map string_bytes words.now.items) command → All (λ file. F.may_read files.old file) (files_of command) }
+    requires { MayReadFiles (F.may_read files.old) (map string_bytes words.now.items) }
     // What was written is what the status says.
-    ensures answer { Answers (F.held files.old) (map string_bytes words.now.items) (F.faults files.old) (F.faults files.new) result (S.written out.old) (S.written out.new) }
-    ensures read_fault { result ≡ Status.ReadFault → Rises (F.faults files.old) (F.faults files.new) }
-    ensures write_fault { result ≡ Status.WriteFault → Rises (S.faults out.old) (S.faults out.new) }
+    ensures answer { Answers (map string_bytes words.now.items)
+        (F.seen files.old) (F.seen files.new) result (S.seen out.old) (S.seen out.new) }
+    ensures read_fault { result ≡ Status.ReadFault →
+        Rises (F.seen files.old).faults (F.seen files.new).faults }
+    ensures write_fault { result ≡ Status.WriteFault →
+        Rises (S.seen out.old).faults (S.seen out.new).faults }
     // Where the devices do not fail, the words and the files ask for this status, unless memory ran out,
-    ensures usage { TakesNone (map string_bytes words.now.items) → (Rises (S.faults out.old) (S.faults out.new) → ⊥) → IsUsageOrMemory result }
-    ensures accepted { Accepts (F.held files.old) (map string_bytes words.now.items)
-        → (Rises (F.faults files.old) (F.faults files.new) → ⊥) → (Rises (S.faults out.old) (S.faults out.new) → ⊥) → IsWorkedOrMemory result }
-    ensures rejected { Rejects (F.held files.old) (map string_bytes words.now.items)
-        → (Rises (F.faults files.old) (F.faults files.new) → ⊥) → (Rises (S.faults out.old) (S.faults out.new) → ⊥) → IsRefusedOrMemory result }
+    ensures usage { TakesNone (map string_bytes words.now.items)
+        → IsSound (S.seen out.old).faults (S.seen out.new).faults → IsUsageOrMemory result }
+    ensures accepted { Accepts (F.seen files.old).held (map string_bytes words.now.items)
+        → IsSound (F.seen files.old).faults (F.seen files.new).faults
+        → IsSound (S.seen out.old).faults (S.seen out.new).faults → IsWorkedOrMemory result }
+    ensures rejected { Rejects (F.seen files.old).held (map string_bytes words.now.items)
+        → IsSound (F.seen files.old).faults (F.seen files.new).faults
+        → IsSound (S.seen out.old).faults (S.seen out.new).faults → IsRefusedOrMemory result }
     // and of refused files nothing else may come even at the end of a count of faults.
-    ensures stopped { Rejects (F.held files.old) (map string_bytes words.now.items) → (Rises (S.faults out.old) (S.faults out.new) → ⊥) → IsStoppedOrMemory result }
+    ensures stopped { Rejects (F.seen files.old).held (map string_bytes words.now.items)
+        → IsSound (S.seen out.old).faults (S.seen out.new).faults → IsStoppedOrMemory result }
     // Where a read failed this must come.
-    ensures unread { F.faults files.old < F.faults files.new → (Rises (S.faults out.old) (S.faults out.new) → ⊥) → IsUnreadOrMemory result }
-    // No call changes what files hold and which may be read.
-    ensures held { (name : List ℕ) → F.held files.new name ≡ F.held files.old name }
+    ensures unread { (F.seen files.old).faults < (F.seen files.new).faults
+        → IsSound (S.seen out.old).faults (S.seen out.new).faults → IsUnreadOrMemory result }
+    // Neither count falls, and no call changes what files hold and which may be read.
+    ensures reads { (F.seen files.old).faults ≤ (F.seen files.new).faults }
+    ensures writes { (S.seen out.old).faults ≤ (S.seen out.new).faults }
+    ensures held { (name : List ℕ) → (F.seen files.new).held name ≡ (F.seen files.old).held name }
     ensures may_read { (name : List ℕ) → F.may_read files.new name ↔ F.may_read files.old name }
 {
     match command_of(words) {

@@ -10,6 +10,7 @@ mod client_file;
 mod command;
 mod expresso;
 mod monitor_file;
+mod reading;
 mod script_fault;
 mod scripts;
 mod status;

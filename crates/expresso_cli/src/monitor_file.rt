@@ -2,12 +2,14 @@
 
 ghost use Rattle.std.specs.Prelude.{◌≡◌, IfErr, IfOk};
 ghost use Rattle.expresso_cli.specs.declared.monitor_file.MonitorFault.TheVariants.{OutOfMemory};
-ghost use Rattle.expresso_cli.specs.MonitorFiles.{IsAccepted, fault_of};
-ghost use Rattle.expresso_cli.specs.Working.{HasMonitorCause, fault_of_lexer, fault_of_parser};
+ghost use Rattle.expresso_cli.specs.MonitorFiles.{HasMonitorCause, IsAccepted, fault_of, fault_of_lexer, fault_of_parser, printed_count};
 
-use mon_syntax::{LexFault, MonitorTree, SyntaxFault, parse_monitor, tokens};
+use mon_monitor::Monitor;
+use mon_syntax::{SyntaxFault, parse_monitor};
 use mon_text::Refusal;
-use mon_types::{Monitor, TypeFault, check};
+use mon_tokens::{LexFault, tokens};
+use mon_tree::MonitorTree;
+use mon_types::{Counted, TypeFault, check};
 use std::alloc::Global;
 use thiserror::Error;
 
@@ -70,12 +72,25 @@ impl From<TypeFault> for MonitorFault {
             TypeFault::WrongType { at } => (at, Refusal::WrongType),
             TypeFault::NotLinear { at } => (at, Refusal::NotLinear),
             TypeFault::TooLarge { at } => (at, Refusal::TooLarge),
-            TypeFault::TooMany { what, at } => (at, Refusal::TooMany(what)),
+            TypeFault::TooMany { what, at } => (at, Refusal::TooMany(printed_count(what))),
             TypeFault::ReadOnly { at } => (at, Refusal::ReadOnly),
             TypeFault::Misplaced { at } => (at, Refusal::Misplaced),
             TypeFault::OutOfMemory => return MonitorFault::OutOfMemory,
         };
         MonitorFault::At { at, what }
+    }
+}
+
+/// What there is too much of, as it is printed.
+fn printed_count(counted: Counted) -> mon_text::Counted
+    ensures { result ≡ printed_count counted }
+{
+    match counted {
+        Counted::Constants => mon_text::Counted::Constants,
+        Counted::Fields => mon_text::Counted::Fields,
+        Counted::Methods => mon_text::Counted::Methods,
+        Counted::Parameters => mon_text::Counted::Parameters,
+        Counted::Statements => mon_text::Counted::Statements,
     }
 }
 

@@ -2,18 +2,18 @@
 
 ghost use Rattle.std.specs.Prelude.{◌≡◌, ◌≢◌, ◌≤◌, ◌<◌, ◌↔◌, ◌==◌, ◌&&◌, IsTrue, All, AllPairs, Any, IfErr, IfOk, IfSome, MatchResult, OnOk, length, position, []};
 ghost use Rattle.std.specs.Str.{bytes_eq};
-ghost use Rattle.mon_syntax.specs.declared.tree.Item.{out-Item};
+ghost use Rattle.mon_tree.specs.declared.tree.Item.{out-Item};
 ghost use Rattle.mon_syntax.specs.ClientGrammar.{AreParsed};
 ghost use Rattle.mon_implicit.specs.Scripted.{FitsCall, FitsScripts};
 ghost use Rattle.expresso_cli.specs.Scripts.{BreaksNoScripts, HasScriptCause, IsScripted, calls_in_file, method_called, place_of};
 ghost use Rattle.expresso_cli.specs.ScriptChecks.{AreMadeCalls, AreMadeClients, BreaksAlone, BlamesItem, BlamesItems, HaveCalls, IsMadeCall, IsMadeClient, IsOneCall, calls_among};
 
 use crate::script_fault::ScriptFault;
+use mon_base::Name;
 use mon_implicit::{Call, Client, Scripts};
-use mon_io::Name;
 use mon_list::Seq;
-use mon_syntax::{ClientTree, ClientsTree, Item};
-use mon_types::{Method, Monitor};
+use mon_monitor::{Method, Monitor};
+use mon_tree::{ClientTree, ClientsTree, Item};
 use std::alloc::Global;
 
 /// The most clients of a file.
@@ -59,7 +59,8 @@ fn check_number(tree: &ClientsTree) -> Result<(), ScriptFault>
 /// No two clients have the same name. A fault is at the later one of two that do.
 #[tactic(auto, using(crate::proofs::ScriptRules::name_repeated))]
 fn check_names(tree: &ClientsTree) -> Result<(), ScriptFault>
-    ensures distinct { OnOk result (AllPairs (λ client other. client.name ≢ other.name) tree.now.clients) }
+    ensures distinct { OnOk result
+        (AllPairs (λ client other. client.name ≢ other.name) tree.now.clients) }
     ensures fault { IfErr result (λ fault. BreaksAlone tree.now fault) }
 {
     let clients = tree.clients.items();
@@ -120,7 +121,8 @@ fn make_clients(
     trees: &[ClientTree],
 ) -> Result<Vec<Client>, ScriptFault>
     requires calls { HaveCalls trees.now }
-    ensures { MatchResult result (λ made. AreMadeClients monitor.now trees.now made.items) (λ fault. BlamesItems monitor.now (calls_among trees.now) fault) }
+    ensures { MatchResult result (λ made. AreMadeClients monitor.now trees.now made.items)
+        (λ fault. BlamesItems monitor.now (calls_among trees.now) fault) }
 {
     let mut made = Vec::new(alloc);
     for tree in trees {
@@ -132,7 +134,8 @@ fn make_clients(
 /// The client that a tree stands for.
 fn make_client(alloc: Global, monitor: &Monitor, tree: &ClientTree) -> Result<Client, ScriptFault>
     requires calls { All IsOneCall tree.now.items }
-    ensures { MatchResult result (λ client. IsMadeClient monitor.now tree.now client) (λ fault. BlamesItems monitor.now tree.now.items fault) }
+    ensures { MatchResult result (λ client. IsMadeClient monitor.now tree.now client)
+        (λ fault. BlamesItems monitor.now tree.now.items fault) }
 {
     Ok(Client {
         name: tree.name.clone()?,
@@ -144,7 +147,8 @@ fn make_client(alloc: Global, monitor: &Monitor, tree: &ClientTree) -> Result<Cl
 #[tactic(auto, using(crate::proofs::MadeScripts::item_blamed))]
 fn make_calls(alloc: Global, monitor: &Monitor, items: &[Item]) -> Result<Vec<Call>, ScriptFault>
     requires calls { All IsOneCall items.now }
-    ensures { MatchResult result (λ calls. AreMadeCalls monitor.now items.now calls.items) (λ fault. BlamesItems monitor.now items.now fault) }
+    ensures { MatchResult result (λ calls. AreMadeCalls monitor.now items.now calls.items)
+        (λ fault. BlamesItems monitor.now items.now fault) }
 {
     let mut calls = Vec::new(alloc);
     for item in items {
@@ -156,7 +160,8 @@ fn make_calls(alloc: Global, monitor: &Monitor, items: &[Item]) -> Result<Vec<Ca
 /// The call that an item stands for. A fault is at a name that no method without inputs has.
 fn make_call(alloc: Global, monitor: &Monitor, item: &Item) -> Result<Call, ScriptFault>
     requires call { IsOneCall item.now }
-    ensures { MatchResult result (λ call. IsMadeCall monitor.now item.now call) (λ fault. BlamesItem monitor.now item.now fault) }
+    ensures { MatchResult result (λ call. IsMadeCall monitor.now item.now call)
+        (λ fault. BlamesItem monitor.now item.now fault) }
 {
     match item {
         Item::Call { at, name, .. } => match method_number(monitor, name) {
@@ -173,7 +178,8 @@ fn make_call(alloc: Global, monitor: &Monitor, item: &Item) -> Result<Call, Scri
 /// The number of the first method of this name that takes no inputs.
 fn method_number(monitor: &Monitor, name: &Name) -> Option<u32>
     ensures number { result ≡ method_called monitor.now name.now }
-    ensures fits { IfSome result (λ method. FitsCall monitor.now (record { method = method; inputs = [] })) }
+    ensures fits { IfSome result (λ method.
+        FitsCall monitor.now (record { method = method; inputs = [] })) }
 {
     let place = method_place(monitor.methods(), name)?;
     Some(place as u32)
@@ -181,7 +187,9 @@ fn method_number(monitor: &Monitor, name: &Name) -> Option<u32>
 
 /// The place of the first method of this name that takes no inputs.
 fn method_place(methods: &[Method], name: &Name) -> Option<usize>
-    ensures place { result ≡ position (λ method. bytes_eq method.name name.now && length method.inputs == 0) methods.now }
+    ensures place { result ≡
+        position (λ method. bytes_eq method.name name.now && length method.inputs == 0)
+        methods.now }
     ensures within { IfSome result (λ place. place < length methods.now) }
 {
     methods.iter().position(|method| is_called(method, name))

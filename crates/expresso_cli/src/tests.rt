@@ -1,13 +1,21 @@
 //! The program over files and sinks in memory. What it prints was worked out by hand.
 
+mod checker;
 mod checks;
+mod events;
+mod forms;
+mod machine;
 mod outside;
+mod readme;
+mod rules;
 mod runs;
 mod scripts;
+mod texts;
 
 use super::expresso::expresso;
 use super::status::Status;
-use mon_io::{MemFile, MemFiles, MemSink, Name};
+use mon_base::Name;
+use mon_io::{MemFile, MemFiles, MemSink};
 use mon_list::Seq;
 use std::alloc::{AllocError, Global};
 
@@ -69,6 +77,27 @@ fn mem_file(alloc: Global, name: &str, bytes: &[u8]) -> Result<MemFile, AllocErr
     })
 }
 
+fn texts_of(alloc: Global, words: &[&str]) -> Result<Vec<String>, AllocError> {
+    let mut texts = Vec::new(alloc);
+    for word in words {
+        texts.push(String::from_str(alloc, word)?)?;
+    }
+    Ok(texts)
+}
+
+/// The files `m.mon` and `c.cl` in memory.
+fn two_files(
+    alloc: Global,
+    monitor: &[u8],
+    clients: &[u8],
+    failing_read: Option<u64>,
+) -> Result<MemFiles, AllocError> {
+    let mut held = Vec::new(alloc);
+    held.push(mem_file(alloc, "m.mon", monitor)?)?;
+    held.push(mem_file(alloc, "c.cl", clients)?)?;
+    Ok(MemFiles::open(held, listed(alloc, failing_read)?))
+}
+
 /// `expresso` on these words, with the files `m.mon` and `c.cl` in memory.
 fn answer(
     alloc: Global,
@@ -77,16 +106,10 @@ fn answer(
     clients: &[u8],
     devices: &Devices,
 ) -> Result<Outcome, AllocError> {
-    let mut texts = Vec::new(alloc);
-    for word in words {
-        texts.push(String::from_str(alloc, word)?)?;
-    }
-    let mut held = Vec::new(alloc);
-    held.push(mem_file(alloc, "m.mon", monitor)?)?;
-    held.push(mem_file(alloc, "c.cl", clients)?)?;
-    let mut files = MemFiles::open(held, listed(alloc, devices.failing_read)?);
+    let words = texts_of(alloc, words)?;
+    let mut files = two_files(alloc, monitor, clients, devices.failing_read)?;
     let mut out = MemSink::open(alloc, devices.room, listed(alloc, devices.failing_write)?)?;
-    let status = expresso(alloc, &texts, &mut files, &mut out);
+    let status = expresso(alloc, &words, &mut files, &mut out);
     Ok(Outcome {
         status,
         text: Vec::from_slice(alloc, out.bytes())?,

@@ -1,19 +1,21 @@
 //! `expresso turns FILE CLIENTS`.
 
-ghost use Rattle.std.specs.Prelude.{◌≡◌, ◌↔◌, ℕ, List, IfErr, IfOk};
+ghost use Rattle.std.specs.Prelude.{◌≡◌, ◌≤◌, ◌↔◌, ℕ, List, IfErr, IfOk};
 ghost use Rattle.expresso_cli.specs.CommandLine.{turns};
-ghost use Rattle.expresso_cli.specs.Working.{HasEnded};
+ghost use Rattle.expresso_cli.specs.inner.Ending.{HasEnded};
 ghost use Rattle.expresso_cli.specs.declared.turns.RunFault.TheVariants.{OutOfMemory};
-ghost use Rattle.expresso_cli.specs.Turning.{HasRunCause, IsRun, fault_of_run};
+ghost use Rattle.expresso_cli.specs.inner.Turning.{HasRunCause, IsRun, fault_of_run};
 
 use crate::client_file::read_clients;
-use crate::monitor_file::{LONGEST_FILE, MonitorFault, read_monitor};
+use crate::monitor_file::{MonitorFault, read_monitor};
+use crate::reading::bytes_of;
 use crate::status::Status;
-use crate::text::{show_clients_refusal, show_monitor_fault, show_turns, show_unread};
+use crate::text::{show_clients_refusal, show_monitor_fault, show_turns};
 use mon_implicit::{Scripts, Turns, turns};
-use mon_io::{FileFault, Files, Sink};
-use mon_syntax::{derives_one_tree, one_spelling};
-use mon_types::Monitor;
+use mon_io::{Files, Sink};
+use mon_monitor::Monitor;
+use mon_syntax::derives_one_tree;
+use mon_tokens::one_spelling;
 use std::alloc::{AllocError, Global};
 use thiserror::Error;
 
@@ -82,21 +84,22 @@ pub(crate) fn take_turns<F: Files, S: Sink>(
 ) -> Status
     requires monitor { F.may_read files.old monitor.now }
     requires clients { F.may_read files.old clients.now }
-    ensures ended { HasEnded (F.held files.old) (turns monitor.now clients.now) (F.faults files.old) (F.faults files.new) result (S.written out.old) (S.written out.new) (S.faults out.old) (S.faults out.new) }
-    ensures held { (name : List ℕ) → F.held files.new name ≡ F.held files.old name }
+    ensures ended { HasEnded (turns monitor.now clients.now)
+        (F.seen files.old) (F.seen files.new) result (S.seen out.old) (S.seen out.new) }
+    ensures reads { (F.seen files.old).faults ≤ (F.seen files.new).faults }
+    ensures writes { (S.seen out.old).faults ≤ (S.seen out.new).faults }
+    ensures held { (name : List ℕ) → (F.seen files.new).held name ≡ (F.seen files.old).held name }
     ensures may_read { (name : List ℕ) → F.may_read files.new name ↔ F.may_read files.old name }
 {
     one_spelling();
     derives_one_tree();
-    let monitor_bytes = match files.read_up_to(alloc, monitor, LONGEST_FILE) {
+    let monitor_bytes = match bytes_of(alloc, monitor, files, out) {
         Ok(bytes) => bytes,
-        Err(FileFault::Failed) => return show_unread(monitor, out),
-        Err(FileFault::OutOfMemory) => return Status::OutOfMemory,
+        Err(status) => return status,
     };
-    let clients_bytes = match files.read_up_to(alloc, clients, LONGEST_FILE) {
+    let clients_bytes = match bytes_of(alloc, clients, files, out) {
         Ok(bytes) => bytes,
-        Err(FileFault::Failed) => return show_unread(clients, out),
-        Err(FileFault::OutOfMemory) => return Status::OutOfMemory,
+        Err(status) => return status,
     };
     match run_by_rounds(alloc, &monitor_bytes, &clients_bytes) {
         Ok(run) => show_turns(&run.monitor, &run.scripts, &run.turns, out),

@@ -9,7 +9,9 @@ use Rattle.mon_forms.specs.declared.scope.Meaning.{Meaning}
 use Rattle.mon_forms.specs.declared.scope.Meaning.TheVariants as meanings
 use Rattle.mon_forms.specs.declared.scope.Entry.{Entry}
 use Rattle.mon_forms.specs.Scope.{signed, entry_at, index_of}
-use Rattle.mon_forms.specs.Forms.{AreTimesOf, AreTimesWithin, AreWithin, CanCount, Form, HasRoom, IsFormOf, IsSmall, added, entry_form, is_constant, is_limited, is_within, meaning_form, name_form, no_times, number_form, plus, product, raised, scaled}
+use Rattle.mon_forms.specs.Forms.{Form, added, entry_form, is_constant, is_limited, meaning_form, name_form, no_times, number_form, plus, product, raised, scaled}
+use Rattle.mon_forms.specs.inner.FormBounds.{AreTimesOf, AreTimesWithin, AreWithin, CanCount, HasRoom, IsFormOf, FitsLinear}
+use Rattle.mon_base.specs.Numbers.{is_within}
 use Rattle.mon_forms.proofs.Numbers.{bounds_within, signed_within, sum_bounds, within_bounds}
 use Rattle.mon_forms.proofs.FormSums.{added_at, length_added, minus_each}
 use Rattle.mon_forms.proofs.FormTerms.{times_length}
@@ -168,15 +170,15 @@ each_passes : (test : ℤ → Bool) (numbers : List ℤ) → All (λ number. tes
 each_passes test [] each = refl
 each_passes test (number ∷ numbers) each = rw (each 0 number (omega arith)) (each_passes test numbers (λ k d lt. each (suc k) d (omega arith)))
 
-wide : (parts unit : ℕ) (number : ℤ) → neg_ℤ (pos (parts * unit)) ≤ℤ number → number ≤ℤ pos (parts * unit) → parts * unit ≤ 2 ^ 94 → is_within (2 ^ 94) number ≡ true
-wide parts unit number above below le = within_bounds (2 ^ 94) number (omega (arith, ints)) (omega (arith, ints))
+within_94_bits : (parts unit : ℕ) (number : ℤ) → neg_ℤ (pos (parts * unit)) ≤ℤ number → number ≤ℤ pos (parts * unit) → parts * unit ≤ 2 ^ 94 → is_within (2 ^ 94) number ≡ true
+within_94_bits parts unit number above below le = within_bounds (2 ^ 94) number (omega (arith, ints)) (omega (arith, ints))
 
 -- so few parts make a form that can be a linear form
-pub within_small : (parts : ℕ) (form : Form) → parts ≤ 2 ^ 31 → AreWithin parts form → IsSmall form
+pub within_small : (parts : ℕ) (form : Form) → parts ≤ 2 ^ 31 → AreWithin parts form → FitsLinear form
 within_small parts form few within =
     record {
-      each = each_passes (is_within (2 ^ 94)) form.times (λ k d lt. let here = within.each k d lt in wide parts (2 ^ 31) (get_or form.times k d) here.0 here.1 (omega arith));
-      whole = wide parts (2 ^ 63) form.constant within.above within.below (omega arith);
+      each = each_passes (is_within (2 ^ 94)) form.times (λ k d lt. let here = within.each k d lt in within_94_bits parts (2 ^ 31) (get_or form.times k d) here.0 here.1 (omega arith));
+      whole = within_94_bits parts (2 ^ 63) form.constant within.above within.below (omega arith);
     }
 
 pub within_has_room : (parts : ℕ) (form : Form) → parts < 2 ^ 62 → AreWithin parts form → HasRoom form

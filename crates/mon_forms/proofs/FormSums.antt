@@ -7,13 +7,15 @@ use Rattle.std.proofs.lemmas.Int.{ints}
 use mir.Syntax.{w128}
 use Rattle.mon_linear.proofs.LinearLemmas.{at_each}
 use Rattle.mon_forms.specs.Scope.{signed}
-use Rattle.mon_forms.specs.Forms.{AreTimesWithin, Form, HasRoom, added, is_limited, is_within, plus, scaled}
+use Rattle.mon_forms.specs.Forms.{Form, added, is_limited, plus, scaled}
+use Rattle.mon_forms.specs.inner.FormBounds.{AreTimesWithin, HasRoom}
+use Rattle.mon_base.specs.Numbers.{is_within}
 use Rattle.mon_forms.proofs.Partly.{partly, partly_at, partly_ends, partly_step}
 use Rattle.mon_forms.proofs.Numbers.{bounds_fit, within_fits, read_fits, product_fits, signed_within, sum_bounds}
 
 -- ---- one number times another
 
--- what a turn reads, and that the product fits
+-- what a one_more_part reads, and that the product fits
 scale_reads : (old times : List ℤ) (by : ℤ) (i : ℕ) → list_all (is_within (2 ^ 31)) old ≡ true → times ≡ partly (map (λ number. by *ℤ number) old) old i → i < length old → (is_within (2 ^ 31) (get_or old i (pos 0)) ≡ true) × (to_z w128 (of_z w128 (get_or times i (pos 0))) ≡ get_or old i (pos 0))
 scale_reads old times by i limited so_far lt =
     let within = at_each (is_within (2 ^ 31)) old i (pos 0) lt limited in
@@ -46,7 +48,7 @@ added_at (x ∷ a) [] i d e f same lt = absurd (omega arith)
 added_at (x ∷ a) (y ∷ b) zero d e f same lt = refl
 added_at (x ∷ a) (y ∷ b) (suc i) d e f same lt = added_at a b i d e f (omega arith) (omega arith)
 
--- what a turn reads and computes
+-- what a one_more_part reads and computes
 record Turn (old times others : List ℤ) (minus : Bool) (i : ℕ) (part : ℤ) : Type 0 where
   reads : to_z w128 (of_z w128 (get_or times i (pos 0))) ≡ get_or old i (pos 0)
   part_reads : to_z w128 (of_z w128 part) ≡ signed minus (get_or others i (pos 0))
@@ -55,8 +57,8 @@ record Turn (old times others : List ℤ) (minus : Bool) (i : ℕ) (part : ℤ) 
 abbrev pub Begun : List ℤ → List ℤ → List ℤ → Bool → ℕ → Type 0
 Begun old times others minus i = times ≡ partly (added old (map (signed minus) others)) old i
 
-turn : (parts : ℕ) (old times others : List ℤ) (minus : Bool) (i : ℕ) (part : ℤ) → length old ≡ length others → parts < 2 ^ 62 → AreTimesWithin parts old → list_all (is_within (2 ^ 31)) others ≡ true → Begun old times others minus i → i < length others → part ≡ signed minus (to_z w128 (of_z w128 (get_or others i (pos 0)))) → Turn old times others minus i part
-turn parts old times others minus i part same few within limited so_far lt is =
+one_more_part : (parts : ℕ) (old times others : List ℤ) (minus : Bool) (i : ℕ) (part : ℤ) → length old ≡ length others → parts < 2 ^ 62 → AreTimesWithin parts old → list_all (is_within (2 ^ 31)) others ≡ true → Begun old times others minus i → i < length others → part ≡ signed minus (to_z w128 (of_z w128 (get_or others i (pos 0)))) → Turn old times others minus i part
+one_more_part parts old times others minus i part same few within limited so_far lt is =
     let lt_old : i < length old = omega arith in
     let here = within i (pos 0) lt_old in
     let above = here.0 in
@@ -75,12 +77,12 @@ turn parts old times others minus i part same few within limited so_far lt is =
 
 pub add_fits : (parts : ℕ) (old times others : List ℤ) (minus : Bool) (i : ℕ) (part : ℤ) → length old ≡ length others → parts < 2 ^ 62 → AreTimesWithin parts old → list_all (is_within (2 ^ 31)) others ≡ true → Begun old times others minus i → i < length others → part ≡ signed minus (to_z w128 (of_z w128 (get_or others i (pos 0)))) → FitsSigned w128 (to_z w128 (of_z w128 (get_or times i (pos 0))) +ℤ to_z w128 (of_z w128 part))
 add_fits parts old times others minus i part same few within limited so_far lt is =
-    let t = turn parts old times others minus i part same few within limited so_far lt is in
+    let t = one_more_part parts old times others minus i part same few within limited so_far lt is in
     rw (t.reads, t.part_reads) t.sum_fits
 
 pub add_step : (parts : ℕ) (old times others : List ℤ) (minus : Bool) (i : ℕ) (part : ℤ) → length old ≡ length others → parts < 2 ^ 62 → AreTimesWithin parts old → list_all (is_within (2 ^ 31)) others ≡ true → Begun old times others minus i → i < length others → part ≡ signed minus (to_z w128 (of_z w128 (get_or others i (pos 0)))) → Begun old (set times i (to_z w128 (of_z w128 (to_z w128 (of_z w128 (get_or times i (pos 0))) +ℤ to_z w128 (of_z w128 part))))) others minus (i + 1)
 add_step parts old times others minus i part same few within limited so_far lt is =
-    let t = turn parts old times others minus i part same few within limited so_far lt is in
+    let t = one_more_part parts old times others minus i part same few within limited so_far lt is in
     let lt_old : i < length old = omega arith in
     let same_mapped : length old ≡ length (map (signed minus) others) = same ∙ sym (length-map others (signed minus)) in
     let same_length : length (added old (map (signed minus) others)) ≡ length old = length_added old _ same_mapped in

@@ -13,28 +13,30 @@ use Rattle.mon_linear.specs.Linear.{IsLinear, IsTerm, place_of as term_place}
 use Rattle.mon_forms.specs.declared.scope.Meaning.{Meaning}
 use Rattle.mon_forms.specs.declared.scope.Meaning.TheVariants as meanings
 use Rattle.mon_forms.specs.declared.scope.Entry.{Entry}
-use Rattle.mon_forms.specs.Forms.{Form, IsFormOf, IsSmall, AreTimesOf, CanCount, IsOrdered, is_within, meaning_places, place_of, places_of, terms_of}
+use Rattle.mon_forms.specs.Forms.{Form, IsOrdered, meaning_places, meaning_place, places_of, terms_of}
+use Rattle.mon_forms.specs.inner.FormBounds.{IsFormOf, FitsLinear, AreTimesOf, CanCount}
+use Rattle.mon_base.specs.Numbers.{is_within}
 use Rattle.mon_forms.proofs.Numbers.{bounds_within, read_fits, within_fits}
 
 -- ---- made one by one
 
 -- the term of an entry
 abbrev pub term : Entry → ℤ → Term
-term entry number = record { place = place_of entry.meaning; times = number }
+term entry number = record { place = meaning_place entry.meaning; times = number }
 
 -- a list after one that may be left out
-kept_more : (out : Bool) (t : Term) (before middle after : List Term) → before ≡ middle ++ after → cond out before (t ∷ before) ≡ cond out middle (t ∷ middle) ++ after
-kept_more true t before middle after is = is
-kept_more false t before middle after is = ap (λ terms. t ∷ terms) is
+kept_append : (out : Bool) (t : Term) (before middle after : List Term) → before ≡ middle ++ after → cond out before (t ∷ before) ≡ cond out middle (t ∷ middle) ++ after
+kept_append true t before middle after is = is
+kept_append false t before middle after is = ap (λ terms. t ∷ terms) is
 
 terms_suc : (scope : List Entry) (times : List ℤ) (i : ℕ) (entry : Entry) (d : ℤ) → length times ≡ length scope → i < length scope → entry ≡ get_or scope i entry → terms_of (take (suc i) scope) (take (suc i) times) ≡ terms_of (take i scope) (take i times) ++ cond (int_eq (get_or times i d) (pos 0)) [] (term entry (get_or times i d) ∷ [])
 terms_suc [] times i entry d same lt is = absurd (omega arith)
 terms_suc (e ∷ scope) [] i entry d same lt is = absurd (omega arith)
 terms_suc (e ∷ scope) (t ∷ times) zero entry d same lt is = rw is refl
-terms_suc (e ∷ scope) (t ∷ times) (suc i) entry d same lt is = kept_more (int_eq t (pos 0)) (term e t) _ _ _ (terms_suc scope times i entry d (omega arith) (omega arith) is)
+terms_suc (e ∷ scope) (t ∷ times) (suc i) entry d same lt is = kept_append (int_eq t (pos 0)) (term e t) _ _ _ (terms_suc scope times i entry d (omega arith) (omega arith) is)
 
-differs : (z : ℤ) → (z ≡ pos 0 → ⊥) → int_eq z (pos 0) ≡ false
-differs z not = grind (arith, ints)
+nonzero_test : (z : ℤ) → (z ≡ pos 0 → ⊥) → int_eq z (pos 0) ≡ false
+nonzero_test z not = grind (arith, ints)
 
 -- bits are 0 only where the number is
 bits_of_zero : (z : ℤ) → is_within (2 ^ 94) z ≡ true → of_z w128 z ≡ 0 → z ≡ pos 0
@@ -44,10 +46,10 @@ bits_of_zero (negsuc n) within is = absurd (grind (arith, ints))
 small_at : (times : List ℤ) (i : ℕ) → list_all (is_within (2 ^ 94)) times ≡ true → i < length times → is_within (2 ^ 94) (get_or times i (pos 0)) ≡ true
 small_at times i small lt = at_each (is_within (2 ^ 94)) times i (pos 0) lt small
 
-pub terms_more : (scope : List Entry) (times : List ℤ) (i : ℕ) (entry : Entry) (place : ℕ) → length times ≡ length scope → list_all (is_within (2 ^ 94)) times ≡ true → i < length scope → entry ≡ get_or scope i entry → place ≡ place_of entry.meaning → (of_z w128 (get_or times i (pos 0)) ≡ 0 → ⊥) → terms_of (take (i + 1) scope) (take (i + 1) times) ≡ terms_of (take i scope) (take i times) ++ record { place = place; times = to_z w128 (of_z w128 (get_or times i (pos 0))) } ∷ []
+pub terms_more : (scope : List Entry) (times : List ℤ) (i : ℕ) (entry : Entry) (place : ℕ) → length times ≡ length scope → list_all (is_within (2 ^ 94)) times ≡ true → i < length scope → entry ≡ get_or scope i entry → place ≡ meaning_place entry.meaning → (of_z w128 (get_or times i (pos 0)) ≡ 0 → ⊥) → terms_of (take (i + 1) scope) (take (i + 1) times) ≡ terms_of (take i scope) (take i times) ++ record { place = place; times = to_z w128 (of_z w128 (get_or times i (pos 0))) } ∷ []
 terms_more scope times i entry place same small lt is place_is counts =
     let within = small_at times i small (omega arith) in
-    let counts_not : int_eq (get_or times i (pos 0)) (pos 0) ≡ false = differs (get_or times i (pos 0)) (λ zero_is. counts (ap (of_z w128) zero_is)) in
+    let counts_not : int_eq (get_or times i (pos 0)) (pos 0) ≡ false = nonzero_test (get_or times i (pos 0)) (λ zero_is. counts (ap (of_z w128) zero_is)) in
     rw (add-one, place_is, read_fits (get_or times i (pos 0)) (within_fits (2 ^ 94) (get_or times i (pos 0)) within (omega arith))) (terms_suc scope times i entry (pos 0) same lt is ∙ ap (λ out. terms_of (take i scope) (take i times) ++ cond out [] (term entry (get_or times i (pos 0)) ∷ [])) counts_not)
 
 pub terms_same : (scope : List Entry) (times : List ℤ) (i : ℕ) (entry : Entry) → length times ≡ length scope → list_all (is_within (2 ^ 94)) times ≡ true → i < length scope → entry ≡ get_or scope i entry → of_z w128 (get_or times i (pos 0)) ≡ 0 → terms_of (take (i + 1) scope) (take (i + 1) times) ≡ terms_of (take i scope) (take i times)
@@ -85,7 +87,7 @@ place_rises true bound place number others terms rest rises = let le = rises.0 i
 place_rises false bound place number others terms rest rises = (rises.0, rest (suc place) rises.1)
 
 -- an entry of a term has a place
-entry_rises : (bound : ℕ) (meaning : Meaning) (number : ℤ) (others : List ℕ) (terms : List Term) → CanCount meaning number → ((lower : ℕ) → RisesFrom lower others → RisesFrom lower (map term_place terms)) → RisesFrom bound (meaning_places meaning others) → RisesFrom bound (map term_place (cond (int_eq number (pos 0)) terms (record { place = place_of meaning; times = number } ∷ terms)))
+entry_rises : (bound : ℕ) (meaning : Meaning) (number : ℤ) (others : List ℕ) (terms : List Term) → CanCount meaning number → ((lower : ℕ) → RisesFrom lower others → RisesFrom lower (map term_place terms)) → RisesFrom bound (meaning_places meaning others) → RisesFrom bound (map term_place (cond (int_eq number (pos 0)) terms (record { place = meaning_place meaning; times = number } ∷ terms)))
 entry_rises bound (meanings.Number value) number others terms can rest rises = rw can (rest bound rises)
 entry_rises bound (meanings.Int place) number others terms can rest rises = place_rises (int_eq number (pos 0)) bound place number others terms rest rises
 entry_rises bound (meanings.Flag place) number others terms can rest rises = place_rises (int_eq number (pos 0)) bound place number others terms rest rises
@@ -129,7 +131,7 @@ linear_is_linear scope times constant fit small whole ordered =
     }
 
 -- what `into_linear` makes of the fields of a form
-pub made_is_linear : (scope : List Entry) (form : Form) (times : List ℤ) (constant : ℤ) (made : List Term) → record { times = times; constant = constant } ≡ form → IsFormOf scope form → IsSmall form → IsOrdered scope → made ≡ terms_of scope times → IsLinear (record { terms = made; constant = to_z w128 (of_z w128 constant) })
+pub made_is_linear : (scope : List Entry) (form : Form) (times : List ℤ) (constant : ℤ) (made : List Term) → record { times = times; constant = constant } ≡ form → IsFormOf scope form → FitsLinear form → IsOrdered scope → made ≡ terms_of scope times → IsLinear (record { terms = made; constant = to_z w128 (of_z w128 constant) })
 made_is_linear scope form times constant made view fit small ordered is =
     let each : list_all (is_within (2 ^ 94)) times ≡ true = subst (λ f. list_all (is_within (2 ^ 94)) f.times ≡ true) (sym view) small.each in
     let whole : is_within (2 ^ 94) constant ≡ true = subst (λ f. is_within (2 ^ 94) f.constant ≡ true) (sym view) small.whole in
@@ -142,5 +144,5 @@ times_length (entry ∷ scope) (number ∷ times) fit = let rest = times_length 
 times_length [] (number ∷ times) fit = absurd fit
 times_length (entry ∷ scope) [] fit = absurd fit
 
-pub small_times : (form : Form) (times : List ℤ) → times ≡ form.times → IsSmall form → list_all (is_within (2 ^ 94)) times ≡ true
+pub small_times : (form : Form) (times : List ℤ) → times ≡ form.times → FitsLinear form → list_all (is_within (2 ^ 94)) times ≡ true
 small_times form times is small = rw is small.each

@@ -7,29 +7,29 @@ use Rattle.std.proofs.lemmas.Bool.Decides.{nat_tests}
 use Rattle.std.proofs.lemmas.List.{append-nil}
 use Rattle.mon_forms.specs.declared.fault.TypeFault.{TypeFault}
 use Rattle.mon_forms.specs.Faults.{place, rank, is_before, earlier, least, ◌or_else◌}
-use Rattle.mon_forms.specs.Finding.{earlier_of}
+use Rattle.mon_forms.specs.Faults.{earlier_of}
 
 -- ---- the order
 
 abbrev lower : ℕ → ℕ → ℕ → ℕ → Bool
 lower p r q s = nat_lt p q || (p == q && nat_lt r s)
 
-lower_through : (p r q s u v : ℕ) → lower p r q s ≡ true → lower q s u v ≡ true → lower p r u v ≡ true
-lower_through p r q s u v one other = grind (arith, nat_tests)
+lower_is_transitive : (p r q s u v : ℕ) → lower p r q s ≡ true → lower q s u v ≡ true → lower p r u v ≡ true
+lower_is_transitive p r q s u v one other = grind (arith, nat_tests)
 
-not_lower_through : (p r q s u v : ℕ) → lower p r q s ≡ false → lower q s u v ≡ false → lower p r u v ≡ false
-not_lower_through p r q s u v one other = grind (arith, nat_tests)
+not_lower_is_transitive : (p r q s u v : ℕ) → lower p r q s ≡ false → lower q s u v ≡ false → lower p r u v ≡ false
+not_lower_is_transitive p r q s u v one other = grind (arith, nat_tests)
 
 -- ---- one fault more
 
-of_three : (x y z : TypeFault) (zy yx zx : Bool) → is_before z y ≡ zy → is_before y x ≡ yx → is_before z x ≡ zx → earlier x (earlier y (Some z)) ≡ earlier_of (earlier x (Some y)) (Some z)
-of_three x y z true true true zy yx zx = rw (zy, yx, zx, zy) refl
-of_three x y z true true false zy yx zx = absurd (let both = lower_through (place z) (rank z) (place y) (rank y) (place x) (rank x) zy yx in cc)
-of_three x y z true false true zy yx zx = rw (zy, yx, zx) refl
-of_three x y z true false false zy yx zx = rw (zy, yx, zx) refl
-of_three x y z false true zx_is zy yx zx = rw (zy, yx, zy) refl
-of_three x y z false false true zy yx zx = absurd (let both = not_lower_through (place z) (rank z) (place y) (rank y) (place x) (rank x) zy yx in cc)
-of_three x y z false false false zy yx zx = rw (zy, yx, zx) refl
+earlier_of_three : (x y z : TypeFault) (zy yx zx : Bool) → is_before z y ≡ zy → is_before y x ≡ yx → is_before z x ≡ zx → earlier x (earlier y (Some z)) ≡ earlier_of (earlier x (Some y)) (Some z)
+earlier_of_three x y z true true true zy yx zx = rw (zy, yx, zx, zy) refl
+earlier_of_three x y z true true false zy yx zx = absurd (let both = lower_is_transitive (place z) (rank z) (place y) (rank y) (place x) (rank x) zy yx in cc)
+earlier_of_three x y z true false true zy yx zx = rw (zy, yx, zx) refl
+earlier_of_three x y z true false false zy yx zx = rw (zy, yx, zx) refl
+earlier_of_three x y z false true zx_is zy yx zx = rw (zy, yx, zy) refl
+earlier_of_three x y z false false true zy yx zx = absurd (let both = not_lower_is_transitive (place z) (rank z) (place y) (rank y) (place x) (rank x) zy yx in cc)
+earlier_of_three x y z false false false zy yx zx = rw (zy, yx, zx) refl
 
 pub earlier_none : (fault : Option TypeFault) → earlier_of fault None ≡ fault
 earlier_none None = refl
@@ -38,7 +38,7 @@ earlier_none (Some fault) = refl
 earlier_assoc : (x : TypeFault) (one other : Option TypeFault) → earlier x (earlier_of one other) ≡ earlier_of (earlier x one) other
 earlier_assoc x None other = refl
 earlier_assoc x (Some y) None = sym (earlier_none (earlier x (Some y)))
-earlier_assoc x (Some y) (Some z) = of_three x y z (is_before z y) (is_before y x) (is_before z x) refl refl refl
+earlier_assoc x (Some y) (Some z) = earlier_of_three x y z (is_before z y) (is_before y x) (is_before z x) refl refl refl
 
 earlier_of_assoc : (one other last : Option TypeFault) → earlier_of one (earlier_of other last) ≡ earlier_of (earlier_of one other) last
 earlier_of_assoc None other last = refl
@@ -70,10 +70,6 @@ least_append (fault ∷ these) those = ap (earlier fault) (least_append these th
 pub least_or_else : (these those : List TypeFault) → least (these or_else those) ≡ option_or (least these) (least those)
 least_or_else [] those = refl
 least_or_else (fault ∷ these) those = sym (or_earlier fault (least these) (least those))
-
-pub least_none : (these : List TypeFault) → least these ≡ None → these ≡ []
-least_none [] none = refl
-least_none (fault ∷ these) none = absurd (earlier_not_none fault (least these) none)
 
 least_step : {X : Type 0} (of : X → List TypeFault) (xs : List X) (i : ℕ) (x : X) → i < length xs → x ≡ get_or xs i x
     → least (flat_map of (take (suc i) xs)) ≡ earlier_of (least (flat_map of (take i xs))) (least (of x))

@@ -5,49 +5,42 @@ use Rattle.std.proofs.lemmas.Bool.Decides.{nat_tests}
 use Rattle.std.proofs.lemmas.List.Elements.{All-nil, All-cons, All-weaker}
 use Rattle.mon_forms.specs.declared.fault.TypeFault.{TypeFault}
 use Rattle.mon_forms.specs.Faults.{place, rank, is_before, earlier, least, IsLeast}
+use Rattle.mon_forms.proofs.Least.{earlier_not_none}
 
 -- ---- the order
 
 abbrev numbers_before : ℕ → ℕ → ℕ → ℕ → Bool
 numbers_before p r q s = ltb p q || (eqb p q && ltb r s)
 
-not_itself : (p r : ℕ) → numbers_before p r p r ≡ false
-not_itself p r = grind (arith, nat_tests)
+not_before_itself : (p r : ℕ) → numbers_before p r p r ≡ false
+not_before_itself p r = grind (arith, nat_tests)
 
-not_both : (p r q s : ℕ) → numbers_before p r q s ≡ true → numbers_before q s p r ≡ false
-not_both p r q s h = grind (arith, nat_tests)
+not_both_before : (p r q s : ℕ) → numbers_before p r q s ≡ true → numbers_before q s p r ≡ false
+not_both_before p r q s h = grind (arith, nat_tests)
 
-not_through : (p r q s o t : ℕ) → numbers_before q s p r ≡ false → numbers_before o t q s ≡ false → numbers_before o t p r ≡ false
-not_through p r q s o t h k = grind (arith, nat_tests)
+not_before_is_transitive : (p r q s o t : ℕ) → numbers_before q s p r ≡ false → numbers_before o t q s ≡ false → numbers_before o t p r ≡ false
+not_before_is_transitive p r q s o t h k = grind (arith, nat_tests)
 
 pub before_itself : (a : TypeFault) → is_before a a ≡ false
-before_itself a = not_itself (place a) (rank a)
+before_itself a = not_before_itself (place a) (rank a)
 
 pub before_both : (a b : TypeFault) → is_before a b ≡ true → is_before b a ≡ false
-before_both a b = not_both (place a) (rank a) (place b) (rank b)
+before_both a b = not_both_before (place a) (rank a) (place b) (rank b)
 
 -- what does not come before b, which does not come before a, does not come before a
 pub before_through : (a b c : TypeFault) → is_before b a ≡ false → is_before c b ≡ false → is_before c a ≡ false
-before_through a b c = not_through (place a) (rank a) (place b) (rank b) (place c) (rank c)
+before_through a b c = not_before_is_transitive (place a) (rank a) (place b) (rank b) (place c) (rank c)
 
 -- ---- the least
 
-earlier_is_some : (fault : TypeFault) (rest : Option TypeFault) → earlier fault rest ≡ None → ⊥
-earlier_is_some fault None h = cc
-earlier_is_some fault (Some other) h = by_test (is_before other fault) h
-  where
-    by_test : (test : Bool) → cond test (Some other) (Some fault) ≡ None → ⊥
-    by_test true e = cc
-    by_test false e = cc
-
 pub none_is_least : (among : List TypeFault) → least among ≡ None → among ≡ []
 none_is_least [] h = refl
-none_is_least (fault ∷ more) h = absurd (earlier_is_some fault (least more) h)
+none_is_least (fault ∷ more) h = absurd (earlier_not_none fault (least more) h)
 
-contains_head : (x : TypeFault) (xs : List TypeFault) → Contains (x ∷ xs) x
+pub contains_head : {X : Type 0} (x : X) (xs : List X) → Contains (x ∷ xs) x
 contains_head x xs = (0, omega arith, refl)
 
-contains_tail : (x y : TypeFault) (xs : List TypeFault) → Contains xs y → Contains (x ∷ xs) y
+pub contains_tail : {X : Type 0} (x y : X) (xs : List X) → Contains xs y → Contains (x ∷ xs) y
 contains_tail x y xs c = (c.0 + 1, omega (arith, c.1), grind (arith, c.2))
 
 module _ (fault : TypeFault) (more : List TypeFault) where

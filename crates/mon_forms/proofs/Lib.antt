@@ -7,6 +7,7 @@ pub mod FormShapes
 pub mod SenseLayers
 pub mod LimitedForms
 pub mod ModestFormulas
+pub mod FineParts
 pub mod SoundSenses
 pub mod MakingLemmas
 pub mod SmallScopes

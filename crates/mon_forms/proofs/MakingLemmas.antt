@@ -5,20 +5,23 @@ use Rattle.std.specs.List.{All}
 use Rattle.mon_linear.specs.declared.formula.Formula.{Formula}
 use Rattle.mon_linear.specs.declared.formula.Formula.TheVariants as formulas
 use Rattle.mon_linear.specs.Negation.{can_negate}
-use Rattle.mon_syntax.specs.declared.tree.Op.{Op}
-use Rattle.mon_syntax.specs.declared.tree.Expr.{Expr}
-use Rattle.mon_syntax.specs.declared.tree.Addend.{Addend}
-use Rattle.mon_syntax.specs.declared.tree.Factor.{Factor}
-use Rattle.mon_syntax.specs.declared.tree.Expr.TheVariants as exprs
-use Rattle.mon_forms.specs.declared.kind.Kind.TheVariants as kinds
+use Rattle.mon_tree.specs.declared.tree.Op.{Op}
+use Rattle.mon_tree.specs.declared.tree.Expr.{Expr}
+use Rattle.mon_tree.specs.declared.tree.Addend.{Addend}
+use Rattle.mon_tree.specs.declared.tree.Factor.{Factor}
+use Rattle.mon_tree.specs.declared.tree.Expr.TheVariants as exprs
+use Rattle.mon_base.specs.declared.kind.Kind.TheVariants as kinds
 use Rattle.mon_forms.specs.declared.scope.Entry.{Entry}
-use Rattle.mon_forms.specs.Forms.{Form, AreWithin, IsFormOf, HasRoom, IsSmall, is_limited, scaled, plus, minus, product, raised}
+use Rattle.mon_forms.specs.Forms.{Form, is_limited, scaled, plus, minus, product, raised}
+use Rattle.mon_forms.specs.inner.FormBounds.{AreWithin, IsFormOf, HasRoom, FitsLinear}
 use Rattle.mon_forms.specs.Sense.{Sense, part_faults, large_form, product_faults, product_form, sum_form, sense}
-use Rattle.mon_forms.specs.Making.{IsInt, IsBool, has_small_numbers, addend_sense, factor_sense}
+use Rattle.mon_forms.specs.Making.{IsInt, IsBool, has_small_numbers}
+use Rattle.mon_forms.specs.inner.Parts.{addend_sense, factor_sense}
 use Rattle.mon_forms.proofs.SenseLayers.{sense-Minus, sense-Not, sense-Sum, sense-Product, sense-Compare, sense-Both, sense-Either}
 use Rattle.mon_forms.proofs.FormShapes.{limited_within, plus_is_form, raised_is_form, raised_within, same_lengths, scaled_is_form, sum_within, within_has_room, within_small}
 use Rattle.mon_forms.proofs.ModestFormulas.{modest_turns}
-use Rattle.mon_forms.proofs.SoundSenses.{AreFine, or_else_none, parts_fine, large_form_none, product_turn, every_sense_is_sound}
+use Rattle.mon_forms.proofs.FineParts.{AreFine, or_else_none, parts_fine}
+use Rattle.mon_forms.proofs.SoundSenses.{large_form_none, product_turn, signed_is_form, every_sense_is_sound}
 
 -- ---- lists
 
@@ -28,7 +31,7 @@ fold_one_more step of start [] k x is less = absurd (omega arith)
 fold_one_more step of start (y ∷ xs) zero x is less = ap (λ z. step start (of z)) (sym is)
 fold_one_more step of start (y ∷ xs) (suc k) x is less = fold_one_more step of (step start (of y)) xs k x is (omega arith)
 
-rest_after : {X Y : Type 0} (of : X → Y) (xs : List X) (k : ℕ) (x : X) → x ≡ get_or xs k x → k < length xs → map of (drop k xs) ≡ of x ∷ map of (drop (suc k) xs)
+pub rest_after : {X Y : Type 0} (of : X → Y) (xs : List X) (k : ℕ) (x : X) → x ≡ get_or xs k x → k < length xs → map of (drop k xs) ≡ of x ∷ map of (drop (suc k) xs)
 rest_after of [] k x is less = absurd (omega arith)
 rest_after of (y ∷ xs) zero x is less = ap (λ z. of z ∷ map of xs) (sym is)
 rest_after of (y ∷ xs) (suc k) x is less = rest_after of xs k x is (omega arith)
@@ -63,10 +66,6 @@ sum_turn scope start sum part next rest k addend is less part_is sum_is next_is 
     let more = fold_one_more (λ before addend. plus before (if addend.minus then scaled (neg_ℤ (pos 1)) addend.of.form else addend.of.form)) (addend_sense scope) start rest k addend is less in
     rw (add-one k) (next_is ∙ ap (λ form. plus sum (if addend.minus then scaled (neg_ℤ (pos 1)) form else form)) part_is ∙ ap (λ form. plus form (if addend.minus then scaled (neg_ℤ (pos 1)) (sense scope addend.of).form else (sense scope addend.of).form)) sum_is ∙ sym more)
 
-signed_is_form : (scope : List Entry) (minus : Bool) (form : Form) → IsFormOf scope form → IsFormOf scope (if minus then scaled (neg_ℤ (pos 1)) form else form)
-signed_is_form scope true form of_scope = scaled_is_form scope (neg_ℤ (pos 1)) form of_scope
-signed_is_form scope false form of_scope = of_scope
-
 -- a sum after one more part
 pub record SumTurn (scope : List Entry) (parts : ℕ) (next : Form) : Type 0 where
   pub of_scope : IsFormOf scope next
@@ -85,8 +84,8 @@ sum_goes scope minus k sum part next sum_of part_of within limited is =
 
 fine_addend : (scope : List Entry) (rest : List Addend) (k : ℕ) (d : Addend) → AreFine kinds.Int (map (λ addend. addend.of) (map (addend_sense scope) rest)) → k < length rest → IsInt scope (get_or rest k d).of
 fine_addend scope [] k d fine less = absurd (omega arith)
-fine_addend scope (addend ∷ rest) zero d fine less = record { fine = fine.0; int = fine.1 }
-fine_addend scope (addend ∷ rest) (suc k) d fine less = fine_addend scope rest k d fine.2 (omega arith)
+fine_addend scope (addend ∷ rest) zero d fine less = record { fine = fine.0.0; int = fine.0.1 }
+fine_addend scope (addend ∷ rest) (suc k) d fine less = fine_addend scope rest k d fine.1 (omega arith)
 
 -- the parts of a sum that breaks no rule
 pub record SumParts (scope : List Entry) (first : Expr) (rest : List Addend) : Type 0 where
@@ -99,7 +98,7 @@ fine_sum scope first rest none =
     let parts = sense scope first ∷ map (λ addend. addend.of) found in
     let whole = sym (ap (λ (s : Sense). s.faults) (sense-Sum scope first rest)) ∙ none in
     let fine = parts_fine kinds.Int parts (or_else_none (part_faults kinds.Int parts) (large_form (sense scope first).first (sum_form (sense scope first).form found)) whole).0 in
-    record { first_int = record { fine = fine.0; int = fine.1 }; rest_int = λ k d less. fine_addend scope rest k d fine.2 less }
+    record { first_int = record { fine = fine.0.0; int = fine.0.1 }; rest_int = λ k d less. fine_addend scope rest k d fine.1 less }
 
 pub sum_parts : (scope : List Entry) (expression first got : Expr) (rest items : List Addend) → expression ≡ exprs.Sum first rest → got ≡ first → items ≡ rest → (sense scope expression).faults ≡ [] → SumParts scope got items
 sum_parts scope expression first got rest items is one more none =
@@ -144,8 +143,8 @@ product_goes scope at before factor_form next rest k factor is less part_is none
 
 fine_factor : (scope : List Entry) (rest : List Factor) (k : ℕ) (d : Factor) → AreFine kinds.Int (map (λ factor. factor.of) (map (factor_sense scope) rest)) → k < length rest → IsInt scope (get_or rest k d).of
 fine_factor scope [] k d fine less = absurd (omega arith)
-fine_factor scope (factor ∷ rest) zero d fine less = record { fine = fine.0; int = fine.1 }
-fine_factor scope (factor ∷ rest) (suc k) d fine less = fine_factor scope rest k d fine.2 (omega arith)
+fine_factor scope (factor ∷ rest) zero d fine less = record { fine = fine.0.0; int = fine.0.1 }
+fine_factor scope (factor ∷ rest) (suc k) d fine less = fine_factor scope rest k d fine.1 (omega arith)
 
 -- the parts of a product that breaks no rule
 pub record ProductParts (scope : List Entry) (first : Expr) (rest : List Factor) : Type 0 where
@@ -160,7 +159,7 @@ fine_product scope first rest none =
     let whole = sym (ap (λ (s : Sense). s.faults) (sense-Product scope first rest)) ∙ none in
     let both = or_else_none (part_faults kinds.Int parts) (product_faults (sense scope first).first (sense scope first).form found) whole in
     let fine = parts_fine kinds.Int parts both.0 in
-    record { first_int = record { fine = fine.0; int = fine.1 }; rest_int = λ k d less. fine_factor scope rest k d fine.2 less; fine = both.1 }
+    record { first_int = record { fine = fine.0.0; int = fine.0.1 }; rest_int = λ k d less. fine_factor scope rest k d fine.1 less; fine = both.1 }
 
 pub product_parts : (scope : List Entry) (expression first got : Expr) (rest items : List Factor) → expression ≡ exprs.Product first rest → got ≡ first → items ≡ rest → (sense scope expression).faults ≡ [] → ProductParts scope got items
 product_parts scope expression first got rest items is one more none =
@@ -182,7 +181,7 @@ fine_minus scope at of none =
     let parts = sense scope of ∷ [] in
     let whole = sym (ap (λ (s : Sense). s.faults) (sense-Minus scope at of)) ∙ none in
     let fine = parts_fine kinds.Int parts (or_else_none (part_faults kinds.Int parts) (large_form at (scaled (neg_ℤ (pos 1)) (sense scope of).form)) whole).0 in
-    record { fine = fine.0; int = fine.1 }
+    record { fine = fine.0.0; int = fine.0.1 }
 
 pub minus_part : (scope : List Entry) (expression of got : Expr) (at : ℕ) → expression ≡ exprs.Minus at of → got ≡ of → (sense scope expression).faults ≡ [] → IsInt scope got
 minus_part scope expression of got at is one none = subst (IsInt scope) (sym one) (fine_minus scope at of (sym (ap (λ e. (sense scope e).faults) is) ∙ none))
@@ -205,7 +204,7 @@ fine_compare scope op left right none =
     let whole = sym (ap (λ (s : Sense). s.faults) (sense-Compare scope op left right)) ∙ none in
     let both = or_else_none (part_faults kinds.Int parts) (large_form (sense scope left).first form) whole in
     let fine = parts_fine kinds.Int parts both.0 in
-    record { left_int = record { fine = fine.0; int = fine.1 }; right_int = record { fine = fine.2.0; int = fine.2.1 }; limited = large_form_none (sense scope left).first form both.1 }
+    record { left_int = record { fine = fine.0.0; int = fine.0.1 }; right_int = record { fine = fine.1.0.0; int = fine.1.0.1 }; limited = large_form_none (sense scope left).first form both.1 }
 
 pub compare_parts : (scope : List Entry) (expression left right here there : Expr) (op : Op) → expression ≡ exprs.Compare op left right → here ≡ left → there ≡ right → (sense scope expression).faults ≡ [] → CompareParts scope here there
 compare_parts scope expression left right here there op is one other none =
@@ -215,21 +214,21 @@ pub difference_form_of : (scope : List Entry) (left right : Expr) (form : Form) 
 difference_form_of scope left right form small is =
     subst (IsFormOf scope) (sym is) (plus_is_form scope (sense scope left).form (scaled (neg_ℤ (pos 1)) (sense scope right).form) (every_sense_is_sound scope small left).of_scope (scaled_is_form scope (neg_ℤ (pos 1)) (sense scope right).form (every_sense_is_sound scope small right).of_scope))
 
-pub limited_is_small : (form : Form) → is_limited form ≡ true → IsSmall form
+pub limited_is_small : (form : Form) → is_limited form ≡ true → FitsLinear form
 limited_is_small form limited = within_small 1 form (omega arith) (limited_within form limited)
 
 pub raised_form_of : (scope : List Entry) (form next : Form) → IsFormOf scope form → next ≡ raised (pos 1) form → IsFormOf scope next
 raised_form_of scope form next of_scope is = subst (IsFormOf scope) (sym is) (raised_is_form scope (pos 1) form of_scope)
 
-pub raised_small : (form next : Form) → is_limited form ≡ true → next ≡ raised (pos 1) form → IsSmall next
-raised_small form next limited is = subst IsSmall (sym is) (within_small 2 (raised (pos 1) form) (omega arith) (raised_within 1 form (limited_within form limited)))
+pub raised_small : (form next : Form) → is_limited form ≡ true → next ≡ raised (pos 1) form → FitsLinear next
+raised_small form next limited is = subst FitsLinear (sym is) (within_small 2 (raised (pos 1) form) (omega arith) (raised_within 1 form (limited_within form limited)))
 
 -- ---- negations
 
 fine_not : (scope : List Entry) (at : ℕ) (of : Expr) → (sense scope (exprs.Not at of)).faults ≡ [] → IsBool scope of
 fine_not scope at of none =
     let fine = parts_fine kinds.Bool (sense scope of ∷ []) (sym (ap (λ (s : Sense). s.faults) (sense-Not scope at of)) ∙ none) in
-    record { fine = fine.0; bool = fine.1 }
+    record { fine = fine.0.0; bool = fine.0.1 }
 
 pub not_part : (scope : List Entry) (expression of got : Expr) (at : ℕ) → expression ≡ exprs.Not at of → got ≡ of → (sense scope expression).faults ≡ [] → IsBool scope got
 not_part scope expression of got at is one none = subst (IsBool scope) (sym one) (fine_not scope at of (sym (ap (λ e. (sense scope e).faults) is) ∙ none))
@@ -238,8 +237,8 @@ not_part scope expression of got at is one none = subst (IsBool scope) (sym one)
 
 fine_part : (scope : List Entry) (parts : List Expr) (k : ℕ) (d : Expr) → AreFine kinds.Bool (map (sense scope) parts) → k < length parts → IsBool scope (get_or parts k d)
 fine_part scope [] k d fine less = absurd (omega arith)
-fine_part scope (part ∷ parts) zero d fine less = record { fine = fine.0; bool = fine.1 }
-fine_part scope (part ∷ parts) (suc k) d fine less = fine_part scope parts k d fine.2 (omega arith)
+fine_part scope (part ∷ parts) zero d fine less = record { fine = fine.0.0; bool = fine.0.1 }
+fine_part scope (part ∷ parts) (suc k) d fine less = fine_part scope parts k d fine.1 (omega arith)
 
 fine_both : (scope : List Entry) (parts : List Expr) → (sense scope (exprs.Both parts)).faults ≡ [] → All (IsBool scope) parts
 fine_both scope parts none =

@@ -13,13 +13,14 @@ use Rattle.mon_linear.specs.declared.formula.Formula.TheViews.{roll-Formula}
 use Rattle.mon_linear.specs.declared.formula.Formula.TheFolds.{fold-Formula, ind-Formula, map-Formula, fold-roll-Formula}
 use Rattle.mon_linear.specs.Linear.{Linear}
 use Rattle.mon_linear.specs.Negation.{can_negate, can_negate_layer, can_negate_number, can_negate_term, layer_negation, negation, negative_term, opposite}
-use Rattle.mon_syntax.specs.declared.tree.Op.{Op}
-use Rattle.mon_syntax.specs.declared.tree.Op.TheVariants as ops
+use Rattle.mon_tree.specs.declared.tree.Op.{Op}
+use Rattle.mon_tree.specs.declared.tree.Op.TheVariants as ops
 use Rattle.mon_forms.specs.declared.scope.Meaning.{Meaning}
 use Rattle.mon_forms.specs.declared.scope.Meaning.TheVariants as meanings
 use Rattle.mon_forms.specs.declared.scope.Entry.{Entry}
-use Rattle.mon_forms.specs.Forms.{Form, is_within, is_limited, minus, raised, terms_of, linear_of, place_of}
-use Rattle.mon_forms.specs.Sense.{at_most, less, compared, truth_formula, meaning_formula, entry_formula}
+use Rattle.mon_forms.specs.Forms.{Form, is_limited, minus, raised, terms_of, linear_of, meaning_place}
+use Rattle.mon_base.specs.Numbers.{is_within}
+use Rattle.mon_forms.specs.Sense.{at_most, less, comparison_formula, truth_formula, meaning_formula, entry_formula}
 use Rattle.mon_forms.proofs.LimitedForms.{both_true, opposite_limited}
 
 -- ---- modest numbers
@@ -142,7 +143,7 @@ terms_modest [] times within = refl
 terms_modest (entry ∷ scope) [] within = refl
 terms_modest (entry ∷ scope) (number ∷ times) within =
     let both = both_true (is_within (2 ^ 31) number) (list_all (is_within (2 ^ 31)) times) within in
-    kept_modest (int_eq number (pos 0)) (record { place = place_of entry.meaning; times = number }) (terms_of scope times) both.0 (terms_modest scope times both.1)
+    kept_modest (int_eq number (pos 0)) (record { place = meaning_place entry.meaning; times = number }) (terms_of scope times) both.0 (terms_modest scope times both.1)
 
 number_modest : (number : ℤ) → is_within (2 ^ 63) number ≡ true → is_modest_number number ≡ true
 number_modest number within = grind (arith, ints)
@@ -166,7 +167,7 @@ all_of_two one other this that = modest-All (one ∷ other ∷ []) ∙ rw (this,
 any_of_two : (one other : Formula) → is_modest one ≡ true → is_modest other ≡ true → is_modest (formulas.Any (one ∷ other ∷ [])) ≡ true
 any_of_two one other this that = modest-Any (one ∷ other ∷ []) ∙ rw (this, that) refl
 
-pub compared_modest : (scope : List Entry) (op : Op) (left right : Form) → is_limited (minus left right) ≡ true → is_modest (compared scope op left right) ≡ true
+pub compared_modest : (scope : List Entry) (op : Op) (left right : Form) → is_limited (minus left right) ≡ true → is_modest (comparison_formula scope op left right) ≡ true
 compared_modest scope ops.Equal left right limited = all_of_two (at_most scope left right) (at_most scope right left) (at_most_modest scope left right limited) (at_most_modest scope right left (opposite_limited left right limited))
 compared_modest scope ops.Differs left right limited = any_of_two (less scope right left) (less scope left right) (less_modest scope right left (opposite_limited left right limited)) (less_modest scope left right limited)
 compared_modest scope ops.Less left right limited = less_modest scope left right limited

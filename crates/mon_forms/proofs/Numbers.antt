@@ -4,7 +4,7 @@ use Rattle.std.specs.Prelude.{unsigned_abs}
 use Rattle.std.proofs.lemmas.Int.{ints, to_z-of_z, fits_signed_mul, fits_signed_from_abs}
 use mir.Syntax.{w128}
 use Rattle.mon_forms.specs.Scope.{signed}
-use Rattle.mon_forms.specs.Forms.{is_within}
+use Rattle.mon_base.specs.Numbers.{is_within}
 
 pub within_abs : (bound : ℕ) (z : ℤ) → is_within bound z ≡ true → unsigned_abs z ≤ bound
 within_abs bound (pos n) h = grind (arith, ints)

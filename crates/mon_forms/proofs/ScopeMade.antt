@@ -2,9 +2,9 @@
 use Rattle.std.proofs.Common.{◌≡◌, ℕ, ◌+◌, ◌<◌, ◌≤◌, Bool, true, false, List, [], ◌∷◌, ◌++◌, length, get_or, take, refl, ap, sym, ◌∙◌, arith}
 use Rattle.std.proofs.lemmas.List.{length-take, take_more}
 use mir.Val.{bool_byte}
-use Rattle.mon_syntax.specs.declared.tree.Decl.{Decl}
-use Rattle.mon_syntax.specs.declared.tree.Decl.TheVariants as decls
-use Rattle.mon_syntax.specs.declared.tree.InputTree.{InputTree}
+use Rattle.mon_tree.specs.declared.tree.Decl.{Decl}
+use Rattle.mon_tree.specs.declared.tree.Decl.TheVariants as decls
+use Rattle.mon_tree.specs.declared.tree.InputTree.{InputTree}
 use Rattle.mon_forms.specs.declared.scope.Entry.{Entry}
 use Rattle.mon_forms.specs.Scope.{declared_from, input_meaning, inputs_from}
 
@@ -31,19 +31,19 @@ first_step : List Entry → ℕ
 first_step [] = 0
 first_step (entry ∷ more) = bool_byte entry.is_field
 
-no_step : (place : ℕ) → place ≡ place + 0
-no_step place = omega arith
+plus_no_step : (place : ℕ) → place ≡ place + 0
+plus_no_step place = omega arith
 
 -- the place after an entry
-next_one : (place : ℕ) (decl : Decl) (entry : Entry) → declared_from place (decl ∷ []) ≡ entry ∷ [] → next_place place (decl ∷ []) ≡ place + bool_byte entry.is_field
+next_of_one : (place : ℕ) (decl : Decl) (entry : Entry) → declared_from place (decl ∷ []) ≡ entry ∷ [] → next_place place (decl ∷ []) ≡ place + bool_byte entry.is_field
 unfolding first_step
-next_one place (decls.Const at name value) entry is = no_step place ∙ ap (λ entries. place + first_step entries) is
-next_one place (decls.Int at name value) entry is = ap (λ entries. place + first_step entries) is
-next_one place (decls.Flag at name value) entry is = ap (λ entries. place + first_step entries) is
+next_of_one place (decls.Const at name value) entry is = plus_no_step place ∙ ap (λ entries. place + first_step entries) is
+next_of_one place (decls.Int at name value) entry is = ap (λ entries. place + first_step entries) is
+next_of_one place (decls.Flag at name value) entry is = ap (λ entries. place + first_step entries) is
 
-step_few : (is_field : Bool) → bool_byte is_field ≤ 1
-step_few true = omega arith
-step_few false = omega arith
+step_is_at_most_1 : (is_field : Bool) → bool_byte is_field ≤ 1
+step_is_at_most_1 true = omega arith
+step_is_at_most_1 false = omega arith
 
 take_one_more : {X : Type 0} (xs : List X) (i : ℕ) (x : X) → i < length xs → x ≡ get_or xs i x → take (i + 1) xs ≡ take i xs ++ x ∷ []
 take_one_more xs i x lt is = take_more xs i x lt ∙ ap (λ y. take i xs ++ y ∷ []) (sym is)
@@ -58,10 +58,10 @@ pub declared_more : (decls : List Decl) (i : ℕ) (entries : List Entry) (place 
 declared_more decls i entries place decl entry more next so_far lt is one more_is next_is =
     let taken = take_one_more decls i decl lt is in
     let few = so_far.few in
-    let step = step_few entry.is_field in
+    let step = step_is_at_most_1 entry.is_field in
     record {
       made = more_is ∙ rw (taken, declared_append 0 (take i decls) (decl ∷ []), ← so_far.next, one, so_far.made) refl;
-      next = next_is ∙ rw (taken, next_append 0 (take i decls) (decl ∷ []), ← so_far.next) (sym (next_one place decl entry one));
+      next = next_is ∙ rw (taken, next_append 0 (take i decls) (decl ∷ []), ← so_far.next) (sym (next_of_one place decl entry one));
       few = omega arith;
     }
 

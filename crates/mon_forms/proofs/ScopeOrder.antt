@@ -1,11 +1,11 @@
 -- The places of fields, then those of inputs, rise strictly.
 use Rattle.std.proofs.Common.{◌≡◌, ℕ, zero, suc, ◌+◌, ◌<◌, ◌≤◌, List, [], ◌∷◌, ◌++◌, length, get_or, add-one, refl, sym, subst, arith}
 use Rattle.std.specs.List.Sorted.{IsStrictlyIncreasing}
-use Rattle.mon_syntax.specs.declared.tree.Decl.{Decl}
-use Rattle.mon_syntax.specs.declared.tree.Decl.TheVariants as decls
-use Rattle.mon_syntax.specs.declared.tree.InputKind.{InputKind}
-use Rattle.mon_syntax.specs.declared.tree.InputKind.TheVariants as inputs
-use Rattle.mon_syntax.specs.declared.tree.InputTree.{InputTree}
+use Rattle.mon_tree.specs.declared.tree.Decl.{Decl}
+use Rattle.mon_tree.specs.declared.tree.Decl.TheVariants as decls
+use Rattle.mon_tree.specs.declared.tree.InputKind.{InputKind}
+use Rattle.mon_tree.specs.declared.tree.InputKind.TheVariants as inputs
+use Rattle.mon_tree.specs.declared.tree.InputTree.{InputTree}
 use Rattle.mon_forms.specs.declared.scope.Entry.{Entry}
 use Rattle.mon_forms.specs.Scope.{declared_from, field_count, input_meaning, inputs_from, scope_of}
 use Rattle.mon_forms.specs.Forms.{IsOrdered, meaning_places, places_of}
@@ -46,7 +46,7 @@ declared_rise place (decls.Flag at name value ∷ more) later rise =
     (omega arith, declared_rise (place + 1) more later (from_lower (place + 1 + field_count more) (place + (1 + field_count more)) (places_of later) (omega arith) rise))
 
 -- With at most 16 fields the places of a scope rise strictly.
-pub ordered : (declared : List Decl) (taken : List InputTree) → field_count declared ≤ 16 → IsOrdered (scope_of declared taken)
-ordered declared taken few =
+pub scopes_are_ordered : (declared : List Decl) (taken : List InputTree) → field_count declared ≤ 16 → IsOrdered (scope_of declared taken)
+scopes_are_ordered declared taken few =
     let places = places_of (inputs_from 16 taken) in
     increasing 0 (places_of (scope_of declared taken)) (declared_rise 0 declared (inputs_from 16 taken) (from_lower (0 + field_count declared) 16 places (omega arith) (inputs_rise 16 taken)))

@@ -1,15 +1,15 @@
 -- What is found of an expression, by its forms.
 use Rattle.std.proofs.Common.{◌≡◌, ℕ, Bool, List, [], ◌∷◌, map, refl, sym, ap, ◌∙◌}
-use Rattle.mon_syntax.specs.declared.tree.Op.{Op}
-use Rattle.mon_syntax.specs.declared.tree.Expr.{Expr}
-use Rattle.mon_syntax.specs.declared.tree.Factor.{Factor}
-use Rattle.mon_syntax.specs.declared.tree.Addend.{Addend}
-use Rattle.mon_syntax.specs.declared.tree.Expr.TheVariants as exprs
-use Rattle.mon_syntax.specs.declared.tree.Expr.TheOpen as layers
-use Rattle.mon_syntax.specs.declared.tree.Expr.TheFolds.{fold-roll-Expr, fold-Addend, fold-Factor, fold_out-Addend, fold_out-Factor}
+use Rattle.mon_tree.specs.declared.tree.Op.{Op}
+use Rattle.mon_tree.specs.declared.tree.Expr.{Expr}
+use Rattle.mon_tree.specs.declared.tree.Factor.{Factor}
+use Rattle.mon_tree.specs.declared.tree.Addend.{Addend}
+use Rattle.mon_tree.specs.declared.tree.Expr.TheVariants as exprs
+use Rattle.mon_tree.specs.declared.tree.Expr.TheOpen as layers
+use Rattle.mon_tree.specs.declared.tree.Expr.TheFolds.{fold-roll-Expr, fold-Addend, fold-Factor, fold_out-Addend, fold_out-Factor}
 use Rattle.mon_forms.specs.declared.scope.Entry.{Entry}
 use Rattle.mon_forms.specs.Sense.{Sense, AddendSense, FactorSense, sense, sense_step, addend_step, factor_step}
-use Rattle.mon_forms.specs.Making.{addend_sense, factor_sense}
+use Rattle.mon_forms.specs.inner.Parts.{addend_sense, factor_sense}
 
 -- ---- the later parts of sums and products
 
@@ -19,12 +19,12 @@ found_addend scope = fold-Addend Sense AddendSense FactorSense (sense_step scope
 abbrev pub found_factor : List Entry → Factor → FactorSense
 found_factor scope = fold-Factor Sense AddendSense FactorSense (sense_step scope) addend_step factor_step
 
-addends : (scope : List Entry) (rest : List Addend) → map (found_addend scope) rest ≡ map (addend_sense scope) rest
+pub addends : (scope : List Entry) (rest : List Addend) → map (found_addend scope) rest ≡ map (addend_sense scope) rest
 addends scope [] = refl
 addends scope (addend ∷ rest) =
     ap (λ first. first ∷ map (found_addend scope) rest) (fold_out-Addend Sense AddendSense FactorSense (sense_step scope) addend_step factor_step addend) ∙ ap (λ more. addend_sense scope addend ∷ more) (addends scope rest)
 
-factors : (scope : List Entry) (rest : List Factor) → map (found_factor scope) rest ≡ map (factor_sense scope) rest
+pub factors : (scope : List Entry) (rest : List Factor) → map (found_factor scope) rest ≡ map (factor_sense scope) rest
 factors scope [] = refl
 factors scope (factor ∷ rest) =
     ap (λ first. first ∷ map (found_factor scope) rest) (fold_out-Factor Sense AddendSense FactorSense (sense_step scope) addend_step factor_step factor) ∙ ap (λ more. factor_sense scope factor ∷ more) (factors scope rest)

@@ -5,13 +5,13 @@ use Rattle.std.specs.List.{flat_map, list_all, list_any}
 use Rattle.std.specs.Ordering.{int_eq}
 use Rattle.std.proofs.lemmas.Int.{ints}
 use Rattle.std.proofs.lemmas.List.Folds.{list_all-map}
-use Rattle.mon_syntax.specs.declared.tree.Op.{Op}
-use Rattle.mon_syntax.specs.declared.tree.Op.TheVariants as ops
-use Rattle.mon_syntax.specs.declared.tree.Addend.{Addend, roll-Addend}
-use Rattle.mon_syntax.specs.declared.tree.Factor.{Factor, roll-Factor}
-use Rattle.mon_syntax.specs.declared.tree.Expr.{Expr, roll-Expr}
-use Rattle.mon_syntax.specs.declared.tree.Expr.TheOpen.{Expr-F, Addend-F, Factor-F, Number, Truth, Named, Minus, Not, Product, Sum, Compare, Both, Either}
-use Rattle.mon_syntax.specs.declared.tree.Expr.TheFolds.{fold-Addend, fold-Factor, fold-roll-Expr, fold-roll-Addend, fold-roll-Factor, map-Expr, ind-Expr}
+use Rattle.mon_tree.specs.declared.tree.Op.{Op}
+use Rattle.mon_tree.specs.declared.tree.Op.TheVariants as ops
+use Rattle.mon_tree.specs.declared.tree.Addend.{Addend, roll-Addend}
+use Rattle.mon_tree.specs.declared.tree.Factor.{Factor, roll-Factor}
+use Rattle.mon_tree.specs.declared.tree.Expr.{Expr, roll-Expr}
+use Rattle.mon_tree.specs.declared.tree.Expr.TheOpen.{Expr-F, Addend-F, Factor-F, Number, Truth, Named, Minus, Not, Product, Sum, Compare, Both, Either}
+use Rattle.mon_tree.specs.declared.tree.Expr.TheFolds.{fold-Addend, fold-Factor, fold-roll-Expr, fold-roll-Addend, fold-roll-Factor, map-Expr, ind-Expr}
 use Rattle.mon_linear.specs.declared.formula.Formula.{Formula}
 use Rattle.mon_linear.specs.declared.formula.Formula.TheVariants as formulas
 use Rattle.mon_linear.specs.declared.formula.Formula.TheOpen as rows
@@ -20,8 +20,8 @@ use Rattle.mon_linear.specs.Linear.{Linear}
 use Rattle.mon_linear.specs.Negation.{negation}
 use Rattle.mon_linear.specs.Truth.{Valuation, layer_truth, truth_of, value_of}
 use Rattle.mon_linear.proofs.NegationLemmas.{negation_flips}
-use Rattle.mon_forms.specs.declared.kind.Kind.{Kind}
-use Rattle.mon_forms.specs.declared.kind.Kind.TheVariants as kinds
+use Rattle.mon_base.specs.declared.kind.Kind.{Kind}
+use Rattle.mon_base.specs.declared.kind.Kind.TheVariants as kinds
 use Rattle.mon_forms.specs.declared.fault.TypeFault.{TypeFault}
 use Rattle.mon_forms.specs.declared.fault.TypeFault.TheVariants as faults
 use Rattle.mon_forms.specs.declared.scope.Meaning.{Meaning}
@@ -34,44 +34,8 @@ use Rattle.mon_forms.specs.Sense as senses
 use Rattle.mon_forms.specs.Sense.{Sense, AddendSense, FactorSense, is_other, wrong_type, part_faults, product_faults, large_form, product_form, sum_form, signed_form, sense_step, addend_step, factor_step, sense, truth_formula, entry_kind, entry_formula, unknown}
 use Rattle.mon_forms.specs.Plain as plains
 use Rattle.mon_forms.specs.Plain.{Plain, number_in, truth_in, plain_step, addend_value, factor_value, plain_value, entry_value}
+use Rattle.mon_forms.proofs.FineParts.{IsFine, AreFine, or_else_none, parts_fine}
 use Rattle.mon_forms.proofs.FormValues.{value, value_of_linear, value_of_number, value_of_once, value_of_negative, value_of_plus, value_of_minus, value_of_raised, value_of_product, length_of_number, length_of_once, length_of_scaled, length_of_plus, length_of_product}
-
--- ---- where nothing is broken
-
-append_none : {X : Type 0} (xs ys : List X) → xs ++ ys ≡ [] → (xs ≡ []) × (ys ≡ [])
-append_none [] ys h = (refl, h)
-append_none (x ∷ xs) ys h = absurd cc
-
-pub or_else_none : (xs ys : List TypeFault) → xs or_else ys ≡ [] → (xs ≡ []) × (ys ≡ [])
-or_else_none [] ys h = (refl, h)
-or_else_none (x ∷ xs) ys h = absurd cc
-
--- it breaks nothing and is of the kind
-abbrev pub IsFine : Kind → Sense → Type 0
-IsFine wanted part = (part.faults ≡ []) × (is_other wanted part.kind ≡ false)
-
-abbrev pub AreFine : Kind → List Sense → Type 0
-AreFine wanted [] = Unit {0}
-AreFine wanted (part ∷ more) = IsFine wanted part × AreFine wanted more
-
-right_type : (wanted : Kind) (part : Sense) → wrong_type wanted part ≡ [] → is_other wanted part.kind ≡ false
-right_type wanted part h = by_test (is_other wanted part.kind) h
-  where
-    by_test : (test : Bool) → cond test (faults.WrongType part.first ∷ []) [] ≡ [] → test ≡ false
-    by_test true e = absurd cc
-    by_test false e = refl
-
-each_fine : (wanted : Kind) (parts : List Sense) → flat_map (λ part. part.faults) parts ≡ [] → flat_map (wrong_type wanted) parts ≡ [] → AreFine wanted parts
-each_fine wanted [] h k = tt
-each_fine wanted (part ∷ more) h k =
-    let mine = append_none part.faults (flat_map (λ part. part.faults) more) h in
-    let types = append_none (wrong_type wanted part) (flat_map (wrong_type wanted) more) k in
-    ((mine.0, right_type wanted part types.0), each_fine wanted more mine.1 types.1)
-
-pub parts_fine : (wanted : Kind) (parts : List Sense) → part_faults wanted parts ≡ [] → AreFine wanted parts
-parts_fine wanted parts h =
-    let both = or_else_none (flat_map (λ part. part.faults) parts) (flat_map (wrong_type wanted) parts) h in
-    each_fine wanted parts both.0 both.1
 
 -- ---- one part
 
@@ -140,7 +104,7 @@ module _ (valuation : Valuation) (scope : List Entry) where
       rw (← e, ← f) (value_of_linear valuation scope (raised (pos 1) (minus left right)) ∙ value_of_raised valuation scope (pos 1) (minus left right) ∙ ap (λ n. n +ℤ pos 1) (value_of_minus valuation scope left right long)) in
       truth_row valuation (linear_of scope (raised (pos 1) (minus left right))) ∙ raised_below_zero _ l r worth
 
-  compared_truth : (op : Op) (left right : Form) (l r : ℤ) → length left.times ≡ length right.times → value valuation scope left ≡ l → value valuation scope right ≡ r → truth_of valuation (senses.compared scope op left right) ≡ plains.compared op l r
+  compared_truth : (op : Op) (left right : Form) (l r : ℤ) → length left.times ≡ length right.times → value valuation scope left ≡ l → value valuation scope right ≡ r → truth_of valuation (senses.comparison_formula scope op left right) ≡ plains.compared op l r
   compared_truth ops.Equal left right l r long e f =
       truth_all valuation (senses.at_most scope left right ∷ senses.at_most scope right left ∷ [])
       ∙ both_tests (λ tests. list_all (λ part. part) tests) _ _ _ _ (at_most_truth left right l r long e f) (at_most_truth right left r l (sym long) f e)
@@ -362,7 +326,7 @@ module _ (valuation : Valuation) (scope : List Entry) where
       let l = sense_of left.0 in
       let r = sense_of right.0 in
       let parts = l ∷ r ∷ [] in
-      bool_agrees l.first (part_faults kinds.Int parts or_else large_form l.first (minus l.form r.form)) (senses.compared scope op l.form r.form) (plains.compared op (number_in (value_of_expression left.0)) (number_in (value_of_expression right.0)))
+      bool_agrees l.first (part_faults kinds.Int parts or_else large_form l.first (minus l.form r.form)) (senses.comparison_formula scope op l.form r.form) (plains.compared op (number_in (value_of_expression left.0)) (number_in (value_of_expression right.0)))
       (λ none.
       let fine = parts_fine kinds.Int parts (or_else_none (part_faults kinds.Int parts) (large_form l.first (minus l.form r.form)) none).0 in
       compared_truth valuation scope op l.form r.form _ _ (left.1.ints.entries ∙ sym right.1.ints.entries) (left.1.ints.worth fine.0) (right.1.ints.worth fine.1.0))

@@ -3,28 +3,29 @@ use Rattle.std.proofs.Common.{◌≡◌, ℕ, ◌+◌, ◌≤◌, ◌^◌, pos, 
 use Rattle.std.specs.Prelude.{nat_le, if◌then◌else◌}
 use Rattle.std.proofs.lemmas.Int.{ints}
 use Rattle.std.proofs.lemmas.Bool.Decides.{nat_tests}
-use Rattle.mon_syntax.specs.declared.tree.Lit.{Lit}
-use Rattle.mon_syntax.specs.declared.tree.Decl.{Decl}
-use Rattle.mon_syntax.specs.declared.tree.Decl.TheVariants as decls
-use Rattle.mon_syntax.specs.declared.tree.InputKind.{InputKind}
-use Rattle.mon_syntax.specs.declared.tree.InputKind.TheVariants as inputs
-use Rattle.mon_syntax.specs.declared.tree.InputTree.{InputTree}
-use Rattle.mon_forms.specs.Scope.{constant_value, declared_from, greatest_number, input_meaning, inputs_from, scope_of, signed}
-use Rattle.mon_forms.specs.Forms.{is_within}
-use Rattle.mon_forms.specs.Making.{is_small, has_small_numbers}
+use Rattle.mon_tree.specs.declared.tree.Lit.{Lit}
+use Rattle.mon_tree.specs.declared.tree.Decl.{Decl}
+use Rattle.mon_tree.specs.declared.tree.Decl.TheVariants as decls
+use Rattle.mon_tree.specs.declared.tree.InputKind.{InputKind}
+use Rattle.mon_tree.specs.declared.tree.InputKind.TheVariants as inputs
+use Rattle.mon_tree.specs.declared.tree.InputTree.{InputTree}
+use Rattle.mon_base.specs.Limits.{GREATEST_NUMBER}
+use Rattle.mon_forms.specs.Scope.{constant_value, declared_from, input_meaning, inputs_from, scope_of, signed}
+use Rattle.mon_base.specs.Numbers.{is_within}
+use Rattle.mon_forms.specs.Making.{has_small_number, has_small_numbers}
 
-signed_small : (minus : Bool) (digits : ℕ) → digits ≤ greatest_number → is_within (2 ^ 63) (signed minus (pos digits)) ≡ true
+signed_small : (minus : Bool) (digits : ℕ) → digits ≤ GREATEST_NUMBER → is_within (2 ^ 63) (signed minus (pos digits)) ≡ true
 signed_small true digits small = grind (arith, ints)
 signed_small false digits small = grind (arith, ints)
 
-value_small : (test minus : Bool) (digits : ℕ) → nat_le digits greatest_number ≡ test → is_within (2 ^ 63) (if test then signed minus (pos digits) else pos 0) ≡ true
+value_small : (test minus : Bool) (digits : ℕ) → nat_le digits GREATEST_NUMBER ≡ test → is_within (2 ^ 63) (if test then signed minus (pos digits) else pos 0) ≡ true
 value_small true minus digits is = signed_small minus digits (grind (arith, nat_tests))
 value_small false minus digits is = refl
 
 constant_small : (literal : Lit) → is_within (2 ^ 63) (constant_value literal) ≡ true
-constant_small literal = value_small (nat_le literal.digits greatest_number) literal.minus literal.digits refl
+constant_small literal = value_small (nat_le literal.digits GREATEST_NUMBER) literal.minus literal.digits refl
 
-input_small : (kind : InputKind) (place : ℕ) → is_small (input_meaning kind place) ≡ true
+input_small : (kind : InputKind) (place : ℕ) → has_small_number (input_meaning kind place) ≡ true
 input_small inputs.Int place = refl
 input_small inputs.Bool place = refl
 

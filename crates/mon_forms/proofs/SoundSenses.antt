@@ -4,38 +4,31 @@ use Rattle.std.specs.Prelude.{nat_lt, ◌||◌, if◌then◌else◌}
 use Rattle.std.specs.List.{flat_map, list_all}
 use Rattle.std.proofs.lemmas.Int.{ints}
 use Rattle.std.proofs.lemmas.Bool.Decides.{nat_tests}
-use Rattle.mon_syntax.specs.declared.tree.Expr.{Expr, roll-Expr}
-use Rattle.mon_syntax.specs.declared.tree.Addend.{Addend, roll-Addend}
-use Rattle.mon_syntax.specs.declared.tree.Factor.{Factor, roll-Factor}
-use Rattle.mon_syntax.specs.declared.tree.Expr.TheOpen.{Expr-F, Addend-F, Factor-F, Number, Truth, Named, Minus, Not, Product, Sum, Compare, Both, Either}
-use Rattle.mon_syntax.specs.declared.tree.Expr.TheFolds.{fold-roll-Expr, fold-roll-Addend, fold-roll-Factor, map-Expr, ind-Expr}
-use Rattle.mon_forms.specs.declared.kind.Kind.{Kind}
-use Rattle.mon_forms.specs.declared.kind.Kind.TheVariants as kinds
+use Rattle.mon_tree.specs.declared.tree.Expr.{Expr, roll-Expr}
+use Rattle.mon_tree.specs.declared.tree.Addend.{Addend, roll-Addend}
+use Rattle.mon_tree.specs.declared.tree.Factor.{Factor, roll-Factor}
+use Rattle.mon_tree.specs.declared.tree.Expr.TheOpen.{Expr-F, Addend-F, Factor-F, Number, Truth, Named, Minus, Not, Product, Sum, Compare, Both, Either}
+use Rattle.mon_tree.specs.declared.tree.Expr.TheFolds.{fold-roll-Expr, fold-roll-Addend, fold-roll-Factor, map-Expr, ind-Expr}
+use Rattle.mon_base.specs.declared.kind.Kind.{Kind}
+use Rattle.mon_base.specs.declared.kind.Kind.TheVariants as kinds
 use Rattle.mon_forms.specs.declared.fault.TypeFault.{TypeFault}
 use Rattle.mon_forms.specs.declared.scope.Entry.{Entry}
-use Rattle.mon_forms.specs.Scope.{greatest_number, entry_named}
-use Rattle.mon_forms.specs.Forms.{Form, IsFormOf, scaled, plus, minus, product, is_constant, is_within, is_limited}
+use Rattle.mon_base.specs.Limits.{GREATEST_NUMBER}
+use Rattle.mon_forms.specs.Scope.{entry_named}
+use Rattle.mon_forms.specs.Forms.{Form, scaled, plus, minus, product, is_constant, is_limited}
+use Rattle.mon_forms.specs.inner.FormBounds.{IsFormOf}
+use Rattle.mon_base.specs.Numbers.{is_within}
 use Rattle.mon_forms.specs.Faults.{◌or_else◌}
 use Rattle.mon_forms.specs.Sense.{Sense, AddendSense, FactorSense, is_other, part_faults, wrong_type, large_number, large_form, product_faults, product_form, signed_form, sum_form, sense, sense_step, addend_step, factor_step}
 use Rattle.mon_forms.specs.Making.{has_small_numbers}
 use Rattle.mon_forms.proofs.SenseLayers.{found_addend, found_factor}
 use Rattle.mon_forms.proofs.FormShapes.{name_is_form, number_is_form, plus_is_form, product_is_form, scaled_is_form}
 use Rattle.mon_forms.proofs.LimitedForms.{name_limited, number_limited}
+pub use Rattle.mon_forms.proofs.FineParts.{or_else_none}
+use Rattle.mon_forms.proofs.FineParts.{AreFine, no_fault, parts_fine}
 use Rattle.mon_forms.proofs.ModestFormulas.{is_modest, modest-All, modest-Any, modest_negation, compared_modest, truth_modest, entry_modest}
 
 -- ---- faults
-
-pub or_else_none : (these those : List TypeFault) → (these or_else those) ≡ [] → (these ≡ []) × (those ≡ [])
-or_else_none [] those none = (refl, none)
-or_else_none (fault ∷ these) those none = absurd (cc)
-
-append_none : (these those : List TypeFault) → (these ++ those) ≡ [] → (these ≡ []) × (those ≡ [])
-append_none [] those none = (refl, none)
-append_none (fault ∷ these) those none = absurd (cc)
-
-no_fault : (test : Bool) (fault : TypeFault) → (if test then fault ∷ [] else []) ≡ [] → test ≡ false
-no_fault true fault none = absurd (cc)
-no_fault false fault none = refl
 
 no_fault_unless : (test : Bool) (fault : TypeFault) → (if test then [] else fault ∷ []) ≡ [] → test ≡ true
 no_fault_unless true fault none = refl
@@ -43,23 +36,6 @@ no_fault_unless false fault none = absurd (cc)
 
 pub large_form_none : (at : ℕ) (form : Form) → large_form at form ≡ [] → is_limited form ≡ true
 large_form_none at form none = no_fault_unless (is_limited form) _ none
-
--- each part breaks no rule and is not of another kind
-abbrev pub AreFine : Kind → List Sense → Type 0
-AreFine wanted [] = Unit {0}
-AreFine wanted (part ∷ parts) = (part.faults ≡ []) × (is_other wanted part.kind ≡ false) × AreFine wanted parts
-
-each_fine : (wanted : Kind) (parts : List Sense) → flat_map (λ part. part.faults) parts ≡ [] → flat_map (wrong_type wanted) parts ≡ [] → AreFine wanted parts
-each_fine wanted [] none same = tt
-each_fine wanted (part ∷ parts) none same =
-    let here = append_none part.faults (flat_map (λ part. part.faults) parts) none in
-    let kind = append_none (wrong_type wanted part) (flat_map (wrong_type wanted) parts) same in
-    (here.0, no_fault (is_other wanted part.kind) _ kind.0, each_fine wanted parts here.1 kind.1)
-
-pub parts_fine : (wanted : Kind) (parts : List Sense) → part_faults wanted parts ≡ [] → AreFine wanted parts
-parts_fine wanted parts none =
-    let both = or_else_none (flat_map (λ part. part.faults) parts) (flat_map (wrong_type wanted) parts) none in
-    each_fine wanted parts both.0 both.1
 
 -- ---- what is found
 
@@ -72,7 +48,7 @@ abbrev AreSound : List Entry → List Sense → Type 0
 AreSound scope [] = Unit {0}
 AreSound scope (part ∷ parts) = IsSound scope part × AreSound scope parts
 
-signed_is_form : (scope : List Entry) (minus : Bool) (form : Form) → IsFormOf scope form → IsFormOf scope (if minus then scaled (neg_ℤ (pos 1)) form else form)
+pub signed_is_form : (scope : List Entry) (minus : Bool) (form : Form) → IsFormOf scope form → IsFormOf scope (if minus then scaled (neg_ℤ (pos 1)) form else form)
 signed_is_form scope true form of_scope = scaled_is_form scope (neg_ℤ (pos 1)) form of_scope
 signed_is_form scope false form of_scope = of_scope
 
@@ -101,12 +77,12 @@ products_limited at form (factor ∷ rest) limited none = let turn = product_tur
 
 parts_modest : (scope : List Entry) (parts : List Sense) → AreSound scope parts → AreFine kinds.Bool parts → list_all (λ part. part) (map is_modest (map (λ part. part.formula) parts)) ≡ true
 parts_modest scope [] sound fine = refl
-parts_modest scope (part ∷ parts) sound fine = rw (sound.0.modest fine.0 fine.1, parts_modest scope parts sound.1 fine.2) refl
+parts_modest scope (part ∷ parts) sound fine = rw (sound.0.modest fine.0.0 fine.0.1, parts_modest scope parts sound.1 fine.1) refl
 
-pub small_number : (at value : ℕ) → large_number at value ≡ [] → value ≤ greatest_number
-small_number at value none = let small = no_fault (nat_lt greatest_number value) _ none in grind (arith, nat_tests)
+pub small_number : (at value : ℕ) → large_number at value ≡ [] → value ≤ GREATEST_NUMBER
+small_number at value none = let small = no_fault (nat_lt GREATEST_NUMBER value) _ none in grind (arith, nat_tests)
 
-value_within : (value : ℕ) → value ≤ greatest_number → is_within (2 ^ 63) (pos value) ≡ true
+value_within : (value : ℕ) → value ≤ GREATEST_NUMBER → is_within (2 ^ 63) (pos value) ≡ true
 value_within value small = grind (arith, ints)
 
 -- ---- each layer
@@ -141,16 +117,16 @@ bare_layer scope = map-Expr ((expression : Expr) × Sound scope expression) ((ad
 abbrev found_layer : List Entry → Expr-F Expr Addend Factor → Sense
 found_layer scope layer = sense_step scope (map-Expr Expr Addend Factor Sense AddendSense FactorSense (sense scope) (found_addend scope) (found_factor scope) layer)
 
-never : {P : Type 0} → true ≡ false → P
-never is = absurd (cc)
+true_not_false : {P : Type 0} → true ≡ false → P
+true_not_false is = absurd (cc)
 
 layer_sound : (scope : List Entry) → has_small_numbers scope ≡ true → (layer : Layer scope) → IsSound scope (found_layer scope (bare_layer scope layer))
 layer_sound scope small (Number at value) = record {
   of_scope = number_is_form scope (pos value);
   limited = λ none other. number_limited scope (pos value) (value_within value (small_number at value none));
-  modest = λ none other. never other;
+  modest = λ none other. true_not_false other;
 }
-layer_sound scope small (Truth at value) = record { of_scope = number_is_form scope (pos 0); limited = λ none other. never other; modest = λ none other. truth_modest value }
+layer_sound scope small (Truth at value) = record { of_scope = number_is_form scope (pos 0); limited = λ none other. true_not_false other; modest = λ none other. truth_modest value }
 layer_sound scope small (Named at name) = record {
   of_scope = name_is_form scope name;
   limited = λ none other. name_limited scope name small;
@@ -159,14 +135,14 @@ layer_sound scope small (Named at name) = record {
 layer_sound scope small (Minus at of) = record {
   of_scope = scaled_is_form scope (neg_ℤ (pos 1)) (sense scope of.0).form of.1.of_scope;
   limited = λ none other. large_form_none at (scaled (neg_ℤ (pos 1)) (sense scope of.0).form) (or_else_none (part_faults kinds.Int (sense scope of.0 ∷ [])) _ none).1;
-  modest = λ none other. never other;
+  modest = λ none other. true_not_false other;
 }
 layer_sound scope small (Not at of) = record {
   of_scope = number_is_form scope (pos 0);
-  limited = λ none other. never other;
+  limited = λ none other. true_not_false other;
   modest = λ none other.
       let fine = parts_fine kinds.Bool (sense scope of.0 ∷ []) none in
-      modest_negation (sense scope of.0).formula ∙ of.1.modest fine.0 fine.1;
+      modest_negation (sense scope of.0).formula ∙ of.1.modest fine.0.0 fine.0.1;
 }
 layer_sound scope small (Product first rest) = record {
   of_scope = products_are_form scope (sense scope first.0).form _ first.1.of_scope (factors_sound scope rest);
@@ -174,33 +150,33 @@ layer_sound scope small (Product first rest) = record {
       let later = map (found_factor scope) (map (λ factor. factor.0) rest) in
       let both = or_else_none (part_faults kinds.Int (sense scope first.0 ∷ map (λ factor. factor.of) later)) _ none in
       let fine = parts_fine kinds.Int (sense scope first.0 ∷ map (λ factor. factor.of) later) both.0 in
-      products_limited (sense scope first.0).first (sense scope first.0).form later (first.1.limited fine.0 fine.1) both.1;
-  modest = λ none other. never other;
+      products_limited (sense scope first.0).first (sense scope first.0).form later (first.1.limited fine.0.0 fine.0.1) both.1;
+  modest = λ none other. true_not_false other;
 }
 layer_sound scope small (Sum first rest) = record {
   of_scope = sum_is_form scope (sense scope first.0).form _ first.1.of_scope (addends_sound scope rest);
   limited = λ none other.
       let later = map (found_addend scope) (map (λ addend. addend.0) rest) in
       large_form_none (sense scope first.0).first (sum_form (sense scope first.0).form later) (or_else_none (part_faults kinds.Int (sense scope first.0 ∷ map (λ addend. addend.of) later)) _ none).1;
-  modest = λ none other. never other;
+  modest = λ none other. true_not_false other;
 }
 layer_sound scope small (Compare op left right) = record {
   of_scope = number_is_form scope (pos 0);
-  limited = λ none other. never other;
+  limited = λ none other. true_not_false other;
   modest = λ none other.
       let both = or_else_none (part_faults kinds.Int (sense scope left.0 ∷ sense scope right.0 ∷ [])) _ none in
       compared_modest scope op (sense scope left.0).form (sense scope right.0).form (large_form_none (sense scope left.0).first (minus (sense scope left.0).form (sense scope right.0).form) both.1);
 }
 layer_sound scope small (Both parts) = record {
   of_scope = number_is_form scope (pos 0);
-  limited = λ none other. never other;
+  limited = λ none other. true_not_false other;
   modest = λ none other.
       let found = map (sense scope) (map (λ part. part.0) parts) in
       modest-All (map (λ part. part.formula) found) ∙ parts_modest scope found (parts_sound scope parts) (parts_fine kinds.Bool found none);
 }
 layer_sound scope small (Either parts) = record {
   of_scope = number_is_form scope (pos 0);
-  limited = λ none other. never other;
+  limited = λ none other. true_not_false other;
   modest = λ none other.
       let found = map (sense scope) (map (λ part. part.0) parts) in
       modest-Any (map (λ part. part.formula) found) ∙ parts_modest scope found (parts_sound scope parts) (parts_fine kinds.Bool found none);

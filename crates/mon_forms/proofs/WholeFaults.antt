@@ -4,24 +4,28 @@ use Rattle.std.specs.Prelude.{if◌then◌else◌, ◌||◌}
 use Rattle.std.specs.List.{All, flat_map}
 use Rattle.std.specs.Option.{option_or}
 use Rattle.std.proofs.lemmas.List.{append-nil}
-use Rattle.mon_syntax.specs.declared.tree.Op.{Op}
-use Rattle.mon_syntax.specs.declared.tree.Expr.{Expr}
-use Rattle.mon_syntax.specs.declared.tree.Addend.{Addend}
-use Rattle.mon_syntax.specs.declared.tree.Factor.{Factor}
-use Rattle.mon_syntax.specs.declared.tree.Expr.TheVariants as exprs
-use Rattle.mon_forms.specs.declared.kind.Kind.{Kind}
-use Rattle.mon_forms.specs.declared.kind.Kind.TheVariants as kinds
+use Rattle.mon_tree.specs.declared.tree.Op.{Op}
+use Rattle.mon_tree.specs.declared.tree.Expr.{Expr}
+use Rattle.mon_tree.specs.declared.tree.Addend.{Addend}
+use Rattle.mon_tree.specs.declared.tree.Factor.{Factor}
+use Rattle.mon_tree.specs.declared.tree.Expr.TheVariants as exprs
+use Rattle.mon_base.specs.declared.kind.Kind.{Kind}
+use Rattle.mon_base.specs.declared.kind.Kind.TheVariants as kinds
 use Rattle.mon_forms.specs.declared.fault.TypeFault.{TypeFault}
 use Rattle.mon_forms.specs.declared.fault.TypeFault.TheVariants as faults
 use Rattle.mon_forms.specs.declared.scope.Entry.{Entry}
 use Rattle.mon_forms.specs.Faults.{least, ◌or_else◌}
-use Rattle.mon_forms.specs.Finding.{earlier_of}
-use Rattle.mon_forms.specs.Forms.{Form, IsFormOf, is_constant, is_limited, minus, product, scaled}
-use Rattle.mon_forms.specs.Making.{IsInt, addend_sense, factor_sense, has_small_numbers}
+use Rattle.mon_forms.specs.Faults.{earlier_of}
+use Rattle.mon_forms.specs.Forms.{Form, is_constant, is_limited, minus, product, scaled}
+use Rattle.mon_forms.specs.inner.FormBounds.{IsFormOf}
+use Rattle.mon_forms.specs.Making.{IsInt, has_small_numbers}
+use Rattle.mon_forms.specs.inner.Parts.{addend_sense, factor_sense}
 use Rattle.mon_forms.specs.Sense.{Sense, FactorSense, is_other, large_form, part_faults, product_faults, sense, sum_form, wrong_type}
 use Rattle.mon_forms.proofs.SenseLayers.{sense-Minus, sense-Not, sense-Product, sense-Sum, sense-Compare, sense-Both, sense-Either}
 use Rattle.mon_forms.proofs.SoundSenses.{every_sense_is_sound}
-use Rattle.mon_forms.proofs.Least.{earlier_not_none, least_append, least_or_else, least_none}
+use Rattle.mon_forms.proofs.Least.{earlier_not_none, least_append, least_or_else}
+use Rattle.mon_forms.proofs.LeastLaws.{none_is_least}
+use Rattle.mon_forms.proofs.MakingLemmas.{rest_after}
 
 -- ---- a whole of some parts
 
@@ -39,14 +43,14 @@ least_whole wanted parts whole = least_or_else (part_faults wanted parts) whole 
 
 -- ---- the lists of parts, from the faults that the code finds
 
-one_part : (of : Sense → List TypeFault) (part : Sense) → least (flat_map of (part ∷ [])) ≡ least (of part)
-one_part of part = ap least (append-nil (of part))
+least_of_one : (of : Sense → List TypeFault) (part : Sense) → least (flat_map of (part ∷ [])) ≡ least (of part)
+least_of_one of part = ap least (append-nil (of part))
 
-first_part : (of : Sense → List TypeFault) (first : Sense) (rest : List Sense) → least (flat_map of (first ∷ rest)) ≡ earlier_of (least (of first)) (least (flat_map of rest))
-first_part of first rest = least_append (of first) (flat_map of rest)
+least_of_first : (of : Sense → List TypeFault) (first : Sense) (rest : List Sense) → least (flat_map of (first ∷ rest)) ≡ earlier_of (least (of first)) (least (flat_map of rest))
+least_of_first of first rest = least_append (of first) (flat_map of rest)
 
-two_parts : (of : Sense → List TypeFault) (left right : Sense) → least (flat_map of (left ∷ right ∷ [])) ≡ earlier_of (least (of left)) (least (of right))
-two_parts of left right = first_part of left (right ∷ []) ∙ ap (earlier_of (least (of left))) (one_part of right)
+least_of_two : (of : Sense → List TypeFault) (left right : Sense) → least (flat_map of (left ∷ right ∷ [])) ≡ earlier_of (least (of left)) (least (of right))
+least_of_two of left right = least_of_first of left (right ∷ []) ∙ ap (earlier_of (least (of left))) (least_of_one of right)
 
 of_addends : (of : Sense → List TypeFault) (scope : List Entry) (rest : List Addend) → flat_map of (map (λ addend. addend.of) (map (addend_sense scope) rest)) ≡ flat_map (λ addend. of (sense scope addend.of)) rest
 of_addends of scope [] = refl
@@ -96,7 +100,7 @@ pub least_Minus : (scope : List Entry) (at : ℕ) (of : Expr) (broken wrong : Op
 least_Minus scope at of broken wrong broken_is wrong_is =
     ap (λ (found : Sense). least found.faults) (sense-Minus scope at of)
     ∙ combine kinds.Int (sense scope of ∷ []) (of_opposite scope at of) broken wrong
-    (one_part (λ part. part.faults) (sense scope of) ∙ sym broken_is) (one_part (wrong_type kinds.Int) (sense scope of) ∙ sym wrong_is)
+    (least_of_one (λ part. part.faults) (sense scope of) ∙ sym broken_is) (least_of_one (wrong_type kinds.Int) (sense scope of) ∙ sym wrong_is)
 
 pub least_Not : (scope : List Entry) (at : ℕ) (of : Expr) (broken wrong : Option TypeFault)
     → broken ≡ least (sense scope of).faults
@@ -105,17 +109,17 @@ pub least_Not : (scope : List Entry) (at : ℕ) (of : Expr) (broken wrong : Opti
 least_Not scope at of broken wrong broken_is wrong_is =
     ap (λ (found : Sense). least found.faults) (sense-Not scope at of)
     ∙ combine_parts kinds.Bool (sense scope of ∷ []) broken wrong
-    (one_part (λ part. part.faults) (sense scope of) ∙ sym broken_is) (one_part (wrong_type kinds.Bool) (sense scope of) ∙ sym wrong_is)
+    (least_of_one (λ part. part.faults) (sense scope of) ∙ sym broken_is) (least_of_one (wrong_type kinds.Bool) (sense scope of) ∙ sym wrong_is)
 
 first_factor : (of : Sense → List TypeFault) (scope : List Entry) (first : Expr) (rest : List Factor)
     → least (flat_map of (sense scope first ∷ map (λ factor. factor.of) (map (factor_sense scope) rest))) ≡ earlier_of (least (of (sense scope first))) (least (flat_map (λ factor. of (sense scope factor.of)) rest))
 first_factor of scope first rest =
-    first_part of (sense scope first) (map (λ factor. factor.of) (map (factor_sense scope) rest)) ∙ ap (λ list. earlier_of (least (of (sense scope first))) (least list)) (of_factors of scope rest)
+    least_of_first of (sense scope first) (map (λ factor. factor.of) (map (factor_sense scope) rest)) ∙ ap (λ list. earlier_of (least (of (sense scope first))) (least list)) (of_factors of scope rest)
 
 first_addend : (of : Sense → List TypeFault) (scope : List Entry) (first : Expr) (rest : List Addend)
     → least (flat_map of (sense scope first ∷ map (λ addend. addend.of) (map (addend_sense scope) rest))) ≡ earlier_of (least (of (sense scope first))) (least (flat_map (λ addend. of (sense scope addend.of)) rest))
 first_addend of scope first rest =
-    first_part of (sense scope first) (map (λ addend. addend.of) (map (addend_sense scope) rest)) ∙ ap (λ list. earlier_of (least (of (sense scope first))) (least list)) (of_addends of scope rest)
+    least_of_first of (sense scope first) (map (λ addend. addend.of) (map (addend_sense scope) rest)) ∙ ap (λ list. earlier_of (least (of (sense scope first))) (least list)) (of_addends of scope rest)
 
 pub least_Product : (scope : List Entry) (first : Expr) (rest : List Factor) (broken wrong : Option TypeFault)
     → broken ≡ earlier_of (least (sense scope first).faults) (least (flat_map (λ factor. (sense scope factor.of).faults) rest))
@@ -142,7 +146,7 @@ pub least_Compare : (scope : List Entry) (op : Op) (left right : Expr) (broken w
 least_Compare scope op left right broken wrong broken_is wrong_is =
     ap (λ (found : Sense). least found.faults) (sense-Compare scope op left right)
     ∙ combine kinds.Int (sense scope left ∷ sense scope right ∷ []) (of_difference scope left right) broken wrong
-    (two_parts (λ part. part.faults) (sense scope left) (sense scope right) ∙ sym broken_is) (two_parts (wrong_type kinds.Int) (sense scope left) (sense scope right) ∙ sym wrong_is)
+    (least_of_two (λ part. part.faults) (sense scope left) (sense scope right) ∙ sym broken_is) (least_of_two (wrong_type kinds.Int) (sense scope left) (sense scope right) ∙ sym wrong_is)
 
 least_of_parts : (scope : List Entry) (parts : List Expr) (broken wrong : Option TypeFault)
     → broken ≡ least (flat_map (λ part. (sense scope part).faults) parts)
@@ -194,7 +198,7 @@ is_wanted true fault none = absurd (cc)
 is_wanted false fault none = refl
 
 int_part : (scope : List Entry) (part : Expr) → least (sense scope part).faults ≡ None → least (wrong_type kinds.Int (sense scope part)) ≡ None → IsInt scope part
-int_part scope part none same = record { fine = least_none (sense scope part).faults none; int = is_wanted (is_other kinds.Int (sense scope part).kind) (faults.WrongType (sense scope part).first) same }
+int_part scope part none same = record { fine = none_is_least (sense scope part).faults none; int = is_wanted (is_other kinds.Int (sense scope part).kind) (faults.WrongType (sense scope part).first) same }
 
 no_first : (these those : List TypeFault) → (these ++ those) ≡ [] → these ≡ []
 no_first [] those none = refl
@@ -220,8 +224,8 @@ int_alone scope part broken wrong broken_is wrong_is none =
 
 int_at : {X : Type 0} (scope : List Entry) (of : X → Expr) (xs : List X) → least (flat_map (λ x. (sense scope (of x)).faults) xs) ≡ None → least (flat_map (λ x. wrong_type kinds.Int (sense scope (of x))) xs) ≡ None → All (λ x. IsInt scope (of x)) xs
 int_at scope of xs none same = λ k d less. int_part scope (of (get_or xs k d))
-    (ap least (empty_at (λ x. (sense scope (of x)).faults) xs (least_none (flat_map (λ x. (sense scope (of x)).faults) xs) none) k d less))
-    (ap least (empty_at (λ x. wrong_type kinds.Int (sense scope (of x))) xs (least_none (flat_map (λ x. wrong_type kinds.Int (sense scope (of x))) xs) same) k d less))
+    (ap least (empty_at (λ x. (sense scope (of x)).faults) xs (none_is_least (flat_map (λ x. (sense scope (of x)).faults) xs) none) k d less))
+    (ap least (empty_at (λ x. wrong_type kinds.Int (sense scope (of x))) xs (none_is_least (flat_map (λ x. wrong_type kinds.Int (sense scope (of x))) xs) same) k d less))
 
 -- the first part and those after it
 pub record AreInts {X : Type 0} (scope : List Entry) (of : X → Expr) (first : Expr) (rest : List X) : Type 0 where
@@ -256,11 +260,6 @@ both_int scope left right broken wrong broken_is wrong_is none =
     record { left_int = int_part scope left fine.0 same.0; right_int = int_part scope right fine.1 same.1 }
 
 -- ---- products, from left to right
-
-rest_after : {X Y : Type 0} (of : X → Y) (xs : List X) (k : ℕ) (x : X) → x ≡ get_or xs k x → k < length xs → map of (drop k xs) ≡ of x ∷ map of (drop (suc k) xs)
-rest_after of [] k x is less = absurd (omega arith)
-rest_after of (y ∷ xs) zero x is less = ap (λ z. of z ∷ map of xs) (sym is)
-rest_after of (y ∷ xs) (suc k) x is less = rest_after of xs k x is (omega arith)
 
 -- what is left to find before the factor at an index
 abbrev pub from_factor : List Entry → ℕ → Form → List Factor → ℕ → List TypeFault

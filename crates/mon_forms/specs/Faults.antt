@@ -54,7 +54,16 @@ abbrev pub least : List TypeFault → Option TypeFault
 least [] = None
 least (fault ∷ more) = earlier fault (least more)
 
--- these, or, where there are none, those: a rule on a whole is asked only where its parts break none
+-- the earlier of two faults that may be, and the one where neither comes before the other
+abbrev pub earlier_of : Option TypeFault → Option TypeFault → Option TypeFault
+earlier_of None other = other
+earlier_of (Some fault) other = earlier fault other
+
+-- what is found first among faults is one of them that none comes before
+abbrev pub FindsLeast : List TypeFault → Type 0
+FindsLeast among = (fault : TypeFault) → least among ≡ Some fault → IsLeast among fault
+
+-- these, or, where there are none, those: a rule on a whole is asked where its parts break none
 infixr 30 ◌or_else◌
 abbrev pub ◌or_else◌ : List TypeFault → List TypeFault → List TypeFault
 [] or_else later = later

@@ -1,14 +1,18 @@
 -- Flattened forms: how many times each name of a scope counts, and a constant.
-use Rattle.std.specs.Prelude.{◌≡◌, ℕ, ◌^◌, ◌*◌, ◌<◌, ℤ, pos, neg_ℤ, ◌+ℤ◌, ◌*ℤ◌, ◌≤ℤ◌, int_le, Bool, true, ◌&&◌, List, [], ◌∷◌, map, All, Option, Some, slice_set, if◌then◌else◌}
+use Rattle.std.specs.Prelude.{ℕ, ◌≤◌, ℤ, pos, neg_ℤ, ◌+ℤ◌, ◌*ℤ◌, Bool, ◌&&◌, List, [], ◌∷◌, map, Option, Some, slice_set, if◌then◌else◌}
+use Rattle.mon_base.specs.Limits.{FIELDS, GREATEST_CONSTANT, MOST_TIMES}
+use Rattle.mon_base.specs.Numbers.{is_within}
 use Rattle.std.specs.List.{list_all}
 use Rattle.std.specs.List.Sorted.{IsStrictlyIncreasing}
 use Rattle.std.specs.Ordering.{int_eq}
+use Rattle.mon_tree.specs.declared.tree.Decl.{Decl}
+use Rattle.mon_tree.specs.declared.tree.InputTree.{InputTree}
 use Rattle.mon_linear.specs.declared.form.Term.{Term}
 use Rattle.mon_linear.specs.Linear.{Linear}
 use Rattle.mon_forms.specs.declared.scope.Meaning.{Meaning}
 use Rattle.mon_forms.specs.declared.scope.Meaning.TheVariants as meanings
 use Rattle.mon_forms.specs.declared.scope.Entry.{Entry}
-use Rattle.mon_forms.specs.Scope.{index_of, entry_at}
+use Rattle.mon_forms.specs.Scope.{index_of, entry_at, field_count, scope_of}
 
 -- `times` has a number for each entry of the scope, in its order
 pub record Form : Type 0 where
@@ -25,7 +29,8 @@ number_form scope number = record { times = no_times scope; constant = number }
 abbrev pub once : List Entry → ℕ → Form
 once scope index = record { times = slice_set (no_times scope) index (pos 1); constant = pos 0 }
 
--- What a name counts as. A bool and an unknown name are no number; they count as 0 where no rule looks.
+-- What a name counts as. A bool and an unknown name are no number; they count as 0 where no rule
+-- looks.
 abbrev pub meaning_form : List Entry → ℕ → Meaning → Form
 meaning_form scope index (meanings.Number number) = number_form scope number
 meaning_form scope index (meanings.Int place) = once scope index
@@ -47,10 +52,16 @@ abbrev pub plus : Form → Form → Form
 plus a b = record { times = added a.times b.times; constant = a.constant +ℤ b.constant }
 
 abbrev pub scaled : ℤ → Form → Form
-scaled by form = record { times = map (λ number. by *ℤ number) form.times; constant = by *ℤ form.constant }
+scaled by form = record {
+  times = map (λ number. by *ℤ number) form.times;
+  constant = by *ℤ form.constant;
+}
+
+abbrev pub opposite : Form → Form
+opposite form = scaled (neg_ℤ (pos 1)) form
 
 abbrev pub minus : Form → Form → Form
-minus a b = plus a (scaled (neg_ℤ (pos 1)) b)
+minus a b = plus a (opposite b)
 
 abbrev pub raised : ℤ → Form → Form
 raised by form = record { times = form.times; constant = form.constant +ℤ by }
@@ -63,66 +74,27 @@ is_constant form = list_all (λ number. int_eq number (pos 0)) form.times
 abbrev pub product : Form → Form → Form
 product a b = if is_constant a then scaled a.constant b else scaled b.constant a
 
-abbrev pub is_within : ℕ → ℤ → Bool
-is_within bound number = int_le (neg_ℤ (pos bound)) number && int_le number (pos bound)
-
--- the numbers of names have a magnitude of at most 2^31, and the constant of at most 2^63
+-- the numbers of names and the constant have a magnitude of at most their limits
 abbrev pub is_limited : Form → Bool
-is_limited form = list_all (is_within (2 ^ 31)) form.times && is_within (2 ^ 63) form.constant
+is_limited form =
+    list_all (is_within MOST_TIMES) form.times && is_within GREATEST_CONSTANT form.constant
 
 -- ---- as a linear form over places
 
-abbrev pub place_of : Meaning → ℕ
-place_of (meanings.Number number) = 0
-place_of (meanings.Int place) = place
-place_of (meanings.Flag place) = place
+abbrev pub meaning_place : Meaning → ℕ
+meaning_place (meanings.Number number) = 0
+meaning_place (meanings.Int place) = place
+meaning_place (meanings.Flag place) = place
 
 -- names that count 0 times are dropped
 abbrev pub terms_of : List Entry → List ℤ → List Term
-terms_of (entry ∷ scope) (number ∷ times) = if int_eq number (pos 0) then terms_of scope times else record { place = place_of entry.meaning; times = number } ∷ terms_of scope times
+terms_of (entry ∷ scope) (number ∷ times) =
+    if int_eq number (pos 0) then terms_of scope times
+    else record { place = meaning_place entry.meaning; times = number } ∷ terms_of scope times
 terms_of scope times = []
 
 abbrev pub linear_of : List Entry → Form → Linear
 linear_of scope form = record { terms = terms_of scope form.times; constant = form.constant }
-
--- ---- forms of a scope
-
--- a constant counts in the constant of a form
-abbrev pub CanCount : Meaning → ℤ → Type 0
-CanCount (meanings.Number value) number = number ≡ pos 0
-CanCount (meanings.Int place) number = Unit {0}
-CanCount (meanings.Flag place) number = Unit {0}
-
--- a number for each entry, and 0 for a constant
-abbrev pub AreTimesOf : List Entry → List ℤ → Type 0
-AreTimesOf [] [] = Unit {0}
-AreTimesOf (entry ∷ scope) (number ∷ times) = CanCount entry.meaning number × AreTimesOf scope times
-AreTimesOf [] (number ∷ times) = ⊥
-AreTimesOf (entry ∷ scope) [] = ⊥
-
-abbrev pub IsFormOf : List Entry → Form → Type 0
-IsFormOf scope form = AreTimesOf scope form.times
-
--- ---- the bounds within which the code adds up forms
-
--- each number has a magnitude of at most so many times 2^31
-abbrev pub AreTimesWithin : ℕ → List ℤ → Type 0
-AreTimesWithin parts times = All (λ number. (neg_ℤ (pos (parts * 2 ^ 31)) ≤ℤ number) × (number ≤ℤ pos (parts * 2 ^ 31))) times
-
--- A sum of so many limited forms: its numbers are at most so many times as large as those of one.
-pub record AreWithin (parts : ℕ) (form : Form) : Type 0 where
-  pub each : AreTimesWithin parts form.times
-  pub above : neg_ℤ (pos (parts * 2 ^ 63)) ≤ℤ form.constant
-  pub below : form.constant ≤ℤ pos (parts * 2 ^ 63)
-
--- so few parts that one more can be added
-abbrev pub HasRoom : Form → Type 0
-HasRoom form = (parts : ℕ) × (parts < 2 ^ 62) × AreWithin parts form
-
--- each number has a magnitude of at most 2^94
-pub record IsSmall (form : Form) : Type 0 where
-  pub each : list_all (is_within (2 ^ 94)) form.times ≡ true
-  pub whole : is_within (2 ^ 94) form.constant ≡ true
 
 -- ---- the order of a scope
 
@@ -139,3 +111,7 @@ places_of (entry ∷ scope) = meaning_places entry.meaning (places_of scope)
 -- The places of the entries that are no constants rise strictly.
 abbrev pub IsOrdered : List Entry → Type 0
 IsOrdered scope = IsStrictlyIncreasing (places_of scope)
+
+-- with no more fields than a monitor has, the scope of a method is ordered
+abbrev pub HasOrderedScope : List Decl → List InputTree → Type 0
+HasOrderedScope declared taken = field_count declared ≤ FIELDS → IsOrdered (scope_of declared taken)

@@ -3,5 +3,6 @@ pub mod Forms
 pub mod Faults
 pub mod Sense
 pub mod Plain
+pub mod KeptMeaning
 pub mod Making
-pub mod Finding
+pub mod inner

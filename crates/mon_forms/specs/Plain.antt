@@ -2,11 +2,11 @@
 use Rattle.std.specs.Prelude.{ℤ, pos, neg_ℤ, ◌+ℤ◌, ◌*ℤ◌, Bool, false, not, List, Option, Some, None, fold, int_lt, int_le}
 use Rattle.std.specs.Ordering.{int_eq}
 use Rattle.std.specs.List.{list_all, list_any}
-use Rattle.mon_syntax.specs.declared.tree.Op.{Op}
-use Rattle.mon_syntax.specs.declared.tree.Op.TheVariants as ops
-use Rattle.mon_syntax.specs.declared.tree.Expr.{Expr}
-use Rattle.mon_syntax.specs.declared.tree.Expr.TheOpen.{Expr-F, Addend-F, Factor-F, Number, Truth, Named, Minus, Not, Product, Sum, Compare, Both, Either}
-use Rattle.mon_syntax.specs.declared.tree.Expr.TheFolds.{fold-Expr}
+use Rattle.mon_tree.specs.declared.tree.Op.{Op}
+use Rattle.mon_tree.specs.declared.tree.Op.TheVariants as ops
+use Rattle.mon_tree.specs.declared.tree.Expr.{Expr}
+use Rattle.mon_tree.specs.declared.tree.Expr.TheOpen.{Expr-F, Addend-F, Factor-F, Number, Truth, Named, Minus, Not, Product, Sum, Compare, Both, Either}
+use Rattle.mon_tree.specs.declared.tree.Expr.TheFolds.{fold-Expr}
 use Rattle.mon_linear.specs.Truth.{Valuation}
 use Rattle.mon_forms.specs.declared.scope.Meaning.{Meaning}
 use Rattle.mon_forms.specs.declared.scope.Meaning.TheVariants as meanings
@@ -53,7 +53,8 @@ plain_step scope valuation (Minus at of) = number (neg_ℤ (number_in of))
 plain_step scope valuation (Not at of) = truth (not (truth_in of))
 plain_step scope valuation (Product first rest) = number (fold ◌*ℤ◌ (number_in first) rest)
 plain_step scope valuation (Sum first rest) = number (fold ◌+ℤ◌ (number_in first) rest)
-plain_step scope valuation (Compare op left right) = truth (compared op (number_in left) (number_in right))
+plain_step scope valuation (Compare op left right) =
+    truth (compared op (number_in left) (number_in right))
 plain_step scope valuation (Both parts) = truth (list_all (λ part. truth_in part) parts)
 plain_step scope valuation (Either parts) = truth (list_any (λ part. truth_in part) parts)
 
@@ -65,4 +66,5 @@ factor_value factor = number_in factor.of
 
 -- the value of an expression in a scope, where each place has a number and a truth value
 abbrev pub plain_value : List Entry → Valuation → Expr → Plain
-plain_value scope valuation = fold-Expr Plain ℤ ℤ (plain_step scope valuation) addend_value factor_value
+plain_value scope valuation =
+    fold-Expr Plain ℤ ℤ (plain_step scope valuation) addend_value factor_value

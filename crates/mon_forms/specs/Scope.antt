@@ -1,34 +1,48 @@
 -- What the names of an expression stand for: constants, fields and the inputs of its method.
 use Rattle.std.specs.Prelude.{ℕ, ◌+◌, ℤ, pos, neg_ℤ, Bool, true, false, nat_le, List, [], ◌∷◌, ◌++◌, Option, Some, None, position, slice_get, if◌then◌else◌}
 use Rattle.std.specs.Str.{bytes_eq}
-use Rattle.mon_syntax.specs.declared.tree.Lit.{Lit}
-use Rattle.mon_syntax.specs.declared.tree.Decl.{Decl}
-use Rattle.mon_syntax.specs.declared.tree.Decl.TheVariants as decls
-use Rattle.mon_syntax.specs.declared.tree.InputKind.{InputKind}
-use Rattle.mon_syntax.specs.declared.tree.InputKind.TheVariants as inputs
-use Rattle.mon_syntax.specs.declared.tree.InputTree.{InputTree}
+use Rattle.mon_base.specs.Limits.{FIRST_INPUT, GREATEST_NUMBER}
+use Rattle.mon_tree.specs.declared.tree.Lit.{Lit}
+use Rattle.mon_tree.specs.declared.tree.Decl.{Decl}
+use Rattle.mon_tree.specs.declared.tree.Decl.TheVariants as decls
+use Rattle.mon_tree.specs.declared.tree.InputKind.{InputKind}
+use Rattle.mon_tree.specs.declared.tree.InputKind.TheVariants as inputs
+use Rattle.mon_tree.specs.declared.tree.InputTree.{InputTree}
 use Rattle.mon_forms.specs.declared.scope.Meaning.{Meaning}
 use Rattle.mon_forms.specs.declared.scope.Meaning.TheVariants as meanings
 use Rattle.mon_forms.specs.declared.scope.Entry.{Entry}
-
--- the greatest written number, 2^63 - 1
-abbrev pub greatest_number : ℕ
-greatest_number = 9223372036854775807
 
 abbrev pub signed : Bool → ℤ → ℤ
 signed true number = neg_ℤ number
 signed false number = number
 
--- What a constant stands for. A number that is too large is refused where it is written, and stands for 0 elsewhere.
+-- What a constant stands for. A number that is too large is refused where it is written, and
+-- stands for 0 elsewhere.
 abbrev pub constant_value : Lit → ℤ
-constant_value literal = if nat_le literal.digits greatest_number then signed literal.minus (pos literal.digits) else pos 0
+constant_value literal =
+    if nat_le literal.digits GREATEST_NUMBER
+    then signed literal.minus (pos literal.digits)
+    else pos 0
+
+abbrev pub constant_entry : List ℕ → Lit → Entry
+constant_entry name value = record {
+  name = name;
+  meaning = meanings.Number (constant_value value);
+  is_field = false;
+}
+
+abbrev pub field_entry : List ℕ → Meaning → Entry
+field_entry name meaning = record { name = name; meaning = meaning; is_field = true }
 
 -- The names of declarations: fields have the places from the given one on, in file order.
 abbrev pub declared_from : ℕ → List Decl → List Entry
 declared_from place [] = []
-declared_from place (decls.Const at name value ∷ more) = record { name = name; meaning = meanings.Number (constant_value value); is_field = false } ∷ declared_from place more
-declared_from place (decls.Int at name value ∷ more) = record { name = name; meaning = meanings.Int place; is_field = true } ∷ declared_from (place + 1) more
-declared_from place (decls.Flag at name value ∷ more) = record { name = name; meaning = meanings.Flag place; is_field = true } ∷ declared_from (place + 1) more
+declared_from place (decls.Const at name value ∷ more) =
+    constant_entry name value ∷ declared_from place more
+declared_from place (decls.Int at name value ∷ more) =
+    field_entry name (meanings.Int place) ∷ declared_from (place + 1) more
+declared_from place (decls.Flag at name value ∷ more) =
+    field_entry name (meanings.Flag place) ∷ declared_from (place + 1) more
 
 -- how many of the declarations are fields
 abbrev pub field_count : List Decl → ℕ
@@ -41,13 +55,23 @@ abbrev pub input_meaning : InputKind → ℕ → Meaning
 input_meaning inputs.Int place = meanings.Int place
 input_meaning inputs.Bool place = meanings.Flag place
 
+abbrev pub input_entry : ℕ → InputTree → Entry
+input_entry place input = record {
+  name = input.name;
+  meaning = input_meaning input.kind place;
+  is_field = false;
+}
+
 abbrev pub inputs_from : ℕ → List InputTree → List Entry
 inputs_from place [] = []
-inputs_from place (input ∷ more) = record { name = input.name; meaning = input_meaning input.kind place; is_field = false } ∷ inputs_from (place + 1) more
+inputs_from place (input ∷ more) = input_entry place input ∷ inputs_from (place + 1) more
+
+abbrev pub input_entries : List InputTree → List Entry
+input_entries taken = inputs_from FIRST_INPUT taken
 
 -- the names that a method sees: field `k` has place `k`, and its input `k` has place `16 + k`
 abbrev pub scope_of : List Decl → List InputTree → List Entry
-scope_of declared taken = declared_from 0 declared ++ inputs_from 16 taken
+scope_of declared taken = declared_from 0 declared ++ input_entries taken
 
 -- where the first entry of this name stands
 abbrev pub index_of : List Entry → List ℕ → Option ℕ

@@ -1,23 +1,25 @@
--- What the checker finds of an expression: its kind, the rules that it breaks, its flattened form or its formula.
-use Rattle.std.specs.Prelude.{ℕ, pos, neg_ℤ, nat_lt, Bool, true, false, ◌||◌, List, [], ◌∷◌, map, fold, Option, Some, None, if◌then◌else◌}
+-- What the checker finds of an expression: its kind, the rules that it breaks, its flattened form
+-- or its formula.
+use Rattle.std.specs.Prelude.{ℕ, pos, nat_lt, Bool, true, false, ◌||◌, List, [], ◌∷◌, map, fold, Option, Some, None, if◌then◌else◌}
 use Rattle.std.specs.List.{flat_map}
-use Rattle.mon_syntax.specs.declared.tree.Op.{Op}
-use Rattle.mon_syntax.specs.declared.tree.Op.TheVariants as ops
-use Rattle.mon_syntax.specs.declared.tree.Expr.{Expr}
-use Rattle.mon_syntax.specs.declared.tree.Expr.TheOpen.{Expr-F, Addend-F, Factor-F, Number, Truth, Named, Minus, Not, Product, Sum, Compare, Both, Either}
-use Rattle.mon_syntax.specs.declared.tree.Expr.TheFolds.{fold-Expr}
+use Rattle.mon_tree.specs.declared.tree.Op.{Op}
+use Rattle.mon_tree.specs.declared.tree.Op.TheVariants as ops
+use Rattle.mon_tree.specs.declared.tree.Expr.{Expr}
+use Rattle.mon_tree.specs.declared.tree.Expr.TheOpen.{Expr-F, Addend-F, Factor-F, Number, Truth, Named, Minus, Not, Product, Sum, Compare, Both, Either}
+use Rattle.mon_tree.specs.declared.tree.Expr.TheFolds.{fold-Expr}
 use Rattle.mon_linear.specs.declared.formula.Formula.{Formula}
 use Rattle.mon_linear.specs.declared.formula.Formula.TheVariants as formulas
 use Rattle.mon_linear.specs.Negation.{negation}
-use Rattle.mon_forms.specs.declared.kind.Kind.{Kind}
-use Rattle.mon_forms.specs.declared.kind.Kind.TheVariants as kinds
+use Rattle.mon_base.specs.Limits.{GREATEST_NUMBER}
+use Rattle.mon_base.specs.declared.kind.Kind.{Kind}
+use Rattle.mon_base.specs.declared.kind.Kind.TheVariants as kinds
 use Rattle.mon_forms.specs.declared.fault.TypeFault.{TypeFault}
 use Rattle.mon_forms.specs.declared.fault.TypeFault.TheVariants as faults
 use Rattle.mon_forms.specs.declared.scope.Meaning.{Meaning}
 use Rattle.mon_forms.specs.declared.scope.Meaning.TheVariants as meanings
 use Rattle.mon_forms.specs.declared.scope.Entry.{Entry}
-use Rattle.mon_forms.specs.Scope.{greatest_number, entry_named}
-use Rattle.mon_forms.specs.Forms.{Form, number_form, name_form, plus, minus, scaled, raised, product, is_constant, is_limited, linear_of}
+use Rattle.mon_forms.specs.Scope.{entry_named}
+use Rattle.mon_forms.specs.Forms.{Form, number_form, name_form, plus, minus, opposite, raised, product, is_constant, is_limited, linear_of}
 use Rattle.mon_forms.specs.Faults.{◌or_else◌}
 
 -- ---- kinds
@@ -46,13 +48,15 @@ at_most scope left right = formulas.Row (linear_of scope (minus left right))
 abbrev pub less : List Entry → Form → Form → Formula
 less scope left right = formulas.Row (linear_of scope (raised (pos 1) (minus left right)))
 
-abbrev pub compared : List Entry → Op → Form → Form → Formula
-compared scope ops.Equal left right = formulas.All (at_most scope left right ∷ at_most scope right left ∷ [])
-compared scope ops.Differs left right = formulas.Any (less scope right left ∷ less scope left right ∷ [])
-compared scope ops.Less left right = less scope left right
-compared scope ops.AtMost left right = at_most scope left right
-compared scope ops.More left right = less scope right left
-compared scope ops.AtLeast left right = at_most scope right left
+abbrev pub comparison_formula : List Entry → Op → Form → Form → Formula
+comparison_formula scope ops.Equal left right =
+    formulas.All (at_most scope left right ∷ at_most scope right left ∷ [])
+comparison_formula scope ops.Differs left right =
+    formulas.Any (less scope right left ∷ less scope left right ∷ [])
+comparison_formula scope ops.Less left right = less scope left right
+comparison_formula scope ops.AtMost left right = at_most scope left right
+comparison_formula scope ops.More left right = less scope right left
+comparison_formula scope ops.AtLeast left right = at_most scope right left
 
 abbrev pub truth_formula : Bool → Formula
 truth_formula true = formulas.All []
@@ -70,7 +74,7 @@ entry_formula (Some entry) = meaning_formula entry.meaning
 
 -- ---- what is found of an expression
 
--- `first` is the offset of its first token; an int expression has a form, a bool expression a formula
+-- `first` is the offset of its first token; an int expression has a form, a bool one a formula
 pub record Sense : Type 0 where
   pub first : ℕ
   pub kind : Option Kind
@@ -95,7 +99,7 @@ unknown at None = faults.Unknown at ∷ []
 unknown at (Some entry) = []
 
 abbrev pub large_number : ℕ → ℕ → List TypeFault
-large_number at value = if nat_lt greatest_number value then faults.TooLarge at ∷ [] else []
+large_number at value = if nat_lt GREATEST_NUMBER value then faults.TooLarge at ∷ [] else []
 
 abbrev pub wrong_type : Kind → Sense → List TypeFault
 wrong_type wanted part = if is_other wanted part.kind then faults.WrongType part.first ∷ [] else []
@@ -105,14 +109,18 @@ large_form at form = if is_limited form then [] else faults.TooLarge at ∷ []
 
 -- what the parts break, or, where they break nothing, which of them are of another kind
 abbrev pub part_faults : Kind → List Sense → List TypeFault
-part_faults wanted parts = flat_map (λ part. part.faults) parts or_else flat_map (wrong_type wanted) parts
+part_faults wanted parts =
+    flat_map (λ part. part.faults) parts or_else flat_map (wrong_type wanted) parts
 
--- from left to right: of the product before a `*` and the factor after it one is constant, and their product is not too large
+-- From left to right: of the product before a `*` and the factor after it one is constant, and
+-- their product is not too large. Only the first break is listed: behind it there is no form to multiply.
 abbrev pub product_faults : ℕ → Form → List FactorSense → List TypeFault
 product_faults first form [] = []
 product_faults first form (factor ∷ rest) =
     if is_constant form || is_constant factor.of.form
-    then large_form first (product form factor.of.form) or_else product_faults first (product form factor.of.form) rest
+    then
+    large_form first (product form factor.of.form)
+    or_else product_faults first (product form factor.of.form) rest
     else faults.NotLinear factor.at ∷ []
 
 -- ---- forms of products and sums
@@ -121,7 +129,7 @@ abbrev pub product_form : Form → List FactorSense → Form
 product_form form rest = fold (λ before factor. product before factor.of.form) form rest
 
 abbrev pub signed_form : AddendSense → Form
-signed_form addend = if addend.minus then scaled (neg_ℤ (pos 1)) addend.of.form else addend.of.form
+signed_form addend = if addend.minus then opposite addend.of.form else addend.of.form
 
 abbrev pub sum_form : Form → List AddendSense → Form
 sum_form form rest = fold (λ before addend. plus before (signed_form addend)) form rest
@@ -134,13 +142,26 @@ first_of (part ∷ more) = part.first
 
 -- an int expression, and a bool one
 abbrev pub int_sense : ℕ → List TypeFault → Form → Sense
-int_sense first broken form = record { first = first; kind = Some kinds.Int; faults = broken; form = form; formula = formulas.All [] }
+int_sense first broken form = record {
+  first = first;
+  kind = Some kinds.Int;
+  faults = broken;
+  form = form;
+  formula = formulas.All [];
+}
 
 abbrev pub bool_sense : List Entry → ℕ → List TypeFault → Formula → Sense
-bool_sense scope first broken formula = record { first = first; kind = Some kinds.Bool; faults = broken; form = number_form scope (pos 0); formula = formula }
+bool_sense scope first broken formula = record {
+  first = first;
+  kind = Some kinds.Bool;
+  faults = broken;
+  form = number_form scope (pos 0);
+  formula = formula;
+}
 
 abbrev pub sense_step : List Entry → Expr-F Sense AddendSense FactorSense → Sense
-sense_step scope (Number at value) = int_sense at (large_number at value) (number_form scope (pos value))
+sense_step scope (Number at value) =
+    int_sense at (large_number at value) (number_form scope (pos value))
 sense_step scope (Truth at value) = bool_sense scope at [] (truth_formula value)
 sense_step scope (Named at name) = record {
   first = at;
@@ -150,16 +171,29 @@ sense_step scope (Named at name) = record {
   formula = entry_formula (entry_named scope name);
 }
 sense_step scope (Minus at of) =
-    int_sense at (part_faults kinds.Int (of ∷ []) or_else large_form at (scaled (neg_ℤ (pos 1)) of.form)) (scaled (neg_ℤ (pos 1)) of.form)
-sense_step scope (Not at of) = bool_sense scope at (part_faults kinds.Bool (of ∷ [])) (negation of.formula)
+    let broken = part_faults kinds.Int (of ∷ []) or_else large_form at (opposite of.form) in
+    int_sense at broken (opposite of.form)
+sense_step scope (Not at of) =
+    bool_sense scope at (part_faults kinds.Bool (of ∷ [])) (negation of.formula)
 sense_step scope (Product first rest) =
-    int_sense first.first (part_faults kinds.Int (first ∷ map (λ factor. factor.of) rest) or_else product_faults first.first first.form rest) (product_form first.form rest)
+    let parts = first ∷ map (λ factor. factor.of) rest in
+    let broken = part_faults kinds.Int parts or_else product_faults first.first first.form rest in
+    int_sense first.first broken (product_form first.form rest)
 sense_step scope (Sum first rest) =
-    int_sense first.first (part_faults kinds.Int (first ∷ map (λ addend. addend.of) rest) or_else large_form first.first (sum_form first.form rest)) (sum_form first.form rest)
+    let parts = first ∷ map (λ addend. addend.of) rest in
+    let form = sum_form first.form rest in
+    let broken = part_faults kinds.Int parts or_else large_form first.first form in
+    int_sense first.first broken form
 sense_step scope (Compare op left right) =
-    bool_sense scope left.first (part_faults kinds.Int (left ∷ right ∷ []) or_else large_form left.first (minus left.form right.form)) (compared scope op left.form right.form)
-sense_step scope (Both parts) = bool_sense scope (first_of parts) (part_faults kinds.Bool parts) (formulas.All (map (λ part. part.formula) parts))
-sense_step scope (Either parts) = bool_sense scope (first_of parts) (part_faults kinds.Bool parts) (formulas.Any (map (λ part. part.formula) parts))
+    let large = large_form left.first (minus left.form right.form) in
+    let broken = part_faults kinds.Int (left ∷ right ∷ []) or_else large in
+    bool_sense scope left.first broken (comparison_formula scope op left.form right.form)
+sense_step scope (Both parts) =
+    let joined = formulas.All (map (λ part. part.formula) parts) in
+    bool_sense scope (first_of parts) (part_faults kinds.Bool parts) joined
+sense_step scope (Either parts) =
+    let joined = formulas.Any (map (λ part. part.formula) parts) in
+    bool_sense scope (first_of parts) (part_faults kinds.Bool parts) joined
 
 abbrev pub addend_step : Addend-F Sense AddendSense FactorSense → AddendSense
 addend_step addend = record { minus = addend.minus; of = addend.of }
@@ -170,3 +204,20 @@ factor_step factor = record { at = factor.at; of = factor.of }
 -- what is found of an expression in a scope
 abbrev pub sense : List Entry → Expr → Sense
 sense scope = fold-Expr Sense AddendSense FactorSense (sense_step scope) addend_step factor_step
+
+-- ---- each part of what is found
+
+abbrev pub first_in : List Entry → Expr → ℕ
+first_in scope expression = (sense scope expression).first
+
+abbrev pub kind_in : List Entry → Expr → Option Kind
+kind_in scope expression = (sense scope expression).kind
+
+abbrev pub faults_in : List Entry → Expr → List TypeFault
+faults_in scope expression = (sense scope expression).faults
+
+abbrev pub form_in : List Entry → Expr → Form
+form_in scope expression = (sense scope expression).form
+
+abbrev pub formula_in : List Entry → Expr → Formula
+formula_in scope expression = (sense scope expression).formula

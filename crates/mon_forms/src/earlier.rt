@@ -2,7 +2,7 @@
 
 ghost use Rattle.std.specs.Prelude.{◌≡◌, ◌≤◌};
 ghost use Rattle.mon_forms.specs.Faults.{counted_rank, is_before, place, rank};
-ghost use Rattle.mon_forms.specs.Finding.{earlier_of};
+ghost use Rattle.mon_forms.specs.Faults.{earlier_of};
 
 use crate::fault::{Counted, TypeFault};
 

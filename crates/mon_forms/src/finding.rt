@@ -5,9 +5,9 @@ ghost use Rattle.mon_forms.specs.declared.scope.Entry.{Entry};
 ghost use Rattle.mon_forms.specs.Scope.{entry_named};
 ghost use Rattle.mon_forms.specs.Sense.{entry_kind, first_of, is_other, meaning_kind, sense};
 
-use crate::kind::Kind;
 use crate::scope::{Entry, Meaning, find};
-use mon_syntax::Expr;
+use mon_base::Kind;
+use mon_tree::Expr;
 
 /// The offset of an expression's first token.
 #[cycle(first_place)]

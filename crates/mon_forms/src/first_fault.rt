@@ -1,12 +1,12 @@
 //! The first rule that an expression breaks.
 
-ghost use Rattle.std.specs.Prelude.{◌≡◌, ℕ, IfOk, IsTrue};
-ghost use Rattle.std.specs.List.{flat_map};
-ghost use Rattle.mon_syntax.specs.declared.tree.Expr.TheVariants as exprs;
+ghost use Rattle.std.specs.Prelude.{◌≡◌, IfOk, IsTrue};
+ghost use Rattle.mon_tree.specs.declared.tree.Expr.TheVariants as exprs;
 ghost use Rattle.mon_forms.specs.Faults.{least};
 ghost use Rattle.mon_forms.specs.Making.{has_small_numbers};
 ghost use Rattle.mon_forms.specs.Scope.{entry_named};
-ghost use Rattle.mon_forms.specs.Sense.{large_number, sense, unknown};
+ghost use Rattle.mon_forms.specs.Sense.{faults_in, large_number, unknown};
+ghost use Rattle.mon_forms.specs.inner.Parts.{IsFirstOfBoth, IsFirstOfEither, IsFirstOfNot, faults_in_addends, faults_in_factors, faults_in_parts};
 
 use crate::earlier::earlier_of;
 use crate::fault::TypeFault;
@@ -15,12 +15,10 @@ use crate::whole_fault::{
     fault_of_comparison, fault_of_minus, fault_of_not, fault_of_parts, fault_of_product,
     fault_of_sum,
 };
+use mon_base::limits;
 use mon_list::{Boxed, Seq};
-use mon_syntax::{Addend, Expr, Factor};
+use mon_tree::{Addend, Expr, Factor};
 use std::alloc::{AllocError, Global};
-
-/// The greatest written number.
-const GREATEST: u128 = 9_223_372_036_854_775_807;
 
 /// The first rule that an expression breaks, if any. It fails only for want of memory.
 #[cycle(fault_in)]
@@ -30,7 +28,7 @@ pub fn fault_in(
     expression: &Expr,
 ) -> Result<Option<TypeFault>, AllocError>
     requires { IsTrue (has_small_numbers scope.now) }
-    ensures { IfOk result (λ fault. fault ≡ least (sense scope.now expression.now).faults) }
+    ensures { IfOk result (λ fault. fault ≡ least (faults_in scope.now expression.now)) }
 {
     match expression {
         Expr::Number { at, value } => Ok(large_number(*at, *value)),
@@ -69,7 +67,7 @@ fn fault_in_minus(
     of: &Boxed<Expr>,
 ) -> Result<Option<TypeFault>, AllocError>
     requires { IsTrue (has_small_numbers scope.now) }
-    ensures { IfOk result (λ fault. fault ≡ least (sense scope.now (exprs.Minus at of.now)).faults) }
+    ensures { IfOk result (λ fault. fault ≡ least (faults_in scope.now (exprs.Minus at of.now))) }
 {
     let of = of.get();
     let part = fault_in(alloc, scope, of)?;
@@ -83,7 +81,7 @@ fn fault_in_not(
     of: &Boxed<Expr>,
 ) -> Result<Option<TypeFault>, AllocError>
     requires { IsTrue (has_small_numbers scope.now) }
-    ensures { IfOk result (λ fault. (at : ℕ) → fault ≡ least (sense scope.now (exprs.Not at of.now)).faults) }
+    ensures { IfOk result (IsFirstOfNot scope.now of.now) }
 {
     let of = of.get();
     let part = fault_in(alloc, scope, of)?;
@@ -98,8 +96,8 @@ fn fault_in_joined(
     parts: &Seq<Expr>,
 ) -> Result<Option<TypeFault>, AllocError>
     requires { IsTrue (has_small_numbers scope.now) }
-    ensures both { IfOk result (λ fault. fault ≡ least (sense scope.now (exprs.Both parts.now)).faults) }
-    ensures either { IfOk result (λ fault. fault ≡ least (sense scope.now (exprs.Either parts.now)).faults) }
+    ensures both { IfOk result (IsFirstOfBoth scope.now parts.now) }
+    ensures either { IfOk result (IsFirstOfEither scope.now parts.now) }
 {
     let parts = parts.items();
     let part = fault_in_parts(alloc, scope, parts)?;
@@ -113,7 +111,7 @@ fn fault_in_factors(
     factors: &[Factor],
 ) -> Result<Option<TypeFault>, AllocError>
     requires { IsTrue (has_small_numbers scope.now) }
-    ensures { IfOk result (λ fault. fault ≡ least (flat_map (λ factor. (sense scope.now factor.of).faults) factors.now)) }
+    ensures { IfOk result (λ fault. fault ≡ least (faults_in_factors scope.now factors.now)) }
 {
     let mut fault = None;
     for factor in factors {
@@ -129,7 +127,7 @@ fn fault_in_addends(
     addends: &[Addend],
 ) -> Result<Option<TypeFault>, AllocError>
     requires { IsTrue (has_small_numbers scope.now) }
-    ensures { IfOk result (λ fault. fault ≡ least (flat_map (λ addend. (sense scope.now addend.of).faults) addends.now)) }
+    ensures { IfOk result (λ fault. fault ≡ least (faults_in_addends scope.now addends.now)) }
 {
     let mut fault = None;
     for addend in addends {
@@ -145,7 +143,7 @@ fn fault_in_parts(
     parts: &[Expr],
 ) -> Result<Option<TypeFault>, AllocError>
     requires { IsTrue (has_small_numbers scope.now) }
-    ensures { IfOk result (λ fault. fault ≡ least (flat_map (λ part. (sense scope.now part).faults) parts.now)) }
+    ensures { IfOk result (λ fault. fault ≡ least (faults_in_parts scope.now parts.now)) }
 {
     let mut fault = None;
     for part in parts {
@@ -158,7 +156,7 @@ fn fault_in_parts(
 pub fn large_number(at: u32, value: u128) -> Option<TypeFault>
     ensures { result ≡ least (large_number at value) }
 {
-    if value > GREATEST {
+    if value > limits::GREATEST_NUMBER {
         Some(TypeFault::TooLarge { at })
     } else {
         None

@@ -1,20 +1,18 @@
 //! Flattened forms, as the code makes them.
 
-ghost use Rattle.std.specs.Prelude.{◌≡◌, ◌<◌, ◌^◌, ℕ, pos, neg_ℤ, ◌*ℤ◌, true, IfOk, length, map, if◌then◌else◌};
+ghost use Rattle.std.specs.Prelude.{◌≡◌, ◌<◌, ◌^◌, ℕ, pos, ◌*ℤ◌, true, IfOk, length, map, if◌then◌else◌};
 ghost use Rattle.std.specs.List.{list_all};
 ghost use Rattle.mon_forms.specs.Scope.{signed};
-ghost use Rattle.mon_forms.specs.Forms.{AreTimesWithin, HasRoom, IsFormOf, IsOrdered, IsSmall, added, is_constant, is_limited, is_within, linear_of, meaning_form, name_form, no_times, number_form, once, plus, raised, scaled, terms_of};
+ghost use Rattle.mon_forms.specs.Forms.{IsOrdered, added, is_constant, is_limited, linear_of, meaning_form, name_form, no_times, number_form, once, opposite, plus, raised, scaled, terms_of};
+ghost use Rattle.mon_forms.specs.inner.FormBounds.{AreTimesWithin, HasRoom, IsFormOf, FitsLinear};
+ghost use Rattle.mon_base.specs.Limits.{GREATEST_CONSTANT, MOST_TIMES};
+ghost use Rattle.mon_base.specs.Numbers.{is_within};
 
 use crate::scope::{Entry, Meaning, find};
+use mon_base::limits;
 use mon_linear::{Lin, Term};
 use std::alloc::{AllocError, Global};
 use std::marker::Model;
-
-/// A name counts at most so many times, and at least as many times less than none.
-const GREATEST_TIME: i128 = 1 << 31;
-
-/// A constant has at most this magnitude.
-const GREATEST_NUMBER: i128 = 1 << 63;
 
 /// How many times each name of a scope counts, and a constant.
 #[derive(Debug, Drop)]
@@ -80,7 +78,7 @@ impl Flat {
     /// Multiplies the form by a number.
     pub fn scale(&mut self, by: i128)
         requires limited { is_limited self.old ≡ true }
-        requires by { is_within (2 ^ 63) by ≡ true }
+        requires by { is_within GREATEST_CONSTANT by ≡ true }
         ensures { self.new ≡ scaled by self.old }
     {
         scale_each(&mut self.times, by);
@@ -92,7 +90,7 @@ impl Flat {
         requires length { length self.old.times ≡ length other.now.times }
         requires room { HasRoom self.old }
         requires limited { is_limited other.now ≡ true }
-        ensures { self.new ≡ plus self.old (if minus then scaled (neg_ℤ (pos 1)) other.now else other.now) }
+        ensures { self.new ≡ plus self.old (if minus then opposite other.now else other.now) }
     {
         add_each(&mut self.times, minus, &other.times);
         self.constant += signed(minus, other.constant);
@@ -120,7 +118,7 @@ impl Flat {
         self.constant
     }
 
-    /// Whether the numbers of names have a magnitude of at most 2^31, and the constant of at most 2^63.
+    /// Whether the numbers of names and the constant have a magnitude of at most their limits.
     pub fn is_limited(&self) -> bool
         ensures { result ≡ is_limited self.now }
     {
@@ -130,7 +128,7 @@ impl Flat {
     /// The linear form over places. It fails only for want of memory.
     pub fn into_linear(self, alloc: Global, scope: &[Entry]) -> Result<Lin, AllocError>
         requires form { IsFormOf scope.now self }
-        requires small { IsSmall self }
+        requires small { FitsLinear self }
         requires ordered { IsOrdered scope.now }
         ensures { IfOk result (λ linear. linear ≡ linear_of scope.now self) }
     {
@@ -149,8 +147,8 @@ fn no_times(alloc: Global, scope: &[Entry]) -> Result<Vec<i128>, AllocError>
 }
 
 fn scale_each(times: &mut [i128], by: i128)
-    requires limited { list_all (is_within (2 ^ 31)) times.old ≡ true }
-    requires by { is_within (2 ^ 63) by ≡ true }
+    requires limited { list_all (is_within MOST_TIMES) times.old ≡ true }
+    requires by { is_within GREATEST_CONSTANT by ≡ true }
     ensures { times.new ≡ map (λ number. by *ℤ number) times.old }
 {
     for time in times.iter_mut() {
@@ -161,7 +159,7 @@ fn scale_each(times: &mut [i128], by: i128)
 fn add_each(times: &mut [i128], minus: bool, others: &[i128])
     requires length { length times.old ≡ length others.now }
     requires room { (parts : ℕ) × (parts < 2 ^ 62) × AreTimesWithin parts times.old }
-    requires limited { list_all (is_within (2 ^ 31)) others.now ≡ true }
+    requires limited { list_all (is_within MOST_TIMES) others.now ≡ true }
     ensures { times.new ≡ added times.old (map (signed minus) others.now) }
 {
     for (index, other) in others.iter().enumerate() {
@@ -170,7 +168,7 @@ fn add_each(times: &mut [i128], minus: bool, others: &[i128])
 }
 
 fn signed(minus: bool, number: i128) -> i128
-    requires { is_within (2 ^ 63) number ≡ true }
+    requires { is_within GREATEST_CONSTANT number ≡ true }
     ensures { result ≡ signed minus number }
 {
     if minus { -number } else { number }
@@ -178,23 +176,23 @@ fn signed(minus: bool, number: i128) -> i128
 
 /// Whether names may count so many times.
 fn are_times(times: &[i128]) -> bool
-    ensures { result ≡ list_all (is_within (2 ^ 31)) times.now }
+    ensures { result ≡ list_all (is_within MOST_TIMES) times.now }
 {
     times.iter().all(|time| is_time(*time))
 }
 
 /// Whether a name may count so many times.
 fn is_time(number: i128) -> bool
-    ensures { result ≡ is_within (2 ^ 31) number }
+    ensures { result ≡ is_within MOST_TIMES number }
 {
-    -GREATEST_TIME <= number && number <= GREATEST_TIME
+    -limits::MOST_TIMES <= number && number <= limits::MOST_TIMES
 }
 
 /// Whether a constant may be this number.
 fn is_number(number: i128) -> bool
-    ensures { result ≡ is_within (2 ^ 63) number }
+    ensures { result ≡ is_within GREATEST_CONSTANT number }
 {
-    -GREATEST_NUMBER <= number && number <= GREATEST_NUMBER
+    -limits::GREATEST_CONSTANT <= number && number <= limits::GREATEST_CONSTANT
 }
 
 fn terms_of(alloc: Global, scope: &[Entry], times: &[i128]) -> Result<Vec<Term>, AllocError>

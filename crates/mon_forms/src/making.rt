@@ -1,26 +1,28 @@
 //! The forms of int expressions and the formulas of bool ones, where they break no rule.
 
-ghost use Rattle.std.specs.Prelude.{◌≡◌, ℕ, true, false, [], IfOk, IsTrue, All, map};
-ghost use Rattle.mon_forms.specs.declared.kind.Kind.TheVariants as kinds;
+ghost use Rattle.std.specs.Prelude.{◌≡◌, ℕ, true, false, [], IfOk, IsTrue, All};
+ghost use Rattle.mon_base.specs.declared.kind.Kind.TheVariants as kinds;
 ghost use Rattle.mon_forms.specs.Scope.{entry_named};
-ghost use Rattle.mon_forms.specs.Forms.{is_limited, linear_of, minus, product, IsFormOf, IsOrdered};
-ghost use Rattle.mon_forms.specs.Sense.{is_other, sense, sum_form, product_form, product_faults, at_most, less, compared, truth_formula, entry_formula, meaning_formula};
-ghost use Rattle.mon_forms.specs.Making.{has_small_numbers, IsInt, IsBool, addend_sense, factor_sense};
+ghost use Rattle.mon_forms.specs.Forms.{IsOrdered, is_limited, linear_of, product};
+ghost use Rattle.mon_forms.specs.Sense.{entry_formula, faults_in, form_in, formula_in, is_other, kind_in, meaning_formula, truth_formula};
+ghost use Rattle.mon_forms.specs.Making.{IsBool, IsInt, has_small_numbers};
+ghost use Rattle.mon_forms.specs.inner.FormBounds.{IsFormOf};
+ghost use Rattle.mon_forms.specs.inner.Parts.{at_most_formula, broken_from, compared_formula, difference, formulas_in, less_formula, product_from, sum_from};
 
 use crate::form::Flat;
 use crate::scope::{Entry, Meaning, find};
 use mon_linear::{Formula, Lin, negate};
 use mon_list::Seq;
-use mon_syntax::{Addend, Expr, Factor, Op};
+use mon_tree::{Addend, Expr, Factor, Op};
 use std::alloc::{AllocError, Global};
 
 /// The linear form of an int expression that breaks no rule. It fails only for want of memory.
 pub fn form_of(alloc: Global, scope: &[Entry], expression: &Expr) -> Result<Lin, AllocError>
     requires ordered { IsOrdered scope.now }
     requires numbers { IsTrue (has_small_numbers scope.now) }
-    requires fine { (sense scope.now expression.now).faults ≡ [] }
-    requires int { is_other kinds.Int (sense scope.now expression.now).kind ≡ false }
-    ensures { IfOk result (λ form. form ≡ linear_of scope.now (sense scope.now expression.now).form) }
+    requires fine { faults_in scope.now expression.now ≡ [] }
+    requires int { is_other kinds.Int (kind_in scope.now expression.now) ≡ false }
+    ensures { IfOk result (λ form. form ≡ linear_of scope.now (form_in scope.now expression.now)) }
 {
     flat_of(alloc, scope, expression)?.into_linear(alloc, scope)
 }
@@ -29,9 +31,9 @@ pub fn form_of(alloc: Global, scope: &[Entry], expression: &Expr) -> Result<Lin,
 #[cycle(flat_of)]
 pub(crate) fn flat_of(alloc: Global, scope: &[Entry], expression: &Expr) -> Result<Flat, AllocError>
     requires numbers { IsTrue (has_small_numbers scope.now) }
-    requires fine { (sense scope.now expression.now).faults ≡ [] }
-    requires int { is_other kinds.Int (sense scope.now expression.now).kind ≡ false }
-    ensures { IfOk result (λ flat. flat ≡ (sense scope.now expression.now).form) }
+    requires fine { faults_in scope.now expression.now ≡ [] }
+    requires int { is_other kinds.Int (kind_in scope.now expression.now) ≡ false }
+    ensures { IfOk result (λ flat. flat ≡ form_in scope.now expression.now) }
 {
     match expression {
         Expr::Number { value, .. } => Flat::number(alloc, scope, *value as i128),
@@ -64,8 +66,8 @@ fn multiply_all(
     requires numbers { IsTrue (has_small_numbers scope.now) }
     requires limited { is_limited first ≡ true }
     requires parts { All (λ factor. IsInt scope.now factor.of) rest.now }
-    requires fine { (at : ℕ) × product_faults at first (map (factor_sense scope.now) rest.now) ≡ [] }
-    ensures { IfOk result (λ flat. flat ≡ product_form first (map (factor_sense scope.now) rest.now)) }
+    requires fine { (at : ℕ) × broken_from scope.now at first rest.now ≡ [] }
+    ensures { IfOk result (λ flat. flat ≡ product_from scope.now first rest.now) }
 {
     let mut product = first;
     for factor in rest {
@@ -86,7 +88,7 @@ pub(crate) fn add_all(
     requires of_scope { IsFormOf scope.now first }
     requires limited { is_limited first ≡ true }
     requires parts { All (λ addend. IsInt scope.now addend.of) rest.now }
-    ensures { IfOk result (λ flat. flat ≡ sum_form first (map (addend_sense scope.now) rest.now)) }
+    ensures { IfOk result (λ flat. flat ≡ sum_from scope.now first rest.now) }
 {
     let mut sum = first;
     for addend in rest {
@@ -115,9 +117,9 @@ pub(crate) fn multiply(mut left: Flat, mut right: Flat) -> Flat
 pub fn formula_of(alloc: Global, scope: &[Entry], expression: &Expr) -> Result<Formula, AllocError>
     requires ordered { IsOrdered scope.now }
     requires numbers { IsTrue (has_small_numbers scope.now) }
-    requires fine { (sense scope.now expression.now).faults ≡ [] }
-    requires bool { is_other kinds.Bool (sense scope.now expression.now).kind ≡ false }
-    ensures { IfOk result (λ formula. formula ≡ (sense scope.now expression.now).formula) }
+    requires fine { faults_in scope.now expression.now ≡ [] }
+    requires bool { is_other kinds.Bool (kind_in scope.now expression.now) ≡ false }
+    ensures { IfOk result (λ formula. formula ≡ formula_in scope.now expression.now) }
 {
     match expression {
         Expr::Truth { value, .. } => Ok(truth_formula(alloc, *value)),
@@ -143,7 +145,7 @@ fn formulas_of(alloc: Global, scope: &[Entry], parts: &[Expr]) -> Result<Vec<For
     requires ordered { IsOrdered scope.now }
     requires numbers { IsTrue (has_small_numbers scope.now) }
     requires parts { All (IsBool scope.now) parts.now }
-    ensures { IfOk result (λ formulas. formulas.items ≡ map (λ part. (sense scope.now part).formula) parts.now) }
+    ensures { IfOk result (λ formulas. formulas.items ≡ formulas_in scope.now parts.now) }
 {
     let mut formulas = Vec::new(alloc);
     for part in parts {
@@ -195,8 +197,8 @@ fn compare(
     requires numbers { IsTrue (has_small_numbers scope.now) }
     requires left { IsInt scope.now left.now }
     requires right { IsInt scope.now right.now }
-    requires limited { is_limited (minus (sense scope.now left.now).form (sense scope.now right.now).form) ≡ true }
-    ensures { IfOk result (λ formula. formula ≡ compared scope.now op (sense scope.now left.now).form (sense scope.now right.now).form) }
+    requires limited { is_limited (difference scope.now left.now right.now) ≡ true }
+    ensures { IfOk result (λ formula. formula ≡ compared_formula scope.now op left.now right.now) }
 {
     match op {
         Op::Equal => {
@@ -222,8 +224,8 @@ fn at_most(alloc: Global, scope: &[Entry], left: &Expr, right: &Expr) -> Result<
     requires numbers { IsTrue (has_small_numbers scope.now) }
     requires left { IsInt scope.now left.now }
     requires right { IsInt scope.now right.now }
-    requires limited { is_limited (minus (sense scope.now left.now).form (sense scope.now right.now).form) ≡ true }
-    ensures { IfOk result (λ row. row ≡ at_most scope.now (sense scope.now left.now).form (sense scope.now right.now).form) }
+    requires limited { is_limited (difference scope.now left.now right.now) ≡ true }
+    ensures { IfOk result (λ row. row ≡ at_most_formula scope.now left.now right.now) }
 {
     let form = difference(alloc, scope, left, right)?;
     Ok(Formula::Row(form.into_linear(alloc, scope)?))
@@ -235,8 +237,8 @@ fn less(alloc: Global, scope: &[Entry], left: &Expr, right: &Expr) -> Result<For
     requires numbers { IsTrue (has_small_numbers scope.now) }
     requires left { IsInt scope.now left.now }
     requires right { IsInt scope.now right.now }
-    requires limited { is_limited (minus (sense scope.now left.now).form (sense scope.now right.now).form) ≡ true }
-    ensures { IfOk result (λ row. row ≡ less scope.now (sense scope.now left.now).form (sense scope.now right.now).form) }
+    requires limited { is_limited (difference scope.now left.now right.now) ≡ true }
+    ensures { IfOk result (λ row. row ≡ less_formula scope.now left.now right.now) }
 {
     let mut form = difference(alloc, scope, left, right)?;
     form.raise();
@@ -252,7 +254,7 @@ pub(crate) fn difference(
     requires numbers { IsTrue (has_small_numbers scope.now) }
     requires left { IsInt scope.now left.now }
     requires right { IsInt scope.now right.now }
-    ensures { IfOk result (λ flat. flat ≡ minus (sense scope.now left.now).form (sense scope.now right.now).form) }
+    ensures { IfOk result (λ flat. flat ≡ difference scope.now left.now right.now) }
 {
     let mut form = flat_of(alloc, scope, left)?;
     let other = flat_of(alloc, scope, right)?;

@@ -2,12 +2,13 @@
 
 ghost use Rattle.std.specs.Prelude.{◌≡◌, ◌++◌, ◌≤◌, [], ◌∷◌, IfOk, length};
 ghost use Rattle.std.specs.Str.{bytes_eq};
-ghost use Rattle.mon_forms.specs.Forms.{place_of};
-ghost use Rattle.mon_forms.specs.Scope.{constant_value, declared_from, index_of, inputs_from, input_meaning, scope_of};
+ghost use Rattle.mon_base.specs.Limits.{FILE_BYTES};
+ghost use Rattle.mon_forms.specs.Forms.{meaning_place};
+ghost use Rattle.mon_forms.specs.Scope.{constant_value, declared_from, index_of, input_entries, input_meaning, scope_of};
 
-use mon_io::Name;
+use mon_base::{Name, limits};
 use mon_list::Seq;
-use mon_syntax::{Decl, InputKind, InputTree, Lit};
+use mon_tree::{Decl, InputKind, InputTree, Lit};
 use std::alloc::{AllocError, Global};
 
 /// What a name stands for: a constant's number, or the place of an int or a bool.
@@ -21,7 +22,7 @@ pub enum Meaning {
 impl Meaning {
     /// The place, or 0 for a number.
     pub(crate) fn place(self) -> u32
-        ensures { result ≡ place_of self }
+        ensures { result ≡ meaning_place self }
     {
         match self {
             Meaning::Number(_) => 0,
@@ -39,18 +40,15 @@ pub struct Entry {
     pub is_field: bool,
 }
 
-/// The place of the first input.
-const FIRST_INPUT: u32 = 16;
-
-/// The names that a method sees: those of the declarations, where field `k` has place `k`, and its inputs, where
-/// input `k` has place `16 + k`. It fails only for want of memory.
+/// The names that a method sees: those of the declarations, where field `k` has place `k`, and its
+/// inputs, where input `k` has place `FIRST_INPUT + k`. It fails only for want of memory.
 pub fn scope_of(
     alloc: Global,
     decls: &[Decl],
     inputs: &[InputTree],
 ) -> Result<Seq<Entry>, AllocError>
-    requires decls { length decls.now ≤ 65536 }
-    requires inputs { length inputs.now ≤ 65536 }
+    requires decls { length decls.now ≤ FILE_BYTES }
+    requires inputs { length inputs.now ≤ FILE_BYTES }
     ensures { IfOk result (λ scope. scope ≡ scope_of decls.now inputs.now) }
 {
     let mut scope = declared_of(alloc, decls)?;
@@ -59,7 +57,7 @@ pub fn scope_of(
 }
 
 fn declared_of(alloc: Global, decls: &[Decl]) -> Result<Vec<Entry>, AllocError>
-    requires { length decls.now ≤ 65536 }
+    requires { length decls.now ≤ FILE_BYTES }
     ensures { IfOk result (λ scope. scope.items ≡ declared_from 0 decls.now) }
 {
     let mut scope = Vec::new(alloc);
@@ -96,13 +94,13 @@ fn declared_entry(decl: &Decl, place: u32) -> Result<Entry, AllocError>
 }
 
 fn push_inputs(scope: &mut Vec<Entry>, inputs: &[InputTree]) -> Result<(), AllocError>
-    requires { length inputs.now ≤ 65536 }
-    ensures { IfOk result (λ _. scope.new.items ≡ scope.old.items ++ inputs_from 16 inputs.now) }
+    requires { length inputs.now ≤ FILE_BYTES }
+    ensures { IfOk result (λ _. scope.new.items ≡ scope.old.items ++ input_entries inputs.now) }
 {
     for (index, input) in inputs.iter().enumerate() {
         scope.push(Entry {
             name: input.name.clone()?,
-            meaning: input_meaning(input.kind, FIRST_INPUT + index as u32),
+            meaning: input_meaning(input.kind, limits::FIRST_INPUT + index as u32),
             is_field: false,
         })?;
     }

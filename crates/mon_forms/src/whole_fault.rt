@@ -1,24 +1,21 @@
 //! The first rule that a whole expression breaks, given the first that its parts break.
 
-ghost use Rattle.std.specs.Prelude.{◌≡◌, ℕ, ◌||◌, neg_ℤ, pos, true, All, IfOk, IsTrue, map};
-ghost use Rattle.std.specs.List.{flat_map};
-ghost use Rattle.mon_syntax.specs.declared.tree.Op.{Op};
-ghost use Rattle.mon_syntax.specs.declared.tree.Expr.TheVariants as exprs;
-ghost use Rattle.mon_forms.specs.declared.kind.Kind.TheVariants as kinds;
+ghost use Rattle.std.specs.Prelude.{◌≡◌, ◌||◌, true, All, IfOk, IsTrue};
+ghost use Rattle.mon_tree.specs.declared.tree.Expr.TheVariants as exprs;
 ghost use Rattle.mon_forms.specs.Faults.{least};
-ghost use Rattle.mon_forms.specs.Finding.{earlier_of};
-ghost use Rattle.mon_forms.specs.Forms.{is_constant, is_limited, minus, scaled};
-ghost use Rattle.mon_forms.specs.Making.{IsInt, addend_sense, factor_sense, has_small_numbers};
-ghost use Rattle.mon_forms.specs.Sense.{large_form, product_faults, sense, sum_form, wrong_type};
+ghost use Rattle.mon_forms.specs.Forms.{is_constant, is_limited};
+ghost use Rattle.mon_forms.specs.Making.{IsInt, has_small_numbers};
+ghost use Rattle.mon_forms.specs.Sense.{faults_in, large_form, sense, wrong_type};
+ghost use Rattle.mon_forms.specs.inner.Parts.{IsFirstOfBoth, IsFirstOfComparison, IsFirstOfEither, IsFirstOfNot, IsFirstOfProduct, IsFirstOfSum, broken_from, broken_product, faults_in_parts, first_in_product, first_in_sides, first_in_sum, large_difference, large_opposite, large_sum, wrong_addends, wrong_factors, wrong_parts};
 
 use crate::earlier::earlier_of;
 use crate::fault::TypeFault;
 use crate::finding::{first_place, is_other, kind_of};
 use crate::form::Flat;
-use crate::kind::Kind;
 use crate::making::{add_all, difference, flat_of, multiply};
 use crate::scope::Entry;
-use mon_syntax::{Addend, Expr, Factor};
+use mon_base::Kind;
+use mon_tree::{Addend, Expr, Factor};
 use std::alloc::{AllocError, Global};
 
 /// Of the negation of a number.
@@ -30,8 +27,8 @@ pub(crate) fn fault_of_minus(
     part: Option<TypeFault>,
 ) -> Result<Option<TypeFault>, AllocError>
     requires numbers { IsTrue (has_small_numbers scope.now) }
-    requires part { part ≡ least (sense scope.now of.now).faults }
-    ensures { IfOk result (λ fault. fault ≡ least (sense scope.now (exprs.Minus at of.now)).faults) }
+    requires part { part ≡ least (faults_in scope.now of.now) }
+    ensures { IfOk result (λ fault. fault ≡ least (faults_in scope.now (exprs.Minus at of.now))) }
 {
     match part.or(wrong_type(scope, Kind::Int, of)) {
         Some(fault) => Ok(Some(fault)),
@@ -41,8 +38,8 @@ pub(crate) fn fault_of_minus(
 
 /// Of the negation of a condition.
 pub(crate) fn fault_of_not(scope: &[Entry], of: &Expr, part: Option<TypeFault>) -> Option<TypeFault>
-    requires { part ≡ least (sense scope.now of.now).faults }
-    ensures { (at : ℕ) → result ≡ least (sense scope.now (exprs.Not at of.now)).faults }
+    requires { part ≡ least (faults_in scope.now of.now) }
+    ensures { IsFirstOfNot scope.now of.now result }
 {
     part.or(wrong_type(scope, Kind::Bool, of))
 }
@@ -56,8 +53,8 @@ pub(crate) fn fault_of_product(
     part: Option<TypeFault>,
 ) -> Result<Option<TypeFault>, AllocError>
     requires numbers { IsTrue (has_small_numbers scope.now) }
-    requires part { part ≡ earlier_of (least (sense scope.now first.now).faults) (least (flat_map (λ factor. (sense scope.now factor.of).faults) rest.now)) }
-    ensures { IfOk result (λ fault. fault ≡ least (sense scope.now (exprs.Product first.now rest.now)).faults) }
+    requires part { part ≡ first_in_product scope.now first.now rest.now }
+    ensures { IfOk result (IsFirstOfProduct scope.now first.now rest.now) }
 {
     let wrong = earlier_of(
         wrong_type(scope, Kind::Int, first),
@@ -78,8 +75,8 @@ pub(crate) fn fault_of_sum(
     part: Option<TypeFault>,
 ) -> Result<Option<TypeFault>, AllocError>
     requires numbers { IsTrue (has_small_numbers scope.now) }
-    requires part { part ≡ earlier_of (least (sense scope.now first.now).faults) (least (flat_map (λ addend. (sense scope.now addend.of).faults) rest.now)) }
-    ensures { IfOk result (λ fault. fault ≡ least (sense scope.now (exprs.Sum first.now rest.now)).faults) }
+    requires part { part ≡ first_in_sum scope.now first.now rest.now }
+    ensures { IfOk result (IsFirstOfSum scope.now first.now rest.now) }
 {
     let wrong = earlier_of(
         wrong_type(scope, Kind::Int, first),
@@ -100,8 +97,8 @@ pub(crate) fn fault_of_comparison(
     part: Option<TypeFault>,
 ) -> Result<Option<TypeFault>, AllocError>
     requires numbers { IsTrue (has_small_numbers scope.now) }
-    requires part { part ≡ earlier_of (least (sense scope.now left.now).faults) (least (sense scope.now right.now).faults) }
-    ensures { IfOk result (λ fault. (op : Op) → fault ≡ least (sense scope.now (exprs.Compare op left.now right.now)).faults) }
+    requires part { part ≡ first_in_sides scope.now left.now right.now }
+    ensures { IfOk result (IsFirstOfComparison scope.now left.now right.now) }
 {
     let wrong = earlier_of(
         wrong_type(scope, Kind::Int, left),
@@ -119,14 +116,15 @@ pub(crate) fn fault_of_parts(
     parts: &[Expr],
     part: Option<TypeFault>,
 ) -> Option<TypeFault>
-    requires { part ≡ least (flat_map (λ part. (sense scope.now part).faults) parts.now) }
-    ensures both { result ≡ least (sense scope.now (exprs.Both parts.now)).faults }
-    ensures either { result ≡ least (sense scope.now (exprs.Either parts.now)).faults }
+    requires { part ≡ least (faults_in_parts scope.now parts.now) }
+    ensures both { IsFirstOfBoth scope.now parts.now result }
+    ensures either { IsFirstOfEither scope.now parts.now result }
 {
     part.or(wrong_part(scope, parts))
 }
 
-fn wrong_type(scope: &[Entry], wanted: Kind, part: &Expr) -> Option<TypeFault>
+/// A fault at an expression that is of a kind other than the wanted one.
+pub fn wrong_type(scope: &[Entry], wanted: Kind, part: &Expr) -> Option<TypeFault>
     ensures { result ≡ least (wrong_type wanted (sense scope.now part.now)) }
 {
     if is_other(wanted, kind_of(scope, part)) {
@@ -139,7 +137,7 @@ fn wrong_type(scope: &[Entry], wanted: Kind, part: &Expr) -> Option<TypeFault>
 }
 
 fn wrong_factor(scope: &[Entry], factors: &[Factor]) -> Option<TypeFault>
-    ensures { result ≡ least (flat_map (λ factor. wrong_type kinds.Int (sense scope.now factor.of)) factors.now) }
+    ensures { result ≡ least (wrong_factors scope.now factors.now) }
 {
     let mut fault = None;
     for factor in factors {
@@ -149,7 +147,7 @@ fn wrong_factor(scope: &[Entry], factors: &[Factor]) -> Option<TypeFault>
 }
 
 fn wrong_addend(scope: &[Entry], addends: &[Addend]) -> Option<TypeFault>
-    ensures { result ≡ least (flat_map (λ addend. wrong_type kinds.Int (sense scope.now addend.of)) addends.now) }
+    ensures { result ≡ least (wrong_addends scope.now addends.now) }
 {
     let mut fault = None;
     for addend in addends {
@@ -159,7 +157,7 @@ fn wrong_addend(scope: &[Entry], addends: &[Addend]) -> Option<TypeFault>
 }
 
 fn wrong_part(scope: &[Entry], parts: &[Expr]) -> Option<TypeFault>
-    ensures { result ≡ least (flat_map (λ part. wrong_type kinds.Bool (sense scope.now part)) parts.now) }
+    ensures { result ≡ least (wrong_parts scope.now parts.now) }
 {
     let mut fault = None;
     for part in parts {
@@ -186,7 +184,7 @@ fn large_opposite(
 ) -> Result<Option<TypeFault>, AllocError>
     requires numbers { IsTrue (has_small_numbers scope.now) }
     requires of { IsInt scope.now of.now }
-    ensures { IfOk result (λ fault. fault ≡ least (large_form at (scaled (neg_ℤ (pos 1)) (sense scope.now of.now).form))) }
+    ensures { IfOk result (λ fault. fault ≡ least (large_opposite scope.now at of.now)) }
 {
     let mut flat = flat_of(alloc, scope, of)?;
     flat.scale(-1);
@@ -202,7 +200,7 @@ fn large_sum(
     requires numbers { IsTrue (has_small_numbers scope.now) }
     requires first { IsInt scope.now first.now }
     requires rest { All (λ addend. IsInt scope.now addend.of) rest.now }
-    ensures { IfOk result (λ fault. fault ≡ least (large_form (sense scope.now first.now).first (sum_form (sense scope.now first.now).form (map (addend_sense scope.now) rest.now)))) }
+    ensures { IfOk result (λ fault. fault ≡ least (large_sum scope.now first.now rest.now)) }
 {
     let start = flat_of(alloc, scope, first)?;
     let sum = add_all(alloc, scope, start, rest)?;
@@ -218,7 +216,7 @@ fn large_difference(
     requires numbers { IsTrue (has_small_numbers scope.now) }
     requires left { IsInt scope.now left.now }
     requires right { IsInt scope.now right.now }
-    ensures { IfOk result (λ fault. fault ≡ least (large_form (sense scope.now left.now).first (minus (sense scope.now left.now).form (sense scope.now right.now).form))) }
+    ensures { IfOk result (λ fault. fault ≡ least (large_difference scope.now left.now right.now)) }
 {
     let form = difference(alloc, scope, left, right)?;
     Ok(large_form(first_place(left), &form))
@@ -233,7 +231,7 @@ fn fault_of_factors(
     requires numbers { IsTrue (has_small_numbers scope.now) }
     requires first { IsInt scope.now first.now }
     requires rest { All (λ factor. IsInt scope.now factor.of) rest.now }
-    ensures { IfOk result (λ fault. fault ≡ least (product_faults (sense scope.now first.now).first (sense scope.now first.now).form (map (factor_sense scope.now) rest.now))) }
+    ensures { IfOk result (λ fault. fault ≡ least (broken_product scope.now first.now rest.now)) }
 {
     let start = flat_of(alloc, scope, first)?;
     fault_of_product_from(alloc, scope, first_place(first), start, rest)
@@ -251,7 +249,7 @@ fn fault_of_product_from(
     requires numbers { IsTrue (has_small_numbers scope.now) }
     requires limited { is_limited start ≡ true }
     requires rest { All (λ factor. IsInt scope.now factor.of) rest.now }
-    ensures { IfOk result (λ fault. fault ≡ least (product_faults at start (map (factor_sense scope.now) rest.now))) }
+    ensures { IfOk result (λ fault. fault ≡ least (broken_from scope.now at start rest.now)) }
 {
     let mut product = start;
     for factor in rest {

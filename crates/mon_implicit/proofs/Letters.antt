@@ -1,9 +1,9 @@
 -- Two clients that are named by a letter, and call nothing, meet the rule of scripts.
-use Rattle.std.proofs.Common.{◌≡◌, ◌≢◌, ◌<◌, ℕ, zero, suc, true, List, [], ◌∷◌, get_or, refl, ap, arith}
+use Rattle.std.proofs.Common.{◌≡◌, ◌≢◌, ◌<◌, ℕ, zero, suc, List, [], ◌∷◌, get_or, refl, ap, arith}
 use Rattle.std.specs.List.{AllPairs}
 use Rattle.std.proofs.lemmas.List.Elements.{All-nil, All-cons}
 use Rattle.std.proofs.lemmas.Grind.{common_steps}
-use Rattle.mon_syntax.specs.Spelling.{IsIdentifier, is_word}
+use Rattle.mon_base.specs.Identifiers.{IsIdentifier}
 use Rattle.mon_implicit.specs.declared.script.Client.{Client}
 use Rattle.mon_implicit.specs.Scripted.{AreClients}
 
@@ -11,10 +11,10 @@ abbrev pub idle : ℕ → Client
 idle letter = record { name = letter ∷ []; calls = [] }
 
 named_a : IsIdentifier (65 ∷ [])
-named_a = record { spelled = (65, [], refl, All-nil (λ b. is_word b ≡ true), refl); short = omega arith; no_keyword = refl }
+named_a = record { spelled = refl; short = omega arith; no_keyword = refl }
 
 named_b : IsIdentifier (66 ∷ [])
-named_b = record { spelled = (66, [], refl, All-nil (λ b. is_word b ≡ true), refl); short = omega arith; no_keyword = refl }
+named_b = record { spelled = refl; short = omega arith; no_keyword = refl }
 
 letters_apart : (letter other : ℕ) → letter < other → ◌≡◌ {A = List ℕ} (letter ∷ []) (other ∷ []) → ⊥
 letters_apart letter other less same =

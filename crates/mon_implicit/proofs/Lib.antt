@@ -2,6 +2,8 @@ pub mod Sums
 pub mod Held
 pub mod Schedule
 pub mod Progressing
+pub mod OneRun
+pub mod Alone
 pub mod Letters
 pub mod ScriptTests
 pub mod Parts

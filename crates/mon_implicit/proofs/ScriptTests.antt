@@ -4,10 +4,10 @@ use Rattle.std.specs.List.{All, AllPairs, Any, zip}
 use Rattle.std.proofs.lemmas.List.{take_more, get_or_default, get_or-take, length-take}
 use Rattle.std.proofs.lemmas.List.Elements.{All-nil, All-cons, All-head, All-tail}
 use Rattle.std.proofs.lemmas.List.Quantifiers.{all_pairs_push}
-use Rattle.mon_syntax.specs.Spelling.{IsIdentifier}
-use Rattle.mon_forms.specs.declared.kind.Kind.{Kind}
-use Rattle.mon_types.specs.declared.monitor.Value.{Value}
-use Rattle.mon_types.specs.MonitorParts.{IsOfKind, AreOfKinds}
+use Rattle.mon_base.specs.Identifiers.{IsIdentifier}
+use Rattle.mon_base.specs.declared.kind.Kind.{Kind}
+use Rattle.mon_base.specs.declared.value.Value.{Value}
+use Rattle.mon_monitor.specs.MonitorParts.{IsOfKind, AreOfKinds}
 use Rattle.mon_implicit.specs.declared.script.Client.{Client}
 use Rattle.mon_implicit.specs.Scripted.{AreClients}
 

@@ -1,13 +1,14 @@
 -- The implicit step: what one call does.
-use Rattle.std.specs.Prelude.{◌≡◌, ◌⊎◌, ℕ, Bool, true, false, List, [], map, Option, Some, None, IsSomeAnd, slice_get}
+use Rattle.std.specs.Prelude.{◌≡◌, ◌⊎◌, ◌-◌, ℕ, Bool, true, false, List, [], map, Option, Some, None, IsSomeAnd, slice_get}
 use Rattle.mon_linear.specs.Truth.{truth_of}
-use Rattle.mon_forms.specs.declared.kind.Kind.{Kind}
-use Rattle.mon_types.specs.declared.monitor.Value.{Value}
-use Rattle.mon_types.specs.declared.monitor.Value.TheVariants as values
-use Rattle.mon_types.specs.declared.monitor.Method.{Method}
-use Rattle.mon_types.specs.declared.monitor.Block.{Block}
-use Rattle.mon_types.specs.MonitorParts.{MonitorParts, AreOfKinds, kinds_of}
-use Rattle.mon_types.specs.Bodies.{valuation, after, Overflows, result_value}
+use Rattle.mon_base.specs.declared.kind.Kind.{Kind}
+use Rattle.mon_base.specs.declared.value.Value.{Value}
+use Rattle.mon_base.specs.declared.value.Value.TheVariants as values
+use Rattle.mon_monitor.specs.declared.monitor.Method.{Method}
+use Rattle.mon_monitor.specs.declared.monitor.Block.{Block}
+use Rattle.mon_monitor.specs.declared.monitor.Condition.{Condition}
+use Rattle.mon_monitor.specs.MonitorParts.{MonitorParts, AreOfKinds, kinds_of}
+use Rattle.mon_monitor.specs.Bodies.{valuation, after, Overflows, result_value}
 use Rattle.mon_implicit.specs.declared.commit.Reply.{Reply}
 use Rattle.mon_implicit.specs.declared.commit.Reply.TheVariants as replies
 
@@ -34,6 +35,18 @@ block_truth state inputs (Some block) = truth_of (valuation state inputs) block.
 -- the truth of the guard of a block, by its number, at these inputs
 abbrev pub guard_truth : MonitorParts → List Value → ℕ → List Value → Bool
 guard_truth monitor state block inputs = block_truth state inputs (slice_get monitor.blocks block)
+
+abbrev pub condition_guard_truth : List Value → Option Condition → Bool
+condition_guard_truth state None = false
+condition_guard_truth state (Some condition) = truth_of (valuation state []) condition.guard
+
+-- the truth of the guard of a condition, by its number from 1, in a state, where the guard reads no inputs
+abbrev pub condition_truth : MonitorParts → List Value → ℕ → Bool
+condition_truth monitor state condition = condition_guard_truth state (slice_get monitor.conditions (condition - 1))
+
+-- there is such a condition, and it reads no inputs
+abbrev pub IsAlone : Option Condition → Type 0
+IsAlone condition = IsSomeAnd condition (λ which. which.reads_inputs ≡ false)
 
 -- a result as it is replied
 abbrev pub reply_of : Option Value → Reply

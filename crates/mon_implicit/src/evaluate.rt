@@ -3,19 +3,20 @@
 //! A form of a monitor has at most 22 terms, one for each field and input. Each counts at most `2^31`
 //! times a value of 64 bits, so sums stay far below `2^127`.
 
-ghost use Rattle.std.specs.Prelude.{◌≡◌, ◌≤◌, ◌*◌, ◌^◌, ◌*ℤ◌, IsTrue, All, length, map};
-ghost use Rattle.std.specs.List.{list_all, list_any};
+ghost use Rattle.std.specs.Prelude.{◌≡◌, ◌≤◌, ◌+◌, ◌*◌, ◌^◌, IsTrue, All, length};
 ghost use Rattle.mon_linear.specs.Truth.{sum_of, value_of, truth_of};
-ghost use Rattle.mon_forms.specs.Forms.{is_within};
-ghost use Rattle.mon_types.specs.MonitorParts.{fits_form, fits_formula};
-ghost use Rattle.mon_types.specs.Bodies.{value_at, number_in, truth_in, valuation};
-ghost use Rattle.mon_implicit.specs.Held.{held_places, AreFew};
+ghost use Rattle.mon_base.specs.Limits.{FIELDS, INPUTS};
+ghost use Rattle.mon_base.specs.Numbers.{is_within};
+ghost use Rattle.mon_monitor.specs.MonitorParts.{fits_form, fits_formula};
+ghost use Rattle.mon_monitor.specs.Bodies.{value_at, number_of_value, truth_of_value, valuation};
+ghost use Rattle.mon_implicit.specs.inner.Held.{held_places, term_value, all_fit, all_true, any_true, AreFew};
 
+use mon_base::Value;
+use mon_base::limits::FIELDS;
 use mon_linear::{Formula, Lin, Term};
-use mon_types::Value;
 
 /// The first place of an input: field `k` has place `k`, and input `k` place `16 + k`.
-const FIRST_INPUT: usize = 16;
+const FIRST_INPUT: usize = FIELDS;
 
 /// The value at a place.
 fn value_at(state: &[Value], inputs: &[Value], place: u32) -> Value
@@ -35,7 +36,7 @@ fn value_at(state: &[Value], inputs: &[Value], place: u32) -> Value
 
 /// The number at a place, or 0 where it holds a truth value.
 fn number_at(state: &[Value], inputs: &[Value], place: u32) -> i64
-    ensures { result ≡ number_in (value_at state.now inputs.now place) }
+    ensures { result ≡ number_of_value (value_at state.now inputs.now place) }
 {
     match value_at(state, inputs, place) {
         Value::Int(number) => number,
@@ -45,7 +46,7 @@ fn number_at(state: &[Value], inputs: &[Value], place: u32) -> i64
 
 /// The truth value at a place, or false where it holds a number.
 fn truth_at(state: &[Value], inputs: &[Value], place: u32) -> bool
-    ensures { result ≡ truth_in (value_at state.now inputs.now place) }
+    ensures { result ≡ truth_of_value (value_at state.now inputs.now place) }
 {
     match value_at(state, inputs, place) {
         Value::Int(_) => false,
@@ -56,7 +57,7 @@ fn truth_at(state: &[Value], inputs: &[Value], place: u32) -> bool
 /// The value of a term.
 fn term_number(term: &Term, state: &[Value], inputs: &[Value]) -> i128
     requires { IsTrue (is_within (2 ^ 31) term.now.times) }
-    ensures value { result ≡ term.now.times *ℤ number_in (value_at state.now inputs.now term.now.place) }
+    ensures value { result ≡ term_value state.now inputs.now term.now }
     ensures small { IsTrue (is_within (2 ^ 94) result) }
 {
     term.times * i128::from(number_at(state, inputs, term.place))
@@ -64,10 +65,10 @@ fn term_number(term: &Term, state: &[Value], inputs: &[Value]) -> i128
 
 /// The sum of the values of terms.
 fn terms_number(terms: &[Term], state: &[Value], inputs: &[Value]) -> i128
-    requires few { length terms.now ≤ 22 }
+    requires few { length terms.now ≤ FIELDS + INPUTS }
     requires small { All (λ term. IsTrue (is_within (2 ^ 31) term.times)) terms.now }
     ensures sum { result ≡ sum_of (valuation state.now inputs.now) terms.now }
-    ensures small { IsTrue (is_within (22 * 2 ^ 94) result) }
+    ensures small { IsTrue (is_within ((FIELDS + INPUTS) * 2 ^ 94) result) }
 {
     let mut sum = 0;
     for term in terms {
@@ -104,8 +105,8 @@ pub fn formula_truth(formula: &Formula, state: &[Value], inputs: &[Value]) -> bo
 #[cycle(formula_truth)]
 fn all_hold(parts: &[Formula], state: &[Value], inputs: &[Value]) -> bool
     requires few { AreFew state.now inputs.now }
-    requires fits { IsTrue (list_all (λ part. part) (map (fits_formula (held_places state.now inputs.now)) parts.now)) }
-    ensures { result ≡ list_all (λ part. part) (map (truth_of (valuation state.now inputs.now)) parts.now) }
+    requires fits { IsTrue (all_fit (held_places state.now inputs.now) parts.now) }
+    ensures { result ≡ all_true (valuation state.now inputs.now) parts.now }
 {
     for part in parts {
         if !formula_truth(part, state, inputs) {
@@ -119,8 +120,8 @@ fn all_hold(parts: &[Formula], state: &[Value], inputs: &[Value]) -> bool
 #[cycle(formula_truth)]
 fn any_holds(parts: &[Formula], state: &[Value], inputs: &[Value]) -> bool
     requires few { AreFew state.now inputs.now }
-    requires fits { IsTrue (list_all (λ part. part) (map (fits_formula (held_places state.now inputs.now)) parts.now)) }
-    ensures { result ≡ list_any (λ part. part) (map (truth_of (valuation state.now inputs.now)) parts.now) }
+    requires fits { IsTrue (all_fit (held_places state.now inputs.now) parts.now) }
+    ensures { result ≡ any_true (valuation state.now inputs.now) parts.now }
 {
     for part in parts {
         if formula_truth(part, state, inputs) {

@@ -2,27 +2,21 @@
 
 ghost use Rattle.std.specs.Prelude.{◌≡◌, ◌≢◌, ◌≤◌, ◌↔◌, IsTrue, All, AllPairs, Any, length, sum_by};
 ghost use Rattle.std.specs.List.{zip};
-ghost use Rattle.mon_syntax.specs.Spelling.{IsIdentifier};
-ghost use Rattle.mon_types.specs.MonitorParts.{IsOfKind, AreOfKinds};
+ghost use Rattle.mon_base.specs.Identifiers.{IsIdentifier};
+ghost use Rattle.mon_monitor.specs.MonitorParts.{IsOfKind, AreOfKinds};
 ghost use Rattle.mon_implicit.specs.Scripted.{AreClients, FitsCall, FitsScripts};
 
 use super::script::{Call, Client};
-use mon_io::Name;
-use mon_syntax::is_identifier;
-use mon_types::{Kind, Monitor, Value};
-
-/// The most clients of scripts.
-const MOST_CLIENTS: usize = 32;
-
-/// The most calls of scripts, all clients together.
-const MOST_CALLS: usize = 16_384;
+use mon_base::limits::{CALLS, CLIENTS};
+use mon_base::{Kind, Name, Value, is_identifier};
+use mon_monitor::Monitor;
 
 /// Whether these clients may be scripts: at most 32, whose names are distinct identifiers and no
 /// keywords, with at most 16,384 calls in all. It is what [`Scripts::of`](crate::Scripts::of) asks for.
 pub fn are_clients(clients: &[Client]) -> bool
     ensures { IsTrue result ↔ AreClients clients.now }
 {
-    clients.len() <= MOST_CLIENTS
+    clients.len() <= CLIENTS
         && are_named(clients)
         && are_distinct(clients)
         && have_few_calls(clients)
@@ -64,9 +58,9 @@ fn are_same(a: &Name, b: &Name) -> bool
 
 /// Whether there are at most 16,384 calls in all.
 fn have_few_calls(clients: &[Client]) -> bool
-    ensures { IsTrue result ↔ (sum_by (λ client. length client.calls) clients.now ≤ 16384) }
+    ensures { IsTrue result ↔ (sum_by (λ client. length client.calls) clients.now ≤ CALLS) }
 {
-    let mut room = MOST_CALLS;
+    let mut room = CALLS;
     for client in clients {
         let calls = client.calls.items().len();
         if calls > room {

@@ -1,16 +1,15 @@
 //! A run so far.
 
-ghost use Rattle.std.specs.Prelude.{◌≡◌, ◌<◌, ◌↔◌, IsTrue, IfOk, MatchOption, None, Some, length};
+ghost use Rattle.std.specs.Prelude.{◌≡◌, ◌<◌, ◌↔◌, IsTrue, IfOk, IfNone, IfSome, OnOk, None, Some, length};
 ghost use Rattle.mon_implicit.specs.Scripted.{AreClients, FitsScripts};
-ghost use Rattle.mon_implicit.specs.Runs.{next_call, CanAct, IsFinished};
-ghost use Rattle.mon_implicit.specs.Rounds.{IsNextActor};
-ghost use Rattle.mon_implicit.specs.Progress.{IsProgress, AreCounted, calls_left};
+ghost use Rattle.mon_implicit.specs.Runs.{IsFinished};
+ghost use Rattle.mon_implicit.specs.inner.Progress.{IsProgress, AreCounted, CanStep, StepsNext, call_next, left_in};
 
 use super::commit::Commit;
 use super::script::{Call, Client};
 use super::state::State;
 use super::step::{guard_holds, run_block, start};
-use mon_types::Monitor;
+use mon_monitor::Monitor;
 use std::alloc::{AllocError, Global};
 
 /// A run by rounds so far.
@@ -41,7 +40,7 @@ pub fn can_act(monitor: &Monitor, clients: &[Client], run: &Progress, client: us
     requires client { client < length clients.now }
     requires scripts { FitsScripts monitor.now clients.now }
     requires run { IsProgress monitor.now clients.now run.now }
-    ensures { IsTrue result ↔ CanAct monitor.now clients.now run.now.history.items run.now.state client }
+    ensures { IsTrue result ↔ CanStep monitor.now clients.now run.now client }
 {
     match call_left(clients, run, client) {
         Some(call) => {
@@ -56,7 +55,8 @@ pub fn can_act(monitor: &Monitor, clients: &[Client], run: &Progress, client: us
 fn call_left<'a>(clients: &'a [Client], run: &Progress, client: usize) -> Option<&'a Call>
     requires client { client < length clients.now }
     requires counts { AreCounted clients.now run.now.history.items run.now.made.items }
-    ensures { MatchOption result (next_call clients.now run.now.history.items client ≡ None) (λ call. next_call clients.now run.now.history.items client ≡ Some call.now) }
+    ensures none { IfNone result (call_next clients.now run.now client ≡ None) }
+    ensures call { IfSome result (λ call. call_next clients.now run.now client ≡ Some call.now) }
 {
     clients[client].calls.items().get(run.made[client] as usize)
 }
@@ -80,9 +80,9 @@ pub fn act(
     requires clients { AreClients clients.now }
     requires scripts { FitsScripts monitor.now clients.now }
     requires run { IsProgress monitor.now clients.now run.old }
-    requires next { IsNextActor monitor.now clients.now run.old.history.items run.old.state client }
-    ensures run { IfOk result (λ _. IsProgress monitor.now clients.now run.new) }
-    ensures fewer { IfOk result (λ _. calls_left clients.now run.new.made.items < calls_left clients.now run.old.made.items) }
+    requires next { StepsNext monitor.now clients.now run.old client }
+    ensures run { OnOk result (IsProgress monitor.now clients.now run.new) }
+    ensures fewer { OnOk result (left_in clients.now run.new < left_in clients.now run.old) }
 {
     let Some(call) = call_left(clients, run, client) else {
         unreachable!()

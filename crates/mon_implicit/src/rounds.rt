@@ -1,17 +1,16 @@
 //! Runs by rounds.
 
-ghost use Rattle.std.specs.Prelude.{◌≤◌, IfOk, MatchOption, length};
+ghost use Rattle.std.specs.Prelude.{◌≤◌, IfNone, IfOk, IfSome, length};
 ghost use Rattle.mon_implicit.specs.Steps.{FitsState};
 ghost use Rattle.mon_implicit.specs.Scripted.{FitsScripts};
-ghost use Rattle.mon_implicit.specs.Runs.{Ends};
-ghost use Rattle.mon_implicit.specs.Rounds.{IsNextActor, AreTurnsByRounds};
-ghost use Rattle.mon_implicit.specs.Progress.{IsProgress, IsFirstActor, NoneActs};
+ghost use Rattle.mon_implicit.specs.Rounds.{AreTurnsByRounds};
+ghost use Rattle.mon_implicit.specs.inner.Progress.{HasEnded, IsFirstActor, IsProgress, NoneActs, StepsNext};
 
 use super::commit::Turns;
 use super::progress::{Progress, act, begun, can_act, is_finished};
 use super::script::{Client, Scripts};
 use mon_list::Seq;
-use mon_types::Monitor;
+use mon_monitor::Monitor;
 use std::alloc::{AllocError, Global};
 
 /// The run by rounds of clients that call the monitor's methods. It passes over the clients in file
@@ -45,7 +44,8 @@ pub fn turns(alloc: Global, monitor: &Monitor, scripts: &Scripts) -> Result<Turn
 fn next_actor(monitor: &Monitor, clients: &[Client], run: &Progress) -> Option<usize>
     requires scripts { FitsScripts monitor.now clients.now }
     requires run { IsProgress monitor.now clients.now run.now }
-    ensures { MatchOption result (Ends monitor.now clients.now run.now.history.items run.now.state) (λ client. IsNextActor monitor.now clients.now run.now.history.items run.now.state client) }
+    ensures none { IfNone result (HasEnded monitor.now clients.now run.now) }
+    ensures actor { IfSome result (λ client. StepsNext monitor.now clients.now run.now client) }
 {
     match first_actor(monitor, clients, run, run.next_asked, clients.len()) {
         Some(client) => Some(client),
@@ -64,7 +64,8 @@ fn first_actor(
     requires range { to ≤ length clients.now }
     requires scripts { FitsScripts monitor.now clients.now }
     requires run { IsProgress monitor.now clients.now run.now }
-    ensures { MatchOption result (NoneActs monitor.now clients.now run.now.history.items run.now.state from to) (λ client. IsFirstActor monitor.now clients.now run.now.history.items run.now.state from to client) }
+    ensures none { IfNone result (NoneActs monitor.now clients.now run.now from to) }
+    ensures first { IfSome result (λ it. IsFirstActor monitor.now clients.now run.now from to it) }
 {
     for client in from..to {
         if can_act(monitor, clients, run, client) {

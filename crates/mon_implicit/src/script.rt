@@ -2,9 +2,8 @@
 
 ghost use Rattle.std.specs.Prelude.{◌≡◌};
 
-use mon_io::Name;
+use mon_base::{Name, Value};
 use mon_list::Seq;
-use mon_types::Value;
 use std::marker::Model;
 
 /// A call of a method, counted from 0, with a value for each of its parameters.

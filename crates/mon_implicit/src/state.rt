@@ -1,33 +1,36 @@
 //! A state: a value for each field.
 
 ghost use Rattle.std.specs.Prelude.{◌≡◌, ◌≤◌, ◌<◌, [], ◌∷◌, ◌++◌, length, take, slice_set};
+ghost use Rattle.mon_base.specs.Limits.{FIELDS as MOST_FIELDS};
 
-use mon_types::Value;
+use mon_base::Value;
+use mon_base::limits::FIELDS;
 use std::marker::Model;
 
 /// The value of each field, at most 16 of them, held inline: a copy takes no memory.
 #[derive(Debug, Drop)]
 pub struct State {
-    values: [Value; 16],
+    values: [Value; FIELDS],
     len: usize,
 }
 
 impl Model for State {
     ghost use Rattle.std.specs.Prelude.{List, take, ◌≤◌};
-    ghost use Rattle.mon_types.specs.declared.monitor.Value.{Value as Held};
+    ghost use Rattle.mon_base.specs.Limits.{FIELDS as MOST_FIELDS};
+    ghost use Rattle.mon_base.specs.declared.value.Value.{Value as Held};
 
     ghost Value = { List Held };
 
     ghost view = { λ state. take state.len state.values };
 
-    ghost invariant = { λ state. state.len ≤ 16 };
+    ghost invariant = { λ state. state.len ≤ MOST_FIELDS };
 }
 
 impl State {
     /// The values, in the order of the fields.
     pub fn values(&self) -> &[Value]
         ensures values { result.now ≡ self.now }
-        ensures few { length self.now ≤ 16 }
+        ensures few { length self.now ≤ MOST_FIELDS }
     {
         &self.values[..self.len]
     }
@@ -37,14 +40,14 @@ impl State {
         ensures { result ≡ [] }
     {
         State {
-            values: [Value::Int(0); 16],
+            values: [Value::Int(0); FIELDS],
             len: 0,
         }
     }
 
     /// One more field's value.
     pub(crate) fn push(&mut self, value: Value)
-        requires { length self.old < 16 }
+        requires { length self.old < MOST_FIELDS }
         ensures { self.new ≡ self.old ++ value ∷ [] }
     {
         self.values[self.len] = value;
@@ -54,7 +57,7 @@ impl State {
     /// Puts a value at a place.
     pub(crate) fn set(&mut self, place: usize, value: Value)
         requires within { place < length self.old }
-        requires few { length self.old ≤ 16 }
+        requires few { length self.old ≤ MOST_FIELDS }
         ensures { self.new ≡ slice_set self.old place value }
     {
         self.values[place] = value;

@@ -1,16 +1,18 @@
 //! The start, a guard, and a step.
 
-ghost use Rattle.std.specs.Prelude.{◌≡◌, true, false, ◌<◌, ◌≤◌, length, map, slice_get, IsTrue, IfOk, OnOk, OnErr, Some};
-ghost use Rattle.mon_types.specs.MonitorParts.{fits_block, fits_result, kinds_of};
-ghost use Rattle.mon_types.specs.Bodies.{Overflows, after, result_value, fits_result_64};
-ghost use Rattle.mon_implicit.specs.Steps.{start_of, guard_truth, kinds_in, reply_of, FitsState, FitsInputs, IsImplicitStep};
-ghost use Rattle.mon_implicit.specs.Held.{kind_of, held_places, AreFew};
+ghost use Rattle.std.specs.Prelude.{◌≡◌, true, false, ◌-◌, ◌<◌, ◌≤◌, length, map, slice_get, IsTrue, IfOk, OnOk, OnErr, Some};
+ghost use Rattle.mon_base.specs.Limits.{FIELDS, INPUTS};
+ghost use Rattle.mon_monitor.specs.MonitorParts.{fits_block, fits_result};
+ghost use Rattle.mon_monitor.specs.Bodies.{Overflows, after};
+ghost use Rattle.mon_implicit.specs.Steps.{start_of, guard_truth, condition_truth, kinds_in, FitsState, FitsInputs, IsAlone, IsImplicitStep};
+ghost use Rattle.mon_implicit.specs.inner.Held.{kind_of, held_places, fits_method, is_short_in, reply_in, whole_reply, AreFew};
 
 use super::commit::Reply;
 use super::evaluate::formula_truth;
 use super::run::{Overflow, form_value, run_statements};
 use super::state::State;
-use mon_types::{Block, Monitor, Ret, Value};
+use mon_base::Value;
+use mon_monitor::{Block, Monitor, Ret};
 
 /// The state at the start: each field has its start value. It takes no memory.
 pub fn start(monitor: &Monitor) -> State
@@ -35,13 +37,25 @@ pub fn guard_holds(monitor: &Monitor, state: &State, block: u32, inputs: &[Value
     formula_truth(&block_at(monitor, block).guard, state.values(), inputs)
 }
 
+/// Whether the guard of a condition that reads no inputs holds in a state of the monitor. `condition` is a
+/// condition's number, from 1.
+pub fn condition_holds(monitor: &Monitor, state: &State, condition: u32) -> bool
+    requires state { FitsState monitor.now state.now }
+    requires range { 1 ≤ condition }
+    requires alone { IsAlone (slice_get monitor.now.conditions (condition - 1)) }
+    ensures { result ≡ condition_truth monitor.now state.now condition }
+{
+    let guard = &monitor.conditions()[condition as usize - 1].guard;
+    formula_truth(guard, state.values(), &[])
+}
+
 /// The block of this number.
 fn block_at(monitor: &Monitor, block: u32) -> &Block
     requires { block < length monitor.now.blocks }
     ensures block { slice_get monitor.now.blocks block ≡ Some result.now }
-    ensures fits { fits_block (record { fields = kinds_of monitor.now.fields; inputs = kinds_in (slice_get monitor.now.methods block) }) result.now ≡ true }
-    ensures few_fields { length monitor.now.fields ≤ 16 }
-    ensures few_inputs { length (kinds_in (slice_get monitor.now.methods block)) ≤ 6 }
+    ensures fits { fits_method monitor.now block result.now ≡ true }
+    ensures few_fields { length monitor.now.fields ≤ FIELDS }
+    ensures few_inputs { length (kinds_in (slice_get monitor.now.methods block)) ≤ INPUTS }
 {
     &monitor.blocks()[block as usize]
 }
@@ -74,7 +88,7 @@ pub fn run_block(monitor: &Monitor, state: &mut State, block: u32, inputs: &[Val
 fn run_whole(block: &Block, inputs: &[Value], state: &mut State) -> Result<Reply, Overflow>
     requires few { AreFew state.old inputs.now }
     requires fits { IsTrue (fits_block (held_places state.old inputs.now) block.now) }
-    ensures reply { IfOk result (λ reply. reply ≡ reply_of (result_value (after inputs.now block.now.body state.old) inputs.now block.now.result)) }
+    ensures reply { IfOk result (λ reply. reply ≡ whole_reply state.old inputs.now block.now) }
     ensures reached { OnOk result (state.new ≡ after inputs.now block.now.body state.old) }
     ensures fitted { OnOk result (Overflows inputs.now block.now state.old → ⊥) }
     ensures overflowed { OnErr result (Overflows inputs.now block.now state.old) }
@@ -88,9 +102,9 @@ fn run_whole(block: &Block, inputs: &[Value], state: &mut State) -> Result<Reply
 fn result_reply(answer: &Ret, state: &[Value], inputs: &[Value]) -> Result<Reply, Overflow>
     requires few { AreFew state.now inputs.now }
     requires fits { IsTrue (fits_result (held_places state.now inputs.now) answer.now) }
-    ensures reply { IfOk result (λ reply. reply ≡ reply_of (result_value state.now inputs.now answer.now)) }
-    ensures fitted { OnOk result (fits_result_64 (result_value state.now inputs.now answer.now) ≡ true) }
-    ensures overflowed { OnErr result (fits_result_64 (result_value state.now inputs.now answer.now) ≡ false) }
+    ensures reply { IfOk result (λ reply. reply ≡ reply_in state.now inputs.now answer.now) }
+    ensures fitted { OnOk result (is_short_in state.now inputs.now answer.now ≡ true) }
+    ensures overflowed { OnErr result (is_short_in state.now inputs.now answer.now ≡ false) }
 {
     match answer {
         Ret::Nothing => Ok(Reply::Unit),

@@ -1,6 +1,6 @@
 ghost use Rattle.std.specs.Prelude.{◌≡◌, ◌≤◌, ◌+◌, ◌↔◌, ℕ, List, Option, IfOk, IsOk, IsErrOf, length};
 ghost use Rattle.mon_io.specs.declared.files.FileFault.TheVariants.{OutOfMemory};
-ghost use Rattle.mon_io.specs.Outside.{IsRead, Rises};
+ghost use Rattle.mon_io.specs.Outside.{FilesSeen, IsRead, Rises, most_faults};
 
 use std::alloc::{AllocError, AllocFailed, Global};
 use thiserror::Error;
@@ -34,11 +34,9 @@ impl<T: Drop> From<AllocFailed<T>> for FileFault {
 
 /// Files that are read by name.
 pub trait Files {
-    /// How many faults rose. The count stays at 2^64 - 1 once it is reached.
-    ghost faults: { Self → ℕ };
-
-    /// The bytes of a name, where they are told.
-    ghost held: { Self → List ℕ → Option (List ℕ) };
+    /// What is seen of the files: the bytes of each name, where they are told, and how many faults rose.
+    /// The count stays at 2^64 - 1 once it is reached.
+    ghost seen: { Self → FilesSeen };
 
     /// The names that may be asked for.
     ghost may_read: { Self → List ℕ → Type 0 };
@@ -50,11 +48,14 @@ pub trait Files {
     /// gives bytes.
     fn read_up_to(&mut self, alloc: Global, name: &str, limit: u64) -> Result<Vec<u8>, FileFault>
         requires { may_read self.old name.now }
-        ensures told { IfOk result (λ bytes. IsRead (held self.old name.now) limit bytes.items) }
+        ensures told { IfOk result (λ bytes.
+            IsRead ((seen self.old).held name.now) limit bytes.items) }
         ensures bound { IfOk result (λ bytes. length bytes.items ≤ limit + 1) }
-        ensures cause { IsErrOf result FileFault.Failed → Rises (faults self.old) (faults self.new) }
-        ensures later { faults self.old ≤ faults self.new }
-        ensures steady { IsOk result → faults self.new ≡ faults self.old }
-        ensures held { (n : List ℕ) → held self.new n ≡ held self.old n }
+        ensures cause { IsErrOf result FileFault.Failed →
+            Rises (seen self.old).faults (seen self.new).faults }
+        ensures later { (seen self.old).faults ≤ (seen self.new).faults }
+        ensures counted { (seen self.new).faults ≤ most_faults }
+        ensures steady { IsOk result → (seen self.new).faults ≡ (seen self.old).faults }
+        ensures held { (n : List ℕ) → (seen self.new).held n ≡ (seen self.old).held n }
         ensures may_read { (n : List ℕ) → may_read self.new n ↔ may_read self.old n };
 }

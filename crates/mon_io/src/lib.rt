@@ -8,19 +8,21 @@
 #![tactic(auto)]
 
 mod files;
+mod gathered;
 mod mem_files;
 mod mem_sink;
-mod name;
 mod real;
 mod sink;
+mod std_sink;
 mod writer;
 
 pub use files::{FileFault, Files};
 pub use mem_files::{MemFile, MemFiles};
 pub use mem_sink::MemSink;
-pub use name::Name;
-pub use real::{RealFiles, StdSink};
+pub use mon_base::Name;
+pub use real::RealFiles;
 pub use sink::{Sink, SinkFailed, write_whole};
+pub use std_sink::StdSink;
 pub use writer::{write_piece, write_pieces};
 
 #[cfg(test)]

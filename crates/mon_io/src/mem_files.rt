@@ -1,9 +1,9 @@
 ghost use Rattle.std.specs.Prelude.{◌≡◌, ◌≤◌, ◌+◌, ◌⊎◌, ◌↔◌, ℕ, List, [], Option, IfOk, IsOk, IsErrOf, IsNone, Contains, length, take, option_map, option_copied, OnSome};
 ghost use Rattle.mon_io.specs.FilesInMemory.{IsFailing, bytes_named};
-ghost use Rattle.mon_io.specs.Outside.{IsRead, Rises, next_count};
+ghost use Rattle.mon_io.specs.Outside.{IsRead, Rises, most_faults, next_count};
 
 use crate::files::{FileFault, Files};
-use crate::name::Name;
+use mon_base::Name;
 use mon_list::Seq;
 use std::alloc::{AllocError, Global};
 use std::marker::Model;
@@ -30,7 +30,9 @@ pub struct MemFiles {
 }
 
 impl Model for MemFiles {
+    ghost use Rattle.std.specs.Prelude.{◌≤◌};
     ghost use Rattle.mon_io.specs.FilesInMemory.{FilesInMemory};
+    ghost use Rattle.mon_io.specs.Outside.{most_faults};
 
     ghost Value = { FilesInMemory };
 
@@ -40,13 +42,20 @@ impl Model for MemFiles {
       calls = m.calls;
       faults = m.faults;
     } };
+
+    ghost invariant = { λ m. m.faults ≤ most_faults };
 }
 
 impl MemFiles {
     /// These files. Of two of one name the first is read. Call number `k`, from 1, fails where `k` is
     /// in `failing`. It takes no memory.
     pub fn open(files: Vec<MemFile>, failing: Vec<u64>) -> MemFiles
-        ensures { result ≡ record { files = files.items; failing = failing.items; calls = 0; faults = 0 } }
+        ensures { result ≡ record {
+          files = files.items;
+          failing = failing.items;
+          calls = 0;
+          faults = 0;
+        } }
     {
         MemFiles {
             files,
@@ -68,23 +77,25 @@ impl Files for MemFiles {
     ghost use Rattle.std.specs.Prelude.{⊤};
     ghost use Rattle.mon_io.specs.FilesInMemory.{bytes_named};
 
-    ghost faults = { λ m. m.faults };
-
-    ghost held = { λ m name. bytes_named m.files name };
+    ghost seen = { λ m. record { held = bytes_named m.files; faults = m.faults } };
 
     ghost may_read = { λ _ _. ⊤ };
 
     fn read_up_to(&mut self, alloc: Global, name: &str, limit: u64) -> Result<Vec<u8>, FileFault>
-        ensures told { IfOk result (λ bytes. IsRead (bytes_named self.old.files name.now) limit bytes.items) }
+        ensures told { IfOk result (λ bytes.
+            IsRead (bytes_named self.old.files name.now) limit bytes.items) }
         ensures bound { IfOk result (λ bytes. length bytes.items ≤ limit + 1) }
         ensures cause { IsErrOf result FileFault.Failed → Rises self.old.faults self.new.faults }
         ensures later { self.old.faults ≤ self.new.faults }
+        ensures counted { self.new.faults ≤ most_faults }
         ensures steady { IsOk result → self.new.faults ≡ self.old.faults }
 
         // The call fails exactly where it was asked to or the name isn't held, and is counted then.
-        ensures failed { IsErrOf result FileFault.Failed ↔ IsFailing self.old self.new.calls name.now }
-        ensures counted { IsErrOf result FileFault.Failed → self.new.faults ≡ next_count self.old.faults }
-        ensures uncounted { ¬ IsErrOf result FileFault.Failed → self.new.faults ≡ self.old.faults }
+        ensures failed { IsErrOf result FileFault.Failed
+            ↔ IsFailing self.old self.new.calls name.now }
+        ensures next { IsErrOf result FileFault.Failed
+            → self.new.faults ≡ next_count self.old.faults }
+        ensures same { ¬ IsErrOf result FileFault.Failed → self.new.faults ≡ self.old.faults }
 
         ensures calls { self.new.calls ≡ next_count self.old.calls }
         ensures files { self.new.files ≡ self.old.files }
@@ -104,7 +115,8 @@ impl Files for MemFiles {
 fn readable<'a>(files: &'a [MemFile], failing: &[u64], call: u64, name: &str) -> Option<&'a MemFile>
     ensures found { OnSome result
         (option_map (λ file. file.bytes) (option_copied result) ≡ bytes_named files.now name.now) }
-    ensures fails { IsNone result ↔ (Contains failing.now call ⊎ IsNone (bytes_named files.now name.now)) }
+    ensures fails { IsNone result ↔
+        (Contains failing.now call ⊎ IsNone (bytes_named files.now name.now)) }
 {
     if failing.contains(&call) {
         return None;
@@ -114,7 +126,8 @@ fn readable<'a>(files: &'a [MemFile], failing: &[u64], call: u64, name: &str) ->
 
 // The first file of this name.
 fn file_named<'a>(files: &'a [MemFile], name: &str) -> Option<&'a MemFile>
-    ensures { option_map (λ file. file.bytes) (option_copied result) ≡ bytes_named files.now name.now }
+    ensures { option_map (λ file. file.bytes) (option_copied result)
+        ≡ bytes_named files.now name.now }
 {
     files
         .iter()

@@ -1,6 +1,6 @@
-ghost use Rattle.std.specs.Prelude.{◌≡◌, ◌<◌, ◌≤◌, ◌-◌, ◌↔◌, min, [], Some, IfOk, IsErr, OnOk, OnErr, length, take};
+ghost use Rattle.std.specs.Prelude.{◌≡◌, ◌<◌, ◌≤◌, ◌-◌, ◌↔◌, min, [], Some, IfOk, IsErr, IsOk, OnOk, OnErr, length, take};
 ghost use Rattle.std.specs.Io.KnownBytes.{Appends, Keeps};
-ghost use Rattle.mon_io.specs.Outside.{Rises, next_count};
+ghost use Rattle.mon_io.specs.Outside.{Rises, most_faults, next_count};
 ghost use Rattle.mon_io.specs.SinkInMemory.{IsRefusing};
 
 use crate::sink::{Sink, SinkFailed};
@@ -22,6 +22,7 @@ pub struct MemSink {
 
 impl Model for MemSink {
     ghost use Rattle.std.specs.Prelude.{◌≤◌, vec_len, vec_capacity};
+    ghost use Rattle.mon_io.specs.Outside.{most_faults};
     ghost use Rattle.mon_io.specs.SinkInMemory.{SinkInMemory};
 
     ghost Value = { SinkInMemory };
@@ -34,7 +35,8 @@ impl Model for MemSink {
       faults = s.faults;
     } };
 
-    ghost invariant = { λ s. (vec_len s.bytes ≤ s.room) × (s.room ≤ vec_capacity s.bytes) };
+    ghost invariant = { λ s.
+        (vec_len s.bytes ≤ s.room) × (s.room ≤ vec_capacity s.bytes) × (s.faults ≤ most_faults) };
 }
 
 impl MemSink {
@@ -80,23 +82,24 @@ impl MemSink {
 impl Sink for MemSink {
     ghost use Rattle.std.specs.Prelude.{Some};
 
-    ghost faults = { λ s. s.faults };
-
-    ghost written = { λ s. Some s.bytes };
+    ghost seen = { λ s. record { written = Some s.bytes; faults = s.faults } };
 
     fn write(&mut self, bytes: &[u8]) -> Result<usize, SinkFailed>
         ensures within { IfOk result (λ n. n ≤ length bytes.now) }
         ensures some { IfOk result (λ n. 0 < length bytes.now → 0 < n) }
-        ensures appended { IfOk result (λ n. Appends (Some self.old.bytes) (Some self.new.bytes) (take n bytes.now)) }
+        ensures appended { IfOk result (λ n.
+            Appends (Some self.old.bytes) (Some self.new.bytes) (take n bytes.now)) }
         ensures kept { OnErr result (Keeps (Some self.old.bytes) (Some self.new.bytes)) }
         ensures cause { OnErr result (Rises self.old.faults self.new.faults) }
         ensures later { self.old.faults ≤ self.new.faults }
+        ensures counted { self.new.faults ≤ most_faults }
 
         // The call fails exactly where it was asked to or no room is left, and is counted then.
         ensures failed { IsErr result ↔ IsRefusing self.old self.new.calls bytes.now }
-        ensures fits { IfOk result (λ n. n ≡ min (length bytes.now) (self.old.room - length self.old.bytes)) }
-        ensures counted { OnErr result (self.new.faults ≡ next_count self.old.faults) }
-        ensures uncounted { OnOk result (self.new.faults ≡ self.old.faults) }
+        ensures fits { IfOk result (λ n.
+            n ≡ min (length bytes.now) (self.old.room - length self.old.bytes)) }
+        ensures next { OnErr result (self.new.faults ≡ next_count self.old.faults) }
+        ensures same { OnOk result (self.new.faults ≡ self.old.faults) }
 
         ensures calls { self.new.calls ≡ next_count self.old.calls }
         ensures room { self.new.room ≡ self.old.room }
@@ -111,5 +114,18 @@ impl Sink for MemSink {
         let count = bytes.len().min(left);
         self.bytes.extend_from_slice(&bytes[..count]).unwrap();
         Ok(count)
+    }
+
+    fn flush(&mut self) -> Result<(), SinkFailed>
+        ensures kept { Keeps (Some self.old.bytes) (Some self.new.bytes) }
+        ensures told { IsOk result }
+        ensures cause { OnErr result (Rises self.old.faults self.new.faults) }
+        ensures later { self.old.faults ≤ self.new.faults }
+        ensures counted { self.new.faults ≤ most_faults }
+        // Nothing is kept, so nothing is done.
+        ensures unchanged { self.new ≡ self.old }
+    {
+        let _count_in_range = self.faults;
+        Ok(())
     }
 }

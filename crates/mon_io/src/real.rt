@@ -1,12 +1,12 @@
-ghost use Rattle.std.specs.Prelude.{◌≡◌, ◌≤◌, ◌+◌, IfOk, IsOk, IsErrOf, vec_len};
-ghost use Rattle.mon_io.specs.Outside.{Rises};
+ghost use Rattle.std.specs.Prelude.{◌≡◌, ◌<◌, ◌≤◌, IfOk, IfSome, IsOk, IsErrOf, take, vec_len};
+ghost use Rattle.mon_io.specs.inner.Reading.{Gives};
+ghost use Rattle.mon_io.specs.Outside.{Rises, most_faults};
 
 use crate::files::{FileFault, Files};
-use crate::sink::{Sink, SinkFailed};
 use std::alloc::Global;
 use std::fs::File;
 use std::io;
-use std::io::{ErrorKind, Print, Read, Write};
+use std::io::{ErrorKind, Read};
 use std::marker::Model;
 
 // How many bytes one read asks for at most.
@@ -20,11 +20,14 @@ pub struct RealFiles<'a, R> {
 }
 
 impl<'a, R> Model for RealFiles<'a, R> {
-    ghost use Rattle.std.specs.Prelude.{ℕ};
+    ghost use Rattle.std.specs.Prelude.{◌≤◌, ℕ};
+    ghost use Rattle.mon_io.specs.Outside.{most_faults};
 
     ghost Value = { ℕ };
 
     ghost view = { λ files. files.faults };
+
+    ghost invariant = { λ files. files.faults ≤ most_faults };
 }
 
 impl<'a, R> RealFiles<'a, R> {
@@ -46,9 +49,7 @@ impl<'a, R> RealFiles<'a, R> {
 impl<'a, R: std::rt::Files> Files for RealFiles<'a, R> {
     ghost use Rattle.std.specs.Prelude.{None, ⊤};
 
-    ghost faults = { λ count. count };
-
-    ghost held = { λ _ _. None };
+    ghost seen = { λ count. record { held = λ _. None; faults = count } };
 
     ghost may_read = { λ _ _. ⊤ };
 
@@ -62,15 +63,20 @@ impl<'a, R: std::rt::Files> Files for RealFiles<'a, R> {
 
 // The first `most` bytes of the file, or all where there are fewer. Each turn takes a byte or more,
 // or finds the end.
+#[tactic(auto, using(crate::proofs::ReadBytes::consumes_none, crate::proofs::ReadBytes::consumes_on, crate::proofs::ReadBytes::first_whole, crate::proofs::ReadBytes::first_ended))]
 fn read_file<F: Read + Drop>(
     mut file: F,
     alloc: Global,
     most: u64,
     faults: &mut u64,
 ) -> Result<Vec<u8>, FileFault>
+    requires { faults.old ≤ most_faults }
+    ensures first { IfOk result (λ bytes.
+        IfSome (F.remaining file) (λ all. bytes.items ≡ take most all)) }
     ensures bound { IfOk result (λ bytes. vec_len bytes ≤ most) }
     ensures cause { IsErrOf result FileFault.Failed → Rises faults.old faults.new }
     ensures later { faults.old ≤ faults.new }
+    ensures counted { faults.new ≤ most_faults }
     ensures steady { IsOk result → faults.new ≡ faults.old }
 {
     let mut bytes = Vec::new(alloc);
@@ -90,10 +96,14 @@ fn read_some<F: Read>(
     most: u64,
     faults: &mut u64,
 ) -> Result<usize, FileFault>
+    requires some { 0 < most }
+    requires counted { faults.old ≤ most_faults }
     ensures within { IfOk result (λ count. count ≤ most) }
-    ensures taken { IfOk result (λ count. vec_len bytes.new ≡ vec_len bytes.old + count) }
+    ensures given { IfOk result (λ count. Gives (F.remaining file.old) (F.remaining file.new)
+        bytes.old.items bytes.new.items count) }
     ensures cause { IsErrOf result FileFault.Failed → Rises faults.old faults.new }
     ensures later { faults.old ≤ faults.new }
+    ensures counted { faults.new ≤ most_faults }
     ensures steady { IsOk result → faults.new ≡ faults.old }
 {
     let mut chunk = [0u8; CHUNK];
@@ -109,62 +119,14 @@ fn read_some<F: Read>(
 
 // Counts an error of the system. One for want of memory is told as such.
 fn note_fault(faults: &mut u64, error: &io::Error) -> FileFault
-    ensures counted { Rises faults.old faults.new }
+    ensures risen { Rises faults.old faults.new }
     ensures later { faults.old ≤ faults.new }
+    ensures counted { faults.new ≤ most_faults }
 {
     *faults = faults.saturating_add(1);
     if error.kind() == ErrorKind::OutOfMemory {
         FileFault::OutOfMemory
     } else {
         FileFault::Failed
-    }
-}
-
-/// Standard output. It tells no bytes. Contracts see the count of faults.
-#[derive(Drop)]
-pub struct StdSink<'a, R> {
-    rt: &'a R,
-    faults: u64,
-}
-
-impl<'a, R> Model for StdSink<'a, R> {
-    ghost use Rattle.std.specs.Prelude.{ℕ};
-
-    ghost Value = { ℕ };
-
-    ghost view = { λ sink. sink.faults };
-}
-
-impl<'a, R> StdSink<'a, R> {
-    /// The output of this runtime, with no fault yet.
-    pub fn new(rt: &'a R) -> StdSink<'a, R>
-        ensures { result ≡ 0 }
-    {
-        StdSink { rt, faults: 0 }
-    }
-
-    /// How many writes failed, or took nothing of a piece that isn't empty.
-    pub fn faults(&self) -> u64
-        ensures { result ≡ self.now }
-    {
-        self.faults
-    }
-}
-
-impl<'a, R: Print> Sink for StdSink<'a, R> {
-    ghost use Rattle.std.specs.Prelude.{None};
-
-    ghost faults = { λ count. count };
-
-    ghost written = { λ _. None };
-
-    fn write(&mut self, bytes: &[u8]) -> Result<usize, SinkFailed> {
-        match io::writer(self.rt).write(bytes) {
-            Ok(count) if count > 0 || bytes.is_empty() => Ok(count),
-            _ => {
-                self.faults = self.faults.saturating_add(1);
-                Err(SinkFailed)
-            }
-        }
     }
 }

@@ -1,32 +1,45 @@
-ghost use Rattle.std.specs.Prelude.{◌≡◌, ◌<◌, ◌≤◌, ◌-◌, ℕ, List, [], Option, IfOk, IsOk, OnOk, OnErr, length, take, drop};
+ghost use Rattle.std.specs.Prelude.{◌≡◌, ◌<◌, ◌≤◌, ◌-◌, ℕ, List, [], Option, IfOk, IsOk, IsSome, OnErr, length, take, drop};
 ghost use Rattle.std.specs.Io.KnownBytes.{Appends, Keeps};
-ghost use Rattle.mon_io.specs.Outside.{AppendsFront, Rises};
+ghost use Rattle.mon_io.specs.Outside.{SinkSeen, Rises, most_faults};
+ghost use Rattle.mon_io.specs.Writing.{Wrote};
 
 use thiserror::Error;
 
-/// A sink took no bytes. Its count of faults rose.
+/// A sink failed. Its count of faults rose.
 #[derive(Debug, Clone, Copy, PartialEq, Eq, Error)]
 #[error("the output can't be written")]
 pub struct SinkFailed;
 
 /// Where bytes go.
 pub trait Sink {
-    /// How many faults rose. The count stays at 2^64 - 1 once it is reached.
-    ghost faults: { Self → ℕ };
+    /// What is seen of the sink: the bytes taken so far, where they are told, and how many faults rose.
+    /// The count stays at 2^64 - 1 once it is reached.
+    ghost seen: { Self → SinkSeen };
 
-    /// The bytes taken so far, where they are told.
-    ghost written: { Self → Option (List ℕ) };
-
-    /// Takes some of the first of these bytes, at least one where there is one, and says how many.
+    /// Takes some of the first of these bytes, at least one where there is one, and says how many. It may
+    /// keep them until [`flush`](Sink::flush) is called.
     ///
     /// `SinkFailed` comes only where the count of faults rose in this call, and nothing was taken.
     fn write(&mut self, bytes: &[u8]) -> Result<usize, SinkFailed>
         ensures within { IfOk result (λ n. n ≤ length bytes.now) }
         ensures some { IfOk result (λ n. 0 < length bytes.now → 0 < n) }
-        ensures appended { IfOk result (λ n. Appends (written self.old) (written self.new) (take n bytes.now)) }
-        ensures kept { OnErr result (Keeps (written self.old) (written self.new)) }
-        ensures cause { OnErr result (Rises (faults self.old) (faults self.new)) }
-        ensures later { faults self.old ≤ faults self.new };
+        ensures appended { IfOk result (λ n.
+            Appends (seen self.old).written (seen self.new).written (take n bytes.now)) }
+        ensures kept { OnErr result (Keeps (seen self.old).written (seen self.new).written) }
+        ensures cause { OnErr result (Rises (seen self.old).faults (seen self.new).faults) }
+        ensures later { (seen self.old).faults ≤ (seen self.new).faults }
+        ensures counted { (seen self.new).faults ≤ most_faults };
+
+    /// Hands on what the sink has kept. What it has taken stays as it was.
+    ///
+    /// `SinkFailed` comes only where the count of faults rose in this call, and of no sink that tells its
+    /// bytes.
+    fn flush(&mut self) -> Result<(), SinkFailed>
+        ensures kept { Keeps (seen self.old).written (seen self.new).written }
+        ensures told { IsSome (seen self.old).written → IsOk result }
+        ensures cause { OnErr result (Rises (seen self.old).faults (seen self.new).faults) }
+        ensures later { (seen self.old).faults ≤ (seen self.new).faults }
+        ensures counted { (seen self.new).faults ≤ most_faults };
 }
 
 /// Writes all of these bytes. With none it calls nothing. It takes no memory.
@@ -34,10 +47,7 @@ pub trait Sink {
 /// After `SinkFailed` some of the first of them were taken, and not all.
 #[tactic(auto, using(crate::proofs::WrittenBytes::appends_none, crate::proofs::WrittenBytes::appends_kept, crate::proofs::WrittenBytes::appends_on))]
 pub fn write_whole<S: Sink>(out: &mut S, bytes: &[u8]) -> Result<(), SinkFailed>
-    ensures ok { OnOk result (Appends (S.written out.old) (S.written out.new) bytes.now) }
-    ensures failed { OnErr result (AppendsFront (S.written out.old) (S.written out.new) bytes.now) }
-    ensures cause { OnErr result (Rises (S.faults out.old) (S.faults out.new)) }
-    ensures later { S.faults out.old ≤ S.faults out.new }
+    ensures wrote { Wrote (S.seen out.old) (S.seen out.new) result bytes.now }
     ensures nothing { bytes.now ≡ [] → IsOk result × (out.new ≡ out.old) }
 {
     let mut at = 0;
@@ -53,10 +63,11 @@ fn write_from<S: Sink>(out: &mut S, bytes: &[u8], at: usize) -> Result<usize, Si
     ensures further { IfOk result (λ next. at < next) }
     ensures within { IfOk result (λ next. next ≤ length bytes.now) }
     ensures appended { IfOk result (λ next.
-        Appends (S.written out.old) (S.written out.new) (take (next - at) (drop at bytes.now))) }
-    ensures kept { OnErr result (Keeps (S.written out.old) (S.written out.new)) }
-    ensures cause { OnErr result (Rises (S.faults out.old) (S.faults out.new)) }
-    ensures later { S.faults out.old ≤ S.faults out.new }
+        Appends (S.seen out.old).written (S.seen out.new).written
+        (take (next - at) (drop at bytes.now))) }
+    ensures kept { OnErr result (Keeps (S.seen out.old).written (S.seen out.new).written) }
+    ensures cause { OnErr result (Rises (S.seen out.old).faults (S.seen out.new).faults) }
+    ensures later { (S.seen out.old).faults ≤ (S.seen out.new).faults }
 {
     let count = out.write(&bytes[at..])?;
     Ok(at + count)

@@ -1,7 +1,6 @@
 //! Texts written piece by piece to a sink. No writer takes memory.
 
-ghost use Rattle.std.specs.List.{flat_map};
-ghost use Rattle.mon_io.specs.Writing.{Wrote};
+ghost use Rattle.mon_io.specs.Writing.{Wrote, pieces_text};
 
 use crate::sink::{Sink, SinkFailed, write_whole};
 
@@ -9,7 +8,7 @@ use crate::sink::{Sink, SinkFailed, write_whole};
 ///
 /// After `SinkFailed` some of the first bytes of the row were taken, and not all.
 pub fn write_pieces<S: Sink>(pieces: &[&[u8]], out: &mut S) -> Result<(), SinkFailed>
-    ensures { Wrote (S.written out.old) (S.written out.new) (S.faults out.old) (S.faults out.new) result (flat_map (λ piece. piece.now) pieces.now) }
+    ensures { Wrote (S.seen out.old) (S.seen out.new) result (pieces_text pieces.now) }
 {
     for piece in pieces {
         write_piece(piece, out)?;
@@ -17,11 +16,11 @@ pub fn write_pieces<S: Sink>(pieces: &[&[u8]], out: &mut S) -> Result<(), SinkFa
     Ok(())
 }
 
-/// Writes these bytes whole as [`write_whole`] does, with its clauses as one, for a text of several parts.
+/// Writes these bytes whole as [`write_whole`] does, with the sink last, for a text of several parts.
 ///
 /// After `SinkFailed` some of the first of them were taken, and not all.
 pub fn write_piece<S: Sink>(piece: &[u8], out: &mut S) -> Result<(), SinkFailed>
-    ensures { Wrote (S.written out.old) (S.written out.new) (S.faults out.old) (S.faults out.new) result piece.now }
+    ensures { Wrote (S.seen out.old) (S.seen out.new) result piece.now }
 {
     write_whole(out, piece)
 }

@@ -12,7 +12,9 @@ times_of term = term.times
 
 -- The numbers of no variables, of x and -x, and of x - y where x or y has the lower place.
 abbrev pub difference_numbers : List (List ℤ)
-difference_numbers = [] ∷ (pos 1 ∷ []) ∷ (neg_ℤ (pos 1) ∷ []) ∷ (pos 1 ∷ neg_ℤ (pos 1) ∷ []) ∷ (neg_ℤ (pos 1) ∷ pos 1 ∷ []) ∷ []
+difference_numbers =
+    [] ∷ (pos 1 ∷ []) ∷ (neg_ℤ (pos 1) ∷ [])
+    ∷ (pos 1 ∷ neg_ℤ (pos 1) ∷ []) ∷ (neg_ℤ (pos 1) ∷ pos 1 ∷ []) ∷ []
 
 -- The row is x - y <= c, x <= c, -x <= c, or has no variables.
 abbrev pub is_difference : Linear → Bool

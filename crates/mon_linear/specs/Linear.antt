@@ -21,9 +21,13 @@ pub record IsTerm (term : Term) : Type 0 where
 abbrev pub place_of : Term → ℕ
 place_of term = term.place
 
+-- The places rise strictly.
+abbrev pub IsRising : List Term → Type 0
+IsRising terms = IsStrictlyIncreasing (map place_of terms)
+
 -- The rule of a form: the places rise strictly, and each number is in range.
 pub record IsLinear (linear : Linear) : Type 0 where
-  pub rising : IsStrictlyIncreasing (map place_of linear.terms)
+  pub rising : IsRising linear.terms
   pub each : All IsTerm linear.terms
   pub above : neg_ℤ (pos (2 ^ 95)) ≤ℤ linear.constant
   pub below : linear.constant <ℤ pos (2 ^ 95)
@@ -34,12 +38,17 @@ same_term = eq_of_both (on (λ term. term.place) ◌==◌) (on (λ term. term.ti
 
 -- Whether two forms have the same terms and constant.
 abbrev pub same_linear : Linear → Linear → Bool
-same_linear = eq_of_both (on (λ linear. linear.terms) (pointwise same_term)) (on (λ linear. linear.constant) int_eq)
+same_linear =
+    eq_of_both (on (λ linear. linear.terms) (pointwise same_term))
+    (on (λ linear. linear.constant) int_eq)
 
 -- The test of two terms is an equivalence.
 pub same_term_equiv : IsEquivalence same_term
-same_term_equiv = and_equiv (on_equiv (λ term. term.place) nat_eq_equiv) (on_equiv (λ term. term.times) int_eq_equiv)
+same_term_equiv =
+    and_equiv (on_equiv (λ term. term.place) nat_eq_equiv) (on_equiv (λ term. term.times) int_eq_equiv)
 
 -- The test of two forms is an equivalence.
 pub same_linear_equiv : IsEquivalence same_linear
-same_linear_equiv = and_equiv (on_equiv (λ linear. linear.terms) (lists_equiv same_term_equiv)) (on_equiv (λ linear. linear.constant) int_eq_equiv)
+same_linear_equiv =
+    and_equiv (on_equiv (λ linear. linear.terms) (lists_equiv same_term_equiv))
+    (on_equiv (λ linear. linear.constant) int_eq_equiv)

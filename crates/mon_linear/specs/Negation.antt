@@ -14,7 +14,10 @@ negative_term term = record { place = term.place; times = neg_ℤ term.times }
 
 -- One less the form.
 abbrev pub one_less : Linear → Linear
-one_less linear = record { terms = map negative_term linear.terms; constant = pos 1 -ℤ linear.constant }
+one_less linear = record {
+  terms = map negative_term linear.terms;
+  constant = pos 1 -ℤ linear.constant;
+}
 
 -- One layer of a formula turned, given the negations of its parts.
 abbrev pub opposite : Formula-F Formula → Formula-F Formula
@@ -41,7 +44,8 @@ can_negate_term term = can_negate_number term.times
 
 -- Each number of a form is at least that.
 abbrev pub can_negate_linear : Linear → Bool
-can_negate_linear linear = list_all can_negate_term linear.terms && can_negate_number linear.constant
+can_negate_linear linear =
+    list_all can_negate_term linear.terms && can_negate_number linear.constant
 
 -- Each number of a layer is, given whether those of its parts are.
 abbrev pub can_negate_layer : Formula-F Bool → Bool

@@ -100,7 +100,7 @@ impl Eq for Lin {
 }
 
 /// The terms with each number's sign turned.
-fn negatives(alloc: Global, terms: &[Term]) -> Result<Vec<Term>, AllocError>
+pub(crate) fn negatives(alloc: Global, terms: &[Term]) -> Result<Vec<Term>, AllocError>
     requires { All IsTerm terms.now }
     ensures { IfOk result (λ negatives. negatives.items ≡ map negative_term terms.now) }
 {

@@ -1,6 +1,9 @@
-ghost use Rattle.std.specs.Prelude.{IfOk, IsTrue, ◌∷◌, [], pos};
+ghost use Rattle.std.specs.Prelude.{IfOk, IsTrue};
 ghost use Rattle.mon_linear.specs.Linear.{IsLinear};
 ghost use Rattle.mon_linear.specs.Negation.{can_negate, can_negate_linear};
+ghost use Rattle.mon_linear.specs.inner.Rows.{one_variable, two_variables};
+
+mod substitutions;
 
 use super::*;
 use mon_list::Seq;
@@ -12,8 +15,8 @@ const BOUND: i128 = 1 << 95;
 
 /// The row `times * x + constant <= 0`, where `x` has place 1.
 fn row(alloc: Global, times: i128, constant: i128) -> Result<Formula, AllocError>
-    requires rule { IsLinear (record { terms = record { place = 1; times = times } ∷ []; constant = constant }) }
-    requires bound { IsTrue (can_negate_linear (record { terms = record { place = 1; times = times } ∷ []; constant = constant })) }
+    requires rule { IsLinear (one_variable times constant) }
+    requires bound { IsTrue (can_negate_linear (one_variable times constant)) }
     ensures { IfOk result (λ formula. IsTrue (can_negate formula)) }
 {
     let terms = Vec::from_array(alloc, [Term { place: 1, times }])?;
@@ -136,7 +139,7 @@ fn formulas_of_as_many_parts_may_differ(rt: HostRuntime) -> Result<(), Fail> {
 
 /// The form with these numbers at the places 1 and 4.
 fn pair(alloc: Global, one: i128, other: i128) -> Result<Lin, AllocError>
-    requires { IsLinear (record { terms = record { place = 1; times = one } ∷ record { place = 4; times = other } ∷ []; constant = pos 5 }) }
+    requires { IsLinear (two_variables one other) }
 {
     let one = Term {
         place: 1,

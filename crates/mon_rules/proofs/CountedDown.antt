@@ -6,31 +6,28 @@ use Rattle.std.proofs.lemmas.List.{append-nil, take_more, take_all, take-append-
 use Rattle.std.proofs.lemmas.Grind.{flat_map-append}
 use Rattle.std.proofs.lemmas.Bool.{cases_Bool}
 use Rattle.std.proofs.Math.Dec.{eqb-suc-zero}
-use Rattle.mon_syntax.specs.declared.tree.Decl.{Decl}
-use Rattle.mon_syntax.specs.declared.tree.Decl.TheVariants as decls
-use Rattle.mon_forms.specs.declared.fault.Counted.{Counted}
-use Rattle.mon_forms.specs.declared.fault.TypeFault.TheVariants.{TooMany}
-use Rattle.mon_forms.specs.Faults.{least}
-use Rattle.mon_rules.specs.Rules.{constant_place, declared_name, field_place, over, over_at}
-use Rattle.mon_rules.specs.Parts.{counted, is_constant}
+use Rattle.mon_tree.specs.declared.tree.Decl.{Decl}
+use Rattle.mon_tree.specs.declared.tree.Decl.TheVariants as decls
+use Rattle.mon_rules.specs.Rules.{constant_place, declared_name, field_place}
+use Rattle.mon_rules.specs.inner.Counting.{counted, declares_constant}
 
 -- ---- a walk that looks for the place with a number
 
-dropped : {X : Type 0} (places : X → List ℕ) (xs : List X) (i : ℕ) (x : X) → i < length xs → x ≡ get_or xs i x → flat_map places (drop i xs) ≡ places x ++ flat_map places (drop (i + 1) xs)
-dropped places xs i x lt is = rw (add-one, drop-cons xs i x, ← is) refl
+flat_map-drop : {X : Type 0} (places : X → List ℕ) (xs : List X) (i : ℕ) (x : X) → i < length xs → x ≡ get_or xs i x → flat_map places (drop i xs) ≡ places x ++ flat_map places (drop (i + 1) xs)
+flat_map-drop places xs i x lt is = rw (add-one, drop-cons xs i x, ← is) refl
 
 pub none_passed : {X : Type 0} (places : X → List ℕ) (xs : List X) (i : ℕ) (x : X) (left : ℕ) → i < length xs → x ≡ get_or xs i x → places x ≡ [] → slice_get (flat_map places (drop (i + 1) xs)) left ≡ slice_get (flat_map places (drop i xs)) left
-none_passed places xs i x left lt is none = rw (dropped places xs i x lt is, none) refl
+none_passed places xs i x left lt is none = rw (flat_map-drop places xs i x lt is, none) refl
 
-one_less : (at left : ℕ) (more : List ℕ) → (left ≡ 0 → ⊥) → slice_get more (left - 1) ≡ slice_get (at ∷ more) left
-one_less at zero more some = absurd (some refl)
-one_less at (suc left) more some = let e : suc left - 1 ≡ left = omega arith in rw e refl
+slice_get-one_less : (at left : ℕ) (more : List ℕ) → (left ≡ 0 → ⊥) → slice_get more (left - 1) ≡ slice_get (at ∷ more) left
+slice_get-one_less at zero more some = absurd (some refl)
+slice_get-one_less at (suc left) more some = let e : suc left - 1 ≡ left = omega arith in rw e refl
 
 pub one_passed : {X : Type 0} (places : X → List ℕ) (xs : List X) (i : ℕ) (x : X) (at left : ℕ) → i < length xs → x ≡ get_or xs i x → places x ≡ at ∷ [] → (left ≡ 0 → ⊥) → slice_get (flat_map places (drop (i + 1) xs)) (left - 1) ≡ slice_get (flat_map places (drop i xs)) left
-one_passed places xs i x at left lt is one some = rw (dropped places xs i x lt is, one) (one_less at left (flat_map places (drop (i + 1) xs)) some)
+one_passed places xs i x at left lt is one some = rw (flat_map-drop places xs i x lt is, one) (slice_get-one_less at left (flat_map places (drop (i + 1) xs)) some)
 
 pub one_found : {X : Type 0} (places : X → List ℕ) (xs : List X) (i : ℕ) (x : X) (at left : ℕ) → i < length xs → x ≡ get_or xs i x → places x ≡ at ∷ [] → left ≡ 0 → Some at ≡ slice_get (flat_map places (drop i xs)) left
-one_found places xs i x at left lt is one none = rw (dropped places xs i x lt is, one, none) refl
+one_found places xs i x at left lt is one none = rw (flat_map-drop places xs i x lt is, one, none) refl
 
 -- ---- places counted down
 
@@ -55,58 +52,52 @@ counted_more places xs i x left rest next lt is past here =
 pub counted_all : {X : Type 0} (places : X → List ℕ) (xs : List X) (i left : ℕ) (r : Result ℕ ℕ) → length xs ≤ i → r ≡ counted (flat_map places (take i xs)) left → r ≡ counted (flat_map places xs) left
 counted_all places xs i left r past is = is ∙ ap (λ ys. counted (flat_map places ys) left) (take_all i xs past)
 
-split_at : {X : Type 0} (places : X → List ℕ) (xs : List X) (i : ℕ) (x : X) → i < length xs → x ≡ get_or xs i x → flat_map places (take i xs) ++ (places x ++ flat_map places (drop (i + 1) xs)) ≡ flat_map places xs
-split_at places xs i x lt is =
-    ap (λ ys. flat_map places (take i xs) ++ ys) (sym (dropped places xs i x lt is)) ∙ sym (flat_map-append places (take i xs) (drop i xs)) ∙ ap (flat_map places) (take-append-drop i xs)
+flat_map-split : {X : Type 0} (places : X → List ℕ) (xs : List X) (i : ℕ) (x : X) → i < length xs → x ≡ get_or xs i x → flat_map places (take i xs) ++ (places x ++ flat_map places (drop (i + 1) xs)) ≡ flat_map places xs
+flat_map-split places xs i x lt is =
+    ap (λ ys. flat_map places (take i xs) ++ ys) (sym (flat_map-drop places xs i x lt is)) ∙ sym (flat_map-append places (take i xs) (drop i xs)) ∙ ap (flat_map places) (take-append-drop i xs)
 
 pub counted_stop : {X : Type 0} (places : X → List ℕ) (xs : List X) (i : ℕ) (x : X) (left rest at : ℕ) → i < length xs → x ≡ get_or xs i x → Ok rest ≡ counted (flat_map places (take i xs)) left → Err at ≡ counted (places x) rest → Err at ≡ counted (flat_map places xs) left
 counted_stop places xs i x left rest at lt is past here =
     let tail = flat_map places (drop (i + 1) xs) in
-    counted_err (places x) tail rest at here ∙ sym (counted_ok (flat_map places (take i xs)) (places x ++ tail) left rest past) ∙ ap (λ ps. counted ps left) (split_at places xs i x lt is)
+    counted_err (places x) tail rest at here ∙ sym (counted_ok (flat_map places (take i xs)) (places x ++ tail) left rest past) ∙ ap (λ ps. counted ps left) (flat_map-split places xs i x lt is)
 
 -- below a number that is left there is one less
 pub counted_below : (at left : ℕ) (more : List ℕ) → (left ≡ 0 → ⊥) → counted (at ∷ more) left ≡ counted more (left - 1)
 counted_below at zero more some = absurd (some refl)
 counted_below at (suc left) more some = rw (eqb-suc-zero left) refl
 
-pub gets_err : (places : List ℕ) (left at : ℕ) → Err at ≡ counted places left → Some at ≡ slice_get places left
-gets_err [] left at is = cc
-gets_err (p ∷ places) zero at is = cc
-gets_err (p ∷ places) (suc left) at is =
+pub slice_get-counted_err : (places : List ℕ) (left at : ℕ) → Err at ≡ counted places left → Some at ≡ slice_get places left
+slice_get-counted_err [] left at is = cc
+slice_get-counted_err (p ∷ places) zero at is = cc
+slice_get-counted_err (p ∷ places) (suc left) at is =
     let less : suc left - 1 ≡ left = omega arith in
-    gets_err places left at (is ∙ counted_below p (suc left) places (λ none. omega (arith, none)) ∙ ap (counted places) less)
+    slice_get-counted_err places left at (is ∙ counted_below p (suc left) places (λ none. omega (arith, none)) ∙ ap (counted places) less)
 
-pub gets_ok : (places : List ℕ) (left rest : ℕ) → Ok rest ≡ counted places left → None ≡ slice_get places left
-gets_ok [] left rest is = refl
-gets_ok (p ∷ places) zero rest is = cc
-gets_ok (p ∷ places) (suc left) rest is =
+pub slice_get-counted_ok : (places : List ℕ) (left rest : ℕ) → Ok rest ≡ counted places left → None ≡ slice_get places left
+slice_get-counted_ok [] left rest is = refl
+slice_get-counted_ok (p ∷ places) zero rest is = cc
+slice_get-counted_ok (p ∷ places) (suc left) rest is =
     let less : suc left - 1 ≡ left = omega arith in
-    gets_ok places left rest (is ∙ counted_below p (suc left) places (λ none. omega (arith, none)) ∙ ap (counted places) less)
-
-pub over_ok : (what : Counted) (places : List ℕ) (limit rest : ℕ) → Ok rest ≡ counted places limit → None ≡ least (over limit what places)
-over_ok what places limit rest is = ap (λ place. least (over_at what place)) (gets_ok places limit rest is)
-
-pub over_err : (what : Counted) (places : List ℕ) (limit at : ℕ) → Err at ≡ counted places limit → Some (TooMany what at) ≡ least (over limit what places)
-over_err what places limit at is = ap (λ place. least (over_at what place)) (gets_err places limit at is)
+    slice_get-counted_ok places left rest (is ∙ counted_below p (suc left) places (λ none. omega (arith, none)) ∙ ap (counted places) less)
 
 -- ---- constants and fields
 
-pub constant_here : (decl : Decl) → is_constant decl ≡ true → constant_place decl ≡ (declared_name decl).at ∷ []
+pub constant_here : (decl : Decl) → declares_constant decl ≡ true → constant_place decl ≡ (declared_name decl).at ∷ []
 constant_here (decls.Const at name value) is = refl
 constant_here (decls.Int at name value) is = cc
 constant_here (decls.Flag at name value) is = cc
 
-pub no_constant_here : (decl : Decl) → is_constant decl ≡ false → constant_place decl ≡ []
+pub no_constant_here : (decl : Decl) → declares_constant decl ≡ false → constant_place decl ≡ []
 no_constant_here (decls.Const at name value) is = cc
 no_constant_here (decls.Int at name value) is = refl
 no_constant_here (decls.Flag at name value) is = refl
 
-pub field_here : (decl : Decl) → is_constant decl ≡ false → field_place decl ≡ (declared_name decl).at ∷ []
+pub field_here : (decl : Decl) → declares_constant decl ≡ false → field_place decl ≡ (declared_name decl).at ∷ []
 field_here (decls.Const at name value) is = cc
 field_here (decls.Int at name value) is = refl
 field_here (decls.Flag at name value) is = refl
 
-pub no_field_here : (decl : Decl) → is_constant decl ≡ true → field_place decl ≡ []
+pub no_field_here : (decl : Decl) → declares_constant decl ≡ true → field_place decl ≡ []
 no_field_here (decls.Const at name value) is = refl
 no_field_here (decls.Int at name value) is = cc
 no_field_here (decls.Flag at name value) is = cc

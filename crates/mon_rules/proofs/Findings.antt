@@ -3,46 +3,51 @@ use Rattle.std.proofs.Common.{◌≡◌, ℕ, ◌+◌, ◌-◌, zero, suc, List,
 use Rattle.std.specs.List.{flat_map}
 use Rattle.std.proofs.lemmas.List.{length-map, map-append, take-map}
 use Rattle.std.proofs.lemmas.List.Folds.{flat_map-map}
-use Rattle.mon_syntax.specs.declared.tree.Expr.{Expr}
-use Rattle.mon_syntax.specs.declared.tree.StmtTree.{StmtTree}
-use Rattle.mon_syntax.specs.declared.tree.StmtTree.TheVariants.{If, rolls-If}
-use Rattle.mon_syntax.specs.declared.tree.StmtTree.TheOpen as layers
-use Rattle.mon_syntax.specs.declared.tree.StmtTree.TheFolds.{fold-roll-StmtTree}
-use Rattle.mon_forms.specs.declared.kind.Kind.TheVariants as kinds
+use Rattle.mon_tree.specs.declared.tree.Expr.{Expr}
+use Rattle.mon_tree.specs.declared.tree.StmtTree.{StmtTree}
+use Rattle.mon_tree.specs.declared.tree.StmtTree.TheVariants.{If, rolls-If}
+use Rattle.mon_tree.specs.declared.tree.StmtTree.TheOpen as layers
+use Rattle.mon_tree.specs.declared.tree.StmtTree.TheFolds.{fold-roll-StmtTree}
+use Rattle.mon_base.specs.declared.kind.Kind.TheVariants as kinds
 use Rattle.mon_forms.specs.declared.scope.Entry.{Entry}
 use Rattle.mon_forms.specs.Sense.{sense}
-use Rattle.mon_rules.specs.Rules.{Finding, expected, finding, finding_step, misplaced, early_returns}
-use Rattle.mon_rules.specs.Parts.{block_faults, counted}
+use Rattle.mon_rules.specs.Rules.{Finding, expected, finding, finding_step, inner_faults, misplaced, early_returns, places_in, places_step, statement_places}
+use Rattle.mon_rules.specs.inner.Counting.{counted}
+use Rattle.mon_rules.specs.inner.Parts.{block_faults}
 use Rattle.mon_rules.proofs.CountedDown.{counted_ok, counted_err, counted_below}
 
 finding-If : (scope : List Entry) (at : ℕ) (when : Expr) (body other : List StmtTree) → finding scope (If at when body other) ≡ finding_step scope (layers.If at when (map (finding scope) body) (map (finding scope) other))
 finding-If scope at when body other = ap (finding scope) (sym (rolls-If at when body other)) ∙ fold-roll-StmtTree Finding (finding_step scope) (layers.If at when body other)
 
+inner-block : (scope : List Entry) (body : List StmtTree) → inner_faults (map (finding scope) body) ≡ block_faults scope body
+inner-block scope body = flat_map-map (λ inner. inner.faults ++ misplaced inner.returns) (finding scope) body
+
 pub faults-If : (scope : List Entry) (at : ℕ) (when : Expr) (body other : List StmtTree) → (finding scope (If at when body other)).faults ≡ expected (Some kinds.Bool) (sense scope when) ++ (block_faults scope body ++ block_faults scope other)
 faults-If scope at when body other =
+    let condition = expected (Some kinds.Bool) (sense scope when) in
     ap (λ f. f.faults) (finding-If scope at when body other)
-    ∙ ap (λ faults. expected (Some kinds.Bool) (sense scope when) ++ (faults ++ flat_map (λ inner. inner.faults ++ misplaced inner.returns) (map (finding scope) other))) (flat_map-map (λ inner. inner.faults ++ misplaced inner.returns) (finding scope) body)
-    ∙ ap (λ faults. expected (Some kinds.Bool) (sense scope when) ++ (block_faults scope body ++ faults)) (flat_map-map (λ inner. inner.faults ++ misplaced inner.returns) (finding scope) other)
+    ∙ ap (λ faults. condition ++ (faults ++ inner_faults (map (finding scope) other))) (inner-block scope body)
+    ∙ ap (λ faults. condition ++ (block_faults scope body ++ faults)) (inner-block scope other)
 
-abbrev pub places_in : List Entry → List StmtTree → List ℕ
-places_in scope statements = flat_map (λ statement. (finding scope statement).places) statements
+-- ---- places
 
-places-If : (scope : List Entry) (at : ℕ) (when : Expr) (body other : List StmtTree) → (finding scope (If at when body other)).places ≡ at ∷ (places_in scope body ++ places_in scope other)
-places-If scope at when body other =
-    ap (λ f. f.places) (finding-If scope at when body other)
-    ∙ ap (λ places. at ∷ (places ++ flat_map (λ inner. inner.places) (map (finding scope) other))) (flat_map-map (λ inner. inner.places) (finding scope) body)
-    ∙ ap (λ places. at ∷ (places_in scope body ++ places)) (flat_map-map (λ inner. inner.places) (finding scope) other)
+places-If : (at : ℕ) (when : Expr) (body other : List StmtTree) → statement_places (If at when body other) ≡ at ∷ (places_in body ++ places_in other)
+places-If at when body other =
+    ap statement_places (sym (rolls-If at when body other))
+    ∙ fold-roll-StmtTree (List ℕ) places_step (layers.If at when body other)
+    ∙ ap (λ places. at ∷ (places ++ flat_map (λ inner. inner) (map statement_places other))) (flat_map-map (λ inner. inner) statement_places body)
+    ∙ ap (λ places. at ∷ (places_in body ++ places)) (flat_map-map (λ inner. inner) statement_places other)
 
 -- an `if` counts as one, and then come the statements in it
-pub counted-If_ok : (scope : List Entry) (at : ℕ) (when : Expr) (body other : List StmtTree) (left rest : ℕ) (r : Result ℕ ℕ) → (left ≡ 0 → ⊥) → Ok rest ≡ counted (places_in scope body) (left - 1) → r ≡ counted (places_in scope other) rest → r ≡ counted (finding scope (If at when body other)).places left
-counted-If_ok scope at when body other left rest r some first second =
-    second ∙ sym (counted_ok (places_in scope body) (places_in scope other) (left - 1) rest first) ∙ sym (counted_below at left (places_in scope body ++ places_in scope other) some)
-    ∙ ap (λ places. counted places left) (sym (places-If scope at when body other))
+pub counted-If_ok : (at : ℕ) (when : Expr) (body other : List StmtTree) (left rest : ℕ) (r : Result ℕ ℕ) → (left ≡ 0 → ⊥) → Ok rest ≡ counted (places_in body) (left - 1) → r ≡ counted (places_in other) rest → r ≡ counted (statement_places (If at when body other)) left
+counted-If_ok at when body other left rest r some first second =
+    second ∙ sym (counted_ok (places_in body) (places_in other) (left - 1) rest first) ∙ sym (counted_below at left (places_in body ++ places_in other) some)
+    ∙ ap (λ places. counted places left) (sym (places-If at when body other))
 
-pub counted-If_err : (scope : List Entry) (at : ℕ) (when : Expr) (body other : List StmtTree) (left place : ℕ) → (left ≡ 0 → ⊥) → Err place ≡ counted (places_in scope body) (left - 1) → Err place ≡ counted (finding scope (If at when body other)).places left
-counted-If_err scope at when body other left place some first =
-    counted_err (places_in scope body) (places_in scope other) (left - 1) place first ∙ sym (counted_below at left (places_in scope body ++ places_in scope other) some)
-    ∙ ap (λ places. counted places left) (sym (places-If scope at when body other))
+pub counted-If_err : (at : ℕ) (when : Expr) (body other : List StmtTree) (left place : ℕ) → (left ≡ 0 → ⊥) → Err place ≡ counted (places_in body) (left - 1) → Err place ≡ counted (statement_places (If at when body other)) left
+counted-If_err at when body other left place some first =
+    counted_err (places_in body) (places_in other) (left - 1) place first ∙ sym (counted_below at left (places_in body ++ places_in other) some)
+    ∙ ap (λ places. counted places left) (sym (places-If at when body other))
 
 -- ---- returns
 

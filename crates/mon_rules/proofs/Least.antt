@@ -4,7 +4,7 @@ use Rattle.std.specs.List.{flat_map}
 use Rattle.std.proofs.lemmas.List.{take_all}
 use Rattle.mon_forms.specs.declared.fault.TypeFault.{TypeFault}
 use Rattle.mon_forms.specs.Faults.{least}
-use Rattle.mon_forms.specs.Finding.{earlier_of}
+use Rattle.mon_forms.specs.Faults.{earlier_of}
 use Rattle.mon_forms.proofs.Least.{least_append}
 
 -- the least of two parts

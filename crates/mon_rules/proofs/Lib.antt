@@ -2,3 +2,11 @@ pub mod Least
 pub mod RepeatedNames
 pub mod CountedDown
 pub mod Findings
+pub mod Members
+pub mod ExpressionLayers
+pub mod PartRules
+pub mod ProductRules
+pub mod ExpressionRules
+pub mod NameRules
+pub mod StatementRules
+pub mod TreeRules

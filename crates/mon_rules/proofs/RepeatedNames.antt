@@ -8,7 +8,7 @@ use Rattle.mon_forms.specs.declared.fault.TypeFault.{TypeFault}
 use Rattle.mon_forms.specs.declared.fault.TypeFault.TheVariants.{Duplicate}
 use Rattle.mon_forms.specs.Faults.{least}
 use Rattle.mon_rules.specs.Rules.{PlacedName, repeated}
-use Rattle.mon_forms.specs.Finding.{earlier_of}
+use Rattle.mon_forms.specs.Faults.{earlier_of}
 use Rattle.mon_rules.proofs.Least.{least_both}
 
 -- the name is one of these
@@ -22,7 +22,7 @@ among-map f (x ∷ xs) name = ap (λ b. bytes_eq (f x).name name || b) (among-ma
 pub among-both : {X Y : Type 0} (f : X → PlacedName) (g : Y → PlacedName) (xs : List X) (ys : List Y) (name : List ℕ) → (list_any (λ x. bytes_eq (f x).name name) xs || list_any (λ y. bytes_eq (g y).name name) ys) ≡ is_among (map f xs ++ map g ys) name
 among-both f g xs ys name = sym (list_any-append (λ other. bytes_eq other.name name) (map f xs) (map g ys) ∙ ap (λ b. b || is_among (map g ys) name) (among-map f xs name) ∙ ap (λ b. list_any (λ x. bytes_eq (f x).name name) xs || b) (among-map g ys name))
 
-repeated-append : (front xs ys : List PlacedName) → repeated front (xs ++ ys) ≡ repeated front xs ++ repeated (front ++ xs) ys
+pub repeated-append : (front xs ys : List PlacedName) → repeated front (xs ++ ys) ≡ repeated front xs ++ repeated (front ++ xs) ys
 repeated-append front [] ys = rw append-nil refl
 repeated-append front (x ∷ xs) ys =
     let more = repeated-append (front ++ x ∷ []) xs ys in

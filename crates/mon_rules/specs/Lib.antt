@@ -1,2 +1,4 @@
 pub mod Rules
-pub mod Parts
+pub mod Occurrences
+pub mod Judgements
+pub mod inner

@@ -1,17 +1,19 @@
--- The rules of monitor files: the faults of a tree, each where its rule is broken.
-use Rattle.std.specs.Prelude.{◌≤◌, ℕ, List, [], ◌∷◌, ◌++◌, length, map, All, Option, Some, None, Contains, slice_get, if◌then◌else◌}
+-- The rules of monitor files: the faults of a tree, as the checker goes over it.
+-- `Judgements` has each rule by itself; the faults listed here are exactly those.
+use Rattle.std.specs.Prelude.{◌≤◌, ℕ, List, [], ◌∷◌, ◌++◌, length, map, All, Option, Some, None, slice_get, if◌then◌else◌}
 use Rattle.std.specs.List.{flat_map, list_any}
 use Rattle.std.specs.Str.{bytes_eq}
-use Rattle.mon_syntax.specs.declared.tree.Decl.{Decl}
-use Rattle.mon_syntax.specs.declared.tree.Decl.TheVariants as decls
-use Rattle.mon_syntax.specs.declared.tree.InputTree.{InputTree}
-use Rattle.mon_syntax.specs.declared.tree.StmtTree.{StmtTree}
-use Rattle.mon_syntax.specs.declared.tree.StmtTree.TheOpen.{StmtTree-F, Set, If, Return}
-use Rattle.mon_syntax.specs.declared.tree.StmtTree.TheFolds.{fold-StmtTree}
-use Rattle.mon_syntax.specs.declared.tree.MethodTree.{MethodTree}
-use Rattle.mon_syntax.specs.declared.tree.MonitorTree.{MonitorTree}
-use Rattle.mon_forms.specs.declared.kind.Kind.{Kind}
-use Rattle.mon_forms.specs.declared.kind.Kind.TheVariants as kinds
+use Rattle.mon_tree.specs.declared.tree.Decl.{Decl}
+use Rattle.mon_tree.specs.declared.tree.Decl.TheVariants as decls
+use Rattle.mon_tree.specs.declared.tree.InputTree.{InputTree}
+use Rattle.mon_tree.specs.declared.tree.StmtTree.{StmtTree}
+use Rattle.mon_tree.specs.declared.tree.StmtTree.TheOpen.{StmtTree-F, Set, If, Return}
+use Rattle.mon_tree.specs.declared.tree.StmtTree.TheFolds.{fold-StmtTree}
+use Rattle.mon_tree.specs.declared.tree.MethodTree.{MethodTree}
+use Rattle.mon_tree.specs.declared.tree.MonitorTree.{MonitorTree}
+use Rattle.mon_base.specs.Limits.{CONSTANTS, FIELDS, FILE_BYTES, INPUTS, METHODS, STATEMENTS}
+use Rattle.mon_base.specs.declared.kind.Kind.{Kind}
+use Rattle.mon_base.specs.declared.kind.Kind.TheVariants as kinds
 use Rattle.mon_forms.specs.declared.fault.Counted.{Counted}
 use Rattle.mon_forms.specs.declared.fault.Counted.TheVariants.{Constants, Fields, Methods, Parameters, Statements}
 use Rattle.mon_forms.specs.declared.fault.TypeFault.{TypeFault}
@@ -21,78 +23,12 @@ use Rattle.mon_forms.specs.Scope.{scope_of, entry_named}
 use Rattle.mon_forms.specs.Sense.{Sense, sense, entry_kind, wrong_type, large_number}
 use Rattle.mon_forms.specs.Faults.{◌or_else◌}
 
+-- ---- names and numbers of things
+
 -- a name with the offset where it stands
 pub record PlacedName : Type 0 where
   pub name : List ℕ
   pub at : ℕ
-
--- ---- names and numbers of things
-
--- names that are those of earlier ones
-abbrev pub repeated : List PlacedName → List PlacedName → List TypeFault
-repeated earlier [] = []
-repeated earlier (name ∷ more) =
-    (if list_any (λ other. bytes_eq other.name name.name) earlier then Duplicate name.at ∷ [] else []) ++ repeated (earlier ++ name ∷ []) more
-
-abbrev pub over_at : Counted → Option ℕ → List TypeFault
-over_at what None = []
-over_at what (Some at) = TooMany what at ∷ []
-
--- the first one over the limit, by the places of all
-abbrev pub over : ℕ → Counted → List ℕ → List TypeFault
-over limit what places = over_at what (slice_get places limit)
-
--- ---- statements
-
--- an expression, of the wanted kind where one is wanted
-abbrev pub expected : Option Kind → Sense → List TypeFault
-expected None value = value.faults
-expected (Some wanted) value = value.faults or_else wrong_type wanted value
-
--- the target of an assignment is a field
-abbrev pub target_faults : ℕ → Option Entry → List TypeFault
-target_faults at None = Unknown at ∷ []
-target_faults at (Some entry) = if entry.is_field then [] else ReadOnly at ∷ []
-
--- What is found of a statement: the rules that it and its inner ones break, where it returns, and the places of it and its inner ones.
-pub record Finding : Type 0 where
-  pub faults : List TypeFault
-  pub returns : List ℕ
-  pub places : List ℕ
-
-abbrev pub misplaced : List ℕ → List TypeFault
-misplaced places = map (λ at. Misplaced at) places
-
--- no `return` stands in an `if`
-abbrev pub finding_step : List Entry → StmtTree-F Finding → Finding
-finding_step scope (Set at name value) = record {
-  faults = target_faults at (entry_named scope name) ++ expected (entry_kind (entry_named scope name)) (sense scope value);
-  returns = [];
-  places = at ∷ [];
-}
-finding_step scope (If at when body other) = record {
-  faults = expected (Some kinds.Bool) (sense scope when) ++ (flat_map (λ inner. inner.faults ++ misplaced inner.returns) body ++ flat_map (λ inner. inner.faults ++ misplaced inner.returns) other);
-  returns = [];
-  places = at ∷ (flat_map (λ inner. inner.places) body ++ flat_map (λ inner. inner.places) other);
-}
-finding_step scope (Return at value) = record { faults = (sense scope value).faults; returns = at ∷ []; places = at ∷ [] }
-
-abbrev pub finding : List Entry → StmtTree → Finding
-finding scope = fold-StmtTree Finding (finding_step scope)
-
--- a `return` is the last statement of its method's body
-abbrev pub early_returns : List Finding → List ℕ
-early_returns [] = []
-early_returns (last ∷ []) = []
-early_returns (first ∷ next ∷ more) = first.returns ++ early_returns (next ∷ more)
-
-abbrev pub body_faults : List Entry → List StmtTree → List TypeFault
-body_faults scope body =
-    flat_map (λ statement. (finding scope statement).faults) body
-    ++ misplaced (early_returns (map (finding scope) body))
-    ++ over 64 Statements (flat_map (λ statement. (finding scope statement).places) body)
-
--- ---- methods
 
 abbrev pub declared_name : Decl → PlacedName
 declared_name (decls.Const at name value) = record { name = name; at = at }
@@ -105,17 +41,119 @@ input_name input = record { name = input.name; at = input.at }
 abbrev pub method_name : MethodTree → PlacedName
 method_name method = record { name = method.name; at = method.at }
 
+abbrev pub declared_names : List Decl → List PlacedName
+declared_names declared = map declared_name declared
+
+abbrev pub input_names : List InputTree → List PlacedName
+input_names inputs = map input_name inputs
+
+abbrev pub method_names : List MethodTree → List PlacedName
+method_names methods = map method_name methods
+
+-- names that are those of earlier ones
+abbrev pub repeated : List PlacedName → List PlacedName → List TypeFault
+repeated earlier [] = []
+repeated earlier (name ∷ more) =
+    (if list_any (λ other. bytes_eq other.name name.name) earlier
+    then Duplicate name.at ∷ []
+    else [])
+    ++ repeated (earlier ++ name ∷ []) more
+
+abbrev pub over_at : Counted → Option ℕ → List TypeFault
+over_at what None = []
+over_at what (Some at) = TooMany what at ∷ []
+
+-- the first one over the limit, by the places of all; those behind it are not listed
+abbrev pub over : ℕ → Counted → List ℕ → List TypeFault
+over limit what places = over_at what (slice_get places limit)
+
+-- ---- statements
+
+-- where a statement and its inner ones stand, in the order of the file
+abbrev pub places_step : StmtTree-F (List ℕ) → List ℕ
+places_step (Set at name value) = at ∷ []
+places_step (If at when body other) =
+    at ∷ (flat_map (λ inner. inner) body ++ flat_map (λ inner. inner) other)
+places_step (Return at value) = at ∷ []
+
+abbrev pub statement_places : StmtTree → List ℕ
+statement_places = fold-StmtTree (List ℕ) places_step
+
+abbrev pub places_in : List StmtTree → List ℕ
+places_in body = flat_map statement_places body
+
+-- an expression, of the wanted kind where one is wanted
+abbrev pub expected : Option Kind → Sense → List TypeFault
+expected None value = value.faults
+expected (Some wanted) value = value.faults or_else wrong_type wanted value
+
+-- the target of an assignment is a field
+abbrev pub target_faults : ℕ → Option Entry → List TypeFault
+target_faults at None = Unknown at ∷ []
+target_faults at (Some entry) = if entry.is_field then [] else ReadOnly at ∷ []
+
+-- What is found of a statement: the rules that it and its inner ones break, and where it returns.
+pub record Finding : Type 0 where
+  pub faults : List TypeFault
+  pub returns : List ℕ
+
+abbrev pub misplaced : List ℕ → List TypeFault
+misplaced places = map (λ at. Misplaced at) places
+
+-- no `return` stands in an `if`
+abbrev pub inner_faults : List Finding → List TypeFault
+inner_faults found = flat_map (λ inner. inner.faults ++ misplaced inner.returns) found
+
+abbrev pub finding_step : List Entry → StmtTree-F Finding → Finding
+finding_step scope (Set at name value) =
+    let target = entry_named scope name in
+    record {
+      faults = target_faults at target ++ expected (entry_kind target) (sense scope value);
+      returns = [];
+    }
+finding_step scope (If at when body other) =
+    let condition = expected (Some kinds.Bool) (sense scope when) in
+    record { faults = condition ++ (inner_faults body ++ inner_faults other); returns = [] }
+finding_step scope (Return at value) =
+    record { faults = (sense scope value).faults; returns = at ∷ [] }
+
+abbrev pub finding : List Entry → StmtTree → Finding
+finding scope = fold-StmtTree Finding (finding_step scope)
+
+-- a `return` is the last statement of its method's body
+abbrev pub early_returns : List Finding → List ℕ
+early_returns [] = []
+early_returns (last ∷ []) = []
+early_returns (first ∷ next ∷ more) = first.returns ++ early_returns (next ∷ more)
+
+abbrev pub faults_in_each : List Entry → List StmtTree → List TypeFault
+faults_in_each scope body = flat_map (λ statement. (finding scope statement).faults) body
+
+abbrev pub early_faults : List Entry → List StmtTree → List TypeFault
+early_faults scope body = misplaced (early_returns (map (finding scope) body))
+
+abbrev pub body_faults : List Entry → List StmtTree → List TypeFault
+body_faults scope body =
+    faults_in_each scope body
+    ++ early_faults scope body
+    ++ over STATEMENTS Statements (places_in body)
+
+-- ---- methods
+
 -- inputs have names distinct from each other and from declarations
 abbrev pub method_faults : List Decl → MethodTree → List TypeFault
 method_faults declared method =
-    repeated (map declared_name declared) (map input_name method.inputs)
-    ++ over 6 Parameters (map (λ input. input.at) method.inputs)
+    repeated (declared_names declared) (input_names method.inputs)
+    ++ over INPUTS Parameters (map (λ input. input.at) method.inputs)
     ++ expected (Some kinds.Bool) (sense (scope_of declared method.inputs) method.guard)
     ++ body_faults (scope_of declared method.inputs) method.body
 
+abbrev pub faults_in_methods : List Decl → List MethodTree → List TypeFault
+faults_in_methods declared methods = flat_map (method_faults declared) methods
+
 -- ---- files
 
--- a written number of a declaration is at most 2^63 - 1
+-- a written number of a declaration is at most the greatest one
 abbrev pub literal_faults : Decl → List TypeFault
 literal_faults (decls.Const at name value) = large_number value.at value.digits
 literal_faults (decls.Int at name value) = large_number value.at value.digits
@@ -135,17 +173,13 @@ field_place (decls.Flag at name value) = at ∷ []
 abbrev pub faults_of : MonitorTree → List TypeFault
 faults_of tree =
     flat_map literal_faults tree.decls
-    ++ repeated [] (map declared_name tree.decls ++ map method_name tree.methods)
-    ++ over 64 Constants (flat_map constant_place tree.decls)
-    ++ over 16 Fields (flat_map field_place tree.decls)
-    ++ over 16 Methods (map (λ method. method.at) tree.methods)
-    ++ flat_map (method_faults tree.decls) tree.methods
+    ++ repeated [] (declared_names tree.decls ++ method_names tree.methods)
+    ++ over CONSTANTS Constants (flat_map constant_place tree.decls)
+    ++ over FIELDS Fields (flat_map field_place tree.decls)
+    ++ over METHODS Methods (map (λ method. method.at) tree.methods)
+    ++ faults_in_methods tree.decls tree.methods
 
--- the fault names a rule that the tree breaks, and the place where it is broken
-abbrev pub Breaks : MonitorTree → TypeFault → Type 0
-Breaks tree fault = Contains (faults_of tree) fault
-
--- No list is longer than a file of 65,536 bytes can hold, so that places fit.
-pub record IsSmall (tree : MonitorTree) : Type 0 where
-  pub declared : length tree.decls ≤ 65536
-  pub taken : All (λ method. length method.inputs ≤ 65536) tree.methods
+-- No list of names is longer than a file can hold, so that places fit.
+pub record HasFewNames (tree : MonitorTree) : Type 0 where
+  pub declared : length tree.decls ≤ FILE_BYTES
+  pub taken : All (λ method. length method.inputs ≤ FILE_BYTES) tree.methods

@@ -1,16 +1,17 @@
 //! The rules of monitor files.
 //!
-//! [`fault_in_monitor`] finds the first rule that the tree of a monitor file breaks, or that it breaks none.
-//! `specs/Rules` lists the faults of a tree, rule by rule.
+//! [`fault_in_monitor`] finds the first rule that the tree of a monitor file breaks, or that it breaks
+//! none. `specs/Judgements` has the rules one by one, `specs/Rules` lists the faults of a tree as the code
+//! goes over it, and [`faults_are_broken_rules`] is the law that these are the same.
 #![tactic(auto)]
 
+mod laws;
 mod limits;
 mod methods;
 mod monitor;
 mod names;
 mod numbers;
 mod statements;
-#[cfg(test)]
-mod tests;
 
+pub use laws::faults_are_broken_rules;
 pub use monitor::fault_in_monitor;

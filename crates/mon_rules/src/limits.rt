@@ -1,80 +1,53 @@
 //! How many constants, fields, methods, inputs and statements there are.
 //! A fault is at the first one over the limit.
 
-ghost use Rattle.std.specs.Prelude.{◌≡◌, List, map, slice_get};
+ghost use Rattle.std.specs.Prelude.{◌≡◌, map, slice_get};
 ghost use Rattle.std.specs.List.{flat_map};
-ghost use Rattle.mon_syntax.specs.declared.tree.StmtTree.{out-StmtTree};
+ghost use Rattle.mon_base.specs.Limits.{CONSTANTS, FIELDS, INPUTS, METHODS, STATEMENTS};
+ghost use Rattle.mon_tree.specs.declared.tree.StmtTree.{out-StmtTree};
 ghost use Rattle.mon_forms.specs.declared.fault.Counted.TheVariants.{Constants, Fields, Methods, Parameters, Statements};
-ghost use Rattle.mon_forms.specs.declared.scope.Entry.{Entry};
 ghost use Rattle.mon_forms.specs.Faults.{least};
-ghost use Rattle.mon_rules.specs.Rules.{constant_place, field_place, finding, over, over_at};
-ghost use Rattle.mon_rules.specs.Parts.{counted, is_constant, statement_place};
+ghost use Rattle.mon_rules.specs.Rules.{constant_place, field_place, over, over_at, places_in, statement_places};
+ghost use Rattle.mon_rules.specs.inner.Counting.{counted, declares_constant, statement_place};
 
-use crate::names::place_of;
+use crate::names::place_of_name;
+use mon_base::limits;
 use mon_forms::{Counted, TypeFault};
-use mon_syntax::{Decl, InputTree, MethodTree, StmtTree};
+use mon_tree::{Decl, InputTree, MethodTree, StmtTree};
 
-const MOST_CONSTANTS: usize = 64;
-
-const MOST_FIELDS: usize = 16;
-
-const MOST_METHODS: usize = 16;
-
-const MOST_INPUTS: usize = 6;
-
-const MOST_STATEMENTS: usize = 64;
-
-/// There are at most 64 constants.
+/// There are no more constants than a monitor may have.
 pub(crate) fn over_constants(decls: &[Decl]) -> Option<TypeFault>
-    ensures { result ≡ least (over 64 Constants (flat_map constant_place decls.now)) }
+    ensures { result ≡ least (over CONSTANTS Constants (flat_map constant_place decls.now)) }
 {
-    over_at(Counted::Constants, constant_at(decls, MOST_CONSTANTS))
+    over_at(Counted::Constants, constant_at(decls, limits::CONSTANTS))
 }
 
-/// There are at most 16 fields.
+/// There are no more fields than a monitor may have.
 pub(crate) fn over_fields(decls: &[Decl]) -> Option<TypeFault>
-    ensures { result ≡ least (over 16 Fields (flat_map field_place decls.now)) }
+    ensures { result ≡ least (over FIELDS Fields (flat_map field_place decls.now)) }
 {
-    over_at(Counted::Fields, field_at(decls, MOST_FIELDS))
+    over_at(Counted::Fields, field_at(decls, limits::FIELDS))
 }
 
-/// There are at most 16 methods.
+/// There are no more methods than a monitor may have.
 pub(crate) fn over_methods(methods: &[MethodTree]) -> Option<TypeFault>
-    ensures { result ≡ least (over 16 Methods (map (λ method. method.at) methods.now)) }
+    ensures { result ≡ least (over METHODS Methods (map (λ method. method.at) methods.now)) }
 {
-    match methods.get(MOST_METHODS) {
-        Some(method) => Some(TypeFault::TooMany {
-            what: Counted::Methods,
-            at: method.at,
-        }),
-        None => None,
-    }
+    over_at(Counted::Methods, method_at(methods, limits::METHODS))
 }
 
-/// There are at most 6 inputs.
+/// There are no more inputs than a method may have.
 pub(crate) fn over_inputs(inputs: &[InputTree]) -> Option<TypeFault>
-    ensures { result ≡ least (over 6 Parameters (map (λ input. input.at) inputs.now)) }
+    ensures { result ≡ least (over INPUTS Parameters (map (λ input. input.at) inputs.now)) }
 {
-    match inputs.get(MOST_INPUTS) {
-        Some(input) => Some(TypeFault::TooMany {
-            what: Counted::Parameters,
-            at: input.at,
-        }),
-        None => None,
-    }
+    over_at(Counted::Parameters, input_at(inputs, limits::INPUTS))
 }
 
-/// There are at most 64 statements in a body, with inner ones.
+/// There are no more statements than a body may have, inner ones counted.
 pub(crate) fn over_statements(body: &[StmtTree]) -> Option<TypeFault>
-    ensures { (scope : List Entry) → result ≡ least (over 64 Statements (flat_map (λ statement. (finding scope statement).places) body.now)) }
+    ensures { result ≡ least (over STATEMENTS Statements (places_in body.now)) }
 {
-    match count_statements(body, MOST_STATEMENTS) {
-        Ok(_) => None,
-        Err(at) => Some(TypeFault::TooMany {
-            what: Counted::Statements,
-            at,
-        }),
-    }
+    over_at(Counted::Statements, statement_at(body, limits::STATEMENTS))
 }
 
 fn over_at(what: Counted, place: Option<u32>) -> Option<TypeFault>
@@ -86,15 +59,45 @@ fn over_at(what: Counted, place: Option<u32>) -> Option<TypeFault>
     }
 }
 
+/// Where the method with this number stands, counted from 0.
+fn method_at(methods: &[MethodTree], number: usize) -> Option<u32>
+    ensures { result ≡ slice_get (map (λ method. method.at) methods.now) number }
+{
+    match methods.get(number) {
+        Some(method) => Some(method.at),
+        None => None,
+    }
+}
+
+/// Where the input with this number stands, counted from 0.
+fn input_at(inputs: &[InputTree], number: usize) -> Option<u32>
+    ensures { result ≡ slice_get (map (λ input. input.at) inputs.now) number }
+{
+    match inputs.get(number) {
+        Some(input) => Some(input.at),
+        None => None,
+    }
+}
+
+/// Where the statement with this number stands, counted from 0 and with inner ones.
+fn statement_at(body: &[StmtTree], number: usize) -> Option<u32>
+    ensures { result ≡ slice_get (places_in body.now) number }
+{
+    match count_statements(body, number) {
+        Ok(_) => None,
+        Err(at) => Some(at),
+    }
+}
+
 /// Where the constant with this number stands, counted from 0.
 fn constant_at(decls: &[Decl], number: usize) -> Option<u32>
     ensures { result ≡ slice_get (flat_map constant_place decls.now) number }
 {
     let mut left = number;
     for decl in decls {
-        if is_constant(decl) {
+        if declares_constant(decl) {
             if left == 0 {
-                return Some(place_of(decl));
+                return Some(place_of_name(decl));
             }
             left -= 1;
         }
@@ -108,9 +111,9 @@ fn field_at(decls: &[Decl], number: usize) -> Option<u32>
 {
     let mut left = number;
     for decl in decls {
-        if !is_constant(decl) {
+        if !declares_constant(decl) {
             if left == 0 {
-                return Some(place_of(decl));
+                return Some(place_of_name(decl));
             }
             left -= 1;
         }
@@ -118,8 +121,8 @@ fn field_at(decls: &[Decl], number: usize) -> Option<u32>
     None
 }
 
-fn is_constant(decl: &Decl) -> bool
-    ensures { result ≡ is_constant decl.now }
+fn declares_constant(decl: &Decl) -> bool
+    ensures { result ≡ declares_constant decl.now }
 {
     matches!(decl, Decl::Const { .. })
 }
@@ -128,10 +131,10 @@ fn is_constant(decl: &Decl) -> bool
 /// none is left, or how many are left after all.
 #[cycle(count_statement)]
 fn count_statement(statement: &StmtTree, left: usize) -> Result<usize, u32>
-    ensures { (scope : List Entry) → result ≡ counted (finding scope statement.now).places left }
+    ensures { result ≡ counted (statement_places statement.now) left }
 {
     if left == 0 {
-        return Err(statement_at(statement));
+        return Err(place_of_statement(statement));
     }
     match statement {
         StmtTree::Set { .. } => Ok(left - 1),
@@ -145,7 +148,7 @@ fn count_statement(statement: &StmtTree, left: usize) -> Result<usize, u32>
 
 #[cycle(count_statement)]
 fn count_statements(statements: &[StmtTree], left: usize) -> Result<usize, u32>
-    ensures { (scope : List Entry) → result ≡ counted (flat_map (λ statement. (finding scope statement).places) statements.now) left }
+    ensures { result ≡ counted (places_in statements.now) left }
 {
     let mut rest = left;
     for statement in statements {
@@ -155,7 +158,7 @@ fn count_statements(statements: &[StmtTree], left: usize) -> Result<usize, u32>
 }
 
 /// The offset of a statement's first token.
-fn statement_at(statement: &StmtTree) -> u32
+fn place_of_statement(statement: &StmtTree) -> u32
     ensures { result ≡ statement_place (out-StmtTree statement.now) }
 {
     match statement {

@@ -1,15 +1,16 @@
 //! The rules of methods.
 
 ghost use Rattle.std.specs.Prelude.{◌≡◌, ◌≤◌, All, IfOk, length};
-ghost use Rattle.std.specs.List.{flat_map};
+ghost use Rattle.mon_base.specs.Limits.{FILE_BYTES};
 ghost use Rattle.mon_forms.specs.Faults.{least};
-ghost use Rattle.mon_rules.specs.Rules.{method_faults};
+ghost use Rattle.mon_rules.specs.Rules.{faults_in_methods, method_faults};
 
 use crate::limits::over_inputs;
 use crate::names::repeated_input;
 use crate::statements::{fault_in_body, fault_in_expected};
-use mon_forms::{Kind, TypeFault, earlier_of, scope_numbers_are_small, scope_of};
-use mon_syntax::{Decl, MethodTree};
+use mon_base::Kind;
+use mon_forms::{TypeFault, earlier_of, scope_numbers_are_small, scope_of};
+use mon_tree::{Decl, MethodTree};
 use std::alloc::{AllocError, Global};
 
 /// The first fault in methods.
@@ -18,9 +19,9 @@ pub(crate) fn fault_in_methods(
     decls: &[Decl],
     methods: &[MethodTree],
 ) -> Result<Option<TypeFault>, AllocError>
-    requires declared { length decls.now ≤ 65536 }
-    requires taken { All (λ method. length method.inputs ≤ 65536) methods.now }
-    ensures { IfOk result (λ fault. fault ≡ least (flat_map (method_faults decls.now) methods.now)) }
+    requires declared { length decls.now ≤ FILE_BYTES }
+    requires taken { All (λ method. length method.inputs ≤ FILE_BYTES) methods.now }
+    ensures { IfOk result (λ fault. fault ≡ least (faults_in_methods decls.now methods.now)) }
 {
     let mut fault = None;
     for method in methods {
@@ -34,8 +35,8 @@ fn fault_in_method(
     decls: &[Decl],
     method: &MethodTree,
 ) -> Result<Option<TypeFault>, AllocError>
-    requires declared { length decls.now ≤ 65536 }
-    requires taken { length method.now.inputs ≤ 65536 }
+    requires declared { length decls.now ≤ FILE_BYTES }
+    requires taken { length method.now.inputs ≤ FILE_BYTES }
     ensures { IfOk result (λ fault. fault ≡ least (method_faults decls.now method.now)) }
 {
     let inputs = method.inputs.items();

@@ -2,14 +2,14 @@
 
 ghost use Rattle.std.specs.Prelude.{◌≡◌, IfOk};
 ghost use Rattle.mon_forms.specs.Faults.{least};
-ghost use Rattle.mon_rules.specs.Rules.{IsSmall, faults_of};
+ghost use Rattle.mon_rules.specs.Rules.{HasFewNames, faults_of};
 
 use crate::limits::{over_constants, over_fields, over_methods};
 use crate::methods::fault_in_methods;
 use crate::names::repeated_name;
 use crate::numbers::large_literal;
 use mon_forms::{TypeFault, earlier_of};
-use mon_syntax::MonitorTree;
+use mon_tree::MonitorTree;
 use std::alloc::{AllocError, Global};
 
 /// The first rule that the tree of a monitor file breaks: the one at the least place, and at one place the
@@ -19,7 +19,7 @@ use std::alloc::{AllocError, Global};
 ///
 /// Out of memory.
 pub fn fault_in_monitor(alloc: Global, tree: &MonitorTree) -> Result<Option<TypeFault>, AllocError>
-    requires small { IsSmall tree.now }
+    requires few { HasFewNames tree.now }
     ensures { IfOk result (λ fault. fault ≡ least (faults_of tree.now)) }
 {
     let decls = tree.decls.items();

@@ -6,7 +6,7 @@ ghost use Rattle.mon_forms.specs.Faults.{least};
 ghost use Rattle.mon_rules.specs.Rules.{literal_faults};
 
 use mon_forms::{TypeFault, earlier_of, large_number};
-use mon_syntax::Decl;
+use mon_tree::Decl;
 
 /// The first of the written numbers of declarations that is too large.
 pub(crate) fn large_literal(decls: &[Decl]) -> Option<TypeFault>

@@ -1,21 +1,18 @@
 //! The rules of expressions, statements and bodies.
 
-ghost use Rattle.std.specs.Prelude.{◌≡◌, IfOk, IsTrue, List, map};
-ghost use Rattle.std.specs.List.{flat_map};
+ghost use Rattle.std.specs.Prelude.{◌≡◌, IfOk, IsTrue, List};
 ghost use Rattle.mon_forms.specs.declared.scope.Entry.{Entry};
 ghost use Rattle.mon_forms.specs.Faults.{least};
 ghost use Rattle.mon_forms.specs.Making.{has_small_numbers};
 ghost use Rattle.mon_forms.specs.Scope.{entry_named};
 ghost use Rattle.mon_forms.specs.Sense.{sense};
-ghost use Rattle.mon_rules.specs.Rules.{body_faults, early_returns, expected, finding, misplaced, target_faults};
-ghost use Rattle.mon_rules.specs.Parts.{block_faults, set_faults, unwanted};
+ghost use Rattle.mon_rules.specs.Rules.{body_faults, early_faults, expected, faults_in_each, finding, target_faults};
+ghost use Rattle.mon_rules.specs.inner.Parts.{block_faults, misplaced_in, misplaced_in_each, set_faults, unwanted};
 
 use crate::limits::over_statements;
-use mon_forms::{
-    Entry, Kind, TypeFault, earlier_of, fault_in, find, first_place, is_other, kind_of,
-    kind_of_name,
-};
-use mon_syntax::{Expr, StmtTree};
+use mon_base::Kind;
+use mon_forms::{Entry, TypeFault, earlier_of, fault_in, find, kind_of_name, wrong_type};
+use mon_tree::{Expr, StmtTree};
 use std::alloc::{AllocError, Global};
 
 /// The first fault in an expression, of the wanted kind where one is wanted.
@@ -23,32 +20,24 @@ pub(crate) fn fault_in_expected(
     alloc: Global,
     scope: &[Entry],
     wanted: Option<Kind>,
-    expression: &Expr,
+    value: &Expr,
 ) -> Result<Option<TypeFault>, AllocError>
     requires numbers { IsTrue (has_small_numbers scope.now) }
-    ensures { IfOk result (λ fault. fault ≡ least (expected wanted (sense scope.now expression.now))) }
+    ensures { IfOk result (λ fault. fault ≡ least (expected wanted (sense scope.now value.now))) }
 {
-    match fault_in(alloc, scope, expression)? {
+    match fault_in(alloc, scope, value)? {
         Some(fault) => Ok(Some(fault)),
-        None => Ok(wrong_type(scope, wanted, expression)),
+        None => Ok(unwanted(scope, wanted, value)),
     }
 }
 
 /// An expression without faults is of another kind than the wanted one.
-fn wrong_type(scope: &[Entry], wanted: Option<Kind>, expression: &Expr) -> Option<TypeFault>
-    ensures { result ≡ least (unwanted wanted (sense scope.now expression.now)) }
+fn unwanted(scope: &[Entry], wanted: Option<Kind>, value: &Expr) -> Option<TypeFault>
+    ensures { result ≡ least (unwanted wanted (sense scope.now value.now)) }
 {
     match wanted {
         None => None,
-        Some(kind) => {
-            if is_other(kind, kind_of(scope, expression)) {
-                Some(TypeFault::WrongType {
-                    at: first_place(expression),
-                })
-            } else {
-                None
-            }
-        }
+        Some(kind) => wrong_type(scope, kind, value),
     }
 }
 
@@ -129,7 +118,7 @@ fn fault_in_block(
 
 /// A `return` where none may stand.
 fn misplaced_return(statement: &StmtTree) -> Option<TypeFault>
-    ensures { (scope : List Entry) → result ≡ least (misplaced (finding scope statement.now).returns) }
+    ensures { (scope : List Entry) → result ≡ least (misplaced_in scope statement.now) }
 {
     match statement {
         StmtTree::Set { .. } => None,
@@ -157,7 +146,7 @@ fn fault_in_each(
     body: &[StmtTree],
 ) -> Result<Option<TypeFault>, AllocError>
     requires numbers { IsTrue (has_small_numbers scope.now) }
-    ensures { IfOk result (λ fault. fault ≡ least (flat_map (λ statement. (finding scope.now statement).faults) body.now)) }
+    ensures { IfOk result (λ fault. fault ≡ least (faults_in_each scope.now body.now)) }
 {
     let mut fault = None;
     for statement in body {
@@ -168,7 +157,7 @@ fn fault_in_each(
 
 /// The first `return` that is not the last statement of its body.
 fn early_return(body: &[StmtTree]) -> Option<TypeFault>
-    ensures { (scope : List Entry) → result ≡ least (misplaced (early_returns (map (finding scope) body.now))) }
+    ensures { (scope : List Entry) → result ≡ least (early_faults scope body.now) }
 {
     match body.len().checked_sub(1) {
         None => None,
@@ -178,7 +167,7 @@ fn early_return(body: &[StmtTree]) -> Option<TypeFault>
 
 /// The first `return` of statements among which none may stand.
 fn any_return(statements: &[StmtTree]) -> Option<TypeFault>
-    ensures { (scope : List Entry) → result ≡ least (misplaced (flat_map (λ statement. (finding scope statement).returns) statements.now)) }
+    ensures { (scope : List Entry) → result ≡ least (misplaced_in_each scope statements.now) }
 {
     let mut fault = None;
     for statement in statements {

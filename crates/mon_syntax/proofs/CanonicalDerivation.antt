@@ -1,19 +1,19 @@
 -- The canonical words of a monitor file, whatever their offsets, derive the same tree but for offsets.
 use Rattle.std.proofs.Common.{◌≡◌, ℕ, Bool, true, false, List, [], ◌∷◌, ◌++◌, map, refl, ap, ◌∙◌, append_assoc}
 use Rattle.std.specs.List.{flat_map}
-use Rattle.mon_syntax.specs.declared.token.TokenKind.{TokenKind}
-use Rattle.mon_syntax.specs.declared.token.TokenKind.TheVariants as kinds
-use Rattle.mon_syntax.specs.declared.tree.Lit.{Lit}
-use Rattle.mon_syntax.specs.declared.tree.Decl.{Decl}
-use Rattle.mon_syntax.specs.declared.tree.Decl.TheVariants as decls
-use Rattle.mon_syntax.specs.declared.tree.InputTree.{InputTree}
-use Rattle.mon_syntax.specs.declared.tree.Expr.{Expr}
-use Rattle.mon_syntax.specs.declared.tree.StmtTree.{StmtTree}
-use Rattle.mon_syntax.specs.declared.tree.MethodTree.{MethodTree}
-use Rattle.mon_syntax.specs.declared.tree.MonitorTree.{MonitorTree}
-use Rattle.mon_syntax.specs.Words.{Word, ident, numeral, mark}
+use Rattle.mon_tokens.specs.declared.token.TokenKind.{TokenKind}
+use Rattle.mon_tokens.specs.declared.token.TokenKind.TheVariants as kinds
+use Rattle.mon_tree.specs.declared.tree.Lit.{Lit}
+use Rattle.mon_tree.specs.declared.tree.Decl.{Decl}
+use Rattle.mon_tree.specs.declared.tree.Decl.TheVariants as decls
+use Rattle.mon_tree.specs.declared.tree.InputTree.{InputTree}
+use Rattle.mon_tree.specs.declared.tree.Expr.{Expr}
+use Rattle.mon_tree.specs.declared.tree.StmtTree.{StmtTree}
+use Rattle.mon_tree.specs.declared.tree.MethodTree.{MethodTree}
+use Rattle.mon_tree.specs.declared.tree.MonitorTree.{MonitorTree}
+use Rattle.mon_tokens.specs.Words.{Word, ident, numeral, mark}
 use Rattle.mon_syntax.specs.Grammar.{Rule, ◌⌢◌, truth_word, kind_word, IsMark, IsIdent, IsNumeral, IsExpression, IsBlock, IsStatement, after_minus, IsLiteral, IsDeclaration, IsInput, AreInputs, IsMethod, IsMonitorFile}
-use Rattle.mon_syntax.specs.Offsets.{unplaced_expression, unplaced_statement, unplaced_literal, unplaced_declaration, unplaced_input, unplaced_method, unplaced}
+use Rattle.mon_tree.specs.Offsets.{unplaced_expression, unplaced_statement, unplaced_literal, unplaced_declaration, unplaced_input, unplaced_method, unplaced}
 use Rattle.mon_syntax.proofs.CanonicalWords.{bare, expression_words, statement_words, minus_words, literal_words, declaration_words, input_words, inputs_words, method_words, tree_words}
 use Rattle.mon_syntax.proofs.PrintedWords.{Again, each_again, no_words, alone, cut_mark, cut_ident, cut_numeral, cut_tree, last_mark}
 use Rattle.mon_syntax.proofs.CanonicalExpressions.{expression_again}

@@ -3,18 +3,18 @@ use Rattle.std.proofs.Common.{◌≡◌, ℕ, zero, suc, ◌≤◌, ◌⊎◌, i
 use Rattle.std.specs.List.{flat_map}
 use Rattle.std.specs.Prelude.{nat_lt, if◌then◌else◌}
 use Rattle.std.proofs.lemmas.Bool.{ltb-false, ltb-true}
-use Rattle.mon_syntax.specs.declared.token.TokenKind.TheVariants as kinds
-use Rattle.mon_syntax.specs.declared.token.TokenKind.{TokenKind}
-use Rattle.mon_syntax.specs.declared.tree.Op.{Op}
-use Rattle.mon_syntax.specs.declared.tree.Expr.{Expr}
-use Rattle.mon_syntax.specs.declared.tree.Factor.{Factor, out-Factor, roll-Factor, out-roll-Factor}
-use Rattle.mon_syntax.specs.declared.tree.Addend.{Addend, out-Addend, roll-Addend, out-roll-Addend}
-use Rattle.mon_syntax.specs.declared.tree.Expr.TheVariants as exprs
-use Rattle.mon_syntax.specs.declared.tree.Expr.TheOpen.{Factor-F, Addend-F}
-use Rattle.mon_syntax.specs.declared.tree.Expr.TheFolds.{fold-roll-Addend, fold-roll-Factor, fold_out-Addend, fold_out-Factor}
-use Rattle.mon_syntax.specs.Words.{Word, ident, numeral, mark}
+use Rattle.mon_tokens.specs.declared.token.TokenKind.TheVariants as kinds
+use Rattle.mon_tokens.specs.declared.token.TokenKind.{TokenKind}
+use Rattle.mon_tree.specs.declared.tree.Op.{Op}
+use Rattle.mon_tree.specs.declared.tree.Expr.{Expr}
+use Rattle.mon_tree.specs.declared.tree.Factor.{Factor, out-Factor, roll-Factor, out-roll-Factor}
+use Rattle.mon_tree.specs.declared.tree.Addend.{Addend, out-Addend, roll-Addend, out-roll-Addend}
+use Rattle.mon_tree.specs.declared.tree.Expr.TheVariants as exprs
+use Rattle.mon_tree.specs.declared.tree.Expr.TheOpen.{Factor-F, Addend-F}
+use Rattle.mon_tree.specs.declared.tree.Expr.TheFolds.{fold-roll-Addend, fold-roll-Factor, fold_out-Addend, fold_out-Factor}
+use Rattle.mon_tokens.specs.Words.{Word, ident, numeral, mark}
 use Rattle.mon_syntax.specs.Grammar.{Rule, ◌⌢◌, Each, Maybe, truth_word, op_sign, sum_sign, IsMark, IsMarkAt, IsNumeral, IsIdent, chain, IsChain, IsFactor, IsProduct, IsAddend, IsSum, comparison, IsCompared, IsComparison, both, IsConjunction, either, IsDisjunction, IsAtom, IsOpened, IsUnary, IsExpression}
-use Rattle.mon_syntax.specs.Offsets.{unplaced_expression, expression_step, addend_step, factor_step}
+use Rattle.mon_tree.specs.Offsets.{unplaced_expression, expression_step, addend_step, factor_step}
 use Rattle.mon_syntax.proofs.CanonicalWords.{Spelled, spelled, spelled_step, expression_words, addend_words, factor_words, in_parentheses, words_at}
 use Rattle.mon_syntax.proofs.PrintedWords.{Again, Within, each_again, cut_mark, cut_mark_at, cut_ident, cut_numeral, cut_tree, last_mark, alone}
 use Rattle.mon_syntax.proofs.Levels.{IsAtLevel, looser, level_within, one_more_level}

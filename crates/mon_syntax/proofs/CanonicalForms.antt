@@ -2,17 +2,17 @@
 use Rattle.std.proofs.Common.{◌≡◌, ℕ, Bool, List, [], ◌∷◌, ◌++◌, map, sym, ap, ◌∙◌}
 use Rattle.std.specs.List.{flat_map}
 use Rattle.std.proofs.lemmas.List.Folds.{flat_map-map}
-use Rattle.mon_syntax.specs.declared.token.TokenKind.TheVariants as kinds
-use Rattle.mon_syntax.specs.declared.tree.Op.{Op}
-use Rattle.mon_syntax.specs.declared.tree.Expr.{Expr}
-use Rattle.mon_syntax.specs.declared.tree.Factor.{Factor}
-use Rattle.mon_syntax.specs.declared.tree.Addend.{Addend}
-use Rattle.mon_syntax.specs.declared.tree.Expr.TheVariants as exprs
-use Rattle.mon_syntax.specs.declared.tree.Expr.TheOpen as layers
-use Rattle.mon_syntax.specs.declared.tree.Expr.TheFolds.{fold-roll-Expr, fold-Addend, fold-Factor}
-use Rattle.mon_syntax.specs.Words.{Word, ident, numeral, mark}
+use Rattle.mon_tokens.specs.declared.token.TokenKind.TheVariants as kinds
+use Rattle.mon_tree.specs.declared.tree.Op.{Op}
+use Rattle.mon_tree.specs.declared.tree.Expr.{Expr}
+use Rattle.mon_tree.specs.declared.tree.Factor.{Factor}
+use Rattle.mon_tree.specs.declared.tree.Addend.{Addend}
+use Rattle.mon_tree.specs.declared.tree.Expr.TheVariants as exprs
+use Rattle.mon_tree.specs.declared.tree.Expr.TheOpen as layers
+use Rattle.mon_tree.specs.declared.tree.Expr.TheFolds.{fold-roll-Expr, fold-Addend, fold-Factor}
+use Rattle.mon_tokens.specs.Words.{Word, ident, numeral, mark}
 use Rattle.mon_syntax.specs.Grammar.{truth_word, op_sign}
-use Rattle.mon_syntax.specs.Offsets.{unplaced_expression, expression_step, addend_step, factor_step}
+use Rattle.mon_tree.specs.Offsets.{unplaced_expression, expression_step, addend_step, factor_step}
 use Rattle.mon_syntax.proofs.CanonicalWords.{Spelled, spelled, spelled_step, addend_words, factor_words, words_at}
 
 abbrev pub spelled_factor : Factor → List Word

@@ -1,31 +1,32 @@
 -- Texts that are cut into pieces before whatever may follow them, and the words that the pieces say.
 use Rattle.std.proofs.Common.{◌≡◌, ℕ, zero, suc, ◌+◌, ◌*◌, ◌-◌, ◌/◌, ◌%◌, ◌^◌, ◌<◌, ◌≤◌, Bool, true, false, cond, eqb, ◌||◌, List, [], ◌∷◌, ◌++◌, length, take, map, All, Some, None, refl, sym, ap, subst, ◌∙◌, append_assoc, arith}
-use Rattle.std.specs.Prelude.{codes, if◌then◌else◌, decimal as decimal_text}
+use Rattle.std.specs.Prelude.{codes, if◌then◌else◌, decimal}
 use Rattle.std.specs.List.{flat_map, prefix_len, list_all}
 use Rattle.std.proofs.lemmas.Bool.{le-ltb, and_parts}
 use Rattle.std.proofs.lemmas.List.{length-append, take_at, drop_at, map-append}
 use Rattle.std.proofs.lemmas.List.Sums.{fold-append}
 use Rattle.std.proofs.lemmas.List.Elements.{All-head, All-tail, All-cons, All-nil, All-append}
 use Rattle.std.proofs.lemmas.Fmt.{decimal_by_steps_wide, length-decimal-le_wide}
-use Rattle.mon_syntax.specs.declared.token.TokenKind.{TokenKind}
-use Rattle.mon_syntax.specs.declared.token.TokenKind.TheVariants as kinds
-use Rattle.mon_syntax.specs.declared.token.Token.{Token}
-use Rattle.mon_syntax.specs.declared.piece.Class.TheVariants as classes
-use Rattle.mon_syntax.specs.declared.piece.Shape.{Shape}
-use Rattle.mon_syntax.specs.declared.piece.Shape.TheVariants as shapes
-use Rattle.mon_syntax.specs.Spelling.{class_of, is_word, is_letter, is_digit, IsShape, IsIdentifier, Starts, Piece, AreCut, Spells, token, tokens_from, kind_of_word}
-use Rattle.mon_syntax.specs.Pieces.{two_signs, one_sign, other_at, longest_at, limited}
-use Rattle.mon_syntax.specs.Words.{Word, ident, numeral, mark, word_of, word, words, decimal}
+use Rattle.mon_tokens.specs.declared.token.TokenKind.{TokenKind}
+use Rattle.mon_tokens.specs.declared.token.TokenKind.TheVariants as kinds
+use Rattle.mon_tokens.specs.declared.token.Token.{Token}
+use Rattle.mon_tokens.specs.declared.piece.Class.TheVariants as classes
+use Rattle.mon_tokens.specs.declared.piece.Shape.{Shape}
+use Rattle.mon_tokens.specs.declared.piece.Shape.TheVariants as shapes
+use Rattle.mon_tokens.proofs.Identifiers.{name_piece}
+use Rattle.mon_tokens.specs.Spelling.{class_of, is_word, is_letter, is_digit, IsShape, IsIdentifier, Starts, Piece, AreCut, Spells, token, tokens_from, kind_of_word}
+use Rattle.mon_tokens.specs.Pieces.{two_signs, one_sign, other_at, longest_at, limited}
+use Rattle.mon_tokens.specs.Words.{Word, ident, numeral, mark, word_of, word, words, number_of_digits}
 use Rattle.mon_syntax.proofs.CanonicalWords.{bare}
-use Rattle.mon_syntax.proofs.Pieces.{starts_from}
-use Rattle.mon_syntax.proofs.Numerals.{text_at}
+use Rattle.mon_tokens.proofs.Pieces.{starts_from}
+use Rattle.mon_tokens.proofs.Numerals.{text_at}
 
 -- ---- what pieces say
 
 -- what a piece says, without its offset
 abbrev pub said : Shape → List ℕ → List Word
 said shapes.Word text = word_of (kind_of_word text) text 0 ∷ []
-said shapes.Number text = numeral (decimal text) 0 ∷ []
+said shapes.Number text = numeral (number_of_digits text) 0 ∷ []
 said (shapes.Sign kind) text = word_of kind text 0 ∷ []
 said shape text = []
 
@@ -66,7 +67,7 @@ token_says whole before shapes.Word text after at parts is =
     ap (λ (x : List ℕ). bare (word_of (kind_of_word text) x at) ∷ []) (text_at whole before text after t parts is refl).0 ∙ ap (λ (w : Word). w ∷ []) (bare-word_of (kind_of_word text) text at)
 token_says whole before shapes.Number text after at parts is =
     let t : Token = record { kind = kinds.Number; at = at; len = length text } in
-    ap (λ (x : List ℕ). numeral (decimal x) 0 ∷ []) (text_at whole before text after t parts is refl).0
+    ap (λ (x : List ℕ). numeral (number_of_digits x) 0 ∷ []) (text_at whole before text after t parts is refl).0
 token_says whole before (shapes.Sign kind) text after at parts is =
     let t : Token = record { kind = kind; at = at; len = length text } in
     ap (λ (x : List ℕ). bare (word_of kind x at) ∷ []) (text_at whole before text after t parts is refl).0 ∙ ap (λ (w : Word). w ∷ []) (bare-word_of kind text at)
@@ -231,7 +232,7 @@ pub one_word : (text : List ℕ) → IsShape shapes.Word text → length text �
 one_word text spelled short = record { before = λ rest more r. reads_piece text rest shapes.Word more (word_at text rest spelled short r.0) r.1 }
 
 pub name : (text : List ℕ) → IsIdentifier text → Says true false text (ident text 0 ∷ [])
-name text is = subst (λ (k : TokenKind). Says true false text (word_of k text 0 ∷ [])) is.no_keyword (one_word text is.spelled is.short)
+name text is = let piece = name_piece text is in subst (λ (k : TokenKind). Says true false text (word_of k text 0 ∷ [])) piece.no_keyword (one_word text piece.spelled piece.short)
 
 all_words : (xs : List ℕ) → list_all is_word xs ≡ true → All (λ b. is_word b ≡ true) xs
 all_words [] h = All-nil (λ b. is_word b ≡ true)
@@ -262,7 +263,7 @@ digit_test d h = grind arith
 -- what is asked of a number's digits
 pub record Written (n : ℕ) (digits : List ℕ) : Type 0 where
   pub spelled : IsShape shapes.Number digits
-  pub value : decimal digits ≡ n
+  pub value : number_of_digits digits ≡ n
 
 one_digit : (n : ℕ) → n < 10 → Written n ((48 + n) ∷ [])
 one_digit n h = record { spelled = (48 + n, [], digit_class n h, All-nil (λ b. is_digit b ≡ true), refl); value = omega arith }
@@ -274,7 +275,7 @@ pushed digits d h (first, more, c, all, is) =
 next_digit : (n : ℕ) (digits : List ℕ) → 10 ≤ n → Written (n / 10) digits → Written n (digits ++ ((48 + n % 10) ∷ []))
 next_digit n digits h w = record {
   spelled = pushed digits (n % 10) (omega arith) w.spelled;
-  value = fold-append (λ (value digit : ℕ). value * 10 + (digit - 48)) 0 digits ((48 + n % 10) ∷ []) ∙ last (decimal digits) w.value;
+  value = fold-append (λ (value digit : ℕ). value * 10 + (digit - 48)) 0 digits ((48 + n % 10) ∷ []) ∙ last (number_of_digits digits) w.value;
 }
   where
     last : (front : ℕ) → front ≡ n / 10 → front * 10 + (48 + n % 10 - 48) ≡ n
@@ -283,12 +284,12 @@ next_digit n digits h w = record {
 wide : (n : ℕ) → n < 10 ^ 32 → n < 10 ^ 64
 wide n h = omega arith
 
-pub written : (n : ℕ) → n < 10 ^ 32 → Written n (decimal_text n)
+pub written : (n : ℕ) → n < 10 ^ 32 → Written n (decimal n)
 written n h = decimal_by_steps_wide Written one_digit next_digit n (wide n h)
 
-pub number : (n : ℕ) → n < 10 ^ 32 → Says true false (decimal_text n) (numeral n 0 ∷ [])
+pub number : (n : ℕ) → n < 10 ^ 32 → Says true false (decimal n) (numeral n 0 ∷ [])
 number n h =
     let w = written n h in
-    let short : length (decimal_text n) ≤ 32 = length-decimal-le_wide 32 n (omega arith) h (wide n h) in
-    let digits : Says true false (decimal_text n) (numeral (decimal (decimal_text n)) 0 ∷ []) = record { before = λ rest more r. reads_piece (decimal_text n) rest shapes.Number more (number_at (decimal_text n) rest w.spelled short r.0) r.1 } in
-    subst (λ (k : ℕ). Says true false (decimal_text n) (numeral k 0 ∷ [])) w.value digits
+    let short : length (decimal n) ≤ 32 = length-decimal-le_wide 32 n (omega arith) h (wide n h) in
+    let digits : Says true false (decimal n) (numeral (number_of_digits (decimal n)) 0 ∷ []) = record { before = λ rest more r. reads_piece (decimal n) rest shapes.Number more (number_at (decimal n) rest w.spelled short r.0) r.1 } in
+    subst (λ (k : ℕ). Says true false (decimal n) (numeral k 0 ∷ [])) w.value digits

@@ -2,24 +2,24 @@
 use Rattle.std.proofs.Common.{◌≡◌, ℕ, zero, suc, ◌+◌, ◌*◌, Bool, true, false, List, [], ◌∷◌, ◌++◌, map, replicate, refl, sym, subst, append_assoc, append-nil, arith}
 use Rattle.std.specs.Prelude.{codes}
 use Rattle.std.specs.List.{flat_map}
-use Rattle.mon_syntax.specs.declared.token.TokenKind.TheVariants as kinds
-use Rattle.mon_syntax.specs.declared.token.Token.{Token}
-use Rattle.mon_syntax.specs.declared.tree.Lit.{Lit}
-use Rattle.mon_syntax.specs.declared.tree.Decl.{Decl}
-use Rattle.mon_syntax.specs.declared.tree.Decl.TheVariants as decls
-use Rattle.mon_syntax.specs.declared.tree.InputKind.{InputKind}
-use Rattle.mon_syntax.specs.declared.tree.InputKind.TheVariants as inputs
-use Rattle.mon_syntax.specs.declared.tree.InputTree.{InputTree}
-use Rattle.mon_syntax.specs.declared.tree.StmtTree.{StmtTree, roll-StmtTree}
-use Rattle.mon_syntax.specs.declared.tree.StmtTree.TheOpen.{StmtTree-F, Set, If, Return}
-use Rattle.mon_syntax.specs.declared.tree.StmtTree.TheFolds.{fold-roll-StmtTree, map-StmtTree, ind-StmtTree}
-use Rattle.mon_syntax.specs.declared.tree.MethodTree.{MethodTree}
-use Rattle.mon_syntax.specs.declared.tree.MonitorTree.{MonitorTree}
-use Rattle.mon_syntax.specs.Spelling.{Spells}
-use Rattle.mon_syntax.specs.Pieces.{longest_at, other_at}
-use Rattle.mon_syntax.specs.Words.{Word, ident, mark, words}
+use Rattle.mon_tokens.specs.declared.token.TokenKind.TheVariants as kinds
+use Rattle.mon_tokens.specs.declared.token.Token.{Token}
+use Rattle.mon_tree.specs.declared.tree.Lit.{Lit}
+use Rattle.mon_tree.specs.declared.tree.Decl.{Decl}
+use Rattle.mon_tree.specs.declared.tree.Decl.TheVariants as decls
+use Rattle.mon_tree.specs.declared.tree.InputKind.{InputKind}
+use Rattle.mon_tree.specs.declared.tree.InputKind.TheVariants as inputs
+use Rattle.mon_tree.specs.declared.tree.InputTree.{InputTree}
+use Rattle.mon_tree.specs.declared.tree.StmtTree.{StmtTree, roll-StmtTree}
+use Rattle.mon_tree.specs.declared.tree.StmtTree.TheOpen.{StmtTree-F, Set, If, Return}
+use Rattle.mon_tree.specs.declared.tree.StmtTree.TheFolds.{fold-roll-StmtTree, map-StmtTree, ind-StmtTree}
+use Rattle.mon_tree.specs.declared.tree.MethodTree.{MethodTree}
+use Rattle.mon_tree.specs.declared.tree.MonitorTree.{MonitorTree}
+use Rattle.mon_tokens.specs.Spelling.{Spells}
+use Rattle.mon_tokens.specs.Pieces.{longest_at, other_at}
+use Rattle.mon_tokens.specs.Words.{Word, ident, mark, words}
 use Rattle.mon_syntax.specs.Grammar.{kind_word}
-use Rattle.mon_syntax.specs.Canonical.{otherwise, statement_step, statement_text, literal_text, declaration_text, kind_text, input_text, input_texts, joined, method_text, tree_text}
+use Rattle.mon_printer.specs.Canonical.{otherwise, statement_step, statement_text, literal_text, declaration_text, kind_text, input_text, input_texts, joined, method_text, tree_text}
 use Rattle.mon_syntax.proofs.CanonicalWords.{bare, expression_words, else_words, statement_words_step, statement_words, literal_words, declaration_words, input_words, inputs_words, method_words, tree_words}
 use Rattle.mon_syntax.proofs.CanonicalPieces.{Reads, reads_nothing, spells_words, Says, ◌▷◌, ◌▶◌, less, says_nothing, says_same, space, line_feed, begin_brace, end_brace, begin_paren, end_paren, semicolon, comma, minus, between_blanks, keyword, name, number}
 use Rattle.mon_syntax.proofs.SpelledExpressions.{expression, truth}

@@ -2,15 +2,15 @@
 use Rattle.std.proofs.Common.{◌≡◌, ℕ, zero, suc, inl, inr, List, [], ◌∷◌, ◌++◌, map, refl, sym, ap, subst, ◌∙◌, append_assoc}
 use Rattle.std.specs.List.{flat_map}
 use Rattle.std.proofs.lemmas.List.Folds.{flat_map-map}
-use Rattle.mon_syntax.specs.declared.token.TokenKind.TheVariants as kinds
-use Rattle.mon_syntax.specs.declared.tree.Expr.{Expr}
-use Rattle.mon_syntax.specs.declared.tree.StmtTree.{StmtTree}
-use Rattle.mon_syntax.specs.declared.tree.StmtTree.TheVariants as statements
-use Rattle.mon_syntax.specs.declared.tree.StmtTree.TheOpen as layers
-use Rattle.mon_syntax.specs.declared.tree.StmtTree.TheFolds.{fold-roll-StmtTree}
-use Rattle.mon_syntax.specs.Words.{Word, ident, mark}
+use Rattle.mon_tokens.specs.declared.token.TokenKind.TheVariants as kinds
+use Rattle.mon_tree.specs.declared.tree.Expr.{Expr}
+use Rattle.mon_tree.specs.declared.tree.StmtTree.{StmtTree}
+use Rattle.mon_tree.specs.declared.tree.StmtTree.TheVariants as statements
+use Rattle.mon_tree.specs.declared.tree.StmtTree.TheOpen as layers
+use Rattle.mon_tree.specs.declared.tree.StmtTree.TheFolds.{fold-roll-StmtTree}
+use Rattle.mon_tokens.specs.Words.{Word, ident, mark}
 use Rattle.mon_syntax.specs.Grammar.{Rule, ◌⌢◌, IsMark, IsMarkAt, IsExpression, IsBlock, IsElse, IsSimple, IsIf, IsStatement}
-use Rattle.mon_syntax.specs.Offsets.{unplaced_expression, unplaced_statement, statement_step}
+use Rattle.mon_tree.specs.Offsets.{unplaced_expression, unplaced_statement, statement_step}
 use Rattle.mon_syntax.proofs.CanonicalWords.{expression_words, statement_words, statement_words_step, else_words}
 use Rattle.mon_syntax.proofs.PrintedWords.{Again, each_again, no_words, cut_mark, cut_mark_at, cut_ident, cut_tree, last_mark}
 use Rattle.mon_syntax.proofs.CanonicalExpressions.{expression_again}

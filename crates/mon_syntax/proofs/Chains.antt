@@ -1,9 +1,9 @@
 -- A chain of parts: it is its first part where no other begins, and a node of them all otherwise.
 use Rattle.std.proofs.Common.{◌≡◌, ℕ, zero, suc, ◌<◌, Bool, true, false, List, [], ◌∷◌, length, Ok, Err, refl, sym, ap, ◌∙◌, arith}
-use Rattle.mon_syntax.specs.declared.tree.Expr.{Expr}
-use Rattle.mon_syntax.specs.Words.{Word}
+use Rattle.mon_tree.specs.declared.tree.Expr.{Expr}
+use Rattle.mon_tokens.specs.Words.{Word}
 use Rattle.mon_syntax.specs.Grammar.{chain}
-use Rattle.mon_syntax.specs.Reading.{◌>>=◌, Read, ◌⊗◌, made_at, many_at, each_at, chain_of}
+use Rattle.mon_syntax.specs.inner.Reading.{◌>>=◌, Read, ◌⊗◌, made_at, many_at, each_at, chain_of}
 
 abbrev done : {A : Type 0} → A → List Word → Read A
 done x rest = Ok (x, rest)

@@ -1,38 +1,38 @@
 -- The readers of a client file's parts, and of the whole file.
 use Rattle.std.proofs.Common.{◌≡◌, ℕ, ◌-◌, true, false, List, [], ◌∷◌, length, drop, Ok, Err, refl, sym, ap, subst, ◌∙◌}
-use Rattle.mon_syntax.specs.declared.token.TokenKind.TheVariants as kinds
-use Rattle.mon_syntax.specs.declared.token.Token.{Token}
-use Rattle.mon_syntax.specs.declared.tree.Arg.{Arg}
-use Rattle.mon_syntax.specs.declared.tree.Item.{Item, out-Item}
-use Rattle.mon_syntax.specs.declared.tree.Item.TheOpen.{Item-F, Call}
-use Rattle.mon_syntax.specs.declared.tree.Item.TheVariants as items
-use Rattle.mon_syntax.specs.declared.tree.ClientTree.{ClientTree}
-use Rattle.mon_syntax.specs.declared.tree.ClientsTree.{ClientsTree}
-use Rattle.mon_syntax.specs.declared.reading.PlacedName.{PlacedName}
-use Rattle.mon_syntax.specs.Words.{Word, ident, words}
+use Rattle.mon_tokens.specs.declared.token.TokenKind.TheVariants as kinds
+use Rattle.mon_tokens.specs.declared.token.Token.{Token}
+use Rattle.mon_tree.specs.declared.tree.Arg.{Arg}
+use Rattle.mon_tree.specs.declared.tree.Item.{Item, out-Item}
+use Rattle.mon_tree.specs.declared.tree.Item.TheOpen.{Item-F, Call}
+use Rattle.mon_tree.specs.declared.tree.Item.TheVariants as items
+use Rattle.mon_tree.specs.declared.tree.ClientTree.{ClientTree}
+use Rattle.mon_tree.specs.declared.tree.ClientsTree.{ClientsTree}
+use Rattle.mon_syntax.specs.declared.word.PlacedName.{PlacedName}
+use Rattle.mon_tokens.specs.Words.{Word, ident, words}
 use Rattle.mon_syntax.specs.Grammar.{Rule, ◌⌢◌, Each, IsIdent, IsMark}
 use Rattle.mon_syntax.specs.ClientGrammar.{IsCallLayer, IsCall, IsClient, IsClientFile}
 use Rattle.mon_syntax.specs.Fault.{IsFaultAt}
-use Rattle.mon_syntax.specs.Reading.{first_offset, ◌⊗◌, made_at, each_at, mark_at, ident_at, begins, begins_ident, call_of, call_at, calls_at, client_of, client_at, clients_at, clients_of, client_file}
+use Rattle.mon_syntax.specs.inner.Reading.{first_offset, ◌⊗◌, made_at, each_at, mark_at, ident_at, begins, begins_ident, call_of, call_at, calls_at, client_of, client_at, clients_at, clients_of, client_file}
 use Rattle.mon_syntax.proofs.Readers.{Reads, Anything, Both, made_reads, each_reads, before, whole_found, whole_again, whole_fault}
 use Rattle.mon_syntax.proofs.WordReads.{IsPlacedName, mark_reads, begins_heads, ident_heads}
 use Rattle.mon_syntax.proofs.Openings.{Opens, At, mark_opens, ident_opens, then_opens, begins_none, begins_at}
 use Rattle.mon_syntax.proofs.Sequences.{mark_then, ident_then, then_mark}
 use Rattle.mon_syntax.proofs.FileFaults.{file_fault}
-use Rattle.mon_syntax.proofs.TreeLaws.{is_call}
+use Rattle.mon_tree.proofs.TreeLaws.{is_call}
 
 -- ---- calls
 
-abbrev CallParts : Type 0
+abbrev pub CallParts : Type 0
 CallParts = PlacedName × (Unit {0} × (Unit {0} × Unit {0}))
 
-abbrev IsCallWords : Rule CallParts
+abbrev pub IsCallWords : Rule CallParts
 IsCallWords parts = IsIdent parts.0.name parts.0.at ⌢ IsMark kinds.OpenParen ⌢ IsMark kinds.CloseParen ⌢ IsMark kinds.Semicolon
 
 call_is : (parts : CallParts) (ws : List Word) → IsCallWords parts ws → IsCall (call_of parts) ws
 call_is parts ws p = subst (λ (layer : Item-F Item). IsCallLayer layer ws) (sym (items.outs-Call parts.0.at parts.0.name [])) (refl, p)
 
-call_from : (y : Item) (ws : List Word) → IsCall y ws → (parts : CallParts) × (y ≡ call_of parts) × IsCallWords parts ws
+pub call_from : (y : Item) (ws : List Word) → IsCall y ws → (parts : CallParts) × (y ≡ call_of parts) × IsCallWords parts ws
 call_from y ws rule = by_layer (out-Item y) refl rule
   where
     by_layer : (layer : Item-F Item) → out-Item y ≡ layer → IsCallLayer layer ws → (parts : CallParts) × (y ≡ call_of parts) × IsCallWords parts ws

@@ -1,18 +1,20 @@
 -- The readers of expressions, level by level over the reader of a unary expression.
 use Rattle.std.proofs.Common.{◌≡◌, ℕ, zero, suc, Bool, true, false, List, [], ◌++◌, Option, Some, None, refl, sym, ap, subst, ◌∙◌, inl, inr}
 use Rattle.std.specs.Prelude.{◌⊎◌}
-use Rattle.mon_syntax.specs.declared.token.TokenKind.{TokenKind}
-use Rattle.mon_syntax.specs.declared.token.TokenKind.TheVariants as kinds
-use Rattle.mon_syntax.specs.declared.tree.Op.{Op}
-use Rattle.mon_syntax.specs.declared.tree.Op.TheVariants as ops
-use Rattle.mon_syntax.specs.declared.tree.Expr.{Expr}
-use Rattle.mon_syntax.specs.declared.tree.Expr.TheOpen.{Addend-F, Factor-F}
-use Rattle.mon_syntax.specs.declared.tree.Expr.TheVariants as exprs
-use Rattle.mon_syntax.specs.declared.tree.Addend.{Addend, out-Addend, out-roll-Addend, roll-out-Addend}
-use Rattle.mon_syntax.specs.declared.tree.Factor.{Factor, out-Factor, out-roll-Factor, roll-out-Factor}
-use Rattle.mon_syntax.specs.Words.{Word}
-use Rattle.mon_syntax.specs.Grammar.{Rule, ◌⌢◌, Maybe, IsMarkAt, IsMark, truth_word, op_sign, sum_sign, IsFactor, IsProduct, IsAddend, IsSum, IsCompared, IsComparison, both, IsConjunction, either, IsDisjunction, IsAtom, IsOpened, IsUnary, IsExpression}
-use Rattle.mon_syntax.specs.Reading.{Read, ◌⊗◌, made_at, choice_at, pure_at, placed_at, mark_at, listed_at, op_of, minus_of, begins, begins_listed, factor_of, factor_at, factors_at, product_at, addend_of, addend_at, addends_at, sum_at, comparison_of, compared_at, comparison_at, part_of, conjunct_at, conjuncts_at, conjunction_at, disjunct_at, disjuncts_at, disjunction_at, atom_at, minus_of_unary, not_of_unary, inner_of, minus_unary_at, not_unary_at, group_at, opened_at, unary_at, expression_at}
+use Rattle.mon_tokens.specs.declared.token.TokenKind.{TokenKind}
+use Rattle.mon_tokens.specs.declared.token.TokenKind.TheVariants as kinds
+use Rattle.mon_syntax.specs.declared.expression_parser.Join.{Join}
+use Rattle.mon_syntax.specs.declared.expression_parser.Join.TheVariants as joins
+use Rattle.mon_tree.specs.declared.tree.Op.{Op}
+use Rattle.mon_tree.specs.declared.tree.Op.TheVariants as ops
+use Rattle.mon_tree.specs.declared.tree.Expr.{Expr}
+use Rattle.mon_tree.specs.declared.tree.Expr.TheOpen.{Addend-F, Factor-F}
+use Rattle.mon_tree.specs.declared.tree.Expr.TheVariants as exprs
+use Rattle.mon_tree.specs.declared.tree.Addend.{Addend, out-Addend, out-roll-Addend, roll-out-Addend}
+use Rattle.mon_tree.specs.declared.tree.Factor.{Factor, out-Factor, out-roll-Factor, roll-out-Factor}
+use Rattle.mon_tokens.specs.Words.{Word}
+use Rattle.mon_syntax.specs.Grammar.{Rule, ◌⌢◌, Maybe, IsChain, IsMarkAt, IsMark, truth_word, op_sign, sum_sign, IsFactor, IsProduct, IsAddend, IsSum, IsCompared, IsComparison, both, IsConjunction, either, IsDisjunction, IsAtom, IsOpened, IsUnary, IsExpression}
+use Rattle.mon_syntax.specs.inner.Reading.{Read, ◌⊗◌, made_at, choice_at, pure_at, placed_at, mark_at, listed_at, op_of, minus_of, begins, begins_listed, factor_of, factor_at, factors_at, product_at, addend_of, addend_at, addends_at, sum_at, comparison_of, compared_at, comparison_at, part_of, sign_of, node_of, part_at, parts_at, joined_at, conjunction_at, disjunction_at, inner_at, atom_at, minus_of_unary, not_of_unary, inner_of, minus_unary_at, not_unary_at, group_at, opened_at, unary_at, expression_at}
 use Rattle.mon_syntax.proofs.Readers.{Reads, Anything, Both, pair_reads, made_reads, pure_reads, choice_reads, before}
 use Rattle.mon_syntax.proofs.WordReads.{is_minus, op_reads, minus_reads, atom_reads, begins_heads, listed_heads}
 use Rattle.mon_syntax.proofs.Openings.{Opens, At, mark_opens, placed_opens, then_opens, atom_opens, begins_none, listed_none, begins_at, begun, listed_begun}
@@ -168,39 +170,35 @@ comparison_reads IsUnary unary r =
 
 -- ---- conjunctions and disjunctions
 
-pub conjunct_reads : (IsUnary : Rule Expr) (unary : List Word → Read Expr) → Reads IsUnary unary Anything → Reads (λ part. IsMark kinds.And ⌢ IsComparison IsUnary part) (conjunct_at unary) NoOp
-unfolding conjunct_at
-conjunct_reads IsUnary unary r =
-    made_reads (Both (λ (unit : Unit {0}). IsMark kinds.And) (IsComparison IsUnary)) (mark_at kinds.And ⊗ comparison_at unary) NoOp part_of (λ part. IsMark kinds.And ⌢ IsComparison IsUnary part)
-    (mark_then kinds.And (IsComparison IsUnary) (comparison_at unary) NoOp (comparison_reads IsUnary unary r))
+-- the sign and a part
+abbrev pub IsPart : Join → Rule Expr → Rule Expr
+IsPart join IsInner part = IsMark (sign_of join) ⌢ IsInner part
+
+pub part_reads : (join : Join) (IsInner : Rule Expr) (inner : List Word → Read Expr) (After : List Word → Type 0) → Reads IsInner inner After → Reads (IsPart join IsInner) (part_at join inner) After
+unfolding part_at
+part_reads join IsInner inner After r =
+    made_reads (Both (λ (unit : Unit {0}). IsMark (sign_of join)) IsInner) (mark_at (sign_of join) ⊗ inner) After part_of (IsPart join IsInner)
+    (mark_then (sign_of join) IsInner inner After r)
     (λ x ws p. p)
     (λ y ws p. ((tt, y), refl, p))
 
-pub conjunct_begins : (IsUnary : Rule Expr) (x : Expr) → Opens (IsMark kinds.And ⌢ IsComparison IsUnary x) (λ ws. begins kinds.And ws ≡ true)
-conjunct_begins IsUnary x = then_opens (IsMark kinds.And) (IsComparison IsUnary x) (λ ws. begins kinds.And ws ≡ true)
-    (mark_opens kinds.And (λ ws. begins kinds.And ws ≡ true) (begins_at kinds.And))
+pub part_begins : (join : Join) (IsInner : Rule Expr) (x : Expr) → Opens (IsPart join IsInner x) (λ ws. begins (sign_of join) ws ≡ true)
+part_begins join IsInner x = then_opens (IsMark (sign_of join)) (IsInner x) (λ ws. begins (sign_of join) ws ≡ true)
+    (mark_opens (sign_of join) (λ ws. begins (sign_of join) ws ≡ true) (begins_at (sign_of join)))
+
+joined_reads : (join : Join) (IsInner : Rule Expr) (inner : List Word → Read Expr) (After : List Word → Type 0) → Reads IsInner inner After → At (sign_of join) After
+    → Reads (IsChain (node_of join) IsInner (IsPart join IsInner)) (joined_at join inner) (λ ws. (begins (sign_of join) ws ≡ false) × After ws)
+unfolding joined_at parts_at
+joined_reads join IsInner inner After r sign = chain_reads (node_of join) IsInner inner (begins (sign_of join)) (IsPart join IsInner) (part_at join inner) After
+    r (part_reads join IsInner inner After r) (begins_heads (sign_of join)) (begins_none (sign_of join)) (part_begins join IsInner) (begun (sign_of join) After sign)
 
 pub conjunction_reads : (IsUnary : Rule Expr) (unary : List Word → Read Expr) → Reads IsUnary unary Anything → Reads (IsConjunction IsUnary) (conjunction_at unary) NoAnd
-unfolding conjunction_at conjuncts_at
-conjunction_reads IsUnary unary r = chain_reads both (IsComparison IsUnary) (comparison_at unary) (begins kinds.And) (λ part. IsMark kinds.And ⌢ IsComparison IsUnary part) (conjunct_at unary) NoOp
-    (comparison_reads IsUnary unary r) (conjunct_reads IsUnary unary r) (begins_heads kinds.And) (begins_none kinds.And) (conjunct_begins IsUnary) (begun kinds.And NoOp and_no_op)
-
-pub disjunct_reads : (IsUnary : Rule Expr) (unary : List Word → Read Expr) → Reads IsUnary unary Anything → Reads (λ part. IsMark kinds.Or ⌢ IsConjunction IsUnary part) (disjunct_at unary) NoAnd
-unfolding disjunct_at
-disjunct_reads IsUnary unary r =
-    made_reads (Both (λ (unit : Unit {0}). IsMark kinds.Or) (IsConjunction IsUnary)) (mark_at kinds.Or ⊗ conjunction_at unary) NoAnd part_of (λ part. IsMark kinds.Or ⌢ IsConjunction IsUnary part)
-    (mark_then kinds.Or (IsConjunction IsUnary) (conjunction_at unary) NoAnd (conjunction_reads IsUnary unary r))
-    (λ x ws p. p)
-    (λ y ws p. ((tt, y), refl, p))
-
-pub disjunct_begins : (IsUnary : Rule Expr) (x : Expr) → Opens (IsMark kinds.Or ⌢ IsConjunction IsUnary x) (λ ws. begins kinds.Or ws ≡ true)
-disjunct_begins IsUnary x = then_opens (IsMark kinds.Or) (IsConjunction IsUnary x) (λ ws. begins kinds.Or ws ≡ true)
-    (mark_opens kinds.Or (λ ws. begins kinds.Or ws ≡ true) (begins_at kinds.Or))
+unfolding conjunction_at
+conjunction_reads IsUnary unary r = joined_reads joins.And (IsComparison IsUnary) (comparison_at unary) NoOp (comparison_reads IsUnary unary r) and_no_op
 
 pub disjunction_reads : (IsUnary : Rule Expr) (unary : List Word → Read Expr) → Reads IsUnary unary Anything → Reads (IsDisjunction IsUnary) (disjunction_at unary) NoOr
-unfolding disjunction_at disjuncts_at
-disjunction_reads IsUnary unary r = chain_reads either (IsConjunction IsUnary) (conjunction_at unary) (begins kinds.Or) (λ part. IsMark kinds.Or ⌢ IsConjunction IsUnary part) (disjunct_at unary) NoAnd
-    (conjunction_reads IsUnary unary r) (disjunct_reads IsUnary unary r) (begins_heads kinds.Or) (begins_none kinds.Or) (disjunct_begins IsUnary) (begun kinds.Or NoAnd or_no_and)
+unfolding disjunction_at
+disjunction_reads IsUnary unary r = joined_reads joins.Or (IsConjunction IsUnary) (conjunction_at unary) NoAnd (conjunction_reads IsUnary unary r) or_no_and
 
 -- ---- unary expressions
 
@@ -348,6 +346,19 @@ pub unary_reads : (levels : ℕ) → Reads (IsUnary levels) (unary_at levels) An
 unfolding unary_at
 unary_reads zero = atom_reads
 unary_reads (suc levels) = opened_reads (IsUnary levels) (unary_at levels) (unary_reads levels)
+
+-- what stands between the signs, and what may follow it
+abbrev pub IsInner : Join → ℕ → Rule Expr
+IsInner joins.And levels = IsComparison (IsUnary levels)
+IsInner joins.Or levels = IsConjunction (IsUnary levels)
+
+abbrev pub AfterInner : Join → List Word → Type 0
+AfterInner joins.And = NoOp
+AfterInner joins.Or = NoAnd
+
+pub inner_reads : (join : Join) (levels : ℕ) → Reads (IsInner join levels) (inner_at join levels) (AfterInner join)
+inner_reads joins.And levels = comparison_reads (IsUnary levels) (unary_at levels) (unary_reads levels)
+inner_reads joins.Or levels = conjunction_reads (IsUnary levels) (unary_at levels) (unary_reads levels)
 
 pub expression_reads : (levels : ℕ) → Reads (IsExpression levels) (expression_at levels) NoOr
 unfolding expression_at

@@ -2,11 +2,11 @@
 use Rattle.std.proofs.Common.{◌≡◌, ℕ, ◌-◌, List, [], ◌∷◌, ◌++◌, length, drop, refl, sym, ap, subst, ◌∙◌, arith, length-append}
 use Rattle.std.proofs.lemmas.List.{length-map, map-append}
 use Rattle.std.proofs.Math.Seq.{drop-append_seam}
-use Rattle.mon_syntax.specs.declared.token.Token.{Token}
-use Rattle.mon_syntax.specs.Words.{Word, word, words}
+use Rattle.mon_tokens.specs.declared.token.Token.{Token}
+use Rattle.mon_tokens.specs.Words.{Word, word, words}
 use Rattle.mon_syntax.specs.Grammar.{Rule}
 use Rattle.mon_syntax.specs.Fault.{IsUnfit, IsFaultAt}
-use Rattle.mon_syntax.specs.Reading.{first_offset}
+use Rattle.mon_syntax.specs.inner.Reading.{first_offset}
 use Rattle.mon_syntax.proofs.Readers.{IsFault}
 
 -- the tokens whose words are the ones before a place, and those after it

@@ -1,13 +1,13 @@
 -- Expressions at the levels of precedence, and how many levels may be opened.
 use Rattle.std.proofs.Common.{◌≡◌, ℕ, zero, suc, ◌≤◌, inl, inr, List, [], refl, sym, subst, append-nil, arith, Option, Some, None}
 use Rattle.std.proofs.Math.Nat.{le-suc_iff}
-use Rattle.mon_syntax.specs.declared.token.TokenKind.TheVariants as kinds
-use Rattle.mon_syntax.specs.declared.tree.Op.{Op}
-use Rattle.mon_syntax.specs.declared.tree.Expr.{Expr}
-use Rattle.mon_syntax.specs.declared.tree.Factor.{out-Factor}
-use Rattle.mon_syntax.specs.declared.tree.Addend.{out-Addend}
-use Rattle.mon_syntax.specs.declared.tree.Expr.TheVariants as exprs
-use Rattle.mon_syntax.specs.Words.{Word}
+use Rattle.mon_tokens.specs.declared.token.TokenKind.TheVariants as kinds
+use Rattle.mon_tree.specs.declared.tree.Op.{Op}
+use Rattle.mon_tree.specs.declared.tree.Expr.{Expr}
+use Rattle.mon_tree.specs.declared.tree.Factor.{out-Factor}
+use Rattle.mon_tree.specs.declared.tree.Addend.{out-Addend}
+use Rattle.mon_tree.specs.declared.tree.Expr.TheVariants as exprs
+use Rattle.mon_tokens.specs.Words.{Word}
 use Rattle.mon_syntax.specs.Grammar.{Rule, Maybe, ◌⌢◌, IsMark, IsChain, IsFactor, IsProduct, IsAddend, IsSum, IsCompared, IsComparison, both, IsConjunction, either, IsDisjunction, IsOpened, IsUnary}
 use Rattle.mon_syntax.proofs.PrintedWords.{Within, each_within}
 

@@ -1,8 +1,3 @@
-pub mod Pieces
-pub mod Cutting
-pub mod Numerals
-pub mod Digits
-pub mod TreeLaws
 pub mod Readers
 pub mod WordReads
 pub mod Openings
@@ -12,11 +7,8 @@ pub mod StatementReads
 pub mod FileFaults
 pub mod MonitorReads
 pub mod ClientReads
-pub mod Shorter
-pub mod Going
-pub mod Begins
-pub mod Turns
-pub mod Loops
+pub mod ListItems
+pub mod Rounds
 pub mod Chains
 pub mod Outcomes
 pub mod CanonicalWords
@@ -32,7 +24,3 @@ pub mod SpelledExpressions
 pub mod CanonicalSpelling
 pub mod DerivedPrintable
 pub mod NameLaws
-pub mod Printing
-pub mod Depths
-pub mod Statements
-pub mod Files

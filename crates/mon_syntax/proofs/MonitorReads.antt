@@ -1,24 +1,24 @@
 -- The readers of a monitor file's parts, and of the whole file.
 use Rattle.std.proofs.Common.{◌≡◌, ℕ, ◌-◌, Bool, true, false, List, [], ◌∷◌, ◌++◌, length, drop, Ok, Err, refl, sym, ap, subst, ◌∙◌, inl, inr}
 use Rattle.std.specs.Prelude.{◌⊎◌}
-use Rattle.mon_syntax.specs.declared.token.TokenKind.{TokenKind}
-use Rattle.mon_syntax.specs.declared.token.TokenKind.TheVariants as kinds
-use Rattle.mon_syntax.specs.declared.token.Token.{Token}
-use Rattle.mon_syntax.specs.declared.tree.Lit.{Lit}
-use Rattle.mon_syntax.specs.declared.tree.Decl.{Decl}
-use Rattle.mon_syntax.specs.declared.tree.Decl.TheVariants as decls
-use Rattle.mon_syntax.specs.declared.tree.InputKind.{InputKind}
-use Rattle.mon_syntax.specs.declared.tree.InputKind.TheVariants as inputs
-use Rattle.mon_syntax.specs.declared.tree.InputTree.{InputTree}
-use Rattle.mon_syntax.specs.declared.tree.Expr.{Expr}
-use Rattle.mon_syntax.specs.declared.tree.StmtTree.{StmtTree}
-use Rattle.mon_syntax.specs.declared.tree.MethodTree.{MethodTree}
-use Rattle.mon_syntax.specs.declared.tree.MonitorTree.{MonitorTree}
-use Rattle.mon_syntax.specs.declared.reading.PlacedName.{PlacedName}
-use Rattle.mon_syntax.specs.Words.{Word, numeral, words}
+use Rattle.mon_tokens.specs.declared.token.TokenKind.{TokenKind}
+use Rattle.mon_tokens.specs.declared.token.TokenKind.TheVariants as kinds
+use Rattle.mon_tokens.specs.declared.token.Token.{Token}
+use Rattle.mon_tree.specs.declared.tree.Lit.{Lit}
+use Rattle.mon_tree.specs.declared.tree.Decl.{Decl}
+use Rattle.mon_tree.specs.declared.tree.Decl.TheVariants as decls
+use Rattle.mon_tree.specs.declared.tree.InputKind.{InputKind}
+use Rattle.mon_tree.specs.declared.tree.InputKind.TheVariants as inputs
+use Rattle.mon_tree.specs.declared.tree.InputTree.{InputTree}
+use Rattle.mon_tree.specs.declared.tree.Expr.{Expr}
+use Rattle.mon_tree.specs.declared.tree.StmtTree.{StmtTree}
+use Rattle.mon_tree.specs.declared.tree.MethodTree.{MethodTree}
+use Rattle.mon_tree.specs.declared.tree.MonitorTree.{MonitorTree}
+use Rattle.mon_syntax.specs.declared.word.PlacedName.{PlacedName}
+use Rattle.mon_tokens.specs.Words.{Word, numeral, words}
 use Rattle.mon_syntax.specs.Grammar.{Rule, ◌⌢◌, Each, IsIdent, IsNumeral, IsMark, truth_word, kind_word, IsExpression, IsBlock, IsStatement, after_minus, IsLiteral, IsDeclaration, IsInput, AreInputs, IsMethod, IsMonitorFile}
 use Rattle.mon_syntax.specs.Fault.{IsFaultAt}
-use Rattle.mon_syntax.specs.Reading.{first_offset, Read, ◌⊗◌, made_at, choice_at, pure_at, each_at, mark_at, ident_at, numeral_at, listed_at, truth_of, kind_of, begins, begins_listed, begins_declaration, condition_at, block_at, statement_at, literal_of, negative_of, literal_at, Declared, constant_of, int_of, flag_of, declared_at, constant_at, int_at, flag_at, declaration_at, declarations_at, input_of, input_at, later_input_of, later_input_at, inputs_of, some_inputs_at, inputs_at, head_of, head_at, method_of, method_at, methods_at, monitor_of, monitor_at, monitor_file}
+use Rattle.mon_syntax.specs.inner.Reading.{first_offset, Read, ◌⊗◌, made_at, choice_at, pure_at, each_at, mark_at, ident_at, numeral_at, listed_at, truth_of, kind_of, begins, begins_listed, begins_declaration, condition_at, block_at, statement_at, literal_of, negative_of, literal_at, Declared, constant_of, int_of, flag_of, declared_at, constant_at, int_at, flag_at, declaration_at, declarations_at, input_of, input_at, later_input_of, later_input_at, later_inputs_at, inputs_of, some_inputs_at, inputs_at, head_of, head_at, method_of, method_at, methods_at, monitor_of, monitor_at, monitor_file}
 use Rattle.mon_syntax.proofs.Readers.{Reads, Anything, Both, pair_reads, made_reads, pure_reads, choice_reads, each_reads, before, whole_found, whole_again, whole_fault}
 use Rattle.mon_syntax.proofs.WordReads.{IsPlacedName, IsPlacedNumber, ident_reads, numeral_reads, truth_reads, kind_reads, begins_heads, listed_heads, declaration_heads}
 use Rattle.mon_syntax.proofs.Openings.{Opens, At, mark_opens, numeral_opens, then_opens, items_open, begins_none, begins_at}
@@ -211,7 +211,7 @@ abbrev IsSome : Rule (List InputTree)
 IsSome = Made inputs_of (Both IsInput (Each IsLaterInput))
 
 some_inputs_read : Reads IsSome some_inputs_at NoComma
-unfolding some_inputs_at
+unfolding some_inputs_at later_inputs_at
 some_inputs_read =
     image_reads (Both IsInput (Each IsLaterInput)) (input_at ⊗ each_at (begins kinds.Comma) later_input_at) NoComma inputs_of
     (pair_reads IsInput input_at Anything (Each IsLaterInput) (each_at (begins kinds.Comma) later_input_at) NoComma input_reads

@@ -1,89 +1,291 @@
--- The names of derived trees are identifiers, since those of the tokens are.
-use Rattle.std.proofs.Common.{ℕ, List, [], ◌∷◌, ◌++◌, All, subst}
+-- The names of derived trees are identifiers: they are the names among their words, and those of tokens are identifiers.
+use Rattle.std.proofs.Common.{◌≡◌, ℕ, Bool, true, false, List, [], ◌∷◌, ◌++◌, All, map, refl, sym, ap, subst, ◌∙◌, append_assoc, append-nil}
+use Rattle.std.specs.Prelude.{nat_lt, if◌then◌else◌}
 use Rattle.std.specs.List.{flat_map}
+use Rattle.std.proofs.lemmas.List.Concat.{flat_map-append}
 use Rattle.std.proofs.lemmas.List.Elements.{All-cons, All-nil}
-use Rattle.mon_syntax.specs.declared.token.TokenKind.TheVariants as kinds
-use Rattle.mon_syntax.specs.declared.token.Token.{Token}
-use Rattle.mon_syntax.specs.declared.tree.Decl.{Decl}
-use Rattle.mon_syntax.specs.declared.tree.Decl.TheVariants as decls
-use Rattle.mon_syntax.specs.declared.tree.InputTree.{InputTree}
-use Rattle.mon_syntax.specs.declared.tree.MethodTree.{MethodTree}
-use Rattle.mon_syntax.specs.declared.tree.MonitorTree.{MonitorTree}
-use Rattle.mon_syntax.specs.declared.tree.ClientTree.{ClientTree}
-use Rattle.mon_syntax.specs.declared.tree.ClientsTree.{ClientsTree}
-use Rattle.mon_syntax.specs.Spelling.{IsIdentifier, Spells}
-use Rattle.mon_syntax.specs.Words.{Word, ident, mark, words}
-use Rattle.mon_syntax.specs.Grammar.{Each, Derives}
-use Rattle.mon_syntax.specs.ClientGrammar.{IsClient, DerivesClients}
-use Rattle.mon_syntax.specs.Names.{declared_name, HasIdentifiers, HasClientIdentifiers}
-use Rattle.mon_syntax.proofs.Numerals.{tokens_are}
-use Rattle.mon_syntax.proofs.CanonicalWords.{declaration_words, input_words, inputs_words, expression_words, statement_words, method_words}
-use Rattle.mon_syntax.proofs.Printable.{ArePrintable, IsPrintable, printable_front, printable_back}
+use Rattle.mon_tokens.specs.declared.token.TokenKind.{TokenKind}
+use Rattle.mon_tokens.specs.declared.token.TokenKind.TheVariants as kinds
+use Rattle.mon_tokens.specs.declared.token.Token.{Token}
+use Rattle.mon_tree.specs.declared.tree.Decl.{Decl}
+use Rattle.mon_tree.specs.declared.tree.Decl.TheVariants as decls
+use Rattle.mon_tree.specs.declared.tree.InputTree.{InputTree}
+use Rattle.mon_tree.specs.declared.tree.Op.{Op}
+use Rattle.mon_tree.specs.declared.tree.Expr.{Expr, roll-Expr}
+use Rattle.mon_tree.specs.declared.tree.Expr.TheOpen.{Expr-F, Addend-F, Factor-F, Number, Truth, Named, Minus, Not, Product, Sum, Compare, Both, Either}
+use Rattle.mon_tree.specs.declared.tree.Expr.TheFolds.{fold-Addend, fold-Factor, fold-roll-Expr, fold-roll-Addend, fold-roll-Factor, map-Expr, ind-Expr}
+use Rattle.mon_tree.specs.declared.tree.Addend.{Addend, roll-Addend}
+use Rattle.mon_tree.specs.declared.tree.Factor.{Factor, roll-Factor}
+use Rattle.mon_tree.specs.declared.tree.StmtTree.{StmtTree, roll-StmtTree}
+use Rattle.mon_tree.specs.declared.tree.StmtTree.TheOpen.{StmtTree-F, Set, If, Return}
+use Rattle.mon_tree.specs.declared.tree.StmtTree.TheFolds.{fold-roll-StmtTree, map-StmtTree, ind-StmtTree}
+use Rattle.mon_tree.specs.declared.tree.MethodTree.{MethodTree}
+use Rattle.mon_tree.specs.declared.tree.MonitorTree.{MonitorTree}
+use Rattle.mon_tree.specs.declared.tree.Item.{Item, roll-Item}
+use Rattle.mon_tree.specs.declared.tree.Item.TheOpen.{Call}
+use Rattle.mon_tree.specs.declared.tree.Item.TheVariants as items
+use Rattle.mon_tree.specs.declared.tree.Item.TheFolds.{fold-roll-Item}
+use Rattle.mon_tree.specs.declared.tree.ClientTree.{ClientTree}
+use Rattle.mon_tree.specs.declared.tree.ClientsTree.{ClientsTree}
+use Rattle.mon_tree.specs.Names.{Names, all_names, expression_names, expression_names_step, addend_names_step, factor_names_step, statement_names, statement_names_step, declared_name, method_names, names_in, item_names, item_names_step, client_names, names_in_clients}
+use Rattle.mon_tokens.specs.Spelling.{IsIdentifier, Spells}
+use Rattle.mon_tokens.specs.Words.{Word, ident, numeral, mark, words}
+use Rattle.mon_syntax.specs.Grammar.{◌⌢◌, Each, IsIdent, IsMark, Derives}
+use Rattle.mon_syntax.specs.ClientGrammar.{IsCall, IsClient, DerivesClients}
+use Rattle.mon_syntax.proofs.CanonicalWords.{Spelled, in_parentheses, words_at, joined_words, spelled, spelled_step, addend_words, factor_words, expression_words, else_words, statement_words, statement_words_step, minus_words, literal_words, declaration_words, input_words, inputs_words, method_words, tree_words}
+use Rattle.mon_syntax.proofs.Printable.{ArePrintable, addend_tail, factor_tail, expression_layer, statement_layer}
 use Rattle.mon_syntax.proofs.DerivedPrintable.{derived_printable, words_printable}
+use Rattle.mon_syntax.proofs.ClientReads.{call_from}
+use Rattle.mon_tokens.proofs.Numerals.{tokens_are}
 
--- a fact of each item, from its words
-items : {A : Type 0} (item_words : A → List Word) (Fact : A → Type 0) → ((x : A) → ArePrintable (item_words x) → Fact x) → (xs : List A) → ArePrintable (flat_map item_words xs) → All Fact xs
-items item_words Fact item [] ok = All-nil Fact
-items item_words Fact item (x ∷ xs) ok =
-    All-cons Fact x xs (item x (printable_front (item_words x) (flat_map item_words xs) ok)) (items item_words Fact item xs (printable_back (item_words x) (flat_map item_words xs) ok))
+-- ---- the names among words
 
-declaration : (x : Decl) → ArePrintable (declaration_words x) → IsIdentifier (declared_name x)
-declaration (decls.Const at name value) ok = ok.1.0
-declaration (decls.Int at name value) ok = ok.1.0
-declaration (decls.Flag at name value) ok = ok.1.0
+abbrev names_of : Word → Names
+names_of (ident name at) = name ∷ []
+names_of (numeral value at) = []
+names_of (mark kind at) = []
 
-method_name : (x : MethodTree) → ArePrintable (method_words x) → IsIdentifier x.name
-method_name x ok = ok.1.0
+abbrev pub names_said : List Word → Names
+names_said ws = flat_map names_of ws
 
-abbrev input_name : InputTree → Type 0
-input_name input = IsIdentifier input.name
+pub both_said : (xs ys : List Word) (front back : Names) → names_said xs ≡ front → names_said ys ≡ back → names_said (xs ++ ys) ≡ front ++ back
+both_said xs ys front back p q = flat_map-append names_of xs ys ∙ ap (λ n. n ++ names_said ys) p ∙ ap (λ n. front ++ n) q
 
-inputs : (xs : List InputTree) → ArePrintable (inputs_words xs) → All input_name xs
-inputs [] ok = All-nil input_name
-inputs (x ∷ xs) ok =
-    let rest = flat_map (λ input. mark kinds.Comma 0 ∷ input_words input) xs in
-    let first = printable_front (input_words x) rest ok in
-    All-cons input_name x xs first.1.0 (items (λ input. mark kinds.Comma 0 ∷ input_words input) input_name (λ y h. h.1.1.0) xs (printable_back (input_words x) rest ok))
+before_mark : (kind : TokenKind) (ws : List Word) (names : Names) → names_said ws ≡ names → names_said (ws ++ mark kind 0 ∷ []) ≡ names
+before_mark kind ws names p = both_said ws (mark kind 0 ∷ []) names [] p refl ∙ append-nil names
 
-method_inputs : (x : MethodTree) → ArePrintable (method_words x) → All input_name x.inputs
-method_inputs x ok =
-    let head = mark kinds.KeyMethod 0 ∷ ident x.name 0 ∷ mark kinds.OpenParen 0 ∷ inputs_words x.inputs in
-    let guard = mark kinds.CloseParen 0 ∷ mark kinds.KeyWaituntil 0 ∷ mark kinds.OpenParen 0 ∷ expression_words x.guard in
-    let body = mark kinds.CloseParen 0 ∷ mark kinds.OpenBrace 0 ∷ flat_map statement_words x.body in
-    let first = printable_front head guard (printable_front (head ++ guard) body (printable_front ((head ++ guard) ++ body) (mark kinds.CloseBrace 0 ∷ []) ok)) in
-    inputs x.inputs first.1.1.1
+-- the words of each item, and its names
+each_said : {X : Type 0} (ws : X → List Word) (names : X → Names) → ((x : X) → names_said (ws x) ≡ names x) → (xs : List X) → names_said (flat_map ws xs) ≡ flat_map names xs
+each_said ws names one [] = refl
+each_said ws names one (x ∷ xs) = both_said (ws x) (flat_map ws xs) (names x) (flat_map names xs) (one x) (each_said ws names one xs)
 
-named : (tree : MonitorTree) → IsPrintable tree → HasIdentifiers tree
-named tree ok =
-    let declared = flat_map declaration_words tree.decls in
-    let head = mark kinds.KeyMonitor 0 ∷ ident tree.name 0 ∷ mark kinds.OpenBrace 0 ∷ declared in
-    let methods = flat_map method_words tree.methods in
-    let before = printable_front (head ++ methods) (mark kinds.CloseBrace 0 ∷ []) ok in
-    let first = printable_front head methods before in
-    let later = printable_back head methods before in
-    record {
-      monitor = first.1.0;
-      decls = items declaration_words (λ decl. IsIdentifier (declared_name decl)) declaration tree.decls first.1.1.1;
-      methods = items method_words (λ method. IsIdentifier method.name) method_name tree.methods later;
-      inputs = items method_words (λ method. All input_name method.inputs) method_inputs tree.methods later;
-    }
+one_name : {X : Type 0} (ws : X → List Word) (name : X → List ℕ) → ((x : X) → names_said (ws x) ≡ name x ∷ []) → (xs : List X) → names_said (flat_map ws xs) ≡ map name xs
+one_name ws name one [] = refl
+one_name ws name one (x ∷ xs) = both_said (ws x) (flat_map ws xs) (name x ∷ []) (map name xs) (one x) (one_name ws name one xs)
 
-pub monitor_named : (bytes : List ℕ) (tokens : List Token) (tree : MonitorTree) → Spells bytes tokens → Derives bytes tokens tree → HasIdentifiers tree
-monitor_named bytes tokens tree spelled derived = named tree (derived_printable bytes tokens tree spelled derived)
+-- parts with the fact of each
+abbrev Told : {X : Type 0} → (X → List Word) → (X → Names) → Type 0
+Told {X} ws names = (x : X) × (names_said (ws x) ≡ names x)
 
--- ---- clients
+parts_said : {X : Type 0} (ws : X → List Word) (names : X → Names) (xs : List (Told ws names))
+    → names_said (flat_map (λ (l : List Word). l) (map ws (map (λ e. e.0) xs))) ≡ all_names (map names (map (λ e. e.0) xs))
+parts_said ws names [] = refl
+parts_said ws names (x ∷ xs) =
+    both_said (ws x.0) (flat_map (λ (l : List Word). l) (map ws (map (λ e. e.0) xs))) (names x.0) (all_names (map names (map (λ e. e.0) xs))) x.1 (parts_said ws names xs)
 
-client : (x : ClientTree) (ws : List Word) → IsClient x ws → ArePrintable ws → IsIdentifier x.name
-client x ws (word, after, is_word, (name, body, is_name, rest, joined), parts) ok =
-    let later = printable_back word after (subst ArePrintable parts ok) in
-    let first = printable_front name body (subst ArePrintable joined later) in
-    (subst ArePrintable is_name first).0
+-- ---- expressions
 
-clients : (xs : List ClientTree) (ws : List Word) → Each IsClient xs ws → ArePrintable ws → All (λ x. IsIdentifier x.name) xs
-clients [] ws each ok = All-nil (λ x. IsIdentifier x.name)
-clients (x ∷ xs) ws (front, rest, is, more, parts) ok =
-    let both = subst ArePrintable parts ok in
-    All-cons (λ y. IsIdentifier y.name) x xs (client x front is (printable_front front rest both)) (clients xs rest more (printable_back front rest both))
+abbrev addend_names : Addend → Names
+addend_names = fold-Addend Names Names Names expression_names_step addend_names_step factor_names_step
 
-pub clients_named : (bytes : List ℕ) (tokens : List Token) (tree : ClientsTree) → Spells bytes tokens → DerivesClients bytes tokens tree → HasClientIdentifiers tree
-clients_named bytes tokens tree spelled derived = clients tree.clients (words bytes tokens) derived (words_printable bytes tokens (tokens_are bytes tokens spelled))
+abbrev factor_names : Factor → Names
+factor_names = fold-Factor Names Names Names expression_names_step addend_names_step factor_names_step
+
+abbrev names_layer : Expr-F Expr Addend Factor → Names
+names_layer x = expression_names_step (map-Expr Expr Addend Factor Names Names Names expression_names addend_names factor_names x)
+
+part : (asked : ℕ) (s : Spelled) (names : Names) → names_said s.words ≡ names → names_said (words_at asked s) ≡ names
+part asked s names p = by_test (nat_lt s.level asked)
+  where
+    by_test : (wrapped : Bool) → names_said (if wrapped then in_parentheses s.words else s.words) ≡ names
+    by_test true = before_mark kinds.CloseParen s.words names p
+    by_test false = p
+
+abbrev ExprSays : Expr → Type 0
+ExprSays e = names_said (expression_words e) ≡ expression_names e
+
+abbrev AddendSays : Addend → Type 0
+AddendSays addend = names_said (addend_tail addend) ≡ addend_names addend
+
+abbrev FactorSays : Factor → Type 0
+FactorSays factor = names_said (factor_tail factor) ≡ factor_names factor
+
+abbrev Part : Type 0
+Part = Told expression_words expression_names
+
+abbrev exprs_of : List Part → List Expr
+exprs_of = map (λ e. e.0)
+
+later_parts : (kind : TokenKind) (asked : ℕ) (xs : List Part)
+    → names_said (flat_map (λ p. mark kind 0 ∷ words_at asked p) (map spelled (exprs_of xs))) ≡ all_names (map expression_names (exprs_of xs))
+later_parts kind asked [] = refl
+later_parts kind asked (x ∷ xs) =
+    both_said (words_at asked (spelled x.0)) (flat_map (λ p. mark kind 0 ∷ words_at asked p) (map spelled (exprs_of xs)))
+    (expression_names x.0) (all_names (map expression_names (exprs_of xs))) (part asked (spelled x.0) (expression_names x.0) x.1) (later_parts kind asked xs)
+
+all_parts : (kind : TokenKind) (asked : ℕ) (xs : List Part) → names_said (joined_words (mark kind 0) asked (map spelled (exprs_of xs))) ≡ all_names (map expression_names (exprs_of xs))
+all_parts kind asked [] = refl
+all_parts kind asked (x ∷ xs) =
+    both_said (words_at asked (spelled x.0)) (flat_map (λ p. mark kind 0 ∷ words_at asked p) (map spelled (exprs_of xs)))
+    (expression_names x.0) (all_names (map expression_names (exprs_of xs))) (part asked (spelled x.0) (expression_names x.0) x.1) (later_parts kind asked xs)
+
+abbrev Layer : Type 0
+Layer = Expr-F Part ((a : Addend) × AddendSays a) ((f : Factor) × FactorSays f)
+
+abbrev bare_layer : Layer → Expr-F Expr Addend Factor
+bare_layer = map-Expr Part ((a : Addend) × AddendSays a) ((f : Factor) × FactorSays f) Expr Addend Factor (λ e. e.0) (λ e. e.0) (λ e. e.0)
+
+layer_says : (y : Layer) → names_said (expression_layer (bare_layer y)).words ≡ names_layer (bare_layer y)
+layer_says (Number at value) = refl
+layer_says (Truth at value) = refl
+layer_says (Named at name) = refl
+layer_says (Minus at of) = part 6 (spelled of.0) (expression_names of.0) of.1
+layer_says (Not at of) = part 6 (spelled of.0) (expression_names of.0) of.1
+layer_says (Product first rest) =
+    both_said (words_at 6 (spelled first.0)) (flat_map (λ (l : List Word). l) (map factor_tail (map (λ e. e.0) rest))) (expression_names first.0) (all_names (map factor_names (map (λ e. e.0) rest)))
+    (part 6 (spelled first.0) (expression_names first.0) first.1) (parts_said factor_tail factor_names rest)
+layer_says (Sum first rest) =
+    both_said (words_at 5 (spelled first.0)) (flat_map (λ (l : List Word). l) (map addend_tail (map (λ e. e.0) rest))) (expression_names first.0) (all_names (map addend_names (map (λ e. e.0) rest)))
+    (part 5 (spelled first.0) (expression_names first.0) first.1) (parts_said addend_tail addend_names rest)
+layer_says (Compare op left right) =
+    both_said (words_at 4 (spelled left.0)) _ (expression_names left.0) (expression_names right.0)
+    (part 4 (spelled left.0) (expression_names left.0) left.1) (part 4 (spelled right.0) (expression_names right.0) right.1)
+layer_says (Both es) = all_parts kinds.And 3 es
+layer_says (Either es) = all_parts kinds.Or 2 es
+
+roll_says : (x : Expr-F Expr Addend Factor) → names_said (expression_layer x).words ≡ names_layer x → ExprSays (roll-Expr x)
+roll_says x h =
+    subst (λ (s : Spelled). names_said s.words ≡ expression_names (roll-Expr x)) (sym (fold-roll-Expr Spelled (List Word) (List Word) spelled_step addend_words factor_words x))
+    (h ∙ sym (fold-roll-Expr Names Names Names expression_names_step addend_names_step factor_names_step x))
+
+addend_says : (x : Addend-F Expr Addend Factor) → ExprSays x.of → AddendSays (roll-Addend x)
+addend_says x h =
+    subst (λ (l : List Word). names_said l ≡ addend_names (roll-Addend x)) (sym (fold-roll-Addend Spelled (List Word) (List Word) spelled_step addend_words factor_words x))
+    (part 5 (spelled x.of) (expression_names x.of) h ∙ sym (fold-roll-Addend Names Names Names expression_names_step addend_names_step factor_names_step x))
+
+factor_says : (x : Factor-F Expr Addend Factor) → ExprSays x.of → FactorSays (roll-Factor x)
+factor_says x h =
+    subst (λ (l : List Word). names_said l ≡ factor_names (roll-Factor x)) (sym (fold-roll-Factor Spelled (List Word) (List Word) spelled_step addend_words factor_words x))
+    (part 6 (spelled x.of) (expression_names x.of) h ∙ sym (fold-roll-Factor Names Names Names expression_names_step addend_names_step factor_names_step x))
+
+expression_says : (e : Expr) → ExprSays e
+expression_says =
+    ind-Expr ExprSays AddendSays FactorSays
+    (λ x y is. subst (λ (z : Expr-F Expr Addend Factor). ExprSays (roll-Expr z)) is (roll_says (bare_layer y) (layer_says y)))
+    (λ x y is. subst (λ (z : Addend-F Expr Addend Factor). AddendSays (roll-Addend z)) is (addend_says (record { minus = y.minus; of = y.of.0 }) y.of.1))
+    (λ x y is. subst (λ (z : Factor-F Expr Addend Factor). FactorSays (roll-Factor z)) is (factor_says (record { at = y.at; of = y.of.0 }) y.of.1))
+
+-- ---- statements
+
+abbrev StatementSays : StmtTree → Type 0
+StatementSays s = names_said (statement_words s) ≡ statement_names s
+
+abbrev StatementPart : Type 0
+StatementPart = Told statement_words statement_names
+
+abbrev bare_statement : StmtTree-F StatementPart → StmtTree-F StmtTree
+bare_statement = map-StmtTree StatementPart StmtTree (λ e. e.0)
+
+abbrev statement_names_layer : StmtTree-F StmtTree → Names
+statement_names_layer x = statement_names_step (map-StmtTree StmtTree Names statement_names x)
+
+else_says : (xs : List StatementPart) → names_said (else_words (map statement_words (map (λ e. e.0) xs))) ≡ all_names (map statement_names (map (λ e. e.0) xs))
+else_says [] = refl
+else_says (x ∷ xs) = before_mark kinds.CloseBrace (flat_map (λ (l : List Word). l) (map statement_words (map (λ e. e.0) (x ∷ xs)))) (all_names (map statement_names (map (λ e. e.0) (x ∷ xs)))) (parts_said statement_words statement_names (x ∷ xs))
+
+statement_layer_says : (y : StmtTree-F StatementPart) → names_said (statement_layer (bare_statement y)) ≡ statement_names_layer (bare_statement y)
+statement_layer_says (Set at name value) =
+    before_mark kinds.Semicolon (ident name 0 ∷ mark kinds.Assign 0 ∷ expression_words value) (name ∷ expression_names value) (ap (λ n. name ∷ n) (expression_says value))
+statement_layer_says (If at when body other) =
+    let guard = mark kinds.KeyIf 0 ∷ mark kinds.OpenParen 0 ∷ expression_words when in
+    let inner = mark kinds.CloseParen 0 ∷ mark kinds.OpenBrace 0 ∷ flat_map (λ (l : List Word). l) (map statement_words (map (λ e. e.0) body)) in
+    let rest = mark kinds.CloseBrace 0 ∷ else_words (map statement_words (map (λ e. e.0) other)) in
+    let b = all_names (map statement_names (map (λ e. e.0) body)) in
+    let o = all_names (map statement_names (map (λ e. e.0) other)) in
+    both_said (guard ++ inner) rest (expression_names when ++ b) o (both_said guard inner (expression_names when) b (expression_says when) (parts_said statement_words statement_names body)) (else_says other)
+    ∙ append_assoc (expression_names when) b o
+statement_layer_says (Return at value) = before_mark kinds.Semicolon (mark kinds.KeyReturn 0 ∷ expression_words value) (expression_names value) (expression_says value)
+
+roll_statement : (x : StmtTree-F StmtTree) → names_said (statement_layer x) ≡ statement_names_layer x → StatementSays (roll-StmtTree x)
+roll_statement x h =
+    subst (λ (l : List Word). names_said l ≡ statement_names (roll-StmtTree x)) (sym (fold-roll-StmtTree (List Word) statement_words_step x))
+    (h ∙ sym (fold-roll-StmtTree Names statement_names_step x))
+
+statement_says : (s : StmtTree) → StatementSays s
+statement_says = ind-StmtTree StatementSays (λ x y is. subst (λ (z : StmtTree-F StmtTree). StatementSays (roll-StmtTree z)) is (roll_statement (bare_statement y) (statement_layer_says y)))
+
+-- ---- files
+
+no_name : (minus : Bool) (digits : ℕ) → names_said (minus_words minus ++ numeral digits 0 ∷ []) ≡ []
+no_name true digits = refl
+no_name false digits = refl
+
+declaration_says : (d : Decl) → names_said (declaration_words d) ≡ declared_name d ∷ []
+declaration_says (decls.Const at name value) =
+    before_mark kinds.Semicolon (mark kinds.KeyConst 0 ∷ ident name 0 ∷ mark kinds.Assign 0 ∷ literal_words value) (name ∷ []) (ap (λ n. name ∷ n) (no_name value.minus value.digits))
+declaration_says (decls.Int at name value) =
+    before_mark kinds.Semicolon (mark kinds.KeyInt 0 ∷ ident name 0 ∷ mark kinds.Assign 0 ∷ literal_words value) (name ∷ []) (ap (λ n. name ∷ n) (no_name value.minus value.digits))
+declaration_says (decls.Flag at name value) = refl
+
+inputs_say : (inputs : List InputTree) → names_said (inputs_words inputs) ≡ map (λ input. input.name) inputs
+inputs_say [] = refl
+inputs_say (first ∷ rest) = ap (λ n. first.name ∷ n) (one_name (λ input. mark kinds.Comma 0 ∷ input_words input) (λ (input : InputTree). input.name) (λ input. refl) rest)
+
+method_says : (m : MethodTree) → names_said (method_words m) ≡ method_names m
+method_says m =
+    let head = mark kinds.KeyMethod 0 ∷ ident m.name 0 ∷ mark kinds.OpenParen 0 ∷ inputs_words m.inputs in
+    let guard = mark kinds.CloseParen 0 ∷ mark kinds.KeyWaituntil 0 ∷ mark kinds.OpenParen 0 ∷ expression_words m.guard in
+    let body = mark kinds.CloseParen 0 ∷ mark kinds.OpenBrace 0 ∷ flat_map statement_words m.body in
+    let i = m.name ∷ map (λ (input : InputTree). input.name) m.inputs in
+    let g = expression_names m.guard in
+    let b = flat_map statement_names m.body in
+    let first = both_said head guard i g (ap (λ n. m.name ∷ n) (inputs_say m.inputs)) (expression_says m.guard) in
+    before_mark kinds.CloseBrace ((head ++ guard) ++ body) ((i ++ g) ++ b)
+    (both_said (head ++ guard) body (i ++ g) b first (each_said statement_words statement_names statement_says m.body))
+    ∙ append_assoc i g b
+
+tree_says : (tree : MonitorTree) → names_said (tree_words tree) ≡ names_in tree
+tree_says tree =
+    let head = mark kinds.KeyMonitor 0 ∷ ident tree.name 0 ∷ mark kinds.OpenBrace 0 ∷ flat_map declaration_words tree.decls in
+    let d = tree.name ∷ map declared_name tree.decls in
+    let m = flat_map method_names tree.methods in
+    before_mark kinds.CloseBrace (head ++ flat_map method_words tree.methods) (d ++ m)
+    (both_said head (flat_map method_words tree.methods) d m (ap (λ n. tree.name ∷ n) (one_name declaration_words declared_name declaration_says tree.decls)) (each_said method_words method_names method_says tree.methods))
+
+pub all_identifiers : (ws : List Word) → ArePrintable ws → All IsIdentifier (names_said ws)
+all_identifiers [] ok = All-nil IsIdentifier
+all_identifiers (ident name at ∷ ws) ok = All-cons IsIdentifier name (names_said ws) ok.0 (all_identifiers ws ok.1)
+all_identifiers (numeral value at ∷ ws) ok = all_identifiers ws ok.1
+all_identifiers (mark kind at ∷ ws) ok = all_identifiers ws ok.1
+
+pub monitor_named : (bytes : List ℕ) (tokens : List Token) (tree : MonitorTree) → Spells bytes tokens → Derives bytes tokens tree → All IsIdentifier (names_in tree)
+monitor_named bytes tokens tree spelled derived = subst (All IsIdentifier) (tree_says tree) (all_identifiers (tree_words tree) (derived_printable bytes tokens tree spelled derived))
+
+-- ---- client files: what the words of a rule say
+
+abbrev Says : (List Word → Type 0) → Names → Type 0
+Says IsWords names = (ws : List Word) → IsWords ws → names_said ws ≡ names
+
+mark_says : (kind : TokenKind) → Says (IsMark kind) []
+mark_says kind ws p = ap names_said p.1
+
+ident_says : (name : List ℕ) (at : ℕ) → Says (IsIdent name at) (name ∷ [])
+ident_says name at ws p = ap names_said p
+
+infixr 20 ◌&◌
+◌&◌ : {First Second : List Word → Type 0} {front back : Names} → Says First front → Says Second back → Says (First ⌢ Second) (front ++ back)
+(◌&◌ {front = front} {back = back} first second) ws p = ap names_said p.4 ∙ both_said p.0 p.1 front back (first p.0 p.2) (second p.1 p.3)
+
+each_says : {X : Type 0} (IsTree : X → List Word → Type 0) (names : X → Names) → ((x : X) → Says (IsTree x) (names x)) → (xs : List X) → Says (Each IsTree xs) (flat_map names xs)
+each_says IsTree names one [] ws p = ap names_said p
+each_says IsTree names one (x ∷ xs) ws p =
+    ap names_said p.4 ∙ both_said p.0 p.1 (names x) (flat_map names xs) (one x p.0 p.2) (each_says IsTree names one xs p.1 p.3)
+
+call_named : (at : ℕ) (name : List ℕ) → item_names (items.Call at name []) ≡ name ∷ []
+call_named at name = ap item_names (sym (items.rolls-Call at name [])) ∙ fold-roll-Item Names item_names_step (Call at name [])
+
+item_says : (item : Item) → Says (IsCall item) (item_names item)
+item_says item ws rule =
+    let p = call_from item ws rule in
+    (ident_says p.0.0.name p.0.0.at & mark_says kinds.OpenParen & mark_says kinds.CloseParen & mark_says kinds.Semicolon) ws p.2
+    ∙ sym (ap item_names p.1 ∙ call_named p.0.0.at p.0.0.name)
+
+client_says : (client : ClientTree) → Says (IsClient client) (client_names client)
+client_says client ws p =
+    (mark_says kinds.KeyClient & ident_says client.name client.at & mark_says kinds.OpenBrace & each_says IsCall item_names item_says client.items & mark_says kinds.CloseBrace) ws p
+    ∙ ap (λ n. client.name ∷ n) (append-nil (flat_map item_names client.items))
+
+pub clients_named : (bytes : List ℕ) (tokens : List Token) (tree : ClientsTree) → Spells bytes tokens → DerivesClients bytes tokens tree → All IsIdentifier (names_in_clients tree)
+clients_named bytes tokens tree spelled derived =
+    subst (All IsIdentifier) (each_says IsClient client_names client_says tree.clients (words bytes tokens) derived)
+    (all_identifiers (words bytes tokens) (words_printable bytes tokens (tokens_are bytes tokens spelled)))

@@ -1,10 +1,10 @@
 -- What is so of words, by the first of them.
 use Rattle.std.proofs.Common.{◌≡◌, ℕ, Bool, true, false, List, [], ◌∷◌, ◌++◌, Option, Some, None, refl, sym, ap, subst, ◌∙◌, inl, inr, append_assoc}
-use Rattle.mon_syntax.specs.declared.token.TokenKind.{TokenKind}
-use Rattle.mon_syntax.specs.declared.tree.Expr.{Expr}
-use Rattle.mon_syntax.specs.Words.{Word, ident, numeral, mark}
+use Rattle.mon_tokens.specs.declared.token.TokenKind.{TokenKind}
+use Rattle.mon_tree.specs.declared.tree.Expr.{Expr}
+use Rattle.mon_tokens.specs.Words.{Word, ident, numeral, mark}
 use Rattle.mon_syntax.specs.Grammar.{Rule, ◌⌢◌, Each, IsIdent, IsNumeral, IsMarkAt, IsMark, truth_word, IsAtom}
-use Rattle.mon_syntax.specs.Reading.{is_listed, begins, begins_listed, begins_ident}
+use Rattle.mon_syntax.specs.inner.Reading.{is_listed, begins, begins_listed, begins_ident}
 use Rattle.mon_syntax.proofs.WordReads.{same_kind, same_is_kind, IfListed}
 
 -- the fact holds of these words, whatever comes after

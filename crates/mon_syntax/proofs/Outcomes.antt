@@ -1,15 +1,15 @@
 -- What a parser answers, from what the words give.
 use Rattle.std.proofs.Common.{◌≡◌, ℕ, ◌-◌, List, length, drop, Result, Ok, Err, sym, subst, ◌∙◌}
-use Rattle.mon_syntax.specs.declared.token.Token.{Token}
+use Rattle.mon_tokens.specs.declared.token.Token.{Token}
 use Rattle.mon_syntax.specs.declared.fault.Stop.{Stop}
 use Rattle.mon_syntax.specs.declared.fault.Stop.TheVariants as stops
 use Rattle.mon_syntax.specs.declared.fault.SyntaxFault.{SyntaxFault}
-use Rattle.mon_syntax.specs.Spelling.{Spells}
+use Rattle.mon_tokens.specs.Spelling.{Spells}
 use Rattle.mon_syntax.specs.Grammar.{Rule}
 use Rattle.mon_syntax.specs.Fault.{IsAt, IsFaultAt, Parses}
-use Rattle.mon_syntax.specs.Reading.{Fails, IsFaultOf, AreTokens, first_offset}
+use Rattle.mon_syntax.specs.inner.Reading.{Fails, IsFaultOf, AreTokens, first_offset}
 use Rattle.mon_syntax.proofs.Readers.{ok_is}
-use Rattle.mon_syntax.proofs.Numerals.{tokens_are}
+use Rattle.mon_tokens.proofs.Numerals.{tokens_are}
 
 pub are_tokens : (bytes : List ℕ) (tokens : List Token) → Spells bytes tokens → AreTokens bytes tokens
 unfolding AreTokens

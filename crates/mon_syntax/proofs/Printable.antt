@@ -1,16 +1,16 @@
 -- Trees that can be printed and read again: each name is an identifier, and each number has at most 32 digits.
 use Rattle.std.proofs.Common.{◌<◌, ◌^◌, List, [], ◌∷◌, ◌++◌}
-use Rattle.mon_syntax.specs.declared.tree.Addend.{Addend}
-use Rattle.mon_syntax.specs.declared.tree.Factor.{Factor}
-use Rattle.mon_syntax.specs.declared.tree.Expr.{Expr}
-use Rattle.mon_syntax.specs.declared.tree.Expr.TheOpen.{Expr-F}
-use Rattle.mon_syntax.specs.declared.tree.Expr.TheFolds.{fold-Addend, fold-Factor, map-Expr}
-use Rattle.mon_syntax.specs.declared.tree.StmtTree.{StmtTree}
-use Rattle.mon_syntax.specs.declared.tree.StmtTree.TheOpen.{StmtTree-F}
-use Rattle.mon_syntax.specs.declared.tree.StmtTree.TheFolds.{map-StmtTree}
-use Rattle.mon_syntax.specs.declared.tree.MonitorTree.{MonitorTree}
-use Rattle.mon_syntax.specs.Spelling.{IsIdentifier}
-use Rattle.mon_syntax.specs.Words.{Word, ident, numeral, mark}
+use Rattle.mon_tree.specs.declared.tree.Addend.{Addend}
+use Rattle.mon_tree.specs.declared.tree.Factor.{Factor}
+use Rattle.mon_tree.specs.declared.tree.Expr.{Expr}
+use Rattle.mon_tree.specs.declared.tree.Expr.TheOpen.{Expr-F}
+use Rattle.mon_tree.specs.declared.tree.Expr.TheFolds.{fold-Addend, fold-Factor, map-Expr}
+use Rattle.mon_tree.specs.declared.tree.StmtTree.{StmtTree}
+use Rattle.mon_tree.specs.declared.tree.StmtTree.TheOpen.{StmtTree-F}
+use Rattle.mon_tree.specs.declared.tree.StmtTree.TheFolds.{map-StmtTree}
+use Rattle.mon_tree.specs.declared.tree.MonitorTree.{MonitorTree}
+use Rattle.mon_tokens.specs.Spelling.{IsIdentifier}
+use Rattle.mon_tokens.specs.Words.{Word, ident, numeral, mark}
 use Rattle.mon_syntax.proofs.CanonicalWords.{Spelled, spelled, spelled_step, addend_words, factor_words, statement_words, statement_words_step, tree_words}
 
 abbrev pub IsPrintableWord : Word → Type 0

@@ -1,8 +1,8 @@
 -- Words that are known but for their offsets, cut into parts.
 use Rattle.std.proofs.Common.{◌≡◌, ℕ, List, [], ◌∷◌, ◌++◌, map, refl, sym, ap, subst, ◌∙◌, append-nil}
 use Rattle.std.specs.List.{flat_map}
-use Rattle.mon_syntax.specs.declared.token.TokenKind.{TokenKind}
-use Rattle.mon_syntax.specs.Words.{Word, ident, numeral, mark}
+use Rattle.mon_tokens.specs.declared.token.TokenKind.{TokenKind}
+use Rattle.mon_tokens.specs.Words.{Word, ident, numeral, mark}
 use Rattle.mon_syntax.specs.Grammar.{Rule, Each, IsIdent, IsNumeral, IsMarkAt, IsMark}
 use Rattle.mon_syntax.proofs.CanonicalWords.{bare}
 

@@ -1,10 +1,10 @@
 -- Readers with keywords, signs and names around them, and rules said in another way.
 use Rattle.std.proofs.Common.{◌≡◌, ℕ, Bool, true, false, List, [], ◌++◌, refl, sym, ap, ◌∙◌, append_assoc}
-use Rattle.mon_syntax.specs.declared.token.TokenKind.{TokenKind}
-use Rattle.mon_syntax.specs.declared.tree.Expr.{Expr}
-use Rattle.mon_syntax.specs.Words.{Word}
+use Rattle.mon_tokens.specs.declared.token.TokenKind.{TokenKind}
+use Rattle.mon_tree.specs.declared.tree.Expr.{Expr}
+use Rattle.mon_tokens.specs.Words.{Word}
 use Rattle.mon_syntax.specs.Grammar.{Rule, ◌⌢◌, Each, IsMarkAt, IsMark, IsChain}
-use Rattle.mon_syntax.specs.Reading.{Read, ◌⊗◌, made_at, each_at, placed_at, mark_at, ident_at, chain_of}
+use Rattle.mon_syntax.specs.inner.Reading.{Read, ◌⊗◌, made_at, each_at, placed_at, mark_at, ident_at, chain_of}
 use Rattle.mon_syntax.proofs.Readers.{Reads, Anything, Heads, Both, pair_reads, made_reads, each_reads}
 use Rattle.mon_syntax.proofs.WordReads.{IsPlacedName, placed_reads, mark_reads, ident_reads}
 use Rattle.mon_syntax.proofs.Openings.{Opens, At, mark_opens, each_opens}

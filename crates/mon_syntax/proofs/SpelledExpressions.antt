@@ -1,25 +1,26 @@
 -- The canonical text of an expression is cut into pieces that say its canonical words.
 use Rattle.std.proofs.Common.{◌≡◌, ℕ, ◌≤◌, Bool, true, false, eqb, List, [], ◌∷◌, ◌++◌, map, Some, refl, sym, ap, subst, ◌∙◌, append_assoc, arith}
-use Rattle.std.specs.Prelude.{codes, if◌then◌else◌, nat_lt, decimal as decimal_text}
+use Rattle.std.specs.Prelude.{codes, if◌then◌else◌, nat_lt, decimal}
 use Rattle.std.specs.List.{flat_map}
 use Rattle.std.proofs.lemmas.Bool.{eqb-true, ltb-false}
-use Rattle.mon_syntax.specs.declared.token.TokenKind.{TokenKind}
-use Rattle.mon_syntax.specs.declared.token.TokenKind.TheVariants as kinds
-use Rattle.mon_syntax.specs.declared.piece.Class.TheVariants as classes
-use Rattle.mon_syntax.specs.declared.piece.Shape.TheVariants as shapes
-use Rattle.mon_syntax.specs.declared.tree.Op.{Op}
-use Rattle.mon_syntax.specs.declared.tree.Op.TheVariants as ops
-use Rattle.mon_syntax.specs.declared.tree.Addend.{Addend, roll-Addend}
-use Rattle.mon_syntax.specs.declared.tree.Factor.{Factor, roll-Factor}
-use Rattle.mon_syntax.specs.declared.tree.Expr.{Expr, roll-Expr}
-use Rattle.mon_syntax.specs.declared.tree.Expr.TheOpen.{Expr-F, Addend-F, Factor-F, Number, Truth, Named, Minus, Not, Product, Sum, Compare, Both, Either}
-use Rattle.mon_syntax.specs.declared.tree.Expr.TheFolds.{fold-roll-Expr, fold-roll-Addend, fold-roll-Factor, map-Expr, ind-Expr}
-use Rattle.mon_syntax.specs.Spelling.{class_of, IsShape}
-use Rattle.mon_syntax.specs.Pieces.{other_at, longest_at, limited}
-use Rattle.mon_syntax.specs.Words.{Word, mark}
+use Rattle.mon_tokens.specs.declared.token.TokenKind.{TokenKind}
+use Rattle.mon_tokens.specs.declared.token.TokenKind.TheVariants as kinds
+use Rattle.mon_tokens.specs.declared.piece.Class.TheVariants as classes
+use Rattle.mon_tokens.specs.declared.piece.Shape.TheVariants as shapes
+use Rattle.mon_tree.specs.declared.tree.Op.{Op}
+use Rattle.mon_tree.specs.declared.tree.Op.TheVariants as ops
+use Rattle.mon_tree.specs.declared.tree.Addend.{Addend, roll-Addend}
+use Rattle.mon_tree.specs.declared.tree.Factor.{Factor, roll-Factor}
+use Rattle.mon_tree.specs.declared.tree.Expr.{Expr, roll-Expr}
+use Rattle.mon_tree.specs.declared.tree.Expr.TheOpen.{Expr-F, Addend-F, Factor-F, Number, Truth, Named, Minus, Not, Product, Sum, Compare, Both, Either}
+use Rattle.mon_tree.specs.declared.tree.Expr.TheFolds.{fold-roll-Expr, fold-roll-Addend, fold-roll-Factor, map-Expr, ind-Expr}
+use Rattle.mon_tokens.specs.Spelling.{class_of, IsShape}
+use Rattle.mon_tokens.proofs.Identifiers.{name_piece}
+use Rattle.mon_tokens.specs.Pieces.{other_at, longest_at, limited}
+use Rattle.mon_tokens.specs.Words.{Word, mark}
 use Rattle.mon_syntax.specs.Grammar.{truth_word, op_sign, sum_sign}
-use Rattle.mon_syntax.specs.Canonical.{Printed, printed, printed_step, expression_text, at_level, parts_at, joined, truth_text, addend_sign, addend_text, factor_text, op_text}
-use Rattle.mon_syntax.specs.Printing.{later_factor, later_addend}
+use Rattle.mon_printer.specs.Canonical.{Printed, printed, printed_step, expression_text, at_level, parts_at, joined, truth_text, addend_sign, addend_text, factor_text, op_text}
+use Rattle.mon_printer.specs.Printing.{later_factor, later_addend}
 use Rattle.mon_syntax.proofs.CanonicalWords.{Spelled, spelled, spelled_step, words_at, in_parentheses, joined_words, addend_words, factor_words, expression_words}
 use Rattle.mon_syntax.proofs.CanonicalPieces.{Says, ◌▷◌, ◌▶◌, less, asking, says_nothing, says_same, reads_piece, begin_paren, end_paren, minus, between_blanks, keyword, name, number, written}
 use Rattle.mon_syntax.proofs.Printable.{ArePrintable, printable_front, printable_back, addend_tail, factor_tail, expression_layer}
@@ -171,11 +172,11 @@ printed_layer x = printed_step (map-Expr Expr Addend Factor Printed (List ℕ) (
 layer_fits : (y : Layer) → Fit (printed_layer (bare_layer y)) (expression_layer (bare_layer y))
 layer_fits (Number at value) = record {
   level = refl;
-  begins = λ ok high. number_begins (decimal_text value) (written value ok.0).spelled;
+  begins = λ ok high. number_begins (decimal value) (written value ok.0).spelled;
   says = λ ok. number value ok.0;
 }
 layer_fits (Truth at value) = record { level = refl; begins = λ ok high. truth_begins value; says = λ ok. truth value }
-layer_fits (Named at text) = record { level = refl; begins = λ ok high. word_begins text ok.0.spelled; says = λ ok. name text ok.0 }
+layer_fits (Named at text) = record { level = refl; begins = λ ok high. word_begins text (name_piece text ok.0).spelled; says = λ ok. name text ok.0 }
 layer_fits (Minus at of) = record {
   level = refl;
   begins = λ ok high. record { first = 45; more = at_level 6 (printed of.0); no_equal = refl; is = refl };

@@ -1,13 +1,13 @@
 -- The readers of statements, level by level over the reader of a block's statements.
 use Rattle.std.proofs.Common.{◌≡◌, ℕ, zero, suc, true, false, List, [], ◌∷◌, ◌++◌, refl, ap, ◌∙◌, inl, inr}
 use Rattle.std.specs.Prelude.{◌⊎◌}
-use Rattle.mon_syntax.specs.declared.token.TokenKind.TheVariants as kinds
-use Rattle.mon_syntax.specs.declared.tree.Expr.{Expr}
-use Rattle.mon_syntax.specs.declared.tree.StmtTree.{StmtTree}
-use Rattle.mon_syntax.specs.declared.tree.StmtTree.TheVariants as statements
-use Rattle.mon_syntax.specs.Words.{Word, ident, numeral, mark}
+use Rattle.mon_tokens.specs.declared.token.TokenKind.TheVariants as kinds
+use Rattle.mon_tree.specs.declared.tree.Expr.{Expr}
+use Rattle.mon_tree.specs.declared.tree.StmtTree.{StmtTree}
+use Rattle.mon_tree.specs.declared.tree.StmtTree.TheVariants as statements
+use Rattle.mon_tokens.specs.Words.{Word, ident, numeral, mark}
 use Rattle.mon_syntax.specs.Grammar.{Rule, ◌⌢◌, Each, IsIdent, IsMarkAt, IsMark, IsExpression, IsBlock, IsElse, IsSimple, IsIf, IsStatement}
-use Rattle.mon_syntax.specs.Reading.{Read, ◌⊗◌, made_at, choice_at, pure_at, each_at, placed_at, mark_at, ident_at, begins, begins_ident, begins_statement, expression_at, condition_at, body_of, block_at, else_of, else_at, set_of, set_at, return_of, return_at, if_of, if_at, simple_at, statement_at}
+use Rattle.mon_syntax.specs.inner.Reading.{Read, ◌⊗◌, made_at, choice_at, pure_at, each_at, placed_at, mark_at, ident_at, begins, begins_ident, begins_statement, expression_at, condition_at, body_of, block_at, else_of, else_at, set_of, set_at, return_of, return_at, if_of, if_at, simple_at, statement_at}
 use Rattle.mon_syntax.proofs.Readers.{Reads, Anything, Both, pair_reads, made_reads, pure_reads, choice_reads, each_reads, before}
 use Rattle.mon_syntax.proofs.WordReads.{IsPlacedName, begins_heads, statement_heads}
 use Rattle.mon_syntax.proofs.Openings.{Opens, At, mark_opens, placed_opens, ident_opens, then_opens, begins_at}

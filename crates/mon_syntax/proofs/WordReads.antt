@@ -2,19 +2,19 @@
 use Rattle.std.proofs.Common.{◌≡◌, ℕ, suc, Bool, true, false, List, [], ◌∷◌, length, get_or, Option, Some, None, Ok, Err, refl, sym, ap, ◌∙◌, inl, inr}
 use Rattle.std.specs.Prelude.{◌⊎◌}
 use Rattle.std.proofs.lemmas.Bool.{eqb-true, eq-eqb}
-use Rattle.mon_syntax.specs.declared.token.TokenKind.{TokenKind}
-use Rattle.mon_syntax.specs.declared.token.TokenKind.TheVariants as kinds
-use Rattle.mon_syntax.specs.declared.tree.InputKind.{InputKind}
-use Rattle.mon_syntax.specs.declared.tree.InputKind.TheVariants as inputs
-use Rattle.mon_syntax.specs.declared.tree.Op.{Op}
-use Rattle.mon_syntax.specs.declared.tree.Op.TheVariants as ops
-use Rattle.mon_syntax.specs.declared.tree.Expr.{Expr}
-use Rattle.mon_syntax.specs.declared.tree.Expr.TheVariants as exprs
-use Rattle.mon_syntax.specs.declared.reading.PlacedName.{PlacedName}
-use Rattle.mon_syntax.specs.declared.reading.PlacedNumber.{PlacedNumber}
-use Rattle.mon_syntax.specs.Words.{Word, ident, numeral, mark}
+use Rattle.mon_tokens.specs.declared.token.TokenKind.{TokenKind}
+use Rattle.mon_tokens.specs.declared.token.TokenKind.TheVariants as kinds
+use Rattle.mon_tree.specs.declared.tree.InputKind.{InputKind}
+use Rattle.mon_tree.specs.declared.tree.InputKind.TheVariants as inputs
+use Rattle.mon_tree.specs.declared.tree.Op.{Op}
+use Rattle.mon_tree.specs.declared.tree.Op.TheVariants as ops
+use Rattle.mon_tree.specs.declared.tree.Expr.{Expr}
+use Rattle.mon_tree.specs.declared.tree.Expr.TheVariants as exprs
+use Rattle.mon_syntax.specs.declared.word.PlacedName.{PlacedName}
+use Rattle.mon_syntax.specs.declared.word.PlacedNumber.{PlacedNumber}
+use Rattle.mon_tokens.specs.Words.{Word, ident, numeral, mark}
 use Rattle.mon_syntax.specs.Grammar.{Rule, IsIdent, IsNumeral, IsMarkAt, IsMark, truth_word, op_sign, sum_sign, kind_word, IsAtom}
-use Rattle.mon_syntax.specs.Reading.{code, is_kind, placed_at, mark_at, ident_at, numeral_at, listed_at, truth_of, op_of, minus_of, kind_of, begins, is_listed, begins_listed, begins_ident, begins_statement, begins_declaration, atom_at}
+use Rattle.mon_syntax.specs.inner.Reading.{code, is_kind, placed_at, mark_at, ident_at, numeral_at, listed_at, truth_of, op_of, minus_of, kind_of, begins, is_listed, begins_listed, begins_ident, begins_statement, begins_declaration, atom_at}
 use Rattle.mon_syntax.proofs.Readers.{Reads, Anything, Heads, One, one_reads}
 
 -- ---- kinds

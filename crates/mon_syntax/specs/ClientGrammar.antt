@@ -1,13 +1,13 @@
 -- The grammar of client files of the first form: which words are a tree's, one definition for each production.
 use Rattle.std.specs.Prelude.{◌≡◌, ℕ, ◌≤◌, List, [], length}
-use Rattle.mon_syntax.specs.declared.token.TokenKind.TheVariants as kinds
-use Rattle.mon_syntax.specs.declared.token.Token.{Token}
-use Rattle.mon_syntax.specs.declared.tree.Item.{Item, out-Item}
-use Rattle.mon_syntax.specs.declared.tree.Item.TheOpen.{Item-F, Call}
-use Rattle.mon_syntax.specs.declared.tree.ClientTree.{ClientTree}
-use Rattle.mon_syntax.specs.declared.tree.ClientsTree.{ClientsTree}
-use Rattle.mon_syntax.specs.Spelling.{Spells}
-use Rattle.mon_syntax.specs.Words.{Word, words}
+use Rattle.mon_tokens.specs.declared.token.TokenKind.TheVariants as kinds
+use Rattle.mon_tokens.specs.declared.token.Token.{Token}
+use Rattle.mon_tree.specs.declared.tree.Item.{Item, out-Item}
+use Rattle.mon_tree.specs.declared.tree.Item.TheOpen.{Item-F, Call}
+use Rattle.mon_tree.specs.declared.tree.ClientTree.{ClientTree}
+use Rattle.mon_tree.specs.declared.tree.ClientsTree.{ClientsTree}
+use Rattle.mon_tokens.specs.Spelling.{Spells}
+use Rattle.mon_tokens.specs.Words.{Word, words}
 use Rattle.mon_syntax.specs.Grammar.{Rule, ◌⌢◌, Each, IsIdent, IsMark}
 
 -- call = ID "(" ")" ";"

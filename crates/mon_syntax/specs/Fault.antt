@@ -1,9 +1,9 @@
 -- What the fault of a parser says.
 use Rattle.std.specs.Prelude.{◌≡◌, ℕ, List, [], ◌∷◌, ◌++◌, length, Result, Ok, Err}
-use Rattle.mon_syntax.specs.declared.token.Token.{Token}
+use Rattle.mon_tokens.specs.declared.token.Token.{Token}
 use Rattle.mon_syntax.specs.declared.fault.SyntaxFault.{SyntaxFault}
 use Rattle.mon_syntax.specs.declared.fault.SyntaxFault.TheVariants.{At, OutOfMemory}
-use Rattle.mon_syntax.specs.Words.{Word, words}
+use Rattle.mon_tokens.specs.Words.{Word, words}
 use Rattle.mon_syntax.specs.Grammar.{Rule}
 
 -- the fact at the fault's offset, unless memory ran out
@@ -33,3 +33,11 @@ abbrev pub Parses : {Tree : Type 0} → Result Tree SyntaxFault → Tree → Typ
 Parses (Ok t) tree = t ≡ tree
 Parses (Err (At at)) tree = ⊥
 Parses (Err OutOfMemory) tree = Unit {0}
+
+-- whatever tree is derived is answered, unless memory ran out
+abbrev pub AnswersEach : {Tree : Type 0} → Result Tree SyntaxFault → (Tree → Type 0) → Type 0
+AnswersEach {Tree} answer IsDerived = (tree : Tree) → IsDerived tree → Parses answer tree
+
+-- the fault stands at the first token that doesn't fit, unless memory ran out
+abbrev pub IsFault : {Tree : Type 0} → Rule Tree → List ℕ → List Token → SyntaxFault → Type 0
+IsFault IsTree bytes tokens fault = IsAt fault (IsFaultAt IsTree bytes tokens)

@@ -1,26 +1,26 @@
 -- The grammar of monitor files: which words are a tree's, one definition for each production.
 use Rattle.std.specs.Prelude.{◌≡◌, ℕ, zero, suc, ◌≤◌, ◌⊎◌, Bool, true, false, List, [], ◌∷◌, ◌++◌, length, Option, Some, None}
-use Rattle.mon_syntax.specs.declared.token.TokenKind.{TokenKind}
-use Rattle.mon_syntax.specs.declared.token.TokenKind.TheVariants as kinds
-use Rattle.mon_syntax.specs.declared.token.Token.{Token}
-use Rattle.mon_syntax.specs.declared.tree.Lit.{Lit}
-use Rattle.mon_syntax.specs.declared.tree.Decl.{Decl}
-use Rattle.mon_syntax.specs.declared.tree.Decl.TheVariants as decls
-use Rattle.mon_syntax.specs.declared.tree.InputKind.{InputKind}
-use Rattle.mon_syntax.specs.declared.tree.InputKind.TheVariants as inputs
-use Rattle.mon_syntax.specs.declared.tree.InputTree.{InputTree}
-use Rattle.mon_syntax.specs.declared.tree.Op.{Op}
-use Rattle.mon_syntax.specs.declared.tree.Op.TheVariants as ops
-use Rattle.mon_syntax.specs.declared.tree.Expr.{Expr}
-use Rattle.mon_syntax.specs.declared.tree.Expr.TheVariants as exprs
-use Rattle.mon_syntax.specs.declared.tree.Addend.{Addend, out-Addend}
-use Rattle.mon_syntax.specs.declared.tree.Factor.{Factor, out-Factor}
-use Rattle.mon_syntax.specs.declared.tree.StmtTree.{StmtTree}
-use Rattle.mon_syntax.specs.declared.tree.StmtTree.TheVariants as statements
-use Rattle.mon_syntax.specs.declared.tree.MethodTree.{MethodTree}
-use Rattle.mon_syntax.specs.declared.tree.MonitorTree.{MonitorTree}
-use Rattle.mon_syntax.specs.Spelling.{Spells}
-use Rattle.mon_syntax.specs.Words.{Word, ident, numeral, mark, words}
+use Rattle.mon_tokens.specs.declared.token.TokenKind.{TokenKind}
+use Rattle.mon_tokens.specs.declared.token.TokenKind.TheVariants as kinds
+use Rattle.mon_tokens.specs.declared.token.Token.{Token}
+use Rattle.mon_tree.specs.declared.tree.Lit.{Lit}
+use Rattle.mon_tree.specs.declared.tree.Decl.{Decl}
+use Rattle.mon_tree.specs.declared.tree.Decl.TheVariants as decls
+use Rattle.mon_tree.specs.declared.tree.InputKind.{InputKind}
+use Rattle.mon_tree.specs.declared.tree.InputKind.TheVariants as inputs
+use Rattle.mon_tree.specs.declared.tree.InputTree.{InputTree}
+use Rattle.mon_tree.specs.declared.tree.Op.{Op}
+use Rattle.mon_tree.specs.declared.tree.Op.TheVariants as ops
+use Rattle.mon_tree.specs.declared.tree.Expr.{Expr}
+use Rattle.mon_tree.specs.declared.tree.Expr.TheVariants as exprs
+use Rattle.mon_tree.specs.declared.tree.Addend.{Addend, out-Addend}
+use Rattle.mon_tree.specs.declared.tree.Factor.{Factor, out-Factor}
+use Rattle.mon_tree.specs.declared.tree.StmtTree.{StmtTree}
+use Rattle.mon_tree.specs.declared.tree.StmtTree.TheVariants as statements
+use Rattle.mon_tree.specs.declared.tree.MethodTree.{MethodTree}
+use Rattle.mon_tree.specs.declared.tree.MonitorTree.{MonitorTree}
+use Rattle.mon_tokens.specs.Spelling.{Spells}
+use Rattle.mon_tokens.specs.Words.{Word, ident, numeral, mark, words}
 
 -- A rule says which words are a tree's.
 abbrev pub Rule : Type 0 → Type 1

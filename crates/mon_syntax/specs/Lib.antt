@@ -1,13 +1,5 @@
-pub mod Spelling
-pub mod Pieces
-pub mod Lexing
-pub mod Words
 pub mod Grammar
 pub mod ClientGrammar
-pub mod Offsets
-pub mod Names
+pub mod PrintedAgain
 pub mod Fault
-pub mod Reading
-pub mod Canonical
-pub mod Printing
-pub mod Depths
+pub mod inner

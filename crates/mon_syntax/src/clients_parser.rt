@@ -1,113 +1,83 @@
 //! The parser of client files of the first form: one function for each production.
 
 ghost use Rattle.std.specs.Prelude.{◌≡◌, ℕ, ◌≤◌, List, IfOk, IfErr, length};
-ghost use Rattle.mon_syntax.specs.declared.tree.ClientsTree.{ClientsTree};
-ghost use Rattle.mon_syntax.specs.Spelling.{Spells};
-ghost use Rattle.mon_syntax.specs.Words.{words};
+ghost use Rattle.mon_tokens.specs.Spelling.{Spells};
+ghost use Rattle.mon_tokens.specs.Words.{words};
 ghost use Rattle.mon_syntax.specs.ClientGrammar.{IsClientFile, DerivesClients};
-ghost use Rattle.mon_syntax.specs.Fault.{IsAt, IsFaultAt, Parses};
-ghost use Rattle.mon_syntax.specs.Reading.{Gives, AreTokens, call_at, calls_at, client_at, clients_at, client_file};
+ghost use Rattle.mon_syntax.specs.Fault.{AnswersEach, IsFault};
+ghost use Rattle.mon_syntax.specs.inner.Takes.{Takes};
+ghost use Rattle.mon_syntax.specs.inner.Reading.{Gives, AreTokens, call_at, calls_at, client_at, clients_at, client_file};
 
-use super::fault::{Stop, SyntaxFault, fault_of, stop_before};
-use super::reading::{PlacedName, begins, begins_ident, ident, mark};
-use super::token::{Token, TokenKind};
-use super::tree::{ClientTree, ClientsTree, Item};
+use super::cursor::Cursor;
+use super::fault::{Stop, SyntaxFault, fault_of};
+use super::many::many;
+use super::word::PlacedName;
 use mon_list::Seq;
+use mon_tokens::{Token, TokenKind};
+use mon_tree::{ClientTree, ClientsTree, Item};
 use std::alloc::Global;
 
 /// call = ID "(" ")" ";"
-#[tactic(auto, unfolding(crate::specs::Reading::call_at))]
-fn call<'a>(alloc: Global, bytes: &[u8], tokens: &'a [Token]) -> Result<(Item, &'a [Token]), Stop>
-    requires { AreTokens bytes.now tokens.now }
-    ensures gives { Gives (λ x. (x.0, words bytes.now x.1.now)) result (call_at (words bytes.now tokens.now)) }
-    ensures tokens { IfOk result (λ x. AreTokens bytes.now x.1.now) }
+#[tactic(auto, unfolding(crate::specs::inner::Reading::call_at))]
+fn call(alloc: Global, input: &mut Cursor<'_>) -> Result<Item, Stop>
+    ensures { Takes result input.new (call_at input.old) }
 {
-    let (PlacedName { at, name }, rest) = ident(alloc, bytes, tokens)?;
-    let rest = mark(TokenKind::OpenParen, rest)?;
-    let rest = mark(TokenKind::CloseParen, rest)?;
-    let rest = mark(TokenKind::Semicolon, rest)?;
+    let PlacedName { at, name } = input.ident(alloc)?;
+    input.mark(TokenKind::OpenParen)?;
+    input.mark(TokenKind::CloseParen)?;
+    input.mark(TokenKind::Semicolon)?;
     let args = Seq::of(Vec::new(alloc));
-    Ok((Item::Call { at, name, args }, rest))
+    Ok(Item::Call { at, name, args })
 }
 
 /// call*
-#[tactic(auto, unfolding(crate::specs::Reading::calls_at))]
-fn calls<'a>(
-    alloc: Global,
-    bytes: &[u8],
-    tokens: &'a [Token],
-) -> Result<(Vec<Item>, &'a [Token]), Stop>
-    requires { AreTokens bytes.now tokens.now }
-    ensures gives { Gives (λ x. (x.0.items, words bytes.now x.1.now)) result (calls_at (words bytes.now tokens.now)) }
-    ensures tokens { IfOk result (λ x. AreTokens bytes.now x.1.now) }
+fn calls(alloc: Global, input: &mut Cursor<'_>) -> Result<Seq<Item>, Stop>
+    ensures { Takes result input.new (calls_at input.old) }
 {
-    let mut out = Vec::new(alloc);
-    let mut rest = tokens;
-    'items: while begins_ident(rest) {
-        let (item, after) = call(alloc, bytes, rest)?;
-        out.push(item)?;
-        rest = after;
-    }
-    Ok((out, rest))
+    many(
+        alloc,
+        input,
+        |input| input.begins_ident(),
+        |input| call(alloc, input),
+    )
 }
 
 /// client = "client" ID "{" call* "}"
-#[tactic(auto, unfolding(crate::specs::Reading::client_at))]
-fn client<'a>(
-    alloc: Global,
-    bytes: &[u8],
-    tokens: &'a [Token],
-) -> Result<(ClientTree, &'a [Token]), Stop>
-    requires { AreTokens bytes.now tokens.now }
-    ensures gives { Gives (λ x. (x.0, words bytes.now x.1.now)) result (client_at (words bytes.now tokens.now)) }
-    ensures tokens { IfOk result (λ x. AreTokens bytes.now x.1.now) }
+#[tactic(auto, unfolding(crate::specs::inner::Reading::client_at))]
+fn client(alloc: Global, input: &mut Cursor<'_>) -> Result<ClientTree, Stop>
+    ensures { Takes result input.new (client_at input.old) }
 {
-    let rest = mark(TokenKind::KeyClient, tokens)?;
-    let (PlacedName { at, name }, rest) = ident(alloc, bytes, rest)?;
-    let rest = mark(TokenKind::OpenBrace, rest)?;
-    let (calls, rest) = calls(alloc, bytes, rest)?;
-    let rest = mark(TokenKind::CloseBrace, rest)?;
-    let client = ClientTree {
-        at,
-        name,
-        items: Seq::of(calls),
-    };
-    Ok((client, rest))
+    input.mark(TokenKind::KeyClient)?;
+    let PlacedName { at, name } = input.ident(alloc)?;
+    input.mark(TokenKind::OpenBrace)?;
+    let items = calls(alloc, input)?;
+    input.mark(TokenKind::CloseBrace)?;
+    Ok(ClientTree { at, name, items })
 }
 
 /// client*
-#[tactic(auto, unfolding(crate::specs::Reading::clients_at))]
-fn clients<'a>(
-    alloc: Global,
-    bytes: &[u8],
-    tokens: &'a [Token],
-) -> Result<(Vec<ClientTree>, &'a [Token]), Stop>
-    requires { AreTokens bytes.now tokens.now }
-    ensures gives { Gives (λ x. (x.0.items, words bytes.now x.1.now)) result (clients_at (words bytes.now tokens.now)) }
-    ensures tokens { IfOk result (λ x. AreTokens bytes.now x.1.now) }
+fn clients(alloc: Global, input: &mut Cursor<'_>) -> Result<Seq<ClientTree>, Stop>
+    ensures { Takes result input.new (clients_at input.old) }
 {
-    let mut out = Vec::new(alloc);
-    let mut rest = tokens;
-    'items: while begins(TokenKind::KeyClient, rest) {
-        let (item, after) = client(alloc, bytes, rest)?;
-        out.push(item)?;
-        rest = after;
-    }
-    Ok((out, rest))
+    many(
+        alloc,
+        input,
+        |input| input.begins(TokenKind::KeyClient),
+        |input| client(alloc, input),
+    )
 }
 
-#[tactic(auto, unfolding(crate::specs::Reading::client_file))]
+#[tactic(auto, unfolding(crate::specs::inner::Reading::client_file))]
 fn whole(alloc: Global, bytes: &[u8], tokens: &[Token]) -> Result<ClientsTree, Stop>
     requires { AreTokens bytes.now tokens.now }
-    ensures { Gives (λ tree. tree) result (client_file (words bytes.now tokens.now)) }
+    ensures { Gives result (client_file (words bytes.now tokens.now)) }
 {
-    let (clients, rest) = clients(alloc, bytes, tokens)?;
-    if !rest.is_empty() {
-        return Err(stop_before(rest));
+    let mut input = Cursor::new(bytes, tokens);
+    let clients = clients(alloc, &mut input)?;
+    if !input.is_empty() {
+        return Err(input.stop());
     }
-    Ok(ClientsTree {
-        clients: Seq::of(clients),
-    })
+    Ok(ClientsTree { clients })
 }
 
 /// The tree of a client file of the first form, from its bytes and the tokens that spell them.
@@ -124,9 +94,9 @@ pub fn parse_clients(
     // The tree is the one that the grammar derives.
     ensures derived { IfOk result (λ tree. DerivesClients bytes.now tokens.now tree) }
     // Where the grammar derives a tree, it is answered, unless memory runs out.
-    ensures complete { (tree : ClientsTree) → DerivesClients bytes.now tokens.now tree → Parses result tree }
+    ensures complete { AnswersEach result (DerivesClients bytes.now tokens.now) }
     // A fault stands at the first token that doesn't fit, or at the end where more is wanted.
-    ensures place { IfErr result (λ fault. IsAt fault (IsFaultAt IsClientFile bytes.now tokens.now)) }
+    ensures place { IfErr result (IsFault IsClientFile bytes.now tokens.now) }
 {
     match whole(alloc, bytes, tokens) {
         Ok(tree) => Ok(tree),

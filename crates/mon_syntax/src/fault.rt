@@ -3,9 +3,9 @@
 ghost use Rattle.std.specs.Prelude.{◌≡◌, ◌≤◌, ◌-◌, length, drop};
 ghost use Rattle.mon_syntax.specs.declared.fault.SyntaxFault.TheVariants as faults;
 ghost use Rattle.mon_syntax.specs.declared.fault.Stop.TheVariants as stops;
-ghost use Rattle.mon_syntax.specs.Reading.{IsFaultOf, first_offset};
+ghost use Rattle.mon_syntax.specs.inner.Reading.{IsFaultOf, first_offset};
 
-use super::token::Token;
+use mon_tokens::Token;
 use std::alloc::{AllocError, AllocFailed};
 use thiserror::Error;
 

@@ -1,28 +1,14 @@
 //! What follows from the definitions alone.
 
-ghost use Rattle.std.specs.Prelude.{◌≡◌, ℕ, List, All};
-ghost use Rattle.mon_syntax.specs.declared.token.Token.{Token};
-ghost use Rattle.mon_syntax.specs.declared.tree.ClientsTree.{ClientsTree};
-ghost use Rattle.mon_syntax.specs.declared.tree.MonitorTree.{MonitorTree};
-ghost use Rattle.mon_syntax.specs.Spelling.{Spells, IsStuck, IsToken};
+ghost use Rattle.std.specs.Prelude.{◌≡◌, ℕ, All, List};
+ghost use Rattle.mon_tokens.specs.declared.token.Token.{Token};
+ghost use Rattle.mon_tree.specs.declared.tree.ClientsTree.{ClientsTree};
+ghost use Rattle.mon_tree.specs.declared.tree.MonitorTree.{MonitorTree};
+ghost use Rattle.mon_tree.specs.Names.{names_in, names_in_clients};
+ghost use Rattle.mon_tokens.specs.Spelling.{IsIdentifier, Spells};
 ghost use Rattle.mon_syntax.specs.Grammar.{Derives};
-ghost use Rattle.mon_syntax.specs.Canonical.{tree_text};
-ghost use Rattle.mon_syntax.specs.Offsets.{unplaced};
 ghost use Rattle.mon_syntax.specs.ClientGrammar.{DerivesClients};
-ghost use Rattle.mon_syntax.specs.Names.{HasIdentifiers, HasClientIdentifiers};
-
-/// Bytes spell one list of tokens at most, and none where they are stuck.
-pub fn one_spelling()
-    ensures one { (bytes : List ℕ) (a b : List Token) → Spells bytes a → Spells bytes b → a ≡ b }
-    ensures stuck { (bytes : List ℕ) (at : ℕ) (spelled : List Token)
-        → IsStuck bytes at → Spells bytes spelled → ⊥ }
-{}
-
-/// Each token stands within the bytes, a number's bytes are digits, and a name's are an identifier.
-pub fn each_is_token()
-    ensures { (bytes : List ℕ) (spelled : List Token)
-        → Spells bytes spelled → All (IsToken bytes) spelled }
-{}
+ghost use Rattle.mon_syntax.specs.PrintedAgain.{IsPrintedAgain};
 
 /// The grammar derives one tree at most from a file's tokens.
 pub fn derives_one_tree()
@@ -34,15 +20,16 @@ pub fn derives_one_tree()
 
 /// What is printed of a derived tree spells tokens that derive the same tree, but for offsets.
 pub fn printed_tree_derives()
-    ensures { (bytes : List ℕ) (tokens : List Token) (tree : MonitorTree) → Spells bytes tokens → Derives bytes tokens tree
-        → (printed : List Token) × (again : MonitorTree) × Spells (tree_text tree) printed × Derives (tree_text tree) printed again × (unplaced again ≡ unplaced tree) }
+    ensures { (bytes : List ℕ) (tokens : List Token) (tree : MonitorTree)
+        → Spells bytes tokens → Derives bytes tokens tree → IsPrintedAgain tree }
 {}
 
-/// The names of derived trees are identifiers that are no keywords: a monitor's, those of its
-/// declarations, methods and inputs, and those of clients.
+/// Every name in a derived tree is an identifier that is no keyword: those that the file declares,
+/// the targets of its assignments, and those in its expressions and calls.
 pub fn names_are_identifiers()
     ensures monitors { (bytes : List ℕ) (tokens : List Token) (tree : MonitorTree)
-        → Spells bytes tokens → Derives bytes tokens tree → HasIdentifiers tree }
+        → Spells bytes tokens → Derives bytes tokens tree → All IsIdentifier (names_in tree) }
     ensures clients { (bytes : List ℕ) (tokens : List Token) (tree : ClientsTree)
-        → Spells bytes tokens → DerivesClients bytes tokens tree → HasClientIdentifiers tree }
+        → Spells bytes tokens → DerivesClients bytes tokens tree
+        → All IsIdentifier (names_in_clients tree) }
 {}

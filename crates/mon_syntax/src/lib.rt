@@ -1,40 +1,33 @@
-//! Tokens, trees, parsers and the printer of monitor and client files.
+//! The grammars of monitor and client files, and their parsers.
 //!
-//! [`tokens`] cuts a file's bytes into tokens. From them [`parse_monitor`] reads the tree that the grammar of
-//! monitor files derives, and [`parse_clients`] the one of client files of the first form. Both answer exactly
-//! what the definitions say: `specs/Spelling` (which tokens bytes spell), `specs/Words`, `specs/Grammar` and
-//! `specs/ClientGrammar` (which words are a tree's, a rule for each production). [`print_monitor`] writes a tree
-//! in the canonical form of `specs/Canonical`. The laws of these definitions are functions of `laws`, and
-//! [`is_identifier`] tells whether a text is one name.
+//! From the tokens of a file [`parse_monitor`] reads the tree that the grammar of monitor files derives, and
+//! [`parse_clients`] the one of client files. Both answer exactly what the definitions say: `specs/Grammar` and
+//! `specs/ClientGrammar` (which words are a tree's, a rule for each production), and `specs/Fault` (where a text
+//! stops to be one). The laws of these definitions are functions of `laws`. Tokens, trees and the printer stand in
+//! crates of their own, which this one hands on.
 #![tactic(auto)]
 
 mod clients_parser;
-mod clone;
+mod cursor;
 mod expression_parser;
 mod fault;
 mod laws;
-mod lexing;
+mod many;
 mod monitor_parser;
-mod piece;
-mod printer;
-mod reading;
 mod statement_parser;
 #[cfg(test)]
 mod tests;
-mod token;
-mod tree;
+mod word;
 
 pub use clients_parser::parse_clients;
-pub use clone::{copy_expression, copy_statement};
 pub use fault::SyntaxFault;
-pub use laws::{
-    derives_one_tree, each_is_token, names_are_identifiers, one_spelling, printed_tree_derives,
+pub use laws::{derives_one_tree, names_are_identifiers, printed_tree_derives};
+pub use mon_printer::print_monitor;
+pub use mon_tokens::{
+    LexFault, Token, TokenKind, each_is_token, is_identifier, one_spelling, tokens,
 };
-pub use lexing::{LexFault, is_identifier, tokens};
-pub use monitor_parser::parse_monitor;
-pub use printer::print_monitor;
-pub use token::{Token, TokenKind};
-pub use tree::{
+pub use mon_tree::{
     Addend, Arg, ClientTree, ClientsTree, Decl, Expr, Factor, InputKind, InputTree, Item, Lit,
-    MethodTree, MonitorTree, Op, StmtTree,
+    MethodTree, MonitorTree, Op, StmtTree, copy_expression, copy_statement,
 };
+pub use monitor_parser::parse_monitor;

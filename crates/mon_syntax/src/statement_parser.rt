@@ -1,200 +1,134 @@
 //! The parser of statements and blocks. The recursion is as deep as the levels that are left.
 
-ghost use Rattle.std.specs.Prelude.{◌≡◌, ◌<◌, ◌-◌, ℕ, List, IfOk};
-ghost use Rattle.mon_syntax.specs.Words.{words};
-ghost use Rattle.mon_syntax.specs.Reading.{Gives, AreTokens, begins_statement, each_at, condition_at, block_at, else_at, set_at, return_at, if_at, simple_at, statement_at};
+ghost use Rattle.std.specs.Prelude.{◌≡◌, ◌<◌, ◌-◌, ℕ, List};
+ghost use Rattle.mon_syntax.specs.inner.Reading.{begins_statement, each_at, condition_at, block_at, else_at, set_at, return_at, if_at, simple_at, statement_at};
+ghost use Rattle.mon_syntax.specs.inner.Takes.{Takes};
 
+use super::cursor::Cursor;
 use super::expression_parser::expression;
 use super::fault::Stop;
-use super::reading::{PlacedName, begins, begins_ident, ident, mark, placed};
-use super::token::{Token, TokenKind};
-use super::tree::{Expr, StmtTree};
+use super::many::many;
+use super::word::PlacedName;
 use mon_list::Seq;
+use mon_tokens::TokenKind;
+use mon_tree::{Expr, StmtTree};
 use std::alloc::Global;
 
-#[tactic(auto, unfolding(crate::specs::Reading::begins_statement))]
-fn begins_statement(tokens: &[Token]) -> bool
-    ensures { (bytes : List ℕ) → result ≡ begins_statement (words bytes tokens.now) }
+#[tactic(auto, unfolding(crate::specs::inner::Reading::begins_statement))]
+fn begins_statement(input: &Cursor<'_>) -> bool
+    ensures { result ≡ begins_statement input.now }
 {
-    begins_ident(tokens) || begins(TokenKind::KeyIf, tokens) || begins(TokenKind::KeyReturn, tokens)
+    input.begins_ident() || input.begins(TokenKind::KeyIf) || input.begins(TokenKind::KeyReturn)
 }
 
 /// "(" expression ")"
-#[tactic(auto, unfolding(crate::specs::Reading::condition_at))]
-pub fn condition<'a>(
-    alloc: Global,
-    bytes: &[u8],
-    levels: u32,
-    tokens: &'a [Token],
-) -> Result<(Expr, &'a [Token]), Stop>
-    requires { AreTokens bytes.now tokens.now }
-    ensures gives { Gives (λ x. (x.0, words bytes.now x.1.now)) result (condition_at levels (words bytes.now tokens.now)) }
-    ensures tokens { IfOk result (λ x. AreTokens bytes.now x.1.now) }
+#[tactic(auto, unfolding(crate::specs::inner::Reading::condition_at))]
+pub fn condition(alloc: Global, levels: u32, input: &mut Cursor<'_>) -> Result<Expr, Stop>
+    ensures { Takes result input.new (condition_at levels input.old) }
 {
-    let rest = mark(TokenKind::OpenParen, tokens)?;
-    let (inner, rest) = expression(alloc, bytes, levels, rest)?;
-    let rest = mark(TokenKind::CloseParen, rest)?;
-    Ok((inner, rest))
+    input.mark(TokenKind::OpenParen)?;
+    let inner = expression(alloc, levels, input)?;
+    input.mark(TokenKind::CloseParen)?;
+    Ok(inner)
 }
 
 /// ID "=" expression ";"
-#[tactic(auto, unfolding(crate::specs::Reading::set_at))]
-fn set<'a>(
-    alloc: Global,
-    bytes: &[u8],
-    levels: u32,
-    tokens: &'a [Token],
-) -> Result<(StmtTree, &'a [Token]), Stop>
-    requires { AreTokens bytes.now tokens.now }
-    ensures gives { Gives (λ x. (x.0, words bytes.now x.1.now)) result (set_at levels (words bytes.now tokens.now)) }
-    ensures tokens { IfOk result (λ x. AreTokens bytes.now x.1.now) }
+#[tactic(auto, unfolding(crate::specs::inner::Reading::set_at))]
+fn set(alloc: Global, levels: u32, input: &mut Cursor<'_>) -> Result<StmtTree, Stop>
+    ensures { Takes result input.new (set_at levels input.old) }
 {
-    let (PlacedName { at, name }, rest) = ident(alloc, bytes, tokens)?;
-    let rest = mark(TokenKind::Assign, rest)?;
-    let (value, rest) = expression(alloc, bytes, levels, rest)?;
-    let rest = mark(TokenKind::Semicolon, rest)?;
-    Ok((StmtTree::Set { at, name, value }, rest))
+    let PlacedName { at, name } = input.ident(alloc)?;
+    input.mark(TokenKind::Assign)?;
+    let value = expression(alloc, levels, input)?;
+    input.mark(TokenKind::Semicolon)?;
+    Ok(StmtTree::Set { at, name, value })
 }
 
 /// "return" expression ";"
-#[tactic(auto, unfolding(crate::specs::Reading::return_at))]
-fn return_value<'a>(
-    alloc: Global,
-    bytes: &[u8],
-    levels: u32,
-    tokens: &'a [Token],
-) -> Result<(StmtTree, &'a [Token]), Stop>
-    requires { AreTokens bytes.now tokens.now }
-    ensures gives { Gives (λ x. (x.0, words bytes.now x.1.now)) result (return_at levels (words bytes.now tokens.now)) }
-    ensures tokens { IfOk result (λ x. AreTokens bytes.now x.1.now) }
+#[tactic(auto, unfolding(crate::specs::inner::Reading::return_at))]
+fn return_value(alloc: Global, levels: u32, input: &mut Cursor<'_>) -> Result<StmtTree, Stop>
+    ensures { Takes result input.new (return_at levels input.old) }
 {
-    let (at, rest) = placed(TokenKind::KeyReturn, tokens)?;
-    let (value, rest) = expression(alloc, bytes, levels, rest)?;
-    let rest = mark(TokenKind::Semicolon, rest)?;
-    Ok((StmtTree::Return { at, value }, rest))
+    let at = input.placed(TokenKind::KeyReturn)?;
+    let value = expression(alloc, levels, input)?;
+    input.mark(TokenKind::Semicolon)?;
+    Ok(StmtTree::Return { at, value })
 }
 
 /// A statement that holds no other.
-#[tactic(auto, unfolding(crate::specs::Reading::simple_at))]
-fn simple<'a>(
-    alloc: Global,
-    bytes: &[u8],
-    levels: u32,
-    tokens: &'a [Token],
-) -> Result<(StmtTree, &'a [Token]), Stop>
-    requires { AreTokens bytes.now tokens.now }
-    ensures gives { Gives (λ x. (x.0, words bytes.now x.1.now)) result (simple_at levels (words bytes.now tokens.now)) }
-    ensures tokens { IfOk result (λ x. AreTokens bytes.now x.1.now) }
+#[tactic(auto, unfolding(crate::specs::inner::Reading::simple_at))]
+fn simple(alloc: Global, levels: u32, input: &mut Cursor<'_>) -> Result<StmtTree, Stop>
+    ensures { Takes result input.new (simple_at levels input.old) }
 {
-    if begins(TokenKind::KeyReturn, tokens) {
-        return return_value(alloc, bytes, levels, tokens);
+    if input.begins(TokenKind::KeyReturn) {
+        return return_value(alloc, levels, input);
     }
-    set(alloc, bytes, levels, tokens)
+    set(alloc, levels, input)
 }
 
 /// statement*
 #[cycle(statement)]
-fn statements<'a>(
-    alloc: Global,
-    bytes: &[u8],
-    levels: u32,
-    tokens: &'a [Token],
-) -> Result<(Vec<StmtTree>, &'a [Token]), Stop>
-    requires { AreTokens bytes.now tokens.now }
-    ensures gives { Gives (λ x. (x.0.items, words bytes.now x.1.now)) result (each_at begins_statement (statement_at levels) (words bytes.now tokens.now)) }
-    ensures tokens { IfOk result (λ x. AreTokens bytes.now x.1.now) }
+fn statements(alloc: Global, levels: u32, input: &mut Cursor<'_>) -> Result<Seq<StmtTree>, Stop>
+    ensures { Takes result input.new (each_at begins_statement (statement_at levels) input.old) }
 {
-    let mut out = Vec::new(alloc);
-    let mut rest = tokens;
-    'items: while begins_statement(rest) {
-        let (item, after) = statement(alloc, bytes, levels, rest)?;
-        out.push(item)?;
-        rest = after;
-    }
-    Ok((out, rest))
+    let item = |input: &mut Cursor<'_>|
+        ensures { Takes result input.new (statement_at levels input.old) }
+    { statement(alloc, levels, input) };
+    many(alloc, input, begins_statement, item)
 }
 
 /// "{" statement* "}", with the levels that are left inside
 #[cycle(statement)]
-#[tactic(auto, unfolding(crate::specs::Reading::block_at))]
-pub fn block<'a>(
-    alloc: Global,
-    bytes: &[u8],
-    levels: u32,
-    tokens: &'a [Token],
-) -> Result<(Vec<StmtTree>, &'a [Token]), Stop>
-    requires { AreTokens bytes.now tokens.now }
-    ensures gives { Gives (λ x. (x.0.items, words bytes.now x.1.now)) result (block_at (statement_at levels) (words bytes.now tokens.now)) }
-    ensures tokens { IfOk result (λ x. AreTokens bytes.now x.1.now) }
+#[tactic(auto, unfolding(crate::specs::inner::Reading::block_at))]
+pub fn block(alloc: Global, levels: u32, input: &mut Cursor<'_>) -> Result<Seq<StmtTree>, Stop>
+    ensures { Takes result input.new (block_at (statement_at levels) input.old) }
 {
-    let rest = mark(TokenKind::OpenBrace, tokens)?;
-    let (body, rest) = statements(alloc, bytes, levels, rest)?;
-    let rest = mark(TokenKind::CloseBrace, rest)?;
-    Ok((body, rest))
+    input.mark(TokenKind::OpenBrace)?;
+    let body = statements(alloc, levels, input)?;
+    input.mark(TokenKind::CloseBrace)?;
+    Ok(body)
 }
 
 /// ["else" block], with the levels that are left inside
 #[cycle(statement)]
-#[tactic(auto, unfolding(crate::specs::Reading::else_at))]
-fn otherwise<'a>(
-    alloc: Global,
-    bytes: &[u8],
-    levels: u32,
-    tokens: &'a [Token],
-) -> Result<(Vec<StmtTree>, &'a [Token]), Stop>
-    requires { AreTokens bytes.now tokens.now }
-    ensures gives { Gives (λ x. (x.0.items, words bytes.now x.1.now)) result (else_at (statement_at levels) (words bytes.now tokens.now)) }
-    ensures tokens { IfOk result (λ x. AreTokens bytes.now x.1.now) }
+#[tactic(auto, unfolding(crate::specs::inner::Reading::else_at))]
+fn otherwise(alloc: Global, levels: u32, input: &mut Cursor<'_>) -> Result<Seq<StmtTree>, Stop>
+    ensures { Takes result input.new (else_at (statement_at levels) input.old) }
 {
-    if !begins(TokenKind::KeyElse, tokens) {
-        return Ok((Vec::new(alloc), tokens));
+    if !input.begins(TokenKind::KeyElse) {
+        return Ok(Seq::of(Vec::new(alloc)));
     }
-    let rest = mark(TokenKind::KeyElse, tokens)?;
-    block(alloc, bytes, levels, rest)
+    input.mark(TokenKind::KeyElse)?;
+    block(alloc, levels, input)
 }
 
 /// "if" condition block ["else" block], with a level left for the blocks
 #[cycle(statement)]
-#[tactic(auto, unfolding(crate::specs::Reading::if_at))]
-fn branch<'a>(
-    alloc: Global,
-    bytes: &[u8],
-    levels: u32,
-    tokens: &'a [Token],
-) -> Result<(StmtTree, &'a [Token]), Stop>
-    requires some { 0 < levels }
-    requires tokens { AreTokens bytes.now tokens.now }
-    ensures gives { Gives (λ x. (x.0, words bytes.now x.1.now)) result (if_at levels (statement_at (levels - 1)) (words bytes.now tokens.now)) }
-    ensures tokens { IfOk result (λ x. AreTokens bytes.now x.1.now) }
+#[tactic(auto, unfolding(crate::specs::inner::Reading::if_at))]
+fn branch(alloc: Global, levels: u32, input: &mut Cursor<'_>) -> Result<StmtTree, Stop>
+    requires { 0 < levels }
+    ensures { Takes result input.new (if_at levels (statement_at (levels - 1)) input.old) }
 {
-    let (at, rest) = placed(TokenKind::KeyIf, tokens)?;
-    let (when, rest) = condition(alloc, bytes, levels, rest)?;
-    let (then, rest) = block(alloc, bytes, levels - 1, rest)?;
-    let (other, rest) = otherwise(alloc, bytes, levels - 1, rest)?;
-    let branch = StmtTree::If {
+    let at = input.placed(TokenKind::KeyIf)?;
+    let when = condition(alloc, levels, input)?;
+    let then = block(alloc, levels - 1, input)?;
+    let other = otherwise(alloc, levels - 1, input)?;
+    Ok(StmtTree::If {
         at,
         when,
-        then: Seq::of(then),
-        other: Seq::of(other),
-    };
-    Ok((branch, rest))
+        then,
+        other,
+    })
 }
 
 /// A statement, where so many levels may still be opened.
 #[cycle(statement)]
-#[tactic(auto, unfolding(crate::specs::Reading::statement_at))]
-fn statement<'a>(
-    alloc: Global,
-    bytes: &[u8],
-    levels: u32,
-    tokens: &'a [Token],
-) -> Result<(StmtTree, &'a [Token]), Stop>
-    requires { AreTokens bytes.now tokens.now }
-    ensures gives { Gives (λ x. (x.0, words bytes.now x.1.now)) result (statement_at levels (words bytes.now tokens.now)) }
-    ensures tokens { IfOk result (λ x. AreTokens bytes.now x.1.now) }
+#[tactic(auto, unfolding(crate::specs::inner::Reading::statement_at))]
+fn statement(alloc: Global, levels: u32, input: &mut Cursor<'_>) -> Result<StmtTree, Stop>
+    ensures { Takes result input.new (statement_at levels input.old) }
 {
-    if 0 < levels && begins(TokenKind::KeyIf, tokens) {
-        return branch(alloc, bytes, levels, tokens);
+    if 0 < levels && input.begins(TokenKind::KeyIf) {
+        return branch(alloc, levels, input);
     }
-    simple(alloc, bytes, levels, tokens)
+    simple(alloc, levels, input)
 }

@@ -5,12 +5,13 @@ use Rattle.std.proofs.lemmas.List.{take_all}
 use Rattle.std.specs.List.{flat_map}
 use Rattle.std.specs.Option.{option_copied}
 use Rattle.mon_io.specs.declared.sink.SinkFailed.{SinkFailed}
+use Rattle.mon_io.specs.Outside.{SinkSeen}
 use Rattle.mon_io.specs.Writing.{Wrote}
 use Rattle.mon_io.proofs.Writing.{wrote_both, wrote_same, wrote_until}
-use Rattle.mon_syntax.specs.Canonical.{joined}
-use Rattle.mon_types.specs.declared.monitor.Field.{Field}
-use Rattle.mon_types.specs.declared.monitor.Value.{Value}
-use Rattle.mon_types.specs.MonitorParts.{MonitorParts}
+use Rattle.mon_printer.specs.Canonical.{joined}
+use Rattle.mon_monitor.specs.declared.monitor.Field.{Field}
+use Rattle.mon_base.specs.declared.value.Value.{Value}
+use Rattle.mon_monitor.specs.MonitorParts.{MonitorParts}
 use Rattle.mon_implicit.specs.declared.commit.Commit.{Commit}
 use Rattle.mon_implicit.specs.declared.commit.Turns.{Turns}
 use Rattle.mon_implicit.specs.declared.script.Client.{Client}
@@ -145,14 +146,14 @@ fields_text-parts fields values i field value here there is_field is_value =
     ∙ fields_text-cut fields values i field value here there
 
 -- the next field, with its value
-pub fields_went : {w0 w1 w2 : Option (List ℕ)} {f0 f1 f2 : ℕ} (fields : List Field) (values : List Value) (i next : ℕ) (field : Field) (value : Value) → next ≡ i + 1 → i < length fields → i < length values → field ≡ get_or fields i field → value ≡ get_or values i value
-    → Wrote w0 w1 f0 f1 (Ok tt) (fields_text (take i fields) (take i values)) → Wrote w1 w2 f1 f2 (Ok tt) (field_text field value) → Wrote w0 w2 f0 f2 (Ok tt) (fields_text (take next fields) (take next values))
+pub fields_went : {s0 s1 s2 : SinkSeen} (fields : List Field) (values : List Value) (i next : ℕ) (field : Field) (value : Value) → next ≡ i + 1 → i < length fields → i < length values → field ≡ get_or fields i field → value ≡ get_or values i value
+    → Wrote s0 s1 (Ok tt) (fields_text (take i fields) (take i values)) → Wrote s1 s2 (Ok tt) (field_text field value) → Wrote s0 s2 (Ok tt) (fields_text (take next fields) (take next values))
 fields_went fields values i next field value further here there is_field is_value before wrote =
     wrote_same _ (fields_text-next fields values i next field value further here there is_field is_value) (wrote_both before wrote)
 
 -- a field with its value that wasn't written whole
-pub fields_stopped : {w0 w1 w2 : Option (List ℕ)} {f0 f1 f2 : ℕ} {fault : SinkFailed} (fields : List Field) (values : List Value) (i : ℕ) (field : Field) (value : Value) (answer : Result (Unit {0}) SinkFailed) → i < length fields → i < length values → field ≡ get_or fields i field → value ≡ get_or values i value
-    → IsErr answer → Wrote w0 w1 f0 f1 (Ok tt) (fields_text (take i fields) (take i values)) → Wrote w1 w2 f1 f2 (Err fault) (field_text field value) → Wrote w0 w2 f0 f2 answer (fields_text fields values)
+pub fields_stopped : {s0 s1 s2 : SinkSeen} {fault : SinkFailed} (fields : List Field) (values : List Value) (i : ℕ) (field : Field) (value : Value) (answer : Result (Unit {0}) SinkFailed) → i < length fields → i < length values → field ≡ get_or fields i field → value ≡ get_or values i value
+    → IsErr answer → Wrote s0 s1 (Ok tt) (fields_text (take i fields) (take i values)) → Wrote s1 s2 (Err fault) (field_text field value) → Wrote s0 s2 answer (fields_text fields values)
 fields_stopped fields values i field value answer here there is_field is_value fails before wrote =
     wrote_until _ _ answer (fields_text-parts fields values i field value here there is_field is_value) fails before wrote
 

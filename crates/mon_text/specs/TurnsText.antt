@@ -2,12 +2,12 @@
 use Rattle.std.specs.Prelude.{ℕ, ◌+◌, ◌-◌, Bool, true, false, List, [], ◌∷◌, ◌++◌, Option, Some, None, map, slice_get, codes, decimal}
 use Rattle.std.specs.Fmt.{signed_decimal}
 use Rattle.std.specs.List.{flat_map}
-use Rattle.mon_syntax.specs.Canonical.{joined, truth_text}
-use Rattle.mon_types.specs.declared.monitor.Value.{Value}
-use Rattle.mon_types.specs.declared.monitor.Value.TheVariants as values
-use Rattle.mon_types.specs.declared.monitor.Field.{Field}
-use Rattle.mon_types.specs.declared.monitor.Method.{Method}
-use Rattle.mon_types.specs.MonitorParts.{MonitorParts}
+use Rattle.mon_printer.specs.Canonical.{joined, truth_text}
+use Rattle.mon_base.specs.declared.value.Value.{Value}
+use Rattle.mon_base.specs.declared.value.Value.TheVariants as values
+use Rattle.mon_monitor.specs.declared.monitor.Field.{Field}
+use Rattle.mon_monitor.specs.declared.monitor.Method.{Method}
+use Rattle.mon_monitor.specs.MonitorParts.{MonitorParts}
 use Rattle.mon_implicit.specs.declared.commit.Reply.{Reply}
 use Rattle.mon_implicit.specs.declared.commit.Reply.TheVariants as replies
 use Rattle.mon_implicit.specs.declared.commit.Commit.{Commit}

@@ -1,17 +1,14 @@
 //! The line that is printed of a fault of a file.
 
-ghost use Rattle.std.specs.Prelude.{◌≡◌, ◌≤◌, OnOk, OnErr};
-ghost use Rattle.std.specs.Io.KnownBytes.{Appends};
-ghost use Rattle.mon_io.specs.Outside.{AppendsFront, Rises};
+ghost use Rattle.std.specs.Prelude.{◌≡◌};
 ghost use Rattle.mon_io.specs.Writing.{Wrote};
 ghost use Rattle.mon_text.specs.FaultText.{counted_text, place_text, refusal_text};
 ghost use Rattle.mon_text.specs.Faults.{fault_text};
 
 use crate::position::{column_at, line_at};
-use crate::refusal::Refusal;
+use crate::refusal::{Counted, Refusal};
 use itoa::Buffer;
 use mon_io::{Sink, SinkFailed, write_pieces};
-use mon_types::Counted;
 
 /// Why a file isn't accepted. `file` is the word that names it.
 #[derive(Clone, Copy, Debug)]
@@ -37,10 +34,7 @@ pub enum Fault<'a> {
 ///
 /// After `SinkFailed` some of the first bytes of the line were taken, and not all.
 pub fn write_fault<S: Sink>(fault: &Fault, out: &mut S) -> Result<(), SinkFailed>
-    ensures written { OnOk result (Appends (S.written out.old) (S.written out.new) (fault_text fault.now)) }
-    ensures front { OnErr result (AppendsFront (S.written out.old) (S.written out.new) (fault_text fault.now)) }
-    ensures cause { OnErr result (Rises (S.faults out.old) (S.faults out.new)) }
-    ensures later { S.faults out.old ≤ S.faults out.new }
+    ensures { Wrote (S.seen out.old) (S.seen out.new) result (fault_text fault.now) }
 {
     match fault {
         Fault::TooLong { file } => write_pieces(
@@ -65,7 +59,8 @@ fn write_place<S: Sink>(
     what: Refusal,
     out: &mut S,
 ) -> Result<(), SinkFailed>
-    ensures { Wrote (S.written out.old) (S.written out.new) (S.faults out.old) (S.faults out.new) result (place_text file.now bytes.now at what) }
+    ensures { Wrote (S.seen out.old) (S.seen out.new) result
+        (place_text file.now bytes.now at what) }
 {
     let mut digits = Buffer::new();
     let line = digits.format(line_at(bytes, at)).as_bytes();

@@ -1,6 +1,14 @@
 //! What is wrong at a place of a file.
 
-use mon_types::Counted;
+/// What a monitor has too many of.
+#[derive(Clone, Copy, Debug, PartialEq, Eq)]
+pub enum Counted {
+    Constants,
+    Fields,
+    Methods,
+    Parameters,
+    Statements,
+}
 
 /// What is wrong at a place of a monitor file or a client file.
 #[derive(Clone, Copy, Debug, PartialEq, Eq)]

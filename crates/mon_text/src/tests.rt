@@ -1,2 +1,1 @@
 mod fault_text;
-mod turns_text;

@@ -1,21 +1,20 @@
 //! The text of a run by rounds.
 
-ghost use Rattle.std.specs.Prelude.{◌≡◌, ◌≤◌, ◌-◌, ◌++◌, OnOk, OnErr, codes, map, slice_get};
-ghost use Rattle.std.specs.Io.KnownBytes.{Appends};
+ghost use Rattle.std.specs.Prelude.{◌≡◌, ◌-◌, ◌++◌, codes, map, slice_get};
 ghost use Rattle.std.specs.List.{flat_map};
 ghost use Rattle.std.specs.Option.{option_copied};
-ghost use Rattle.mon_io.specs.Outside.{AppendsFront, Rises};
 ghost use Rattle.mon_io.specs.Writing.{Wrote};
-ghost use Rattle.mon_syntax.specs.Canonical.{joined};
+ghost use Rattle.mon_printer.specs.Canonical.{joined};
 ghost use Rattle.mon_implicit.specs.Scripted.{calls_of};
 ghost use Rattle.mon_implicit.specs.Runs.{done, next_call};
 ghost use Rattle.mon_text.specs.TurnsText.{value_text, client_name, method_name, called_text, call_text, commit_text, blocked_text, blocked_from, end_text, fields_text, turns_text};
 
 use crate::values::{reply_bytes, value_bytes};
 use itoa::Buffer;
+use mon_base::Value;
 use mon_implicit::{Call, Client, Commit, Scripts, Turns};
 use mon_io::{Sink, SinkFailed, write_piece, write_pieces};
-use mon_types::{Field, Monitor, Value};
+use mon_monitor::{Field, Monitor};
 
 /// Writes a run: a line for each commit, then how it ended, then the last state. It takes no memory.
 ///
@@ -26,10 +25,8 @@ pub fn write_turns<S: Sink>(
     turns: &Turns,
     out: &mut S,
 ) -> Result<(), SinkFailed>
-    ensures written { OnOk result (Appends (S.written out.old) (S.written out.new) (turns_text monitor.now scripts.now turns.now)) }
-    ensures front { OnErr result (AppendsFront (S.written out.old) (S.written out.new) (turns_text monitor.now scripts.now turns.now)) }
-    ensures cause { OnErr result (Rises (S.faults out.old) (S.faults out.new)) }
-    ensures later { S.faults out.old ≤ S.faults out.new }
+    ensures { Wrote (S.seen out.old) (S.seen out.new) result
+        (turns_text monitor.now scripts.now turns.now) }
 {
     let clients = scripts.clients();
     let history = turns.history.items();
@@ -47,7 +44,8 @@ fn write_commits<S: Sink>(
     history: &[Commit],
     out: &mut S,
 ) -> Result<(), SinkFailed>
-    ensures { Wrote (S.written out.old) (S.written out.new) (S.faults out.old) (S.faults out.new) result (flat_map (commit_text monitor.now clients.now) history.now) }
+    ensures { Wrote (S.seen out.old) (S.seen out.new) result
+        (flat_map (commit_text monitor.now clients.now) history.now) }
 {
     for commit in history {
         write_commit(monitor, clients, commit, out)?;
@@ -62,7 +60,8 @@ fn write_commit<S: Sink>(
     commit: &Commit,
     out: &mut S,
 ) -> Result<(), SinkFailed>
-    ensures { Wrote (S.written out.old) (S.written out.new) (S.faults out.old) (S.faults out.new) result (commit_text monitor.now clients.now commit.now) }
+    ensures { Wrote (S.seen out.old) (S.seen out.new) result
+        (commit_text monitor.now clients.now commit.now) }
 {
     write_call(
         monitor,
@@ -86,7 +85,8 @@ fn write_call<S: Sink>(
     number: usize,
     out: &mut S,
 ) -> Result<(), SinkFailed>
-    ensures { Wrote (S.written out.old) (S.written out.new) (S.faults out.old) (S.faults out.new) result (call_text monitor.now clients.now client number) }
+    ensures { Wrote (S.seen out.old) (S.seen out.new) result
+        (call_text monitor.now clients.now client number) }
 {
     let mut digits = Buffer::new();
     let name = name_of(clients, client);
@@ -101,7 +101,8 @@ fn write_called<S: Sink>(
     call: Option<&Call>,
     out: &mut S,
 ) -> Result<(), SinkFailed>
-    ensures { Wrote (S.written out.old) (S.written out.new) (S.faults out.old) (S.faults out.new) result (called_text monitor.now (option_copied call.entry)) }
+    ensures { Wrote (S.seen out.old) (S.seen out.new) result
+        (called_text monitor.now (option_copied call.entry)) }
 {
     match call {
         Some(call) => {
@@ -115,7 +116,8 @@ fn write_called<S: Sink>(
 
 // `3, true`: inputs with `, ` between them.
 fn write_inputs<S: Sink>(inputs: &[Value], out: &mut S) -> Result<(), SinkFailed>
-    ensures { Wrote (S.written out.old) (S.written out.new) (S.faults out.old) (S.faults out.new) result (joined (codes ", ") (map value_text inputs.now)) }
+    ensures { Wrote (S.seen out.old) (S.seen out.new) result
+        (joined (codes ", ") (map value_text inputs.now)) }
 {
     let [first, rest @ ..] = inputs else {
         return Ok(());
@@ -127,7 +129,8 @@ fn write_inputs<S: Sink>(inputs: &[Value], out: &mut S) -> Result<(), SinkFailed
 
 // `, true` for each of these inputs.
 fn write_more_inputs<S: Sink>(inputs: &[Value], out: &mut S) -> Result<(), SinkFailed>
-    ensures { Wrote (S.written out.old) (S.written out.new) (S.faults out.old) (S.faults out.new) result (flat_map (λ input. codes ", " ++ value_text input) inputs.now) }
+    ensures { Wrote (S.seen out.old) (S.seen out.new) result
+        (flat_map (λ input. codes ", " ++ value_text input) inputs.now) }
 {
     for input in inputs {
         let mut digits = Buffer::new();
@@ -144,7 +147,8 @@ fn write_end<S: Sink>(
     finished: bool,
     out: &mut S,
 ) -> Result<(), SinkFailed>
-    ensures { Wrote (S.written out.old) (S.written out.new) (S.faults out.old) (S.faults out.new) result (end_text monitor.now clients.now history.now finished) }
+    ensures { Wrote (S.seen out.old) (S.seen out.new) result
+        (end_text monitor.now clients.now history.now finished) }
 {
     if finished {
         return write_piece(b"done\n", out);
@@ -160,7 +164,8 @@ fn write_blocked<S: Sink>(
     history: &[Commit],
     out: &mut S,
 ) -> Result<(), SinkFailed>
-    ensures { Wrote (S.written out.old) (S.written out.new) (S.faults out.old) (S.faults out.new) result (blocked_from monitor.now clients.now history.now 0 clients.now) }
+    ensures { Wrote (S.seen out.old) (S.seen out.new) result
+        (blocked_from monitor.now clients.now history.now 0 clients.now) }
 {
     for client in 0..clients.len() {
         write_if_blocked(monitor, clients, history, client, out)?;
@@ -176,7 +181,9 @@ fn write_if_blocked<S: Sink>(
     client: usize,
     out: &mut S,
 ) -> Result<(), SinkFailed>
-    ensures { Wrote (S.written out.old) (S.written out.new) (S.faults out.old) (S.faults out.new) result (blocked_text monitor.now clients.now history.now client (next_call clients.now history.now client)) }
+    ensures { Wrote (S.seen out.old) (S.seen out.new) result
+        (blocked_text monitor.now clients.now history.now client
+        (next_call clients.now history.now client)) }
 {
     let done = done(history, client);
     if calls(clients, client).len() <= done {
@@ -235,7 +242,7 @@ fn method_bytes(monitor: &Monitor, method: u32) -> &[u8]
 
 // ` name=value` for each field, as far as there are values.
 fn write_fields<S: Sink>(fields: &[Field], values: &[Value], out: &mut S) -> Result<(), SinkFailed>
-    ensures { Wrote (S.written out.old) (S.written out.new) (S.faults out.old) (S.faults out.new) result (fields_text fields.now values.now) }
+    ensures { Wrote (S.seen out.old) (S.seen out.new) result (fields_text fields.now values.now) }
 {
     for (field, value) in fields.iter().zip(values) {
         write_field(field, *value, out)?;
@@ -245,7 +252,8 @@ fn write_fields<S: Sink>(fields: &[Field], values: &[Value], out: &mut S) -> Res
 
 // ` name=value`
 fn write_field<S: Sink>(field: &Field, value: Value, out: &mut S) -> Result<(), SinkFailed>
-    ensures { Wrote (S.written out.old) (S.written out.new) (S.faults out.old) (S.faults out.new) result (codes " " ++ field.now.name ++ codes "=" ++ value_text value) }
+    ensures { Wrote (S.seen out.old) (S.seen out.new) result
+        (codes " " ++ field.now.name ++ codes "=" ++ value_text value) }
 {
     let mut digits = Buffer::new();
     let value = value_bytes(value, &mut digits);

@@ -1,12 +1,12 @@
 //! Values and replies as they are printed.
 
 ghost use Rattle.std.specs.Prelude.{◌≡◌};
-ghost use Rattle.mon_syntax.specs.Canonical.{truth_text};
 ghost use Rattle.mon_text.specs.TurnsText.{value_text, reply_text};
 
 use itoa::Buffer;
+use mon_base::Value;
 use mon_implicit::Reply;
-use mon_types::Value;
+use mon_printer::truth_bytes;
 
 /// A value as bytes. A number's digits stand in the buffer.
 pub(crate) fn value_bytes<'a>(value: Value, digits: &'a mut Buffer) -> &'a [u8]
@@ -28,11 +28,4 @@ pub(crate) fn reply_bytes<'a>(reply: Reply, digits: &'a mut Buffer) -> &'a [u8]
         Reply::Bool(truth) => truth_bytes(truth),
         Reply::Overflow => b"overflow",
     }
-}
-
-// A truth value as bytes.
-fn truth_bytes(truth: bool) -> &'static [u8]
-    ensures { result.now ≡ truth_text truth }
-{
-    if truth { b"true" } else { b"false" }
 }

@@ -3,21 +3,21 @@ use Rattle.std.proofs.Common.{◌≡◌, Bool, true, false, ℕ, zero, suc, ◌+
 use Rattle.std.specs.Prelude.{map, IfOk, Result, Ok, Err, ◌||◌}
 use Rattle.std.specs.List.{All, list_any}
 use Rattle.std.proofs.lemmas.List.{length-append, take_more}
-use Rattle.mon_syntax.specs.declared.tree.Decl.{Decl}
-use Rattle.mon_syntax.specs.declared.tree.InputTree.{InputTree}
-use Rattle.mon_syntax.specs.declared.tree.MethodTree.{MethodTree}
-use Rattle.mon_forms.specs.declared.kind.Kind.TheVariants as kinds
+use Rattle.mon_tree.specs.declared.tree.Decl.{Decl}
+use Rattle.mon_tree.specs.declared.tree.InputTree.{InputTree}
+use Rattle.mon_tree.specs.declared.tree.MethodTree.{MethodTree}
+use Rattle.mon_base.specs.declared.kind.Kind.TheVariants as kinds
 use Rattle.mon_forms.specs.declared.scope.Entry.{Entry}
 use Rattle.mon_forms.specs.Scope.{field_count, scope_of}
 use Rattle.mon_forms.specs.Sense.{sense}
-use Rattle.mon_forms.proofs.ScopeOrder.{ordered}
+use Rattle.mon_forms.proofs.ScopeOrder.{scopes_are_ordered}
 use Rattle.mon_forms.proofs.SmallScopes.{scopes_are_small}
 use Rattle.mon_rules.specs.Rules.{method_faults}
-use Rattle.mon_types.specs.declared.monitor.Block.{Block}
-use Rattle.mon_types.specs.declared.monitor.Condition.{Condition}
-use Rattle.mon_types.specs.Making.{IsMethodScope, IsNumbered}
-use Rattle.mon_forms.specs.declared.kind.Kind.{Kind}
-use Rattle.mon_types.specs.declared.monitor.Method.{Method}
+use Rattle.mon_monitor.specs.declared.monitor.Block.{Block}
+use Rattle.mon_monitor.specs.declared.monitor.Condition.{Condition}
+use Rattle.mon_types.specs.inner.Making.{IsMethodScope, IsNumbered}
+use Rattle.mon_base.specs.declared.kind.Kind.{Kind}
+use Rattle.mon_monitor.specs.declared.monitor.Method.{Method}
 use Rattle.mon_types.specs.Typed.{AreBlocksOf, AreConditions, IsBlockOf, condition_of, input_kind, methods_from}
 use Rattle.mon_types.proofs.StatementsFit.{value_fine}
 use Rattle.mon_types.proofs.StatementSteps.{fine_statements}
@@ -104,7 +104,7 @@ fine_scope declared method scope fewer none is =
     let fine = fine_method declared method none in
     let guard = value_fine kinds.Bool (sense (scope_of declared method.inputs) method.guard) fine.block.guard in
     subst (IsMethodScope method) (sym is) (record {
-      ordered_places = ordered declared method.inputs fewer;
+      ordered_places = scopes_are_ordered declared method.inputs fewer;
       small_numbers = scopes_are_small declared method.inputs;
       guard_fine = guard.0;
       guard_bool = guard.1;

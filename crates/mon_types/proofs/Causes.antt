@@ -1,6 +1,6 @@
 -- What the first fault that was found says.
 use Rattle.std.proofs.Common.{◌≡◌, [], Option, Some, None, sym, ◌∙◌}
-use Rattle.mon_syntax.specs.declared.tree.MonitorTree.{MonitorTree}
+use Rattle.mon_tree.specs.declared.tree.MonitorTree.{MonitorTree}
 use Rattle.mon_forms.specs.declared.fault.TypeFault.{TypeFault}
 use Rattle.mon_forms.specs.declared.fault.TypeFault.TheVariants as faults
 use Rattle.mon_forms.specs.Faults.{IsLeast, least}

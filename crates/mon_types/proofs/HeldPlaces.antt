@@ -13,26 +13,27 @@ use Rattle.mon_linear.specs.declared.formula.Formula.TheViews.{roll-Formula}
 use Rattle.mon_linear.specs.declared.formula.Formula.TheFolds.{fold-Formula, ind-Formula, map-Formula, fold-roll-Formula}
 use Rattle.mon_linear.specs.Linear.{Linear}
 use Rattle.mon_linear.specs.Negation.{layer_negation, negation, negative_term, opposite}
-use Rattle.mon_syntax.specs.declared.tree.Op.{Op}
-use Rattle.mon_syntax.specs.declared.tree.Op.TheVariants as ops
-use Rattle.mon_syntax.specs.declared.tree.Expr.{Expr, roll-Expr}
-use Rattle.mon_syntax.specs.declared.tree.Addend.{Addend, roll-Addend}
-use Rattle.mon_syntax.specs.declared.tree.Factor.{Factor, roll-Factor}
-use Rattle.mon_syntax.specs.declared.tree.Expr.TheOpen.{Expr-F, Addend-F, Factor-F, Number, Truth, Named, Minus, Not, Product, Sum, Compare, Both, Either}
-use Rattle.mon_syntax.specs.declared.tree.Expr.TheFolds.{fold-roll-Expr, fold-roll-Addend, fold-roll-Factor, map-Expr, ind-Expr}
-use Rattle.mon_forms.specs.declared.kind.Kind.TheVariants as kinds
+use Rattle.mon_tree.specs.declared.tree.Op.{Op}
+use Rattle.mon_tree.specs.declared.tree.Op.TheVariants as ops
+use Rattle.mon_tree.specs.declared.tree.Expr.{Expr, roll-Expr}
+use Rattle.mon_tree.specs.declared.tree.Addend.{Addend, roll-Addend}
+use Rattle.mon_tree.specs.declared.tree.Factor.{Factor, roll-Factor}
+use Rattle.mon_tree.specs.declared.tree.Expr.TheOpen.{Expr-F, Addend-F, Factor-F, Number, Truth, Named, Minus, Not, Product, Sum, Compare, Both, Either}
+use Rattle.mon_tree.specs.declared.tree.Expr.TheFolds.{fold-roll-Expr, fold-roll-Addend, fold-roll-Factor, map-Expr, ind-Expr}
+use Rattle.mon_base.specs.declared.kind.Kind.TheVariants as kinds
 use Rattle.mon_forms.specs.declared.scope.Meaning.{Meaning}
 use Rattle.mon_forms.specs.declared.scope.Meaning.TheVariants as meanings
 use Rattle.mon_forms.specs.declared.scope.Entry.{Entry}
 use Rattle.mon_forms.specs.Scope.{entry_at, entry_named, index_of}
-use Rattle.mon_forms.specs.Forms.{Form, added, entry_form, is_constant, is_within, linear_of, meaning_form, minus, name_form, no_times, place_of, plus, product, raised, scaled, terms_of}
-use Rattle.mon_forms.specs.Sense.{Sense, AddendSense, FactorSense, is_other, product_form, signed_form, sum_form, at_most, less, compared, truth_formula, meaning_formula, entry_formula, sense, sense_step, addend_step, factor_step}
+use Rattle.mon_forms.specs.Forms.{Form, added, entry_form, is_constant, linear_of, meaning_form, minus, name_form, no_times, meaning_place, plus, product, raised, scaled, terms_of}
+use Rattle.mon_base.specs.Numbers.{is_within}
+use Rattle.mon_forms.specs.Sense.{Sense, AddendSense, FactorSense, is_other, product_form, signed_form, sum_form, at_most, less, comparison_formula, truth_formula, meaning_formula, entry_formula, sense, sense_step, addend_step, factor_step}
 use Rattle.mon_forms.specs.Making.{has_small_numbers}
 use Rattle.mon_forms.proofs.LimitedForms.{both_true}
 use Rattle.mon_forms.proofs.ModestFormulas.{is_modest, is_modest_number, is_modest_row, is_modest_term, modest_layer}
 use Rattle.mon_forms.proofs.SenseLayers.{found_addend, found_factor}
 use Rattle.mon_forms.proofs.SoundSenses.{every_sense_is_sound}
-use Rattle.mon_types.specs.MonitorParts.{Places, fits_form, fits_formula, fits_term, formula_step, is_kind, kind_at}
+use Rattle.mon_monitor.specs.MonitorParts.{Places, fits_form, fits_formula, fits_term, fits_formula_step, is_kind, kind_at}
 use Rattle.mon_types.proofs.ScopePlaces.{fits_entry, fits_found, fits_meaning, fits_scope, fits_target, found_named}
 
 -- ---- numbers of ints alone
@@ -146,7 +147,7 @@ kept_place places false term terms this rest = rw (this refl, rest) refl
 zero_is : (number : ℤ) → number ≡ pos 0 → int_eq number (pos 0) ≡ true
 zero_is number is = rw is refl
 
-counted_place : (places : Places) (meaning : Meaning) (number : ℤ) → fits_meaning places meaning ≡ true → Counts meaning number → int_eq number (pos 0) ≡ false → is_kind kinds.Int (kind_at places (place_of meaning)) ≡ true
+counted_place : (places : Places) (meaning : Meaning) (number : ℤ) → fits_meaning places meaning ≡ true → Counts meaning number → int_eq number (pos 0) ≡ false → is_kind kinds.Int (kind_at places (meaning_place meaning)) ≡ true
 counted_place places (meanings.Number value) number fits counts some = let none = zero_is number counts in absurd (cc)
 counted_place places (meanings.Int place) number fits counts some = fits
 counted_place places (meanings.Flag place) number fits counts some = let none = zero_is number counts in absurd (cc)
@@ -157,7 +158,7 @@ terms_have_places places (entry ∷ scope) [] fits counts = refl
 terms_have_places places (entry ∷ scope) (number ∷ times) fits counts =
     let both = both_true (fits_entry places entry) (fits_scope places scope) fits in
     let here = both_true (fits_meaning places entry.meaning) (fits_target places entry) both.0 in
-    kept_place places (int_eq number (pos 0)) (record { place = place_of entry.meaning; times = number }) (terms_of scope times)
+    kept_place places (int_eq number (pos 0)) (record { place = meaning_place entry.meaning; times = number }) (terms_of scope times)
     (λ some. counted_place places entry.meaning number here.0 counts.0 some)
     (terms_have_places places scope times both.1 counts.1)
 
@@ -178,7 +179,7 @@ all_of_two places one other this that = places-All places (one ∷ other ∷ [])
 any_of_two : (places : Places) (one other : Formula) → has_places places one ≡ true → has_places places other ≡ true → has_places places (formulas.Any (one ∷ other ∷ [])) ≡ true
 any_of_two places one other this that = places-Any places (one ∷ other ∷ []) ∙ rw (this, that) refl
 
-compared_has : (places : Places) (scope : List Entry) (op : Op) (left right : Form) → fits_scope places scope ≡ true → CountInts scope left.times → CountInts scope right.times → has_places places (compared scope op left right) ≡ true
+compared_has : (places : Places) (scope : List Entry) (op : Op) (left right : Form) → fits_scope places scope ≡ true → CountInts scope left.times → CountInts scope right.times → has_places places (comparison_formula scope op left right) ≡ true
 compared_has places scope ops.Equal left right fits one other = all_of_two places (at_most scope left right) (at_most scope right left) (at_most_has places scope left right fits one other) (at_most_has places scope right left fits other one)
 compared_has places scope ops.Differs left right fits one other = any_of_two places (less scope right left) (less scope left right) (less_has places scope right left fits other one) (less_has places scope left right fits one other)
 compared_has places scope ops.Less left right fits one other = less_has places scope left right fits one other
@@ -255,7 +256,7 @@ parts_fit places (part ∷ parts) modest has =
     rw (part.1 one.0 other.0, parts_fit places parts one.1 other.1) refl
 
 abbrev LayerFits : Places → Formula-F Formula → Type 0
-LayerFits places layer = modest_layer (map-Formula _ Bool is_modest layer) ≡ true → place_step places (map-Formula _ Bool (has_places places) layer) ≡ true → formula_step places (map-Formula _ Bool (fits_formula places) layer) ≡ true
+LayerFits places layer = modest_layer (map-Formula _ Bool is_modest layer) ≡ true → place_step places (map-Formula _ Bool (has_places places) layer) ≡ true → fits_formula_step places (map-Formula _ Bool (fits_formula places) layer) ≡ true
 
 layer_fits : (places : Places) (layer : Formula-F ((formula : Formula) × Fits places formula)) → LayerFits places (map-Formula _ Formula (λ part. part.0) layer)
 layer_fits places (layers.Row linear) modest has = row_fits places linear modest has
@@ -265,7 +266,7 @@ layer_fits places (layers.Any parts) modest has = parts_fit places parts modest 
 
 roll_fits : (places : Places) (layer : Formula-F Formula) → LayerFits places layer → Fits places (roll-Formula layer)
 roll_fits places layer fits modest has =
-    fold-roll-Formula Bool (formula_step places) layer ∙ fits (sym (fold-roll-Formula Bool modest_layer layer) ∙ modest) (sym (fold-roll-Formula Bool (place_step places) layer) ∙ has)
+    fold-roll-Formula Bool (fits_formula_step places) layer ∙ fits (sym (fold-roll-Formula Bool modest_layer layer) ∙ modest) (sym (fold-roll-Formula Bool (place_step places) layer) ∙ has)
 
 pub modest_fits : (places : Places) (formula : Formula) → is_modest formula ≡ true → has_places places formula ≡ true → fits_formula places formula ≡ true
 modest_fits places = ind-Formula (Fits places) (λ layer parts is. subst (λ (z : Formula-F Formula). Fits places (roll-Formula z)) is (roll_fits places (map-Formula _ Formula (λ part. part.0) parts) (layer_fits places parts)))
@@ -370,7 +371,7 @@ limited_terms [] times within = refl
 limited_terms (entry ∷ scope) [] within = refl
 limited_terms (entry ∷ scope) (number ∷ times) within =
     let both = both_true (is_within (2 ^ 31) number) (list_all (is_within (2 ^ 31)) times) within in
-    kept_modest (int_eq number (pos 0)) (record { place = place_of entry.meaning; times = number }) (terms_of scope times) both.0 (limited_terms scope times both.1)
+    kept_modest (int_eq number (pos 0)) (record { place = meaning_place entry.meaning; times = number }) (terms_of scope times) both.0 (limited_terms scope times both.1)
   where
     kept_modest : (out : Bool) (term : Term) (terms : List Term) → is_modest_term term ≡ true → list_all is_modest_term terms ≡ true → list_all is_modest_term (if out then terms else term ∷ terms) ≡ true
     kept_modest true term terms this rest = rest

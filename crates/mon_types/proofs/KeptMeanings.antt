@@ -3,16 +3,16 @@ use Rattle.std.proofs.Common.{◌≡◌, ℕ, zero, suc, ◌+◌, Bool, true, fa
 use Rattle.std.specs.Prelude.{slice_get, if◌then◌else◌}
 use Rattle.std.specs.List.{flat_map}
 use Rattle.std.proofs.lemmas.List.Elements.{All-nil, All-cons, All-head, All-tail, All-append, All-weaker}
-use Rattle.mon_syntax.specs.declared.tree.Decl.{Decl}
-use Rattle.mon_syntax.specs.declared.tree.Expr.{Expr}
-use Rattle.mon_syntax.specs.declared.tree.StmtTree.{StmtTree, roll-StmtTree}
-use Rattle.mon_syntax.specs.declared.tree.StmtTree.TheOpen.{StmtTree-F, Set, If, Return}
-use Rattle.mon_syntax.specs.declared.tree.StmtTree.TheFolds.{fold-roll-StmtTree, map-StmtTree, ind-StmtTree}
-use Rattle.mon_syntax.specs.declared.tree.MethodTree.{MethodTree}
-use Rattle.mon_syntax.specs.declared.tree.MonitorTree.{MonitorTree}
+use Rattle.mon_tree.specs.declared.tree.Decl.{Decl}
+use Rattle.mon_tree.specs.declared.tree.Expr.{Expr}
+use Rattle.mon_tree.specs.declared.tree.StmtTree.{StmtTree, roll-StmtTree}
+use Rattle.mon_tree.specs.declared.tree.StmtTree.TheOpen.{StmtTree-F, Set, If, Return}
+use Rattle.mon_tree.specs.declared.tree.StmtTree.TheFolds.{fold-roll-StmtTree, map-StmtTree, ind-StmtTree}
+use Rattle.mon_tree.specs.declared.tree.MethodTree.{MethodTree}
+use Rattle.mon_tree.specs.declared.tree.MonitorTree.{MonitorTree}
 use Rattle.mon_linear.specs.Truth.{Valuation, truth_of}
-use Rattle.mon_forms.specs.declared.kind.Kind.{Kind}
-use Rattle.mon_forms.specs.declared.kind.Kind.TheVariants as kinds
+use Rattle.mon_base.specs.declared.kind.Kind.{Kind}
+use Rattle.mon_base.specs.declared.kind.Kind.TheVariants as kinds
 use Rattle.mon_forms.specs.declared.fault.TypeFault.{TypeFault}
 use Rattle.mon_forms.specs.declared.fault.Counted.TheVariants.{Constants, Fields, Methods, Parameters, Statements}
 use Rattle.mon_forms.specs.declared.scope.Entry.{Entry}
@@ -21,19 +21,19 @@ use Rattle.mon_forms.specs.Sense.{Sense, sense, entry_kind, is_other, wrong_type
 use Rattle.mon_forms.specs.Plain.{truth_in, plain_value}
 use Rattle.mon_forms.proofs.SoundSenses.{or_else_none}
 use Rattle.mon_forms.proofs.SenseValues.{ints_keep_meaning, bools_keep_meaning}
-use Rattle.mon_rules.specs.Rules.{Finding, body_faults, constant_place, declared_name, early_returns, expected, faults_of, field_place, finding, finding_step, input_name, literal_faults, method_faults, method_name, misplaced, over, repeated, target_faults}
-use Rattle.mon_types.specs.declared.monitor.Block.{Block}
-use Rattle.mon_types.specs.MonitorParts.{MonitorParts}
+use Rattle.mon_rules.specs.Rules.{Finding, body_faults, constant_place, declared_name, early_returns, expected, faults_of, field_place, finding, finding_step, input_name, literal_faults, method_faults, method_name, misplaced, over, places_in, repeated, target_faults}
+use Rattle.mon_monitor.specs.declared.monitor.Block.{Block}
+use Rattle.mon_monitor.specs.MonitorParts.{MonitorParts}
 use Rattle.mon_types.specs.Typed.{AreBlocksOf, IsTyped}
 use Rattle.mon_types.specs.KeptMeaning.{KeepsMeaning, expressions_step, expressions_of, expressions_in}
 
 -- ---- faults
 
-append_none : (these those : List TypeFault) → (these ++ those) ≡ [] → (these ≡ []) × (those ≡ [])
+pub append_none : {X : Type 0} (these those : List X) → (these ++ those) ≡ [] → (these ≡ []) × (those ≡ [])
 append_none [] those none = (refl, none)
-append_none (fault ∷ these) those none = absurd cc
+append_none (one ∷ these) those none = absurd cc
 
-no_fault : (test : Bool) (fault : TypeFault) → (if test then fault ∷ [] else []) ≡ [] → test ≡ false
+pub no_fault : (test : Bool) (fault : TypeFault) → (if test then fault ∷ [] else []) ≡ [] → test ≡ false
 no_fault true fault none = absurd cc
 no_fault false fault none = refl
 
@@ -108,9 +108,10 @@ statements_keep scope (statement ∷ body) none =
 
 -- ---- methods
 
-record IsFine (declared : List Decl) (method : MethodTree) : Type 0 where
-  guard : expected (Some kinds.Bool) (sense (scope_of declared method.inputs) method.guard) ≡ []
-  body : flat_map (λ statement. (finding (scope_of declared method.inputs) statement).faults) method.body ≡ []
+pub record IsFine (declared : List Decl) (method : MethodTree) : Type 0 where
+  pub guard : expected (Some kinds.Bool) (sense (scope_of declared method.inputs) method.guard) ≡ []
+  pub body : flat_map (λ statement. (finding (scope_of declared method.inputs) statement).faults) method.body ≡ []
+  pub early : misplaced (early_returns (map (finding (scope_of declared method.inputs)) method.body)) ≡ []
 
 method_fine : (declared : List Decl) (method : MethodTree) → method_faults declared method ≡ [] → IsFine declared method
 method_fine declared method none =
@@ -120,8 +121,9 @@ method_fine declared method none =
     let front = append_none names (expected (Some kinds.Bool) (sense scope method.guard)) whole.0 in
     let within = flat_map (λ statement. (finding scope statement).faults) method.body in
     let early = misplaced (early_returns (map (finding scope) method.body)) in
-    let few = append_none (within ++ early) (over 64 Statements (flat_map (λ statement. (finding scope statement).places) method.body)) whole.1 in
-    record { guard = front.1; body = (append_none within early few.0).0 }
+    let few = append_none (within ++ early) (over 64 Statements (places_in method.body)) whole.1 in
+    let inner = append_none within early few.0 in
+    record { guard = front.1; body = inner.0; early = inner.1 }
 
 methods_fine : (declared : List Decl) (methods : List MethodTree) → flat_map (method_faults declared) methods ≡ [] → All (IsFine declared) methods
 methods_fine declared [] none = All-nil (IsFine declared)
@@ -129,7 +131,7 @@ methods_fine declared (method ∷ methods) none =
     let both = append_none (method_faults declared method) (flat_map (method_faults declared) methods) none in
     All-cons (IsFine declared) method methods (method_fine declared method both.0) (methods_fine declared methods both.1)
 
-tree_fine : (tree : MonitorTree) → faults_of tree ≡ [] → All (IsFine tree.decls) tree.methods
+pub tree_fine : (tree : MonitorTree) → faults_of tree ≡ [] → All (IsFine tree.decls) tree.methods
 tree_fine tree none =
     let front = flat_map literal_faults tree.decls ++ repeated [] (map declared_name tree.decls ++ map method_name tree.methods) ++ over 64 Constants (flat_map constant_place tree.decls) ++ over 16 Fields (flat_map field_place tree.decls) ++ over 16 Methods (map (λ method. method.at) tree.methods) in
     methods_fine tree.decls tree.methods (append_none front (flat_map (method_faults tree.decls) tree.methods) none).1
@@ -148,7 +150,7 @@ guard_at declared start (first ∷ methods) (one ∷ blocks) zero method block a
     (subst (λ (x : MethodTree). one.guard ≡ (sense (scope_of declared x.inputs) x.guard).formula) same are.0.guard)
 guard_at declared start (first ∷ methods) (one ∷ blocks) (suc number) method block are here there = guard_at declared (start + 1) methods blocks number method block are.1 here there
 
-fine_at : (declared : List Decl) (methods : List MethodTree) → All (IsFine declared) methods → (number : ℕ) (method : MethodTree) → slice_get methods number ≡ Some method → IsFine declared method
+pub fine_at : (declared : List Decl) (methods : List MethodTree) → All (IsFine declared) methods → (number : ℕ) (method : MethodTree) → slice_get methods number ≡ Some method → IsFine declared method
 fine_at declared [] fine number method here = absurd cc
 fine_at declared (first ∷ methods) fine zero method here = let same : first ≡ method = cc in subst (IsFine declared) same (All-head (IsFine declared) first methods fine)
 fine_at declared (first ∷ methods) fine (suc number) method here = fine_at declared methods (All-tail (IsFine declared) first methods fine) number method here

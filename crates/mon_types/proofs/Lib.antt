@@ -4,6 +4,12 @@ pub mod KeptMeanings
 pub mod ScopePlaces
 pub mod HeldPlaces
 pub mod StatementsFit
+pub mod ConditionClasses
+pub mod MonitorNames
 pub mod MonitorMade
 pub mod StatementSteps
 pub mod BlockSteps
+pub mod NamedPlaces
+pub mod PlainExpressions
+pub mod PlainStatements
+pub mod PlainRunsKept

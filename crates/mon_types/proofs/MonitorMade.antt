@@ -1,29 +1,33 @@
 -- What is typed from a tree that breaks no rule is a monitor.
-use Rattle.std.proofs.Common.{◌≡◌, ℕ, zero, suc, ◌+◌, ◌-◌, ◌≤◌, List, [], ◌∷◌, ◌++◌, length, map, Some, refl, sym, ap, subst, ◌∙◌, arith, inl, inr}
-use Rattle.std.specs.Prelude.{slice_get, IsSomeAnd}
+use Rattle.std.proofs.Common.{◌≡◌, ℕ, zero, suc, ◌+◌, ◌≤◌, List, [], ◌∷◌, ◌++◌, length, map, Some, refl, ap, subst, ◌∙◌, arith}
 use Rattle.std.specs.List.{All, flat_map}
 use Rattle.std.proofs.lemmas.List.{length-map}
 use Rattle.std.proofs.lemmas.List.Elements.{All-cons, All-nil}
-use Rattle.mon_syntax.specs.declared.tree.Decl.{Decl}
-use Rattle.mon_syntax.specs.declared.tree.Decl.TheVariants as decls
-use Rattle.mon_syntax.specs.declared.tree.InputTree.{InputTree}
-use Rattle.mon_syntax.specs.declared.tree.MethodTree.{MethodTree}
-use Rattle.mon_syntax.specs.declared.tree.MonitorTree.{MonitorTree}
-use Rattle.mon_forms.specs.declared.kind.Kind.TheVariants as kinds
+use Rattle.mon_tree.specs.declared.tree.Decl.{Decl}
+use Rattle.mon_tree.specs.declared.tree.Decl.TheVariants as decls
+use Rattle.mon_tree.specs.declared.tree.InputTree.{InputTree}
+use Rattle.mon_tree.specs.declared.tree.MethodTree.{MethodTree}
+use Rattle.mon_tree.specs.declared.tree.MonitorTree.{MonitorTree}
+use Rattle.mon_tree.specs.Names.{names_in}
+use Rattle.mon_base.specs.Identifiers.{IsIdentifier}
+use Rattle.mon_base.specs.declared.kind.Kind.TheVariants as kinds
 use Rattle.mon_forms.specs.declared.fault.Counted.{Counted}
 use Rattle.mon_forms.specs.declared.fault.Counted.TheVariants.{Constants, Fields, Methods, Parameters, Statements}
 use Rattle.mon_forms.specs.declared.fault.TypeFault.{TypeFault}
 use Rattle.mon_forms.specs.Scope.{field_count, scope_of}
 use Rattle.mon_forms.specs.Sense.{sense}
 use Rattle.mon_forms.proofs.SmallScopes.{scopes_are_small}
-use Rattle.mon_rules.specs.Rules.{constant_place, declared_name, early_returns, expected, faults_of, field_place, finding, input_name, literal_faults, method_faults, method_name, misplaced, over, repeated}
-use Rattle.mon_types.specs.declared.monitor.Field.{Field}
-use Rattle.mon_types.specs.declared.monitor.Method.{Method}
-use Rattle.mon_types.specs.declared.monitor.Block.{Block}
-use Rattle.mon_types.specs.declared.monitor.Condition.{Condition}
-use Rattle.mon_types.specs.MonitorParts.{AreBlocks, HasCondition, IsMonitor, IsOfKind, MonitorParts}
-use Rattle.mon_types.specs.Typed.{AreBlocksOf, AreConditions, IsTyped, condition_of, field_of, methods_from}
-use Rattle.mon_types.proofs.ScopePlaces.{places_of, scope_fits}
+use Rattle.mon_rules.specs.Rules.{constant_place, declared_name, early_returns, expected, faults_of, field_place, finding, input_name, literal_faults, method_faults, method_name, misplaced, over, places_in, repeated}
+use Rattle.mon_monitor.specs.declared.monitor.Field.{Field}
+use Rattle.mon_monitor.specs.declared.monitor.Method.{Method}
+use Rattle.mon_monitor.specs.declared.monitor.Block.{Block}
+use Rattle.mon_monitor.specs.declared.monitor.Condition.{Condition}
+use Rattle.mon_monitor.specs.Conditions.{IsDescribed}
+use Rattle.mon_monitor.specs.MonitorParts.{AreBlocks, IsMonitor, IsOfKind, MonitorParts}
+use Rattle.mon_types.specs.Typed.{AreBlocksOf, AreConditions, IsTyped, field_of, methods_from}
+use Rattle.mon_types.proofs.ConditionClasses.{all_described, all_different, in_order, no_more, typed_conditions}
+use Rattle.mon_types.proofs.MonitorNames.{identified, typed_distinct}
+use Rattle.mon_types.proofs.ScopePlaces.{scope_places, scope_fits}
 use Rattle.mon_types.proofs.StatementsFit.{IsFineBlock, IsFit, append_none, block_fits}
 
 -- ---- limits
@@ -69,7 +73,7 @@ fine_method declared method none =
     let guard = expected (Some kinds.Bool) (sense scope method.guard) in
     let broken = flat_map (λ statement. (finding scope statement).faults) method.body in
     let early = misplaced (early_returns (map (finding scope) method.body)) in
-    let many = over 64 Statements (flat_map (λ statement. (finding scope statement).places) method.body) in
+    let many = over 64 Statements (places_in method.body) in
     let all = append_none (names ++ inputs ++ guard) (broken ++ early ++ many) none in
     let first = append_none (names ++ inputs) guard all.0 in
     let limit = append_none names inputs first.0 in
@@ -83,6 +87,7 @@ fine_method declared method none =
 -- ---- what a tree that breaks no rule has
 
 pub record IsFine (tree : MonitorTree) : Type 0 where
+  pub names : repeated [] (map declared_name tree.decls ++ map method_name tree.methods) ≡ []
   pub literals : flat_map literal_faults tree.decls ≡ []
   pub constants : length (flat_map constant_place tree.decls) ≤ 64
   pub fields : length (flat_map field_of tree.decls) ≤ 16
@@ -104,6 +109,7 @@ fine_tree tree none =
     let field_count = few 16 Fields (flat_map field_place tree.decls) three.1 in
     let method_count = few 16 Methods (map (λ method. method.at) tree.methods) two.1 in
     record {
+      names = (append_none literals names four.0).1;
       literals = (append_none literals names four.0).0;
       constants = few 64 Constants (flat_map constant_place tree.decls) four.1;
       fields = rw as_many_fields at field_count;
@@ -124,7 +130,7 @@ starts (decls.Flag at name value ∷ more) = All-cons Starts _ (flat_map field_o
 
 -- ---- blocks
 
-scope_fit : (declared : List Decl) (taken : List InputTree) → length (flat_map field_of declared) ≤ 16 → IsFit (places_of declared taken) (scope_of declared taken)
+scope_fit : (declared : List Decl) (taken : List InputTree) → length (flat_map field_of declared) ≤ 16 → IsFit (scope_places declared taken) (scope_of declared taken)
 scope_fit declared taken less = record { fits = scope_fits declared taken (rw length-map less); small = scopes_are_small declared taken }
 
 typed_blocks : (declared : List Decl) (number : ℕ) (methods : List MethodTree) (blocks : List Block) → length (flat_map field_of declared) ≤ 16 → flat_map (method_faults declared) methods ≡ [] → AreBlocksOf declared number methods blocks → AreBlocks (flat_map field_of declared) number (methods_from number methods) blocks
@@ -134,59 +140,38 @@ typed_blocks declared number (method ∷ methods) [] less none are = absurd are
 typed_blocks declared number (method ∷ methods) (block ∷ blocks) less none are =
     let both = append_none (method_faults declared method) (flat_map (method_faults declared) methods) none in
     let fine = fine_method declared method both.0 in
-    (rw length-map fine.inputs, refl, refl, are.0.method_number, block_fits (places_of declared method.inputs) declared number method block (scope_fit declared method.inputs less) fine.block are.0, typed_blocks declared (number + 1) methods blocks less both.1 are.1)
-
--- ---- conditions
-
-earlier_has : (before later : List Condition) (index : ℕ) (P : Condition → Type 0) → IsSomeAnd (slice_get before index) P → IsSomeAnd (slice_get (before ++ later) index) P
-earlier_has [] later index P has = absurd has
-earlier_has (condition ∷ before) later zero P has = has
-earlier_has (condition ∷ before) later (suc index) P has = earlier_has before later index P has
-
-last_has : (before : List Condition) (condition : Condition) (P : Condition → Type 0) → P condition → IsSomeAnd (slice_get (before ++ condition ∷ []) (length before)) P
-last_has [] condition P has = has
-last_has (first ∷ before) condition P has = last_has before condition P has
-
--- the conditions that were there stay
-kept : (before : List Condition) (methods : List MethodTree) (blocks : List Block) (all : List Condition) → AreConditions before methods blocks all → (index : ℕ) (P : Condition → Type 0) → IsSomeAnd (slice_get before index) P → IsSomeAnd (slice_get all index) P
-kept before [] [] all are index P has = subst (λ (list : List Condition). IsSomeAnd (slice_get list index) P) (sym are) has
-kept before [] (block ∷ blocks) all are index P has = absurd are
-kept before (method ∷ methods) [] all are index P has = absurd are
-kept before (method ∷ methods) (block ∷ blocks) all are index P has = elim are [
-  | inl old ↦ kept before methods blocks all old.2 index P has
-  | inr new ↦ kept (before ++ condition_of block method ∷ []) methods blocks all new.2 index P (earlier_has before (condition_of block method ∷ []) index P has)
-]
-
-new_condition : (before : List Condition) (method : MethodTree) (block : Block) (methods : List MethodTree) (blocks : List Block) (all : List Condition) → block.condition ≡ length before + 1 → AreConditions (before ++ condition_of block method ∷ []) methods blocks all → HasCondition all block
-new_condition before method block methods blocks all number are =
-    let index : block.condition - 1 ≡ length before = omega arith in
-    let same = λ (condition : Condition). condition.guard ≡ block.guard in
-    (omega arith, subst (λ (i : ℕ). IsSomeAnd (slice_get all i) same) (sym index) (kept (before ++ condition_of block method ∷ []) methods blocks all are (length before) same (last_has before (condition_of block method) same refl)))
-
-old_condition : (before : List Condition) (block : Block) (methods : List MethodTree) (blocks : List Block) (all : List Condition) → IsSomeAnd (slice_get before (block.condition - 1)) (λ condition. condition.guard ≡ block.guard) → block.condition ≡ (block.condition - 1) + 1 → AreConditions before methods blocks all → HasCondition all block
-old_condition before block methods blocks all has number are = (omega arith, kept before methods blocks all are (block.condition - 1) (λ (condition : Condition). condition.guard ≡ block.guard) has)
-
-typed_conditions : (before : List Condition) (methods : List MethodTree) (blocks : List Block) (all : List Condition) → AreConditions before methods blocks all → All (HasCondition all) blocks
-typed_conditions before [] [] all are = All-nil (HasCondition all)
-typed_conditions before [] (block ∷ blocks) all are = absurd are
-typed_conditions before (method ∷ methods) [] all are = absurd are
-typed_conditions before (method ∷ methods) (block ∷ blocks) all are = elim are [
-  | inl old ↦ All-cons (HasCondition all) block blocks (old_condition before block methods blocks all old.0 old.1 old.2) (typed_conditions before methods blocks all old.2)
-  | inr new ↦ All-cons (HasCondition all) block blocks (new_condition before method block methods blocks all new.1 new.2) (typed_conditions (before ++ condition_of block method ∷ []) methods blocks all new.2)
-]
+    (rw length-map fine.inputs, refl, refl, are.0.method_number, block_fits (scope_places declared method.inputs) declared number method block (scope_fit declared method.inputs less) fine.block are.0, typed_blocks declared (number + 1) methods blocks less both.1 are.1)
 
 -- ---- the monitor
 
--- What is typed from a tree that breaks no rule keeps the rule of a monitor.
-pub typed_is_monitor : (tree : MonitorTree) (monitor : MonitorParts) → faults_of tree ≡ [] → IsTyped tree monitor → IsMonitor monitor
-typed_is_monitor tree monitor none typed =
+as_many_blocks : (declared : List Decl) (number : ℕ) (methods : List MethodTree) (blocks : List Block) → AreBlocksOf declared number methods blocks → length blocks ≡ length methods
+as_many_blocks declared number [] [] are = refl
+as_many_blocks declared number [] (block ∷ blocks) are = absurd are
+as_many_blocks declared number (method ∷ methods) [] are = absurd are
+as_many_blocks declared number (method ∷ methods) (block ∷ blocks) are = let rest = as_many_blocks declared (number + 1) methods blocks are.1 in omega arith
+
+-- What is typed from a tree that breaks no rule, and whose names are identifiers, keeps the rule of a monitor.
+pub typed_is_monitor : (tree : MonitorTree) (monitor : MonitorParts) → faults_of tree ≡ [] → All IsIdentifier (names_in tree) → IsTyped tree monitor → IsMonitor monitor
+typed_is_monitor tree monitor none named typed =
     let fine = fine_tree tree none in
+    let are = identified tree named in
+    let few = fine.methods in
+    let blocks = as_many_blocks tree.decls 0 tree.methods monitor.blocks typed.blocks in
+    let conditions = no_more [] tree.methods monitor.blocks monitor.conditions typed.conditions in
     record {
       few_fields = rw typed.fields fine.fields;
       few_methods = rw (typed.methods, as_many_methods) fine.methods;
+      few_blocks = omega arith;
+      few_conditions = omega arith;
+      name = rw typed.name are.name;
+      names = rw (typed.fields, typed.methods) are.names;
+      distinct = rw (typed.fields, typed.methods) (typed_distinct tree.decls tree.methods fine.names);
       starts = rw typed.fields (starts tree.decls);
       blocks = rw (typed.fields, typed.methods) (typed_blocks tree.decls 0 tree.methods monitor.blocks fine.fields fine.each typed.blocks);
       conditions = typed_conditions [] tree.methods monitor.blocks monitor.conditions typed.conditions;
+      described = all_described [] tree.methods monitor.blocks monitor.conditions typed.conditions are.guards (All-nil IsDescribed);
+      different = all_different [] tree.methods monitor.blocks monitor.conditions typed.conditions (λ i j d before within. absurd (omega arith));
+      in_order = in_order tree.methods monitor.blocks monitor.conditions typed.conditions;
     }
 
 -- the same of the parts as they are made
@@ -209,17 +194,18 @@ made_is_typed tree declared methods name fields made blocks conditions declared_
 
 pub made_is_monitor : (tree : MonitorTree) (declared : List Decl) (methods : List MethodTree) (name : List ℕ) (fields : List Field) (made : List Method) (blocks : List Block) (conditions : List Condition)
     → faults_of tree ≡ []
+    → All IsIdentifier (names_in tree)
     → declared ≡ tree.decls
     → methods ≡ tree.methods
+    → name ≡ tree.name
     → fields ≡ flat_map field_of declared
     → made ≡ methods_from 0 methods
     → AreBlocksOf declared 0 methods blocks
     → AreConditions [] methods blocks conditions
     → IsMonitor (record { name = name; fields = fields; methods = made; blocks = blocks; conditions = conditions })
-made_is_monitor tree declared methods name fields made blocks conditions none declared_is methods_are fields_are made_are blocks_are conditions_are =
-    let monitor = typed_is_monitor tree (record { name = tree.name; fields = fields; methods = made; blocks = blocks; conditions = conditions }) none
-    (made_is_typed tree declared methods tree.name fields made blocks conditions declared_is methods_are refl fields_are made_are blocks_are conditions_are) in
-    record { few_fields = monitor.few_fields; few_methods = monitor.few_methods; starts = monitor.starts; blocks = monitor.blocks; conditions = monitor.conditions }
+made_is_monitor tree declared methods name fields made blocks conditions none identifiers declared_is methods_are named fields_are made_are blocks_are conditions_are =
+    typed_is_monitor tree (record { name = name; fields = fields; methods = made; blocks = blocks; conditions = conditions }) none identifiers
+    (made_is_typed tree declared methods name fields made blocks conditions declared_is methods_are named fields_are made_are blocks_are conditions_are)
 
 -- ---- what the code that types a tree may count on
 

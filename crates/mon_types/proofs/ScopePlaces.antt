@@ -4,19 +4,19 @@ use Rattle.std.specs.Prelude.{◌&&◌, nat_lt, slice_get, if◌then◌else◌}
 use Rattle.std.specs.List.{flat_map, list_all}
 use Rattle.std.proofs.lemmas.Bool.Decides.{nat_tests}
 use Rattle.std.proofs.lemmas.List.Folds.{list_all-append}
-use Rattle.mon_syntax.specs.declared.tree.Decl.{Decl}
-use Rattle.mon_syntax.specs.declared.tree.Decl.TheVariants as decls
-use Rattle.mon_syntax.specs.declared.tree.InputKind.{InputKind}
-use Rattle.mon_syntax.specs.declared.tree.InputKind.TheVariants as inputs
-use Rattle.mon_syntax.specs.declared.tree.InputTree.{InputTree}
-use Rattle.mon_forms.specs.declared.kind.Kind.{Kind}
-use Rattle.mon_forms.specs.declared.kind.Kind.TheVariants as kinds
+use Rattle.mon_tree.specs.declared.tree.Decl.{Decl}
+use Rattle.mon_tree.specs.declared.tree.Decl.TheVariants as decls
+use Rattle.mon_tree.specs.declared.tree.InputKind.{InputKind}
+use Rattle.mon_tree.specs.declared.tree.InputKind.TheVariants as inputs
+use Rattle.mon_tree.specs.declared.tree.InputTree.{InputTree}
+use Rattle.mon_base.specs.declared.kind.Kind.{Kind}
+use Rattle.mon_base.specs.declared.kind.Kind.TheVariants as kinds
 use Rattle.mon_forms.specs.declared.scope.Meaning.{Meaning}
 use Rattle.mon_forms.specs.declared.scope.Meaning.TheVariants as meanings
 use Rattle.mon_forms.specs.declared.scope.Entry.{Entry}
 use Rattle.mon_forms.specs.Scope.{declared_from, entry_at, entry_named, index_of, input_meaning, inputs_from, scope_of}
 use Rattle.mon_forms.proofs.LimitedForms.{both_true}
-use Rattle.mon_types.specs.MonitorParts.{Places, is_kind, kind_at, kinds_of}
+use Rattle.mon_monitor.specs.MonitorParts.{Places, is_kind, kind_at, kinds_of}
 use Rattle.mon_types.specs.Typed.{field_of, input_kind}
 
 -- ---- what fits
@@ -118,14 +118,14 @@ declared_fit places place (decls.Flag at name value ∷ more) few rest =
     rw (bool_field places place (omega arith) here, declared_fit places (place + 1) more few next) refl
 
 -- the kinds of a method's fields and inputs
-abbrev pub places_of : List Decl → List InputTree → Places
-places_of declared taken = record { fields = kinds_of (flat_map field_of declared); inputs = map (λ input. input_kind input.kind) taken }
+abbrev pub scope_places : List Decl → List InputTree → Places
+scope_places declared taken = record { fields = kinds_of (flat_map field_of declared); inputs = map (λ input. input_kind input.kind) taken }
 
 -- With at most 16 fields each entry of a scope has a place of its kind.
-pub scope_fits : (declared : List Decl) (taken : List InputTree) → length (kinds_of (flat_map field_of declared)) ≤ 16 → fits_scope (places_of declared taken) (scope_of declared taken) ≡ true
+pub scope_fits : (declared : List Decl) (taken : List InputTree) → length (kinds_of (flat_map field_of declared)) ≤ 16 → fits_scope (scope_places declared taken) (scope_of declared taken) ≡ true
 scope_fits declared taken few =
-    list_all-append (fits_entry (places_of declared taken)) (declared_from 0 declared) (inputs_from 16 taken)
-    ∙ rw (declared_fit (places_of declared taken) 0 declared few refl, inputs_fit (places_of declared taken) 16 0 taken refl refl) refl
+    list_all-append (fits_entry (scope_places declared taken)) (declared_from 0 declared) (inputs_from 16 taken)
+    ∙ rw (declared_fit (scope_places declared taken) 0 declared few refl, inputs_fit (scope_places declared taken) 16 0 taken refl refl) refl
 
 -- ---- looked up
 

@@ -2,20 +2,20 @@
 use Rattle.std.proofs.Common.{ℕ, ◌+◌, ◌≤◌, List, [], ◌∷◌, length, All, sym, ap, subst, ◌∙◌, arith, length-append}
 use Rattle.std.proofs.lemmas.List.{length-map}
 use Rattle.std.proofs.lemmas.List.Elements.{All-nil, All-cons}
-use Rattle.mon_syntax.specs.declared.token.TokenKind.{TokenKind}
-use Rattle.mon_syntax.specs.declared.token.TokenKind.TheVariants as kinds
-use Rattle.mon_syntax.specs.declared.token.Token.{Token}
-use Rattle.mon_syntax.specs.declared.piece.Shape.{Shape}
-use Rattle.mon_syntax.specs.declared.piece.Shape.TheVariants as shapes
-use Rattle.mon_syntax.specs.declared.tree.Decl.{Decl}
-use Rattle.mon_syntax.specs.declared.tree.Decl.TheVariants as decls
-use Rattle.mon_syntax.specs.declared.tree.InputTree.{InputTree}
-use Rattle.mon_syntax.specs.declared.tree.MethodTree.{MethodTree}
-use Rattle.mon_syntax.specs.declared.tree.MonitorTree.{MonitorTree}
-use Rattle.mon_syntax.specs.Words.{Word, word, words}
-use Rattle.mon_syntax.specs.Spelling.{IsShape, Piece, AreCut, token, tokens_from, Spells}
+use Rattle.mon_tokens.specs.declared.token.TokenKind.{TokenKind}
+use Rattle.mon_tokens.specs.declared.token.TokenKind.TheVariants as kinds
+use Rattle.mon_tokens.specs.declared.token.Token.{Token}
+use Rattle.mon_tokens.specs.declared.piece.Shape.{Shape}
+use Rattle.mon_tokens.specs.declared.piece.Shape.TheVariants as shapes
+use Rattle.mon_tree.specs.declared.tree.Decl.{Decl}
+use Rattle.mon_tree.specs.declared.tree.Decl.TheVariants as decls
+use Rattle.mon_tree.specs.declared.tree.InputTree.{InputTree}
+use Rattle.mon_tree.specs.declared.tree.MethodTree.{MethodTree}
+use Rattle.mon_tree.specs.declared.tree.MonitorTree.{MonitorTree}
+use Rattle.mon_tokens.specs.Words.{Word, word, words}
+use Rattle.mon_tokens.specs.Spelling.{IsShape, Piece, AreCut, token, tokens_from, Spells}
 use Rattle.mon_syntax.specs.Grammar.{Rule, ◌⌢◌, Each, IsIdent, IsMark, IsLiteral, IsExpression, IsBlock, IsStatement, IsDeclaration, IsInput, AreInputs, IsMethod, IsMonitorFile, IsParsed, truth_word, kind_word}
-use Rattle.mon_rules.specs.Rules.{IsSmall}
+use Rattle.mon_rules.specs.Rules.{HasFewNames}
 
 -- ---- tokens and bytes
 
@@ -140,7 +140,7 @@ file_small tree ws limit file short =
     let few = (takes_each IsDeclaration takes_declaration tree.decls).takes declared.0 declared.2 in
     (omega arith, methods_take limit tree.methods methods.0 methods.2 (omega arith))
 
-pub parsed_is_small : (tree : MonitorTree) → IsParsed tree → IsSmall tree
+pub parsed_is_small : (tree : MonitorTree) → IsParsed tree → HasFewNames tree
 parsed_is_small tree parsed =
     let few = words_few parsed.bytes parsed.tokens parsed.spelled in
     let short = parsed.short in

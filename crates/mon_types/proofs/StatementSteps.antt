@@ -5,21 +5,21 @@ use Rattle.std.specs.List.{flat_map}
 use Rattle.std.proofs.lemmas.List.Elements.{All-cons, All-nil}
 use Rattle.std.proofs.lemmas.List.Folds.{flat_map-map}
 use Rattle.mon_linear.specs.declared.formula.Formula.{Formula}
-use Rattle.mon_syntax.specs.declared.tree.Expr.{Expr}
-use Rattle.mon_syntax.specs.declared.tree.StmtTree.{StmtTree, out-StmtTree}
-use Rattle.mon_syntax.specs.declared.tree.StmtTree.TheVariants as trees
-use Rattle.mon_syntax.specs.declared.tree.StmtTree.TheOpen as layers
-use Rattle.mon_syntax.specs.declared.tree.StmtTree.TheFolds.{fold-roll-StmtTree}
-use Rattle.mon_forms.specs.declared.kind.Kind.TheVariants as kinds
+use Rattle.mon_tree.specs.declared.tree.Expr.{Expr}
+use Rattle.mon_tree.specs.declared.tree.StmtTree.{StmtTree, out-StmtTree}
+use Rattle.mon_tree.specs.declared.tree.StmtTree.TheVariants as trees
+use Rattle.mon_tree.specs.declared.tree.StmtTree.TheOpen as layers
+use Rattle.mon_tree.specs.declared.tree.StmtTree.TheFolds.{fold-roll-StmtTree}
+use Rattle.mon_base.specs.declared.kind.Kind.TheVariants as kinds
 use Rattle.mon_forms.specs.declared.scope.Entry.{Entry}
 use Rattle.mon_forms.specs.Scope.{entry_named}
 use Rattle.mon_forms.specs.Sense.{entry_kind, sense}
 use Rattle.mon_rules.specs.Rules.{Finding, expected, finding, finding_step, misplaced, target_faults}
-use Rattle.mon_types.specs.declared.monitor.Stmt.{Stmt}
-use Rattle.mon_types.specs.declared.monitor.Stmt.TheVariants as statements
-use Rattle.mon_types.specs.declared.monitor.Ret.{Ret}
-use Rattle.mon_types.specs.Making.{AreFineStatements}
-use Rattle.mon_types.specs.Typed.{result_layer, result_of, statement_of, statement_step}
+use Rattle.mon_monitor.specs.declared.monitor.Stmt.{Stmt}
+use Rattle.mon_monitor.specs.declared.monitor.Stmt.TheVariants as statements
+use Rattle.mon_monitor.specs.declared.monitor.Ret.{Ret}
+use Rattle.mon_types.specs.inner.Making.{AreFineStatements}
+use Rattle.mon_types.specs.Typed.{result_layer, result_of, statement_of, statement_of_step}
 use Rattle.mon_types.proofs.StatementsFit.{append_none}
 
 -- ---- what each form of a statement breaks
@@ -67,7 +67,7 @@ fine_statements scope (tree ∷ body) none =
 statement-If : (scope : List Entry) (at : ℕ) (when : Expr) (body other : List StmtTree) → statement_of scope (trees.If at when body other) ≡ statements.If (sense scope when).formula (flat_map (statement_of scope) body) (flat_map (statement_of scope) other) ∷ []
 statement-If scope at when body other =
     ap (statement_of scope) (sym (trees.rolls-If at when body other))
-    ∙ fold-roll-StmtTree (List Stmt) (statement_step scope) (layers.If at when body other)
+    ∙ fold-roll-StmtTree (List Stmt) (statement_of_step scope) (layers.If at when body other)
     ∙ ap (λ inner. statements.If (sense scope when).formula inner (flat_map (λ inner. inner) (map (statement_of scope) other)) ∷ []) (flat_map-map (λ inner. inner) (statement_of scope) body)
     ∙ ap (λ inner. statements.If (sense scope when).formula (flat_map (statement_of scope) body) inner ∷ []) (flat_map-map (λ inner. inner) (statement_of scope) other)
 

@@ -5,14 +5,14 @@ use Rattle.std.specs.List.{flat_map, list_all}
 use Rattle.std.proofs.lemmas.List.Folds.{list_all-append, list_all-map}
 use Rattle.mon_linear.specs.Linear.{Linear}
 use Rattle.mon_linear.specs.declared.formula.Formula.{Formula}
-use Rattle.mon_syntax.specs.declared.tree.Expr.{Expr}
-use Rattle.mon_syntax.specs.declared.tree.Decl.{Decl}
-use Rattle.mon_syntax.specs.declared.tree.MethodTree.{MethodTree}
-use Rattle.mon_syntax.specs.declared.tree.StmtTree.{StmtTree, out-StmtTree, roll-StmtTree}
-use Rattle.mon_syntax.specs.declared.tree.StmtTree.TheOpen.{StmtTree-F, Set, If, Return}
-use Rattle.mon_syntax.specs.declared.tree.StmtTree.TheFolds.{fold-roll-StmtTree, fold_out-StmtTree, map-StmtTree, ind-StmtTree}
-use Rattle.mon_forms.specs.declared.kind.Kind.{Kind}
-use Rattle.mon_forms.specs.declared.kind.Kind.TheVariants as kinds
+use Rattle.mon_tree.specs.declared.tree.Expr.{Expr}
+use Rattle.mon_tree.specs.declared.tree.Decl.{Decl}
+use Rattle.mon_tree.specs.declared.tree.MethodTree.{MethodTree}
+use Rattle.mon_tree.specs.declared.tree.StmtTree.{StmtTree, out-StmtTree, roll-StmtTree}
+use Rattle.mon_tree.specs.declared.tree.StmtTree.TheOpen.{StmtTree-F, Set, If, Return}
+use Rattle.mon_tree.specs.declared.tree.StmtTree.TheFolds.{fold-roll-StmtTree, fold_out-StmtTree, map-StmtTree, ind-StmtTree}
+use Rattle.mon_base.specs.declared.kind.Kind.{Kind}
+use Rattle.mon_base.specs.declared.kind.Kind.TheVariants as kinds
 use Rattle.mon_forms.specs.declared.fault.TypeFault.{TypeFault}
 use Rattle.mon_forms.specs.declared.scope.Meaning.{Meaning}
 use Rattle.mon_forms.specs.declared.scope.Meaning.TheVariants as meanings
@@ -24,13 +24,13 @@ use Rattle.mon_forms.specs.Making.{has_small_numbers}
 use Rattle.mon_forms.proofs.LimitedForms.{both_true}
 use Rattle.mon_forms.proofs.SoundSenses.{or_else_none}
 use Rattle.mon_rules.specs.Rules.{Finding, expected, finding, finding_step, misplaced, target_faults}
-use Rattle.mon_types.specs.declared.monitor.Stmt.{Stmt}
-use Rattle.mon_types.specs.declared.monitor.Stmt.TheVariants as statements
-use Rattle.mon_types.specs.declared.monitor.Stmt.TheOpen as layers
-use Rattle.mon_types.specs.declared.monitor.Stmt.TheFolds.{fold-roll-Stmt}
-use Rattle.mon_types.specs.declared.monitor.Block.{Block}
-use Rattle.mon_types.specs.MonitorParts.{Places, fits_block, fits_form, fits_formula, fits_result, fits_statement, is_kind, statement_step as fits_step}
-use Rattle.mon_types.specs.Typed.{IsBlockOf, assignment, result_layer, result_of, result_of_kind, set_of, statement_of, statement_step as typed_step}
+use Rattle.mon_monitor.specs.declared.monitor.Stmt.{Stmt}
+use Rattle.mon_monitor.specs.declared.monitor.Stmt.TheVariants as statements
+use Rattle.mon_monitor.specs.declared.monitor.Stmt.TheOpen as layers
+use Rattle.mon_monitor.specs.declared.monitor.Stmt.TheFolds.{fold-roll-Stmt}
+use Rattle.mon_monitor.specs.declared.monitor.Block.{Block}
+use Rattle.mon_monitor.specs.MonitorParts.{Places, fits_block, fits_form, fits_formula, fits_result, fits_statement, is_kind, fits_statement_step as fits_step}
+use Rattle.mon_types.specs.Typed.{IsBlockOf, assignment, result_layer, result_of, result_of_kind, set_of, statement_of, statement_of_step as typed_step}
 use Rattle.mon_types.proofs.ScopePlaces.{fits_entry, fits_field, fits_found, fits_meaning, fits_scope, fits_target, found_named}
 use Rattle.mon_types.proofs.HeldPlaces.{bool_fits, int_fits}
 
@@ -40,7 +40,7 @@ pub append_none : (these those : List TypeFault) → (these ++ those) ≡ [] →
 append_none [] those none = (refl, none)
 append_none (fault ∷ these) those none = absurd (cc)
 
-no_fault : (test : Bool) (fault : TypeFault) → (if test then fault ∷ [] else []) ≡ [] → test ≡ false
+pub no_fault : (test : Bool) (fault : TypeFault) → (if test then fault ∷ [] else []) ≡ [] → test ≡ false
 no_fault true fault none = absurd (cc)
 no_fault false fault none = refl
 

@@ -1,5 +1,5 @@
 -- What the checker answers.
-use Rattle.mon_syntax.specs.declared.tree.MonitorTree.{MonitorTree}
+use Rattle.mon_tree.specs.declared.tree.MonitorTree.{MonitorTree}
 use Rattle.mon_forms.specs.declared.fault.TypeFault.{TypeFault}
 use Rattle.mon_forms.specs.declared.fault.TypeFault.TheVariants as faults
 use Rattle.mon_forms.specs.Faults.{IsLeast}

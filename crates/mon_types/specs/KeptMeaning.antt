@@ -1,13 +1,16 @@
 -- Which expressions stand in statements, and when their forms and formulas mean what they say.
-use Rattle.std.specs.Prelude.{◌≡◌, List, [], ◌∷◌, ◌++◌, Some}
+use Rattle.std.specs.Prelude.{◌≡◌, Bool, List, [], ◌∷◌, ◌++◌, All, Some}
 use Rattle.std.specs.List.{flat_map}
-use Rattle.mon_syntax.specs.declared.tree.Expr.{Expr}
-use Rattle.mon_syntax.specs.declared.tree.StmtTree.{StmtTree}
-use Rattle.mon_syntax.specs.declared.tree.StmtTree.TheOpen.{StmtTree-F, Set, If, Return}
-use Rattle.mon_syntax.specs.declared.tree.StmtTree.TheFolds.{fold-StmtTree}
+use Rattle.mon_tree.specs.declared.tree.Decl.{Decl}
+use Rattle.mon_tree.specs.declared.tree.Expr.{Expr}
+use Rattle.mon_tree.specs.declared.tree.MethodTree.{MethodTree}
+use Rattle.mon_tree.specs.declared.tree.StmtTree.{StmtTree}
+use Rattle.mon_tree.specs.declared.tree.StmtTree.TheOpen.{StmtTree-F, Set, If, Return}
+use Rattle.mon_tree.specs.declared.tree.StmtTree.TheFolds.{fold-StmtTree}
 use Rattle.mon_linear.specs.Truth.{Valuation, value_of, truth_of}
-use Rattle.mon_forms.specs.declared.kind.Kind.TheVariants as kinds
+use Rattle.mon_base.specs.declared.kind.Kind.TheVariants as kinds
 use Rattle.mon_forms.specs.declared.scope.Entry.{Entry}
+use Rattle.mon_forms.specs.Scope.{scope_of}
 use Rattle.mon_forms.specs.Forms.{linear_of}
 use Rattle.mon_forms.specs.Sense.{sense}
 use Rattle.mon_forms.specs.Plain.{number_in, truth_in, plain_value}
@@ -31,3 +34,10 @@ pub record KeepsMeaning (scope : List Entry) (expression : Expr) : Type 0 where
       → value_of valuation (linear_of scope (sense scope expression).form) ≡ number_in (plain_value scope valuation expression)
   pub holds : (valuation : Valuation) → (sense scope expression).kind ≡ Some kinds.Bool
       → truth_of valuation (sense scope expression).formula ≡ truth_in (plain_value scope valuation expression)
+
+-- the truth that ordinary arithmetic and logic give a method's guard
+abbrev pub plain_guard : List Decl → MethodTree → Valuation → Bool
+plain_guard declared method valuation = truth_in (plain_value (scope_of declared method.inputs) valuation method.guard)
+
+abbrev pub BodyKeepsMeaning : List Decl → MethodTree → Type 0
+BodyKeepsMeaning declared method = All (KeepsMeaning (scope_of declared method.inputs)) (expressions_in method.body)

@@ -1,6 +1,5 @@
-pub mod MonitorParts
 pub mod Typed
-pub mod Bodies
 pub mod Checked
 pub mod KeptMeaning
-pub mod Making
+pub mod PlainRuns
+pub mod inner

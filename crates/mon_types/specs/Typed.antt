@@ -1,39 +1,35 @@
 -- The monitor that a tree stands for.
-use Rattle.std.specs.Prelude.{◌≡◌, ℕ, ◌+◌, ◌-◌, ◌⊎◌, ℤ, pos, neg_ℤ, Bool, true, false, ◌||◌, nat_le, List, [], ◌∷◌, ◌++◌, length, map, All, Option, Some, None, slice_get, IsSomeAnd}
-use Rattle.std.specs.List.{flat_map, list_any}
-use Rattle.mon_syntax.specs.declared.tree.Lit.{Lit}
-use Rattle.mon_syntax.specs.declared.tree.Decl.{Decl}
-use Rattle.mon_syntax.specs.declared.tree.Decl.TheVariants as decls
-use Rattle.mon_syntax.specs.declared.tree.Expr.{Expr}
-use Rattle.mon_syntax.specs.declared.tree.InputKind.{InputKind}
-use Rattle.mon_syntax.specs.declared.tree.InputKind.TheVariants as inputs
-use Rattle.mon_syntax.specs.declared.tree.StmtTree.{StmtTree, out-StmtTree}
-use Rattle.mon_syntax.specs.declared.tree.StmtTree.TheOpen.{StmtTree-F, Set, If, Return}
-use Rattle.mon_syntax.specs.declared.tree.StmtTree.TheFolds.{fold-StmtTree}
-use Rattle.mon_syntax.specs.declared.tree.MethodTree.{MethodTree}
-use Rattle.mon_syntax.specs.declared.tree.MonitorTree.{MonitorTree}
-use Rattle.mon_linear.specs.declared.form.Term.{Term}
-use Rattle.mon_linear.specs.declared.formula.Formula.{Formula}
-use Rattle.mon_linear.specs.declared.formula.Formula.TheOpen.{Formula-F, Row, Flag, All as Every, Any as Some_of}
-use Rattle.mon_linear.specs.declared.formula.Formula.TheFolds.{fold-Formula}
-use Rattle.mon_forms.specs.declared.kind.Kind.{Kind}
-use Rattle.mon_forms.specs.declared.kind.Kind.TheVariants as kinds
+use Rattle.std.specs.Prelude.{◌≡◌, ℕ, ◌+◌, ◌-◌, ◌⊎◌, ℤ, pos, List, [], ◌∷◌, ◌++◌, length, map, All, Option, Some, None, slice_get, IsSomeAnd}
+use Rattle.std.specs.List.{flat_map}
+use Rattle.mon_tree.specs.declared.tree.Lit.{Lit}
+use Rattle.mon_tree.specs.declared.tree.Decl.{Decl}
+use Rattle.mon_tree.specs.declared.tree.Decl.TheVariants as decls
+use Rattle.mon_tree.specs.declared.tree.InputKind.{InputKind}
+use Rattle.mon_tree.specs.declared.tree.InputKind.TheVariants as inputs
+use Rattle.mon_tree.specs.declared.tree.StmtTree.{StmtTree, out-StmtTree}
+use Rattle.mon_tree.specs.declared.tree.StmtTree.TheOpen.{StmtTree-F, Set, If, Return}
+use Rattle.mon_tree.specs.declared.tree.StmtTree.TheFolds.{fold-StmtTree}
+use Rattle.mon_tree.specs.declared.tree.MethodTree.{MethodTree}
+use Rattle.mon_tree.specs.declared.tree.MonitorTree.{MonitorTree}
+use Rattle.mon_base.specs.declared.kind.Kind.{Kind}
+use Rattle.mon_base.specs.declared.kind.Kind.TheVariants as kinds
 use Rattle.mon_forms.specs.declared.scope.Meaning.{Meaning}
 use Rattle.mon_forms.specs.declared.scope.Meaning.TheVariants as meanings
 use Rattle.mon_forms.specs.declared.scope.Entry.{Entry}
 use Rattle.mon_forms.specs.Scope.{signed, scope_of, entry_named}
 use Rattle.mon_forms.specs.Forms.{linear_of}
 use Rattle.mon_forms.specs.Sense.{Sense, sense}
-use Rattle.mon_types.specs.declared.monitor.Value.TheVariants as values
-use Rattle.mon_types.specs.declared.monitor.Field.{Field}
-use Rattle.mon_types.specs.declared.monitor.Method.{Method}
-use Rattle.mon_types.specs.declared.monitor.Stmt.{Stmt}
-use Rattle.mon_types.specs.declared.monitor.Stmt.TheVariants as statements
-use Rattle.mon_types.specs.declared.monitor.Ret.{Ret}
-use Rattle.mon_types.specs.declared.monitor.Ret.TheVariants as rets
-use Rattle.mon_types.specs.declared.monitor.Block.{Block}
-use Rattle.mon_types.specs.declared.monitor.Condition.{Condition}
-use Rattle.mon_types.specs.MonitorParts.{MonitorParts}
+use Rattle.mon_base.specs.declared.value.Value.TheVariants as values
+use Rattle.mon_monitor.specs.declared.monitor.Field.{Field}
+use Rattle.mon_monitor.specs.declared.monitor.Method.{Method}
+use Rattle.mon_monitor.specs.declared.monitor.Stmt.{Stmt}
+use Rattle.mon_monitor.specs.declared.monitor.Stmt.TheVariants as statements
+use Rattle.mon_monitor.specs.declared.monitor.Ret.{Ret}
+use Rattle.mon_monitor.specs.declared.monitor.Ret.TheVariants as rets
+use Rattle.mon_monitor.specs.declared.monitor.Block.{Block}
+use Rattle.mon_monitor.specs.declared.monitor.Condition.{Condition}
+use Rattle.mon_monitor.specs.MonitorParts.{MonitorParts}
+use Rattle.mon_monitor.specs.Inputs.{reads_inputs}
 
 -- ---- fields and methods
 
@@ -67,13 +63,13 @@ set_of scope None value = []
 set_of scope (Some target) value = assignment scope target.meaning value
 
 -- a `return` is no statement of the body: it is the block's result
-abbrev pub statement_step : List Entry → StmtTree-F (List Stmt) → List Stmt
-statement_step scope (Set at name value) = set_of scope (entry_named scope name) (sense scope value)
-statement_step scope (If at when body other) = statements.If (sense scope when).formula (flat_map (λ inner. inner) body) (flat_map (λ inner. inner) other) ∷ []
-statement_step scope (Return at value) = []
+abbrev pub statement_of_step : List Entry → StmtTree-F (List Stmt) → List Stmt
+statement_of_step scope (Set at name value) = set_of scope (entry_named scope name) (sense scope value)
+statement_of_step scope (If at when body other) = statements.If (sense scope when).formula (flat_map (λ inner. inner) body) (flat_map (λ inner. inner) other) ∷ []
+statement_of_step scope (Return at value) = []
 
 abbrev pub statement_of : List Entry → StmtTree → List Stmt
-statement_of scope = fold-StmtTree (List Stmt) (statement_step scope)
+statement_of scope = fold-StmtTree (List Stmt) (statement_of_step scope)
 
 abbrev pub result_of_kind : List Entry → Option Kind → Sense → Ret
 result_of_kind scope (Some kinds.Int) value = rets.Int (linear_of scope value.form)
@@ -105,20 +101,6 @@ AreBlocksOf declared number (method ∷ methods) (block ∷ blocks) = IsBlockOf 
 AreBlocksOf declared number methods blocks = ⊥
 
 -- ---- conditions: classes of equal guards, numbered from 1 by their first block
-
--- a place of an input
-abbrev pub reads_term : Term → Bool
-reads_term term = nat_le 16 term.place
-
-abbrev pub reads_step : Formula-F Bool → Bool
-reads_step (Row form) = list_any reads_term form.terms
-reads_step (Flag place is) = nat_le 16 place
-reads_step (Every parts) = list_any (λ part. part) parts
-reads_step (Some_of parts) = list_any (λ part. part) parts
-
--- whether a guard reads inputs
-abbrev pub reads_inputs : Formula → Bool
-reads_inputs = fold-Formula Bool reads_step
 
 abbrev pub condition_of : Block → MethodTree → Condition
 condition_of block method = record { guard = block.guard; reads_inputs = reads_inputs block.guard; shown = method.guard }

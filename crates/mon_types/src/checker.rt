@@ -7,10 +7,11 @@ ghost use Rattle.mon_types.specs.Checked.{HasCause};
 ghost use Rattle.mon_types.specs.Typed.{IsTyped};
 
 use crate::making::monitor_of;
-use crate::monitor::Monitor;
 use mon_forms::TypeFault;
+use mon_monitor::Monitor;
 use mon_rules::fault_in_monitor;
-use mon_syntax::MonitorTree;
+use mon_syntax::names_are_identifiers;
+use mon_tree::MonitorTree;
 use std::alloc::Global;
 
 /// The monitor that a tree stands for, where the tree keeps all the rules of `mon_rules/specs/Rules`.
@@ -28,6 +29,7 @@ pub fn check(alloc: Global, tree: &MonitorTree) -> Result<Monitor, TypeFault>
     // and a fault is the first of those that are.
     ensures fault { IfErr result (λ fault. HasCause tree.now fault) }
 {
+    names_are_identifiers();
     match fault_in_monitor(alloc, tree)? {
         Some(fault) => Err(fault),
         None => Ok(monitor_of(alloc, tree)?),

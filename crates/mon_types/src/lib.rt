@@ -1,21 +1,18 @@
 //! The checker: from the tree of a monitor file to a monitor.
 //!
 //! [`check`] answers the monitor that a tree stands for, or the first rule that the tree breaks and where.
-//! Definitions: `specs/Typed` (the monitor of a tree), `specs/MonitorParts` (the rule that every monitor
-//! meets), `specs/Bodies` (what bodies do over whole numbers without bounds, when one overflows, and valid
-//! triples); the rules of trees are `mon_rules/specs/Rules`, and forms and formulas those of `mon_forms`.
+//! [`forms_keep_meaning`] and [`bodies_keep_meaning`] are the laws that its expressions and its blocks mean what the
+//! tree says. Definitions: `specs/Typed` (the monitor of a tree), `specs/PlainRuns` (what a tree's statements do);
+//! monitors and what their bodies do are those of `mon_monitor`, the rules of trees are `mon_rules/specs/Rules`, and
+//! forms and formulas those of `mon_forms`.
 #![tactic(auto)]
 
-mod candidate;
 mod checker;
 mod laws;
 mod making;
-mod monitor;
-#[cfg(test)]
-mod tests;
 
-pub use candidate::Candidate;
 pub use checker::check;
-pub use laws::forms_keep_meaning;
-pub use mon_forms::{Counted, Kind, TypeFault};
-pub use monitor::{Block, Condition, Field, Method, Monitor, Ret, Stmt, Value};
+pub use laws::{bodies_keep_meaning, forms_keep_meaning};
+pub use mon_base::{Kind, Value};
+pub use mon_forms::{Counted, TypeFault};
+pub use mon_monitor::{Block, Candidate, Condition, Field, Method, Monitor, Ret, Stmt};

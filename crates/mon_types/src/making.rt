@@ -1,6 +1,8 @@
 //! From the tree of a file that breaks no rule to a monitor.
 
-ghost use Rattle.std.specs.Prelude.{◌≡◌, [], IfOk};
+ghost use Rattle.std.specs.Prelude.{◌≡◌, [], All, IfOk};
+ghost use Rattle.mon_base.specs.Identifiers.{IsIdentifier};
+ghost use Rattle.mon_tree.specs.Names.{names_in};
 ghost use Rattle.mon_rules.specs.Rules.{faults_of};
 ghost use Rattle.mon_types.specs.Typed.{IsTyped};
 
@@ -10,16 +12,17 @@ mod fields;
 mod methods;
 mod statements;
 
-use crate::monitor::Monitor;
 use blocks::blocks_of;
 use fields::fields_of;
 use methods::methods_of;
-use mon_syntax::MonitorTree;
+use mon_monitor::Monitor;
+use mon_tree::MonitorTree;
 use std::alloc::{AllocError, Global};
 
-/// The monitor that a tree stands for, where the tree breaks no rule. It fails only for want of memory.
+/// The monitor that a tree of identifiers stands for, where the tree breaks no rule. It fails only for want of memory.
 pub(crate) fn monitor_of(alloc: Global, tree: &MonitorTree) -> Result<Monitor, AllocError>
     requires fine { faults_of tree.now ≡ [] }
+    requires names { All IsIdentifier (names_in tree.now) }
     ensures { IfOk result (λ monitor. IsTyped tree.now monitor) }
 {
     let decls = tree.decls.items();

@@ -1,5 +1,10 @@
+use super::super::expresso::expresso;
 use super::super::status::Status;
-use super::{BUFFER, CHECK, Devices, SOUND, TURNS, TWO, TWO_RUN, answer};
+use super::{BUFFER, CHECK, Devices, SOUND, TURNS, TWO, TWO_RUN, answer, texts_of, two_files};
+use mon_io::StdSink;
+use std::fmt::Display;
+use std::io;
+use std::io::Print;
 use std::test::Fail;
 
 #[test]
@@ -103,5 +108,42 @@ fn a_write_that_fails_leaves_a_front_of_the_text(rt: HostRuntime) -> Result<(), 
         sound > 5,
         "a run with no fault comes after one for each of more than four pieces"
     );
+    Ok(())
+}
+
+/// A standard output that takes nothing.
+#[derive(Drop)]
+struct Closed;
+
+impl Print for Closed {
+    fn print<D: Display + Drop>(&self, _value: D) -> io::Result<()> {
+        Ok(())
+    }
+
+    fn println<D: Display + Drop>(&self, _value: D) -> io::Result<()> {
+        Ok(())
+    }
+
+    fn write_all(&self, _bytes: &[u8]) -> io::Result<()> {
+        Err(io::Error::from(io::ErrorKind::BrokenPipe))
+    }
+}
+
+#[test]
+fn a_text_that_is_gathered_and_not_handed_on_is_a_write_fault(rt: HostRuntime) -> Result<(), Fail> {
+    let table: [(&[&str], &[u8]); 4] = [
+        (TURNS.as_slice(), BUFFER),
+        (CHECK.as_slice(), BUFFER),
+        (CHECK.as_slice(), b"@"),
+        (&["expresso"], b""),
+    ];
+    for (words, monitor) in table {
+        let words = texts_of(rt.alloc(), words)?;
+        let mut files = two_files(rt.alloc(), monitor, TWO, None)?;
+        let mut out = StdSink::new(&Closed);
+        let status = expresso(rt.alloc(), &words, &mut files, &mut out);
+        assert_eq!(rt; status, Status::WriteFault);
+        assert_eq!(rt; out.faults(), 1);
+    }
     Ok(())
 }

@@ -1,8 +1,8 @@
 use super::super::client_file::read_clients;
 use super::super::monitor_file::{MonitorFault, MonitorFile, read_monitor};
 use super::{BUFFER, TWO};
+use mon_base::Name;
 use mon_implicit::{Call, Client, Reply, Scripts, are_clients, fit};
-use mon_io::Name;
 use mon_list::Seq;
 use std::alloc::{AllocError, Global};
 use std::test::Fail;

@@ -2,7 +2,6 @@
 
 use super::super::*;
 use mon_io::{MemSink, SinkFailed};
-use mon_types::Counted;
 use std::alloc::{AllocError, Global};
 use std::test::Fail;
 

@@ -3,15 +3,16 @@
 ghost use Rattle.std.specs.Prelude.{◌≡◌, ◌≤◌, [], All, IfOk, length};
 ghost use Rattle.mon_forms.specs.Scope.{field_count, scope_of};
 ghost use Rattle.mon_rules.specs.Rules.{method_faults};
-ghost use Rattle.mon_types.specs.Making.{IsMethodScope, IsNumbered};
-ghost use Rattle.mon_types.specs.Typed.{AreBlocksOf, AreConditions, IsBlockOf};
+ghost use Rattle.mon_base.specs.Limits.{CONDITIONS, FIELDS, FILE_BYTES, METHODS};
+ghost use Rattle.mon_types.specs.inner.Making.{AreNumbered, HasNumber, IsMethodScope};
+ghost use Rattle.mon_types.specs.Typed.{AreBlocksOf, IsBlockOf};
 
 use super::conditions::number_of;
 use super::statements::{result_of, statements_of};
-use crate::monitor::{Block, Condition};
 use mon_forms::{Entry, formula_of, scope_of};
 use mon_list::Seq;
-use mon_syntax::{Decl, MethodTree};
+use mon_monitor::{Block, Condition};
+use mon_tree::{Decl, MethodTree};
 use std::alloc::{AllocError, Global};
 
 /// The blocks of these trees, one for each method, and their conditions.
@@ -19,19 +20,19 @@ pub(crate) fn blocks_of(
     alloc: Global,
     decls: &[Decl],
     trees: &[MethodTree],
-    conditions: &mut Vec<Condition>,
+    known: &mut Vec<Condition>,
 ) -> Result<Vec<Block>, AllocError>
-    requires none { conditions.old.items ≡ [] }
-    requires fields { field_count decls.now ≤ 16 }
-    requires decls { length decls.now ≤ 65536 }
-    requires few { length trees.now ≤ 16 }
+    requires none { known.old.items ≡ [] }
+    requires fields { field_count decls.now ≤ FIELDS }
+    requires decls { length decls.now ≤ FILE_BYTES }
+    requires few { length trees.now ≤ METHODS }
     requires fine { All (λ tree. method_faults decls.now tree ≡ []) trees.now }
     ensures blocks { IfOk result (λ blocks. AreBlocksOf decls.now 0 trees.now blocks.items) }
-    ensures conditions { IfOk result (λ blocks. AreConditions [] trees.now blocks.items conditions.new.items) }
+    ensures conditions { IfOk result (λ it. AreNumbered trees.now it.items known.new.items) }
 {
     let mut blocks = Vec::new(alloc);
     for (number, tree) in trees.iter().enumerate() {
-        let block = block_of(alloc, decls, number as u32, tree, conditions)?;
+        let block = block_of(alloc, decls, number as u32, tree, known)?;
         blocks.push(block)?;
     }
     Ok(blocks)
@@ -43,14 +44,14 @@ fn block_of(
     decls: &[Decl],
     number: u32,
     tree: &MethodTree,
-    conditions: &mut Vec<Condition>,
+    known: &mut Vec<Condition>,
 ) -> Result<Block, AllocError>
-    requires fields { field_count decls.now ≤ 16 }
-    requires decls { length decls.now ≤ 65536 }
-    requires few { length conditions.old.items ≤ 16 }
+    requires fields { field_count decls.now ≤ FIELDS }
+    requires decls { length decls.now ≤ FILE_BYTES }
+    requires few { length known.old.items ≤ CONDITIONS }
     requires fine { method_faults decls.now tree.now ≡ [] }
     ensures block { IfOk result (λ block. IsBlockOf decls.now number tree.now block) }
-    ensures condition { IfOk result (λ block. IsNumbered conditions.old.items block.guard tree.now.guard block.condition conditions.new.items) }
+    ensures condition { IfOk result (λ it. HasNumber tree.now it known.old.items known.new.items) }
 {
     let statements = tree.body.items();
     let scope = method_scope(alloc, decls, tree)?;
@@ -58,7 +59,7 @@ fn block_of(
     let guard = formula_of(alloc, entries, &tree.guard)?;
     let body = statements_of(alloc, entries, statements)?;
     let result = result_of(alloc, entries, statements)?;
-    let condition = number_of(alloc, conditions, &guard, &tree.guard)?;
+    let condition = number_of(alloc, known, &guard, &tree.guard)?;
     Ok(Block {
         method: number,
         guard,
@@ -70,8 +71,8 @@ fn block_of(
 
 /// The scope of a method.
 fn method_scope(alloc: Global, decls: &[Decl], tree: &MethodTree) -> Result<Seq<Entry>, AllocError>
-    requires fields { field_count decls.now ≤ 16 }
-    requires decls { length decls.now ≤ 65536 }
+    requires fields { field_count decls.now ≤ FIELDS }
+    requires decls { length decls.now ≤ FILE_BYTES }
     requires fine { method_faults decls.now tree.now ≡ [] }
     ensures exact { IfOk result (λ scope. scope ≡ scope_of decls.now tree.now.inputs) }
     ensures fine { IfOk result (λ scope. IsMethodScope tree.now scope) }

@@ -1,26 +1,27 @@
 //! Conditions: the classes of equal guards.
 
-ghost use Rattle.std.specs.Prelude.{◌≡◌, ◌≤◌, All, IfOk, MatchOption, IsSomeAnd, length, map, nat_le, slice_get};
+ghost use Rattle.std.specs.Prelude.{◌≡◌, ◌≤◌, All, IfNone, IfOk, IfSome, IsSomeAnd, length, map, nat_le, slice_get};
 ghost use Rattle.std.specs.List.{list_any};
-ghost use Rattle.mon_types.specs.Making.{IsNumbered};
-ghost use Rattle.mon_types.specs.Typed.{reads_inputs, reads_term};
+ghost use Rattle.mon_base.specs.Limits.{CONDITIONS};
+ghost use Rattle.mon_types.specs.inner.Making.{HasGuard, IsNumbered, LacksGuard};
+ghost use Rattle.mon_monitor.specs.Inputs.{reads_inputs, reads_term};
 
-use crate::monitor::Condition;
 use mon_linear::{Formula, Lin, Term, copy_formula, same_formula};
-use mon_syntax::{Expr, copy_expression};
+use mon_monitor::Condition;
+use mon_tree::{Expr, copy_expression};
 use std::alloc::{AllocError, Global};
 
 /// The number of the condition with this guard. Where there is none it is added.
 pub(crate) fn number_of(
     alloc: Global,
-    conditions: &mut Vec<Condition>,
+    known: &mut Vec<Condition>,
     guard: &Formula,
     shown: &Expr,
 ) -> Result<u32, AllocError>
-    requires { length conditions.old.items ≤ 16 }
-    ensures { IfOk result (λ number. IsNumbered conditions.old.items guard.now shown.now number conditions.new.items) }
+    requires { length known.old.items ≤ CONDITIONS }
+    ensures { IfOk result (λ n. IsNumbered known.old.items guard.now shown.now n known.new.items) }
 {
-    match condition_with(conditions.as_slice(), guard) {
+    match condition_with(known.as_slice(), guard) {
         Some(index) => Ok(index as u32 + 1),
         None => {
             let condition = Condition {
@@ -28,8 +29,8 @@ pub(crate) fn number_of(
                 reads_inputs: reads_inputs(guard),
                 shown: copy_expression(alloc, shown)?,
             };
-            let before = conditions.len();
-            conditions.push(condition)?;
+            let before = known.len();
+            known.push(condition)?;
             Ok(before as u32 + 1)
         }
     }
@@ -37,7 +38,8 @@ pub(crate) fn number_of(
 
 /// The index of the condition with this guard.
 fn condition_with(conditions: &[Condition], guard: &Formula) -> Option<usize>
-    ensures { MatchOption result (All (λ condition. condition.guard ≡ guard.now → ⊥) conditions.now) (λ index. IsSomeAnd (slice_get conditions.now index) (λ condition. condition.guard ≡ guard.now)) }
+    ensures none { IfNone result (All (LacksGuard guard.now) conditions.now) }
+    ensures at { IfSome result (λ k. IsSomeAnd (slice_get conditions.now k) (HasGuard guard.now)) }
 {
     for (index, condition) in conditions.iter().enumerate() {
         if same_formula(&condition.guard, guard) {

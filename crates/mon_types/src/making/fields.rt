@@ -2,13 +2,13 @@
 
 ghost use Rattle.std.specs.Prelude.{◌≡◌, ◌++◌, ◌≤◌, [], All, IfOk};
 ghost use Rattle.std.specs.List.{flat_map};
-ghost use Rattle.mon_forms.specs.Scope.{greatest_number};
+ghost use Rattle.mon_base.specs.Limits.{GREATEST_NUMBER};
 ghost use Rattle.mon_rules.specs.Rules.{literal_faults};
 ghost use Rattle.mon_types.specs.Typed.{field_of, literal_value};
 
-use crate::monitor::{Field, Value};
-use mon_forms::Kind;
-use mon_syntax::{Decl, Lit};
+use mon_base::{Kind, Value};
+use mon_monitor::Field;
+use mon_tree::{Decl, Lit};
 use std::alloc::{AllocError, Global};
 
 /// The fields of these declarations.
@@ -51,7 +51,7 @@ fn push_field(fields: &mut Vec<Field>, decl: &Decl) -> Result<(), AllocError>
 
 /// The number that a literal stands for.
 fn number_of(literal: &Lit) -> i64
-    requires { literal.now.digits ≤ greatest_number }
+    requires { literal.now.digits ≤ GREATEST_NUMBER }
     ensures { result ≡ literal_value literal.now }
 {
     let magnitude = literal.digits as i64;

@@ -1,17 +1,18 @@
 //! The methods of a monitor.
 
 ghost use Rattle.std.specs.Prelude.{◌≡◌, ◌≤◌, IfOk, length, map};
+ghost use Rattle.mon_base.specs.Limits.{METHODS};
 ghost use Rattle.mon_types.specs.Typed.{input_kind, methods_from};
 
-use crate::monitor::Method;
-use mon_forms::Kind;
+use mon_base::Kind;
 use mon_list::Seq;
-use mon_syntax::{InputKind, InputTree, MethodTree};
+use mon_monitor::Method;
+use mon_tree::{InputKind, InputTree, MethodTree};
 use std::alloc::{AllocError, Global};
 
 /// The methods of these trees, each with one block.
 pub(crate) fn methods_of(alloc: Global, trees: &[MethodTree]) -> Result<Vec<Method>, AllocError>
-    requires { length trees.now ≤ 16 }
+    requires { length trees.now ≤ METHODS }
     ensures { IfOk result (λ methods. methods.items ≡ methods_from 0 trees.now) }
 {
     let mut methods = Vec::new(alloc);

@@ -1,19 +1,20 @@
 //! Statements and results.
 
-ghost use Rattle.std.specs.Prelude.{◌≡◌, ◌++◌, [], Some, All, IfOk, IsTrue};
+ghost use Rattle.std.specs.Prelude.{◌≡◌, ◌++◌, [], All, IfOk, IsTrue, OnOk};
 ghost use Rattle.std.specs.List.{flat_map};
-ghost use Rattle.mon_syntax.specs.declared.tree.StmtTree.{out-StmtTree};
-ghost use Rattle.mon_forms.specs.Scope.{entry_named};
+ghost use Rattle.mon_tree.specs.declared.tree.StmtTree.{out-StmtTree};
 ghost use Rattle.mon_forms.specs.Forms.{IsOrdered};
 ghost use Rattle.mon_forms.specs.Making.{has_small_numbers};
-ghost use Rattle.mon_forms.specs.Sense.{entry_kind, meaning_kind, sense};
-ghost use Rattle.mon_rules.specs.Rules.{expected, finding};
-ghost use Rattle.mon_types.specs.Typed.{assignment, result_layer, result_of, result_of_kind, set_of, statement_of};
+ghost use Rattle.mon_forms.specs.Sense.{sense};
+ghost use Rattle.mon_rules.specs.Rules.{finding};
+ghost use Rattle.mon_types.specs.Typed.{result_layer, result_of, statement_of};
+ghost use Rattle.mon_types.specs.inner.Making.{assigned, assigned_at, meaning_faults, value_faults, value_result as result_of_value};
 
-use crate::monitor::{Ret, Stmt};
-use mon_forms::{Entry, Kind, Meaning, find, form_of, formula_of, kind_of};
+use mon_base::Kind;
+use mon_forms::{Entry, Meaning, find, form_of, formula_of, kind_of};
 use mon_list::Seq;
-use mon_syntax::{Expr, StmtTree};
+use mon_monitor::{Ret, Stmt};
+use mon_tree::{Expr, StmtTree};
 use std::alloc::{AllocError, Global};
 
 /// The statements of these trees.
@@ -41,15 +42,15 @@ fn push_statement(
     alloc: Global,
     scope: &[Entry],
     tree: &StmtTree,
-    made: &mut Vec<Stmt>,
+    to: &mut Vec<Stmt>,
 ) -> Result<(), AllocError>
     requires ordered { IsOrdered scope.now }
     requires numbers { IsTrue (has_small_numbers scope.now) }
     requires fine { (finding scope.now tree.now).faults ≡ [] }
-    ensures { IfOk result (λ _. made.new.items ≡ made.old.items ++ statement_of scope.now tree.now) }
+    ensures { OnOk result (to.new.items ≡ to.old.items ++ statement_of scope.now tree.now) }
 {
     match tree {
-        StmtTree::Set { name, value, .. } => { push_set(alloc, scope, name.bytes(), value, made) }
+        StmtTree::Set { name, value, .. } => { push_set(alloc, scope, name.bytes(), value, to) }
         StmtTree::If {
             when,
             then,
@@ -59,7 +60,7 @@ fn push_statement(
             let when = formula_of(alloc, scope, when)?;
             let body = statements_of(alloc, scope, then.items())?;
             let other = statements_of(alloc, scope, other.items())?;
-            made.push(Stmt::If {
+            to.push(Stmt::If {
                 when,
                 then: Seq::of(body),
                 other: Seq::of(other),
@@ -76,16 +77,16 @@ fn push_set(
     scope: &[Entry],
     name: &[u8],
     value: &Expr,
-    made: &mut Vec<Stmt>,
+    to: &mut Vec<Stmt>,
 ) -> Result<(), AllocError>
     requires ordered { IsOrdered scope.now }
     requires numbers { IsTrue (has_small_numbers scope.now) }
-    requires fine { expected (entry_kind (entry_named scope.now name.now)) (sense scope.now value.now) ≡ [] }
-    ensures { IfOk result (λ _. made.new.items ≡ made.old.items ++ set_of scope.now (entry_named scope.now name.now) (sense scope.now value.now)) }
+    requires fine { value_faults scope.now name.now value.now ≡ [] }
+    ensures { OnOk result (to.new.items ≡ to.old.items ++ assigned scope.now name.now value.now) }
 {
     match find(scope, name) {
         None => Ok(()),
-        Some(index) => push_assignment(alloc, scope, scope[index].meaning, value, made),
+        Some(index) => push_assignment(alloc, scope, scope[index].meaning, value, to),
     }
 }
 
@@ -95,23 +96,23 @@ fn push_assignment(
     scope: &[Entry],
     meaning: Meaning,
     value: &Expr,
-    made: &mut Vec<Stmt>,
+    to: &mut Vec<Stmt>,
 ) -> Result<(), AllocError>
     requires ordered { IsOrdered scope.now }
     requires numbers { IsTrue (has_small_numbers scope.now) }
-    requires fine { expected (Some (meaning_kind meaning)) (sense scope.now value.now) ≡ [] }
-    ensures { IfOk result (λ _. made.new.items ≡ made.old.items ++ assignment scope.now meaning (sense scope.now value.now)) }
+    requires fine { meaning_faults meaning scope.now value.now ≡ [] }
+    ensures { OnOk result (to.new.items ≡ to.old.items ++ assigned_at scope.now meaning value.now) }
 {
     match meaning {
         Meaning::Number(_) => Ok(()),
         Meaning::Int { place } => {
             let form = form_of(alloc, scope, value)?;
-            made.push(Stmt::SetInt { field: place, form })?;
+            to.push(Stmt::SetInt { field: place, form })?;
             Ok(())
         }
         Meaning::Flag { place } => {
             let is = formula_of(alloc, scope, value)?;
-            made.push(Stmt::SetBool { field: place, is })?;
+            to.push(Stmt::SetBool { field: place, is })?;
             Ok(())
         }
     }
@@ -153,7 +154,7 @@ fn value_result(alloc: Global, scope: &[Entry], value: &Expr) -> Result<Ret, All
     requires ordered { IsOrdered scope.now }
     requires numbers { IsTrue (has_small_numbers scope.now) }
     requires fine { (sense scope.now value.now).faults ≡ [] }
-    ensures { IfOk result (λ made. made ≡ result_of_kind scope.now (sense scope.now value.now).kind (sense scope.now value.now)) }
+    ensures { IfOk result (λ made. made ≡ result_of_value scope.now value.now) }
 {
     match kind_of(scope, value) {
         None => Ok(Ret::Nothing),

@@ -1,8 +1,8 @@
 use Rattle.std.proofs.Common.{◌≡◌, List, subst, arith}
 use Rattle.std.specs.List.{slice_get}
 use Rattle.std.specs.Option.{IsSomeAnd}
-use Rattle.mon_syntax.specs.declared.tree.ClientTree.{ClientTree}
-use Rattle.mon_syntax.specs.declared.tree.Item.{out-Item}
+use Rattle.mon_tree.specs.declared.tree.ClientTree.{ClientTree}
+use Rattle.mon_tree.specs.declared.tree.Item.{out-Item}
 use Rattle.expresso_cli.specs.Scripts.{place_of}
 use Rattle.expresso_cli.specs.ScriptChecks.{calls_among}
 use Rattle.expresso_cli.proofs.ScriptRules.{call_above}

@@ -1,6 +1,6 @@
 use Rattle.std.proofs.Common.{List, subst}
 use Rattle.std.proofs.lemmas.Result.{err_from_is_err_and}
-use Rattle.mon_syntax.specs.declared.tree.ClientTree.{ClientTree}
+use Rattle.mon_tree.specs.declared.tree.ClientTree.{ClientTree}
 use Rattle.expresso_cli.specs.ScriptChecks.{AreMadeClients}
 use Rattle.expresso_cli.proofs.ScriptRules.{broken_is_cause, are_clients, unbroken}
 use Rattle.expresso_cli.proofs.ParsedClients.{names_are_identifiers}

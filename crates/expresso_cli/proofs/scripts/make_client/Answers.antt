@@ -1,6 +1,6 @@
 use Rattle.std.proofs.Common.{List, sym, subst}
 use Rattle.mon_implicit.specs.declared.script.Call.{Call}
-use Rattle.mon_syntax.specs.declared.tree.Item.{Item}
+use Rattle.mon_tree.specs.declared.tree.Item.{Item}
 use Rattle.expresso_cli.specs.ScriptChecks.{AreMadeCalls}
 use Rattle.expresso_cli.proofs.MadeScripts.{client_made}
 use Rattle.expresso_cli.proofs.scripts.make_client.Goals as goal

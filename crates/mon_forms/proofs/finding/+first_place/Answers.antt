@@ -1,5 +1,5 @@
 use Rattle.std.proofs.Common.{◌≡◌, ◌≤◌, List, [], ◌∷◌, length, get_or, map, ap, ◌∙◌, arith}
-use Rattle.mon_syntax.specs.declared.tree.Expr.{Expr}
+use Rattle.mon_tree.specs.declared.tree.Expr.{Expr}
 use Rattle.mon_forms.specs.declared.scope.Entry.{Entry}
 use Rattle.mon_forms.specs.Sense.{first_of, sense}
 use Rattle.mon_forms.proofs.SenseLayers.{sense-Product, sense-Sum, sense-Compare, sense-Both, sense-Either}

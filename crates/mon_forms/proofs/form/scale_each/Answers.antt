@@ -1,5 +1,5 @@
 use Rattle.std.proofs.Common.{◌≡◌, arith, sym, subst, true, ◌^◌}
-use Rattle.mon_forms.specs.Forms.{is_within}
+use Rattle.mon_base.specs.Numbers.{is_within}
 use Rattle.mon_forms.proofs.Numbers.{read_fits}
 use Rattle.mon_forms.proofs.FormSums.{scale_fits, scale_step}
 use Rattle.mon_forms.proofs.form.scale_each.Goals as goal

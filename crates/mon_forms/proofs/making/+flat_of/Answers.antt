@@ -1,6 +1,6 @@
 use Rattle.std.proofs.Common.{◌≡◌, rules, refl, ◌∙◌, sym, subst}
 use Rattle.std.specs.Prelude.{IfOk}
-use Rattle.mon_syntax.specs.declared.tree.Expr.TheViews.{the_lemmas}
+use Rattle.mon_tree.specs.declared.tree.Expr.TheViews.{the_lemmas}
 use Rattle.mon_forms.specs.Forms.{Form}
 use Rattle.mon_forms.proofs.FormTerms.{times_length}
 use Rattle.mon_forms.proofs.MakingLemmas.{part_form_of, part_limited, addend_at, factor_at, sum_turn, sum_goes, sum_parts, sum_is, product_done, product_goes, product_parts, product_is, first_product, minus_part}

@@ -1,7 +1,8 @@
 use Rattle.std.proofs.Common.{◌≡◌, ℕ, ◌+◌, true, [], map, take, drop}
-use Rattle.mon_forms.specs.Forms.{AreWithin, IsFormOf, is_limited}
+use Rattle.mon_forms.specs.Forms.{is_limited}
+use Rattle.mon_forms.specs.inner.FormBounds.{AreWithin, IsFormOf}
 use Rattle.mon_forms.specs.Sense.{product_faults, product_form, sum_form}
-use Rattle.mon_forms.specs.Making.{addend_sense, factor_sense}
+use Rattle.mon_forms.specs.inner.Parts.{addend_sense, factor_sense}
 use Rattle.mon_forms.proofs.making.+flat_of.Given as goal
 
 abbrev pub invariant-multiply_all-loop-factor : goal.invariant-multiply_all-loop-factor

@@ -1,5 +1,5 @@
 use Rattle.std.proofs.Common.{rules, ◌∙◌}
-use Rattle.mon_syntax.specs.declared.tree.Expr.TheViews.{the_lemmas}
+use Rattle.mon_tree.specs.declared.tree.Expr.TheViews.{the_lemmas}
 use Rattle.mon_forms.proofs.MakingLemmas.{part_turns, not_part, compare_parts, both_parts, either_parts, both_is, either_is}
 use Rattle.mon_forms.proofs.making.+formula_of.Goals as goal
 

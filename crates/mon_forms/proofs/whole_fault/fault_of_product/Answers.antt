@@ -1,4 +1,4 @@
-use Rattle.mon_syntax.specs.declared.tree.Factor.{Factor}
+use Rattle.mon_tree.specs.declared.tree.Factor.{Factor}
 use Rattle.mon_forms.proofs.WholeFaults.{earlier_same, ints_of, least_Product, of_product, whole_none, whole_some}
 use Rattle.mon_forms.proofs.whole_fault.fault_of_product.Goals as goal
 

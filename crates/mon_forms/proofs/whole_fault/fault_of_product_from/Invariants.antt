@@ -1,6 +1,6 @@
 use Rattle.std.proofs.Common.{◌≡◌, true, map}
 use Rattle.mon_forms.specs.Forms.{is_limited}
-use Rattle.mon_forms.specs.Making.{factor_sense}
+use Rattle.mon_forms.specs.inner.Parts.{factor_sense}
 use Rattle.mon_forms.specs.Sense.{product_faults}
 use Rattle.mon_forms.proofs.WholeFaults.{from_factor}
 use Rattle.mon_forms.proofs.whole_fault.fault_of_product_from.Given as goal

@@ -1,4 +1,4 @@
-use Rattle.mon_syntax.specs.declared.tree.Addend.{Addend}
+use Rattle.mon_tree.specs.declared.tree.Addend.{Addend}
 use Rattle.mon_forms.proofs.WholeFaults.{earlier_same, ints_of, least_Sum, of_sum, whole_none, whole_some}
 use Rattle.mon_forms.proofs.whole_fault.fault_of_sum.Goals as goal
 

@@ -1,6 +1,6 @@
 use Rattle.std.proofs.Common.{map, ap, ◌∙◌}
 use Rattle.mon_forms.specs.Forms.{Form}
-use Rattle.mon_forms.specs.Making.{addend_sense}
+use Rattle.mon_forms.specs.inner.Parts.{addend_sense}
 use Rattle.mon_forms.specs.Sense.{sum_form}
 use Rattle.mon_forms.proofs.WholeFaults.{int_limited, large_same, part_of_scope}
 use Rattle.mon_forms.proofs.whole_fault.large_sum.Goals as goal

@@ -1,6 +1,6 @@
 use Rattle.std.proofs.Common.{◌≡◌, ℕ, Bool, true, [], ◌∷◌, Option, Some, sym, ap, ◌∙◌}
 use Rattle.std.specs.Prelude.{if◌then◌else◌}
-use Rattle.mon_forms.specs.declared.kind.Kind.{Kind}
+use Rattle.mon_base.specs.declared.kind.Kind.{Kind}
 use Rattle.mon_forms.specs.declared.fault.TypeFault.TheVariants as faults
 use Rattle.mon_forms.specs.Faults.{least}
 use Rattle.mon_forms.specs.Sense.{Sense, is_other, sense, wrong_type}

@@ -1,7 +1,8 @@
 use Rattle.std.proofs.Common.{List, [], ◌++◌, map, ◌∙◌, ap}
 use Rattle.std.specs.List.{flat_map}
-use Rattle.mon_syntax.specs.declared.tree.Decl.{Decl}
-use Rattle.mon_syntax.specs.declared.tree.MethodTree.{MethodTree}
+use Rattle.mon_tree.specs.declared.tree.Decl.{Decl}
+use Rattle.mon_tree.specs.declared.tree.MethodTree.{MethodTree}
+use Rattle.mon_base.specs.Limits.{CONSTANTS, FIELDS, METHODS}
 use Rattle.mon_forms.specs.declared.fault.TypeFault.{TypeFault}
 use Rattle.mon_forms.specs.declared.fault.Counted.TheVariants.{Constants, Fields, Methods}
 use Rattle.mon_forms.specs.Faults.{least}
@@ -14,9 +15,9 @@ abbrev faults_in : List Decl → List MethodTree → List TypeFault
 faults_in decls methods =
     flat_map literal_faults decls
     ++ repeated [] (map declared_name decls ++ map method_name methods)
-    ++ over 64 Constants (flat_map constant_place decls)
-    ++ over 16 Fields (flat_map field_place decls)
-    ++ over 16 Methods (map (λ method. method.at) methods)
+    ++ over CONSTANTS Constants (flat_map constant_place decls)
+    ++ over FIELDS Fields (flat_map field_place decls)
+    ++ over METHODS Methods (map (λ method. method.at) methods)
     ++ flat_map (method_faults decls) methods
 
 pub returns : goal.returns
@@ -25,9 +26,9 @@ returns c =
     let methods = c.items-methods.result.now in
     let large = flat_map literal_faults decls in
     let names = repeated [] (map declared_name decls ++ map method_name methods) in
-    let constants = over 64 Constants (flat_map constant_place decls) in
-    let fields = over 16 Fields (flat_map field_place decls) in
-    let count = over 16 Methods (map (λ method. method.at) methods) in
+    let constants = over CONSTANTS Constants (flat_map constant_place decls) in
+    let fields = over FIELDS Fields (flat_map field_place decls) in
+    let count = over METHODS Methods (map (λ method. method.at) methods) in
     let one = c.earlier_of-first.ensures ∙ least_both _ _ large names c.large_literal.ensures c.repeated_name.ensures in
     let two = c.earlier_of-first-2.ensures ∙ least_both _ _ (large ++ names) constants one c.over_constants.ensures in
     let three = c.earlier_of-first-3.ensures ∙ least_both _ _ (large ++ names ++ constants) fields two c.over_fields.ensures in

@@ -1,9 +1,9 @@
 use Rattle.std.proofs.Common.{◌++◌, Some, arith, rules, ◌∙◌, ap, sym}
 use Rattle.mon_forms.specs.Faults.{least}
-use Rattle.mon_forms.specs.declared.kind.Kind.TheVariants as kinds
+use Rattle.mon_base.specs.declared.kind.Kind.TheVariants as kinds
 use Rattle.mon_forms.specs.Sense.{sense}
 use Rattle.mon_rules.specs.Rules.{expected, finding, misplaced}
-use Rattle.mon_rules.specs.Parts.{block_faults}
+use Rattle.mon_rules.specs.inner.Parts.{block_faults}
 use Rattle.mon_forms.proofs.Least.{least_turn}
 use Rattle.mon_rules.proofs.Least.{least_both, least_all}
 use Rattle.mon_rules.proofs.Findings.{faults-If}

@@ -1,6 +1,6 @@
 use Rattle.std.proofs.Common.{◌≡◌, take}
 use Rattle.mon_forms.specs.Faults.{least}
-use Rattle.mon_rules.specs.Parts.{block_faults}
+use Rattle.mon_rules.specs.inner.Parts.{block_faults}
 use Rattle.mon_rules.proofs.statements.+fault_in_statement.Given as goal
 
 abbrev pub invariant-fault_in_block-loop-statement : goal.invariant-fault_in_block-loop-statement

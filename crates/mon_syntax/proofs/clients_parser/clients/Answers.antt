@@ -1,24 +1,23 @@
-use Rattle.std.proofs.lemmas.Result.{err_from_is_err_and}
-use Rattle.mon_syntax.specs.declared.token.TokenKind.TheVariants as kinds
-use Rattle.mon_syntax.specs.Words.{words}
-use Rattle.mon_syntax.specs.Reading.{begins, client_at}
-use Rattle.mon_syntax.proofs.Turns.{turn_smaller, turn_goes, turn_stops, turns_end}
-use Rattle.mon_syntax.proofs.Loops.{client_items}
+use Rattle.std.proofs.Common.{◌≡◌, refl, rules, Ok}
+use Rattle.mon_tokens.specs.declared.token.TokenKind.TheVariants as kinds
+use Rattle.mon_syntax.specs.inner.Reading.{begins, client_at, clients_at}
+use Rattle.mon_syntax.proofs.ListItems.{client_items}
 use Rattle.mon_syntax.proofs.clients_parser.clients.Goals as goal
 
-pub returns-in_err-item-clause-gives : goal.returns-in_err-item-clause-gives
-returns-in_err-item-clause-gives c =
-    let p = err_from_is_err_and c.from_residual.result c.from_residual.ensures.1 in
-    rw (p.1, p.2) (turn_stops c.in_err-item.field-0.0 (begins kinds.KeyClient) client_at client_items _ c.items.out.items (words c.args.bytes.now c.items.rest.now) _ (c.begins.ensures c.args.bytes.now) c.items-test.true c.in_err-item.ensures.gives c.items.invariant.going)
+pub many-requires : goal.many-requires
+many-requires c κs = (
+  (refl, tt),
+  (
+    search rules,
+    (
+      search rules,
+      λ ws x rest call.
+          let read : client_at ws ≡ Ok (x, rest) = search rules in
+          client_items.shorter ws x rest read,
+    ),
+  ),
+)
 
-pub items-smaller : goal.items-smaller
-items-smaller c = turn_smaller (begins kinds.KeyClient) client_at client_items c.args.bytes.now c.items.rest.now c.in_ok-item.after.now c.in_ok-item.item c.in_ok-item.ensures.gives
-
-pub items-preserved : goal.items-preserved
-items-preserved c = record {
-  going = rw c.in_ok-push.ensures.items (turn_goes (begins kinds.KeyClient) client_at client_items _ c.items.out.items c.args.bytes.now c.items.rest.now c.in_ok-item.after.now c.in_ok-item.item _ (c.begins.ensures c.args.bytes.now) c.items-test.true c.in_ok-item.ensures.gives c.items.invariant.going);
-  tokens = c.in_ok-item.ensures.tokens;
-}
-
-pub returns-clause-gives : goal.returns-clause-gives
-returns-clause-gives c = turns_end (begins kinds.KeyClient) client_at _ c.items.out.items (words c.args.bytes.now c.items.rest.now) _ (c.begins.ensures c.args.bytes.now) c.items-test.false c.items.invariant.going
+pub returns : goal.returns
+unfolding clients_at
+returns c = c.many.ensures (begins kinds.KeyClient) client_at (λ ws b call. search rules) (λ ws r rest call. search rules) client_items

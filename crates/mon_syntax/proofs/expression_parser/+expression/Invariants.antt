@@ -1,82 +1,64 @@
 -- A call is of a function further down, or of one that has fewer levels left.
-use Rattle.std.proofs.Common.{◌+◌, ◌*◌, ◌∷◌, length}
-use Rattle.mon_syntax.specs.declared.token.TokenKind.TheVariants as kinds
-use Rattle.mon_syntax.specs.Words.{words}
-use Rattle.mon_syntax.specs.Reading.{AreTokens, begins, begins_listed, minus_of, made_at, unary_at, factor_at, factors_at, addend_at, addends_at, conjunct_at, conjuncts_at, disjunct_at, disjuncts_at}
-use Rattle.mon_syntax.proofs.Going.{Going}
+use Rattle.std.proofs.Common.{ℕ, ◌+◌, ◌*◌}
+use Rattle.mon_syntax.specs.declared.expression_parser.Join.{Join}
+use Rattle.mon_syntax.specs.declared.expression_parser.Join.TheVariants as joins
 use Rattle.mon_syntax.proofs.expression_parser.+expression.Given as goal
 
+-- how far up a chain stands
+abbrev height : Join → ℕ
+height joins.And = 0
+height joins.Or = 5
+
 abbrev pub decreases-unary : goal.decreases-unary
-decreases-unary l = 20 * l.levels
+decreases-unary l = 30 * l.levels
 
 abbrev pub decreases-minus_unary : goal.decreases-minus_unary
-decreases-minus_unary l = 20 * l.levels + 1
+decreases-minus_unary l = 30 * l.levels + 1
 
 abbrev pub decreases-not_unary : goal.decreases-not_unary
-decreases-not_unary l = 20 * l.levels + 2
+decreases-not_unary l = 30 * l.levels + 1
 
 abbrev pub decreases-factor : goal.decreases-factor
-decreases-factor l = 20 * l.levels + 3
+decreases-factor l = 30 * l.levels + 1
+
+abbrev pub decreases-factors-many+arg4 : goal.decreases-factors-many+arg4
+decreases-factors-many+arg4 l = 30 * l.levels + 2
 
 abbrev pub decreases-factors : goal.decreases-factors
-decreases-factors l = 20 * l.levels + 4
+decreases-factors l = 30 * l.levels + 3
 
 abbrev pub decreases-product : goal.decreases-product
-decreases-product l = 20 * l.levels + 5
+decreases-product l = 30 * l.levels + 4
 
 abbrev pub decreases-addend : goal.decreases-addend
-decreases-addend l = 20 * l.levels + 6
+decreases-addend l = 30 * l.levels + 5
+
+abbrev pub decreases-addends-many+arg4 : goal.decreases-addends-many+arg4
+decreases-addends-many+arg4 l = 30 * l.levels + 6
 
 abbrev pub decreases-addends : goal.decreases-addends
-decreases-addends l = 20 * l.levels + 7
+decreases-addends l = 30 * l.levels + 7
 
 abbrev pub decreases-sum : goal.decreases-sum
-decreases-sum l = 20 * l.levels + 8
+decreases-sum l = 30 * l.levels + 8
 
 abbrev pub decreases-comparison : goal.decreases-comparison
-decreases-comparison l = 20 * l.levels + 9
+decreases-comparison l = 30 * l.levels + 9
 
-abbrev pub decreases-conjunct : goal.decreases-conjunct
-decreases-conjunct l = 20 * l.levels + 10
+abbrev pub decreases-inner : goal.decreases-inner
+decreases-inner l = 30 * l.levels + (10 + height l.join)
 
-abbrev pub decreases-conjuncts : goal.decreases-conjuncts
-decreases-conjuncts l = 20 * l.levels + 11
+abbrev pub decreases-part : goal.decreases-part
+decreases-part l = 30 * l.levels + (11 + height l.join)
 
-abbrev pub decreases-conjunction : goal.decreases-conjunction
-decreases-conjunction l = 20 * l.levels + 12
+abbrev pub decreases-parts-many+arg4 : goal.decreases-parts-many+arg4
+decreases-parts-many+arg4 l = 30 * l.levels + (12 + height l.join)
 
-abbrev pub decreases-disjunct : goal.decreases-disjunct
-decreases-disjunct l = 20 * l.levels + 13
+abbrev pub decreases-parts : goal.decreases-parts
+decreases-parts l = 30 * l.levels + (13 + height l.join)
 
-abbrev pub decreases-disjuncts : goal.decreases-disjuncts
-decreases-disjuncts l = 20 * l.levels + 14
-
-abbrev pub decreases-disjunction : goal.decreases-disjunction
-decreases-disjunction l = 20 * l.levels + 15
+abbrev pub decreases-joined : goal.decreases-joined
+decreases-joined l = 30 * l.levels + (14 + height l.join)
 
 abbrev pub decreases-group : goal.decreases-group
-decreases-group l = 20 * l.levels + 16
-
-abbrev pub invariant-factors-items : goal.invariant-factors-items
-invariant-factors-items l = record { going : Going (begins kinds.Star) (factor_at (unary_at l.levels)) (factors_at (unary_at l.levels) (words l.bytes l.tokens)) l.out.items (words l.bytes l.rest); tokens : AreTokens l.bytes l.rest }
-
-abbrev pub decreases-factors-items : goal.decreases-factors-items
-decreases-factors-items l = length l.rest
-
-abbrev pub invariant-addends-items : goal.invariant-addends-items
-invariant-addends-items l = record { going : Going (begins_listed minus_of) (addend_at (unary_at l.levels)) (addends_at (unary_at l.levels) (words l.bytes l.tokens)) l.out.items (words l.bytes l.rest); tokens : AreTokens l.bytes l.rest }
-
-abbrev pub decreases-addends-items : goal.decreases-addends-items
-decreases-addends-items l = length l.rest
-
-abbrev pub invariant-conjuncts-items : goal.invariant-conjuncts-items
-invariant-conjuncts-items l = record { going : Going (begins kinds.And) (conjunct_at (unary_at l.levels)) (made_at (λ rest. l.fn.first ∷ rest) (conjuncts_at (unary_at l.levels)) (words l.bytes l.tokens)) l.out.items (words l.bytes l.rest); tokens : AreTokens l.bytes l.rest }
-
-abbrev pub decreases-conjuncts-items : goal.decreases-conjuncts-items
-decreases-conjuncts-items l = length l.rest
-
-abbrev pub invariant-disjuncts-items : goal.invariant-disjuncts-items
-invariant-disjuncts-items l = record { going : Going (begins kinds.Or) (disjunct_at (unary_at l.levels)) (made_at (λ rest. l.fn.first ∷ rest) (disjuncts_at (unary_at l.levels)) (words l.bytes l.tokens)) l.out.items (words l.bytes l.rest); tokens : AreTokens l.bytes l.rest }
-
-abbrev pub decreases-disjuncts-items : goal.decreases-disjuncts-items
-decreases-disjuncts-items l = length l.rest
+decreases-group l = 30 * l.levels + 20

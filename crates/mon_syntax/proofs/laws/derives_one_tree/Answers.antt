@@ -1,5 +1,5 @@
-use Rattle.mon_syntax.specs.Words.{words}
-use Rattle.mon_syntax.specs.Reading.{monitor_file, client_file}
+use Rattle.mon_tokens.specs.Words.{words}
+use Rattle.mon_syntax.specs.inner.Reading.{monitor_file, client_file}
 use Rattle.mon_syntax.proofs.MonitorReads.{monitor_file_again}
 use Rattle.mon_syntax.proofs.ClientReads.{client_file_again}
 use Rattle.mon_syntax.proofs.Outcomes.{ok_parses}

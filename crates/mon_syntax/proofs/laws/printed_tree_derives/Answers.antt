@@ -1,5 +1,5 @@
-use Rattle.mon_syntax.specs.Words.{words}
-use Rattle.mon_syntax.specs.Canonical.{tree_text}
+use Rattle.mon_tokens.specs.Words.{words}
+use Rattle.mon_printer.specs.Canonical.{tree_text}
 use Rattle.mon_syntax.proofs.CanonicalDerivation.{canonical_derives}
 use Rattle.mon_syntax.proofs.CanonicalSpelling.{printable_spelled}
 use Rattle.mon_syntax.proofs.DerivedPrintable.{derived_printable}
@@ -9,4 +9,4 @@ pub returns : goal.returns
 returns c = λ bytes tokens tree spelled derived.
     let printed = printable_spelled tree (derived_printable bytes tokens tree spelled derived) in
     let again = canonical_derives (words bytes tokens) tree derived (words (tree_text tree) printed.0) printed.2 in
-    (printed.0, again.0, printed.1, again.1, again.2)
+    record { printed = printed.0; again = again.0; spelled = printed.1; derived = again.1; same = again.2 }

@@ -1,6 +1,6 @@
-use Rattle.mon_syntax.specs.Words.{words}
+use Rattle.mon_tokens.specs.Words.{words}
 use Rattle.mon_syntax.specs.Grammar.{IsMonitorFile}
-use Rattle.mon_syntax.specs.Reading.{monitor_file}
+use Rattle.mon_syntax.specs.inner.Reading.{monitor_file}
 use Rattle.mon_syntax.proofs.MonitorReads.{monitor_file_found, monitor_file_again, monitor_file_fault}
 use Rattle.mon_syntax.proofs.Outcomes.{are_tokens, ok_parses, err_parses, err_place}
 use Rattle.mon_syntax.proofs.monitor_parser.parse_monitor.Goals as goal

@@ -6,10 +6,8 @@ use Rattle.mon_text.proofs.fault.write_fault.Goals as goal
 
 pub returns-in-TooLong : goal.returns-in-TooLong
 returns-in-TooLong g c =
-    let whole = wrote_same _ (ap too_long_text c.as_bytes.ensures.value ∙ ap fault_text (sym c.in-TooLong.is)) c.write_pieces.ensures in
-    record { written = whole.written; front = whole.front; cause = whole.cause; later = whole.later }
+    wrote_same _ (ap too_long_text c.as_bytes.ensures.value ∙ ap fault_text (sym c.in-TooLong.is)) c.write_pieces.ensures
 
 pub returns-in-Unread : goal.returns-in-Unread
 returns-in-Unread g c =
-    let whole = wrote_same _ (ap unread_text c.as_bytes-in-Unread.ensures.value ∙ ap fault_text (sym c.in-Unread.is)) c.write_pieces-in-Unread.ensures in
-    record { written = whole.written; front = whole.front; cause = whole.cause; later = whole.later }
+    wrote_same _ (ap unread_text c.as_bytes-in-Unread.ensures.value ∙ ap fault_text (sym c.in-Unread.is)) c.write_pieces-in-Unread.ensures

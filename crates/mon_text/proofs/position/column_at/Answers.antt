@@ -3,7 +3,7 @@ use Rattle.std.proofs.lemmas.Iterator.Adapters.{YieldsList-from_rev_slice}
 use Rattle.std.proofs.lemmas.Iterator.Search.{YieldsList-from_take_while}
 use Rattle.std.proofs.lemmas.Iterator.Consumers.{YieldsList-at, count_from_yields_List}
 use Rattle.std.proofs.lemmas.List.Folds.{length-prefix_len}
-use Rattle.mon_syntax.specs.Spelling.{is_in_line}
+use Rattle.mon_text.specs.FaultText.{is_in_line}
 use Rattle.mon_text.proofs.position.column_at.Goals as goal
 
 pub returns : goal.returns

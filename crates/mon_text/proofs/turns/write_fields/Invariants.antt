@@ -5,4 +5,4 @@ use Rattle.mon_text.proofs.turns.write_fields.Given as goal
 
 abbrev pub invariant-loop-field : goal.invariant-loop-field
 invariant-loop-field g l =
-    Wrote (g.S.Sink.written l.initial.out) (g.S.Sink.written l.out) (g.S.Sink.faults l.initial.out) (g.S.Sink.faults l.out) (Ok tt) (fields_text (take (length l.yielded) l.fields) (take (length l.yielded) l.values))
+    Wrote (g.S.Sink.seen l.initial.out) (g.S.Sink.seen l.out) (Ok tt) (fields_text (take (length l.yielded) l.fields) (take (length l.yielded) l.values))

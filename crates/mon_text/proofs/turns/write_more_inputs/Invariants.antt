@@ -6,4 +6,4 @@ use Rattle.mon_text.proofs.turns.write_more_inputs.Given as goal
 
 abbrev pub invariant-loop-input : goal.invariant-loop-input
 invariant-loop-input g l =
-    Wrote (g.S.Sink.written l.initial.out) (g.S.Sink.written l.out) (g.S.Sink.faults l.initial.out) (g.S.Sink.faults l.out) (Ok tt) (flat_map (λ input. codes ", " ++ value_text input) (take l.input-index l.inputs))
+    Wrote (g.S.Sink.seen l.initial.out) (g.S.Sink.seen l.out) (Ok tt) (flat_map (λ input. codes ", " ++ value_text input) (take l.input-index l.inputs))

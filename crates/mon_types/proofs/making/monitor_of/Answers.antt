@@ -22,5 +22,5 @@ blocks_of-requires-clause-fine c = rw (c.items-decls.ensures, c.items-trees.ensu
 
 pub of-requires : goal.of-requires
 of-requires c =
-    made_is_monitor c.args.tree.now c.items-decls.result.now c.items-trees.result.now c.in_ok-name.name c.in_ok-fields.fields.items c.in_ok-methods.methods.items c.in_ok-blocks.blocks.items c.blocks_of.new.conditions.items
-    c.requires.fine c.items-decls.ensures c.items-trees.ensures c.in_ok-fields.ensures c.in_ok-methods.ensures c.in_ok-blocks.ensures.blocks c.in_ok-blocks.ensures.conditions
+    made_is_monitor c.args.tree.now c.items-decls.result.now c.items-trees.result.now c.in_ok-name.name c.in_ok-fields.fields.items c.in_ok-methods.methods.items c.in_ok-blocks.blocks.items c.blocks_of.new.known.items
+    c.requires.fine c.requires.names c.items-decls.ensures c.items-trees.ensures c.in_ok-name.ensures.cases c.in_ok-fields.ensures c.in_ok-methods.ensures c.in_ok-blocks.ensures.blocks c.in_ok-blocks.ensures.conditions

@@ -7,5 +7,5 @@ block_of-requires-clause-fine c = fine_at c.args.decls.now c.args.trees.now c.lo
 
 pub loop-number-preserved : goal.loop-number-preserved
 loop-number-preserved c =
-    made_more c.args.decls.now c.args.trees.now c.loop-number.number c.loop-number.number c.index-trees-number.result c.loop-number.blocks.items c.push.new.self.items c.in_ok-block.block c.loop-number.conditions.items c.block_of.new.conditions.items
+    made_more c.args.decls.now c.args.trees.now c.loop-number.number c.loop-number.number c.index-trees-number.result c.loop-number.blocks.items c.push.new.self.items c.in_ok-block.block c.loop-number.known.items c.block_of.new.known.items
     (omega arith) c.index-trees-number.is refl c.in_ok-push.ensures.items c.loop-number.invariant c.in_ok-block.ensures.block c.in_ok-block.ensures.condition

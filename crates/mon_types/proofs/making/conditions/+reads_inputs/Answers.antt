@@ -1,4 +1,4 @@
-use Rattle.mon_types.specs.Typed.{reads_inputs}
+use Rattle.mon_monitor.specs.Inputs.{reads_inputs}
 use Rattle.mon_types.proofs.BlockSteps.{any_here}
 use Rattle.mon_types.proofs.making.conditions.+reads_inputs.Goals as goal
 

@@ -1,6 +1,6 @@
 use Rattle.std.proofs.Common.{rules, ap, ◌∙◌}
 use Rattle.std.specs.List.{flat_map}
-use Rattle.mon_syntax.specs.declared.tree.StmtTree.TheViews.{the_lemmas}
+use Rattle.mon_tree.specs.declared.tree.StmtTree.TheViews.{the_lemmas}
 use Rattle.mon_types.specs.Typed.{statement_of}
 use Rattle.mon_types.proofs.StatementSteps.{fine_items, if_fine, if_made, set_fine}
 use Rattle.mon_types.proofs.making.statements.+statements_of.Goals as goal
@@ -19,7 +19,7 @@ push_statement-statements_of-requires-in-If t c =
 pub push_statement-returns-in_ok-push-in-If : goal.push_statement-returns-in_ok-push-in-If
 push_statement-returns-in_ok-push-in-If t c =
     let scope = c.args.scope.now in
-    if_made scope c.args.tree.now _ _ _ _ c.args.made.now.items c.push.new.self.items c.in_ok-when-in-If.when c.of.result c.of-in-If.result c.in-If.is c.in_ok-when-in-If.ensures
+    if_made scope c.args.tree.now _ _ _ _ c.args.to.now.items c.push.new.self.items c.in_ok-when-in-If.when c.of.result c.of-in-If.result c.in-If.is c.in_ok-when-in-If.ensures
     (c.of.ensures ∙ c.in_ok-body-in-If.ensures ∙ ap (flat_map (statement_of scope)) c.items.ensures)
     (c.of-in-If.ensures ∙ c.in_ok-other-in-If.ensures ∙ ap (flat_map (statement_of scope)) c.items-in-If.ensures)
     (search rules)

@@ -1,6 +1,6 @@
 use Rattle.std.proofs.Common.{◌<◌, arith, length, sym, ap, ◌∙◌}
 use Rattle.std.proofs.lemmas.Grind.{common_steps}
-use Rattle.mon_syntax.specs.declared.tree.StmtTree.{out-StmtTree}
+use Rattle.mon_tree.specs.declared.tree.StmtTree.{out-StmtTree}
 use Rattle.mon_types.specs.Typed.{result_layer}
 use Rattle.mon_types.proofs.StatementSteps.{last_is, result_made}
 use Rattle.mon_types.proofs.making.statements.result_of.Goals as goal

@@ -1,0 +1,6 @@
+use Rattle.mon_printer.specs.Canonical.{tree_text}
+use Rattle.expresso_cli.proofs.Outcomes.{some_tree}
+use Rattle.expresso_cli.proofs.text.show_tree.Goals as goal
+
+pub returns-clause-written : goal.returns-clause-written
+returns-clause-written g c = c.finish.ensures.written (g.S.Sink.seen c.args.out.now) (tree_text c.args.tree.now) (some_tree c.args.tree.now) c.print_monitor-outcome.ensures

@@ -1,0 +1,337 @@
+//! What is found of expressions, worked out by hand from the rules of the language.
+
+ghost use Rattle.std.specs.Prelude.{◌≤◌, IsTrue, length};
+ghost use Rattle.mon_base.specs.Limits.{FIELDS, FILE_BYTES};
+ghost use Rattle.mon_forms.specs.Scope.{field_count};
+ghost use Rattle.mon_forms.specs.Forms.{IsOrdered};
+ghost use Rattle.mon_forms.specs.Making.{has_small_numbers};
+
+use mon_base::Kind;
+use mon_forms::{
+    Entry, TypeFault, fault_in, first_place, form_of, formula_of, is_other, kind_of,
+    least_is_least, scope_is_ordered, scope_numbers_are_small, scope_of,
+};
+use mon_linear::{Formula, Lin, Term, same_formula};
+use mon_syntax::parse_monitor;
+use mon_tokens::tokens;
+use mon_tree::{Decl, Expr, MonitorTree};
+use std::alloc::{AllocError, Global};
+use std::test::*;
+
+/// The offset of the expression in the text of [`tree_of`].
+const START: u32 = 98;
+
+/// A monitor with this guard. The places are 0 for `x`, 1 for `y`, 2 for `b`, 16 for `k` and 17 for `f`.
+fn tree_of(alloc: Global, expression: &[u8]) -> Option<MonitorTree> {
+    let before =
+        b"monitor M { const c = 5; int x = 0; int y = 0; bool b = false; method m(int k, bool f) waituntil (";
+    let mut text = Vec::from_slice(alloc, before).ok()?;
+    text.extend_from_slice(expression).ok()?;
+    text.extend_from_slice(b") { } }").ok()?;
+    if text.len() > 65_536 {
+        return None;
+    }
+    let read = tokens(alloc, &text).ok()?;
+    parse_monitor(alloc, &text, &read).ok()
+}
+
+fn are_declared(decls: &[Decl]) -> bool
+    ensures few { IsTrue result → field_count decls.now ≤ FIELDS }
+    ensures short { IsTrue result → length decls.now ≤ FILE_BYTES }
+{
+    match decls {
+        [
+            Decl::Const { .. },
+            Decl::Int { .. },
+            Decl::Int { .. },
+            Decl::Flag { .. },
+        ] => true,
+        _ => false,
+    }
+}
+
+/// What is found of an expression.
+#[derive(Drop)]
+enum Outcome {
+    Fault(TypeFault),
+    Form(Lin),
+    Condition(Formula),
+}
+
+fn outcome_of(alloc: Global, expression: &[u8]) -> Option<Outcome> {
+    let tree = tree_of(alloc, expression)?;
+    let decls = tree.decls.items();
+    match tree.methods.items() {
+        [method] => {
+            let inputs = method.inputs.items();
+            if !are_declared(decls) || inputs.len() > 65_536 {
+                return None;
+            }
+            scope_is_ordered();
+            scope_numbers_are_small();
+            let scope = scope_of(alloc, decls, inputs).ok()?;
+            outcome_in(alloc, scope.items(), &method.guard).ok()?
+        }
+        _ => None,
+    }
+}
+
+fn outcome_in(
+    alloc: Global,
+    scope: &[Entry],
+    expression: &Expr,
+) -> Result<Option<Outcome>, AllocError>
+    requires ordered { IsOrdered scope.now }
+    requires numbers { IsTrue (has_small_numbers scope.now) }
+{
+    least_is_least();
+    match fault_in(alloc, scope, expression)? {
+        Some(fault) => Ok(Some(Outcome::Fault(fault))),
+        None => {
+            let kind = kind_of(scope, expression);
+            if !is_other(Kind::Int, kind) {
+                Ok(Some(Outcome::Form(form_of(alloc, scope, expression)?)))
+            } else if !is_other(Kind::Bool, kind) {
+                Ok(Some(Outcome::Condition(formula_of(alloc, scope, expression)?)))
+            } else {
+                Ok(None)
+            }
+        }
+    }
+}
+
+fn condition(alloc: Global, expression: &[u8]) -> Option<Formula> {
+    match outcome_of(alloc, expression) {
+        Some(Outcome::Condition(formula)) => Some(formula),
+        _ => None,
+    }
+}
+
+fn same(alloc: Global, one: &[u8], other: &[u8]) -> bool {
+    match (condition(alloc, one), condition(alloc, other)) {
+        (Some(one), Some(other)) => same_formula(&one, &other),
+        _ => false,
+    }
+}
+
+/// Whether a formula is the row of this number of times `x` and this constant.
+fn is_row(formula: &Formula, times: i128, constant: i128) -> bool {
+    match formula {
+        Formula::Row(form) => match form.terms() {
+            [term] => term.place == 0 && term.times == times && form.constant() == constant,
+            _ => false,
+        },
+        _ => false,
+    }
+}
+
+/// Whether a formula is all, or any, of two rows of these numbers.
+fn are_rows(formula: &Formula, is_all: bool, one: (i128, i128), other: (i128, i128)) -> bool {
+    let (all, parts) = match formula {
+        Formula::All(parts) => (true, parts.items()),
+        Formula::Any(parts) => (false, parts.items()),
+        _ => return false,
+    };
+    match parts {
+        [first, second] => {
+            all == is_all && is_row(first, one.0, one.1) && is_row(second, other.0, other.1)
+        }
+        _ => false,
+    }
+}
+
+fn has_form(alloc: Global, expression: &[u8], terms: &[Term], constant: i128) -> bool {
+    match outcome_of(alloc, expression) {
+        Some(Outcome::Form(form)) => form.terms() == terms && form.constant() == constant,
+        _ => false,
+    }
+}
+
+fn breaks_none(alloc: Global, expression: &[u8]) -> bool {
+    match outcome_of(alloc, expression) {
+        Some(Outcome::Form(_)) => true,
+        Some(Outcome::Condition(_)) => true,
+        _ => false,
+    }
+}
+
+fn same_fault(a: TypeFault, b: TypeFault) -> bool {
+    match (a, b) {
+        (TypeFault::Unknown { at: a }, TypeFault::Unknown { at: b }) => a == b,
+        (TypeFault::WrongType { at: a }, TypeFault::WrongType { at: b }) => a == b,
+        (TypeFault::NotLinear { at: a }, TypeFault::NotLinear { at: b }) => a == b,
+        (TypeFault::TooLarge { at: a }, TypeFault::TooLarge { at: b }) => a == b,
+        _ => false,
+    }
+}
+
+fn breaks(alloc: Global, expression: &[u8], fault: TypeFault) -> bool {
+    match outcome_of(alloc, expression) {
+        Some(Outcome::Fault(found)) => same_fault(found, fault),
+        _ => false,
+    }
+}
+
+/// The first offset and the kind of an expression.
+fn start_and_kind(alloc: Global, expression: &[u8]) -> Option<(u32, Option<Kind>)> {
+    let tree = tree_of(alloc, expression)?;
+    match tree.methods.items() {
+        [method] => {
+            let (decls, inputs) = (tree.decls.items(), method.inputs.items());
+            if decls.len() > 65_536 || inputs.len() > 65_536 {
+                return None;
+            }
+            let scope = scope_of(alloc, decls, inputs).ok()?;
+            let kind = kind_of(scope.items(), &method.guard);
+            Some((first_place(&method.guard), kind))
+        }
+        _ => None,
+    }
+}
+
+#[test]
+fn at_most_0_has_one_formula(rt: HostRuntime) {
+    let alloc = rt.alloc();
+    assert!(rt; same(alloc, b"x < 1", b"x <= 0"));
+    assert!(rt; same(alloc, b"!(x > 0)", b"x <= 0"));
+    assert!(rt; !same(alloc, b"x < 0", b"x <= 0"));
+    match condition(alloc, b"x <= 0") {
+        Some(row) => assert!(rt; is_row(&row, 1, 0)),
+        _ => assert!(rt; false, "it is a row"),
+    }
+}
+
+#[test]
+fn equal_is_both_rows_and_different_is_one_of_two(rt: HostRuntime) {
+    let texts = [
+        (b"x == 0".as_slice(), true, (1, 0), (-1, 0)),
+        (b"x != 0".as_slice(), false, (-1, 1), (1, 1)),
+    ];
+    for (text, is_all, one, other) in texts {
+        match condition(rt.alloc(), text) {
+            Some(formula) => {
+                assert!(rt; are_rows(&formula, is_all, one, other), "in {text:?}");
+            }
+            None => assert!(rt; false, "there is no formula of {text:?}"),
+        }
+    }
+}
+
+#[test]
+fn names_of_conditions_are_flags_at_their_places(rt: HostRuntime) {
+    match condition(rt.alloc(), b"b && !f") {
+        Some(Formula::All(parts)) => match parts.items() {
+            [
+                Formula::Flag { place: 2, is: true },
+                Formula::Flag {
+                    place: 17,
+                    is: false,
+                },
+            ] => {}
+            _ => assert!(rt; false, "there are two flags"),
+        },
+        _ => assert!(rt; false, "it is all of its parts"),
+    }
+}
+
+#[test]
+fn forms_are_flattened(rt: HostRuntime) {
+    let alloc = rt.alloc();
+    let x = Term { place: 0, times: 2 };
+    let y = Term {
+        place: 1,
+        times: -2,
+    };
+    let k = Term {
+        place: 16,
+        times: 5,
+    };
+    assert!(rt; has_form(alloc, b"2 * (x - y) + 3", &[x, y], 3));
+    assert!(rt; has_form(alloc, b"-(y - x - 4) * 2", &[x, y], 8));
+    assert!(rt; has_form(alloc, b"x - x + k * c", &[k], 0));
+    assert!(rt; has_form(alloc, b"c - 7", &[], -2));
+}
+
+#[test]
+fn expressions_begin_at_their_first_token_and_names_have_kinds(rt: HostRuntime) {
+    let alloc = rt.alloc();
+    let texts = [
+        (b"(x + y) * c".as_slice(), 1, Some(Kind::Int)),
+        (b"c".as_slice(), 0, Some(Kind::Int)),
+        (b"b".as_slice(), 0, Some(Kind::Bool)),
+        (b"k".as_slice(), 0, Some(Kind::Int)),
+        (b"z".as_slice(), 0, None),
+        (b"((x) < y) || f".as_slice(), 2, Some(Kind::Bool)),
+    ];
+    for (text, at, kind) in texts {
+        assert_eq!(rt; start_and_kind(alloc, text), Some((START + at, kind)));
+    }
+}
+
+#[test]
+fn the_first_fault_of_an_expression_is_found(rt: HostRuntime) {
+    let texts = [
+        (b"x * y".as_slice(), TypeFault::NotLinear { at: 100 }),
+        (b"x * 2 * y".as_slice(), TypeFault::NotLinear { at: 104 }),
+        (b"2147483649 * x".as_slice(), TypeFault::TooLarge { at: 98 }),
+        (
+            b"-(2147483649 * x)".as_slice(),
+            TypeFault::TooLarge { at: 100 },
+        ),
+        (
+            b"9223372036854775808".as_slice(),
+            TypeFault::TooLarge { at: 98 },
+        ),
+        (
+            b"x < 9223372036854775807 + 2".as_slice(),
+            TypeFault::TooLarge { at: 102 },
+        ),
+        (b"!x".as_slice(), TypeFault::WrongType { at: 99 }),
+        (b"1 + b".as_slice(), TypeFault::WrongType { at: 102 }),
+        (b"!(z + 1)".as_slice(), TypeFault::Unknown { at: 100 }),
+        (b"b + z".as_slice(), TypeFault::Unknown { at: 102 }),
+        (
+            b"z < 9223372036854775808".as_slice(),
+            TypeFault::Unknown { at: 98 },
+        ),
+        (
+            b"9223372036854775808 < z".as_slice(),
+            TypeFault::TooLarge { at: 98 },
+        ),
+        (
+            b"2147483648 * x < -x".as_slice(),
+            TypeFault::TooLarge { at: 98 },
+        ),
+        (
+            b"b && 2147483648 * x + x > 0".as_slice(),
+            TypeFault::TooLarge { at: 103 },
+        ),
+        (
+            b"x * 65536 * 32769 * 0".as_slice(),
+            TypeFault::TooLarge { at: 98 },
+        ),
+    ];
+    for (text, fault) in texts {
+        assert!(rt; breaks(rt.alloc(), text, fault), "{fault:?} in {text:?}");
+    }
+}
+
+#[test]
+fn numbers_at_their_limits_break_no_rule(rt: HostRuntime) {
+    let texts = [
+        b"2147483648 * x".as_slice(),
+        b"-(2147483648 * x)".as_slice(),
+        b"9223372036854775807".as_slice(),
+        b"x < 9223372036854775807 + 1".as_slice(),
+        b"2147483648 * x < y".as_slice(),
+        b"2147483648 * x <= x".as_slice(),
+        b"1073741824 * x + 1073741824 * x".as_slice(),
+        b"x * 65536 * 32768 * 0".as_slice(),
+        b"2 * y".as_slice(),
+        b"(x - x) * y".as_slice(),
+        b"y * (x - x) * y".as_slice(),
+    ];
+    for text in texts {
+        assert!(rt; breaks_none(rt.alloc(), text), "a fault in {text:?}");
+    }
+}

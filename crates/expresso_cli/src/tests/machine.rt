@@ -1,0 +1,142 @@
+//! Steps of the implicit machine on monitors that are read from texts.
+
+ghost use Rattle.mon_implicit.specs.Steps.{FitsState};
+
+use super::checker::checked;
+use mon_base::Value;
+use mon_implicit::{Call, Reply, State, call_fits, condition_holds, guard_holds, run_block, start};
+use mon_list::Seq;
+use mon_monitor::Monitor;
+use std::alloc::{AllocError, Global};
+use std::test::Fail;
+
+/// A call of a method with one input or none.
+fn call_of(alloc: Global, method: u32, input: Option<Value>) -> Result<Call, AllocError> {
+    let mut inputs = Vec::new(alloc);
+    if let Some(value) = input {
+        inputs.push(value)?;
+    }
+    Ok(Call {
+        method,
+        inputs: Seq::of(inputs),
+    })
+}
+
+/// The reply of a call that fits the monitor and whose guard holds.
+fn reply_of(monitor: &Monitor, state: &mut State, call: &Call) -> Option<Reply>
+    requires { FitsState monitor.now state.old }
+    ensures { FitsState monitor.now state.new }
+{
+    let inputs = call.inputs.items();
+    if !call_fits(monitor, call) || call.method as usize >= monitor.blocks().len() {
+        return None;
+    }
+    if !guard_holds(monitor, state, call.method, inputs) {
+        return None;
+    }
+    Some(run_block(monitor, state, call.method, inputs))
+}
+
+/// The truth in a state of the guard of a condition that reads no inputs, by its number from 0.
+fn truth_of(monitor: &Monitor, state: &State, index: u32) -> Option<bool>
+    requires { FitsState monitor.now state.now }
+{
+    let condition = monitor.conditions().get(index as usize)?;
+    if condition.reads_inputs {
+        return None;
+    }
+    Some(condition_holds(monitor, state, index + 1))
+}
+
+const ACCUMULATOR: &[u8] = b"monitor Acc {
+  int sum = 0;
+  method add(int n) waituntil (true) {
+    sum = sum + n;
+    return sum;
+  }
+  method big() waituntil (true) {
+    return sum > 5;
+  }
+  method cap(int n) waituntil (true) {
+    if (n > 9) {
+      sum = 9;
+    } else {
+      sum = n;
+    }
+  }
+}
+";
+
+#[test]
+fn an_accumulator_replies_its_results(rt: HostRuntime) -> Result<(), Fail> {
+    let monitor = checked(rt.alloc(), ACCUMULATOR).ok_or("a monitor")?;
+    let mut state = start(&monitor);
+    let three = call_of(rt.alloc(), 0, Some(Value::Int(3)))?;
+    let less = call_of(rt.alloc(), 0, Some(Value::Int(-1)))?;
+    let big = call_of(rt.alloc(), 1, None)?;
+    let cap = call_of(rt.alloc(), 2, Some(Value::Int(12)))?;
+    assert_eq!(rt; reply_of(&monitor, &mut state, &three), Some(Reply::Int(3)));
+    assert_eq!(rt; reply_of(&monitor, &mut state, &less), Some(Reply::Int(2)));
+    assert_eq!(rt;
+        reply_of(&monitor, &mut state, &big),
+        Some(Reply::Bool(false))
+    );
+    assert_eq!(rt; reply_of(&monitor, &mut state, &cap), Some(Reply::Unit));
+    assert_eq!(rt;
+        reply_of(&monitor, &mut state, &big),
+        Some(Reply::Bool(true))
+    );
+    assert_eq!(rt; state.values(), [Value::Int(9)].as_slice());
+    Ok(())
+}
+
+#[test]
+fn a_result_that_overflows_leaves_the_state(rt: HostRuntime) -> Result<(), Fail> {
+    let text = b"monitor M { int x = 9223372036854775807; int y = 0;
+        method m() waituntil (y < 1) { y = y + 1; return x + y; } }";
+    let monitor = checked(rt.alloc(), text).ok_or("a monitor")?;
+    let mut state = start(&monitor);
+    let call = call_of(rt.alloc(), 0, None)?;
+    assert_eq!(rt;
+        reply_of(&monitor, &mut state, &call),
+        Some(Reply::Overflow)
+    );
+    assert_eq!(rt;
+        state.values(),
+        [Value::Int(9_223_372_036_854_775_807), Value::Int(0)].as_slice()
+    );
+    Ok(())
+}
+
+#[test]
+fn a_branch_is_chosen_before_it_changes_its_condition(rt: HostRuntime) -> Result<(), Fail> {
+    let text = b"monitor M { int x = 1; bool b = false; method m(bool f) waituntil (f) {
+        if (x > 0) { x = 0; b = x == 0; } else { x = 7; } } }";
+    let monitor = checked(rt.alloc(), text).ok_or("a monitor")?;
+    let mut state = start(&monitor);
+    let refused = call_of(rt.alloc(), 0, Some(Value::Bool(false)))?;
+    assert_eq!(rt; reply_of(&monitor, &mut state, &refused), None);
+    let call = call_of(rt.alloc(), 0, Some(Value::Bool(true)))?;
+    assert_eq!(rt; reply_of(&monitor, &mut state, &call), Some(Reply::Unit));
+    assert_eq!(rt;
+        state.values(),
+        [Value::Int(0), Value::Bool(true)].as_slice()
+    );
+    Ok(())
+}
+
+#[test]
+fn a_condition_holds_where_its_guard_does(rt: HostRuntime) -> Result<(), Fail> {
+    let text = b"monitor M { int x = 0; method up() waituntil (x < 1) { x = x + 1; }
+        method down() waituntil (x > 0) { x = x - 1; } method to(int n) waituntil (n > x) { } }";
+    let monitor = checked(rt.alloc(), text).ok_or("a monitor")?;
+    let mut state = start(&monitor);
+    assert_eq!(rt; truth_of(&monitor, &state, 0), Some(true));
+    assert_eq!(rt; truth_of(&monitor, &state, 1), Some(false));
+    assert_eq!(rt; truth_of(&monitor, &state, 2), None);
+    let up = call_of(rt.alloc(), 0, None)?;
+    assert_eq!(rt; reply_of(&monitor, &mut state, &up), Some(Reply::Unit));
+    assert_eq!(rt; truth_of(&monitor, &state, 0), Some(false));
+    assert_eq!(rt; truth_of(&monitor, &state, 1), Some(true));
+    Ok(())
+}

@@ -1,0 +1,15 @@
+pub mod Places
+pub mod Bodies
+pub mod CandidatePlaces
+pub mod Valuations
+pub mod Applying
+pub mod Standings
+pub mod Facing
+pub mod Sound
+pub mod Covered
+pub mod Notified
+pub mod Ending
+pub mod Everyone
+pub mod Legal
+pub mod Bounds
+pub mod PlanTests

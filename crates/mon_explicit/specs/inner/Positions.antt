@@ -1,0 +1,121 @@
+-- How the code keeps a configuration.
+use Rattle.std.specs.Prelude.{◌≡◌, ◌==◌, ◌⊎◌, Bool, true, false, not, ◌||◌, if◌then◌else◌, ℕ, ◌+◌, ◌-◌, ◌≤◌, List, [], ◌∷◌, map, drop, length, slice_get, Option, Some}
+use Rattle.mon_base.specs.declared.value.Value.{Value}
+use Rattle.mon_monitor.specs.MonitorParts.{MonitorParts}
+use Rattle.mon_implicit.specs.declared.commit.Commit.{Commit}
+use Rattle.mon_implicit.specs.declared.commit.Reply.{Reply}
+use Rattle.mon_implicit.specs.declared.commit.Reply.TheVariants as replies
+use Rattle.mon_implicit.specs.declared.script.Client.{Client}
+use Rattle.mon_implicit.specs.Steps.{condition_truth, IsAlone}
+use Rattle.mon_events.specs.declared.plan.Note.{Note}
+use Rattle.mon_events.specs.declared.plan.Plan.{Plan}
+use Rattle.mon_explicit.specs.declared.position.Doing.{Doing}
+use Rattle.mon_explicit.specs.declared.position.Doing.TheVariants as doings
+use Rattle.mon_explicit.specs.declared.position.Position.{Position}
+use Rattle.mon_explicit.specs.declared.notes.Next.{Next}
+use Rattle.mon_events.specs.Plans.{notes_at}
+use Rattle.mon_events.specs.Configurations.{Phase, Standing}
+use Rattle.mon_events.specs.Configurations.Phase.{Idle, Entering, Waiting, Woken, Inside, Notifying}
+use Rattle.mon_explicit.specs.Machines.{Machine}
+
+-- ---- where clients stand
+
+abbrev pub phase_of : Plan → Doing → Phase
+phase_of plan doings.Idle = Idle
+phase_of plan doings.Entering = Entering
+phase_of plan (doings.Waiting condition) = Waiting condition
+phase_of plan (doings.Woken condition) = Woken condition
+phase_of plan doings.Inside = Inside
+phase_of plan (doings.Notifying block from) = Notifying (drop from (notes_at plan block))
+phase_of plan (doings.Signalling condition) = Notifying (record { condition = condition; all = false; tested = false } ∷ [])
+phase_of plan doings.Signalled = Notifying []
+
+abbrev pub standing_of : Plan → Position → Standing
+standing_of plan position = record { past = position.past; phase = phase_of plan position.doing }
+
+abbrev pub machine_of : MonitorParts → Plan → List Client → List Value → Option ℕ → List Commit → List Position → Machine
+machine_of monitor plan clients state owner commits positions = record {
+  system = record { monitor = monitor; plan = plan; clients = clients };
+  now = record { state = state; owner = owner; commits = commits; standings = map (standing_of plan) positions };
+}
+
+abbrev pub idle_position : Client → Position
+idle_position client = record { past = 0; doing = doings.Idle }
+
+abbrev pub PositionAt : List Position → ℕ → ℕ → Doing → Type 0
+PositionAt positions client past doing = slice_get positions client ≡ Some (record { past = past; doing = doing })
+
+abbrev pub IsReadyAt : List Position → ℕ → ℕ → Type 0
+IsReadyAt positions client past = PositionAt positions client past doings.Entering ⊎ ((condition : ℕ) × PositionAt positions client past (doings.Woken condition))
+
+-- ---- room for the commits of the calls that are left
+
+-- the calls whose commits are made
+abbrev pub made_of : Doing → ℕ
+made_of (doings.Notifying block from) = 1
+made_of (doings.Signalling condition) = 1
+made_of doings.Signalled = 1
+made_of doing = 0
+
+abbrev pub done_in : Position → ℕ
+done_in position = position.past + made_of position.doing
+
+abbrev pub calls_left : List Client → List Position → ℕ
+calls_left [] positions = 0
+calls_left (client ∷ clients) [] = 0
+calls_left (client ∷ clients) (one ∷ positions) = (length client.calls - done_in one) + calls_left clients positions
+
+abbrev pub HasRoom : List Client → ℕ → ℕ → List Position → Type 0
+HasRoom clients commits capacity positions = commits + calls_left clients positions ≤ capacity
+
+-- ---- notes
+
+-- what a client does after the reply of its block
+abbrev pub doing_after : ℕ → ℕ → Reply → Doing
+doing_after block condition replies.Overflow = doings.Signalling condition
+doing_after block condition reply = doings.Notifying block 0
+
+abbrev pub fires_in : MonitorParts → List Value → Note → Bool
+fires_in monitor state note = not note.tested || condition_truth monitor state note.condition
+
+-- the note's condition is one that there is, and reads no inputs
+abbrev pub CanTest : MonitorParts → Note → Type 0
+CanTest monitor note = (1 ≤ note.condition) × IsAlone (slice_get monitor.conditions (note.condition - 1))
+
+-- the client has no note to come
+abbrev pub HasNoNext : Plan → List Position → ℕ → Type 0
+HasNoNext plan positions client = (past : ℕ) (doing : Doing) (note : Note) (more : List Note)
+    → PositionAt positions client past doing → phase_of plan doing ≡ Notifying (note ∷ more) → ⊥
+
+-- the client has made its notes
+pub record HasFinished (plan : Plan) (positions : List Position) (client past : ℕ) : Type 0 where
+  pub doing : Doing
+  pub at : PositionAt positions client past doing
+  pub none : phase_of plan doing ≡ Notifying []
+
+-- the first note to come of a client, and what it does after it; a tested note is one of a block
+pub record IsNext (plan : Plan) (positions : List Position) (client : ℕ) (next : Next) : Type 0 where
+  pub doing : Doing
+  pub more : List Note
+  pub at : PositionAt positions client next.past doing
+  pub first : phase_of plan doing ≡ Notifying (next.note ∷ more)
+  pub then_more : phase_of plan next.rest ≡ Notifying more
+  pub source : next.note.tested ≡ true → (block : ℕ) × (from : ℕ) × (slice_get (notes_at plan block) from ≡ Some next.note)
+
+-- it is the note of a block at this place, and the rest begins after it
+pub record IsNoteOf (plan : Plan) (block from calls : ℕ) (next : Next) : Type 0 where
+  pub past : next.past ≡ calls
+  pub note : slice_get (notes_at plan block) from ≡ Some next.note
+  pub rest : next.rest ≡ doings.Notifying block (from + 1)
+
+-- ---- waking
+
+abbrev pub doing_waits : ℕ → Doing → Bool
+doing_waits condition (doings.Waiting on) = on == condition
+doing_waits condition doing = false
+
+abbrev pub position_waits : ℕ → Position → Bool
+position_waits condition position = doing_waits condition position.doing
+
+abbrev pub waking_position : ℕ → Position → Position
+waking_position condition position = if position_waits condition position then record { past = position.past; doing = doings.Woken condition } else position

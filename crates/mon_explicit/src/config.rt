@@ -1,0 +1,361 @@
+//! The event machine.
+
+ghost use Rattle.std.specs.Prelude.{◌≡◌, ◌<◌, IfOk, IsSomeAnd, None, Some, length, map};
+ghost use Rattle.std.specs.Prelude.{slice_get};
+ghost use Rattle.mon_implicit.specs.Scripted.{FitsScripts};
+ghost use Rattle.mon_events.specs.Plans.{FitsPlan};
+ghost use Rattle.mon_explicit.specs.Machines.{IsMachine, KeepsWakeUps, Steps, opened, stage_of};
+ghost use Rattle.mon_explicit.specs.inner.Positions.{idle_position};
+
+use super::calls::{all_calls, calls, condition_of, first_block, holds};
+use super::notes::{doing_after, finished, fires, next_note};
+use super::position::{
+    Doing, Position, idle, inside, ready, some_waits, waiting, waiting_on, wake_all,
+};
+use mon_events::{Event, Plan, Stage};
+use mon_implicit::{Client, Commit, Scripts, State, run_block, start};
+use mon_monitor::Monitor;
+use std::alloc::{AllocError, Global};
+use std::marker::Model;
+
+/// The event isn't allowed now.
+#[derive(Debug, Drop)]
+pub struct NotEnabled;
+
+/// A configuration of the explicit machine, and what it runs: a monitor, a plan for it, and what its clients call.
+#[derive(Drop)]
+pub struct Config {
+    monitor: Monitor,
+    plan: Plan,
+    scripts: Scripts,
+    state: State,
+    owner: Option<u32>,
+    commits: Vec<Commit>,
+    positions: Vec<Position>,
+}
+
+impl Model for Config {
+    ghost use Rattle.std.specs.Prelude.{vec_len, vec_capacity};
+    ghost use Rattle.std.specs.Coded.{codes};
+    ghost use Rattle.mon_tree.specs.contracts.tree.Expr as expression;
+    ghost use Rattle.mon_linear.specs.contracts.formula.Formula as formula;
+    ghost use Rattle.mon_monitor.specs.contracts.monitor.Stmt as statement;
+    ghost use Rattle.mon_explicit.specs.Machines.{Machine, IsMachine};
+    ghost use Rattle.mon_explicit.specs.inner.Positions.{HasRoom, machine_of};
+
+    ghost Value = { Machine };
+
+    ghost coded = { Prim.hlevel (codes, expression.the_row.coded, formula.the_row.coded, statement.the_row.coded) };
+
+    ghost view = { λ c. machine_of c.monitor c.plan c.scripts c.state c.owner c.commits.items c.positions.items };
+
+    ghost invariant = { λ c.
+        IsMachine (machine_of c.monitor c.plan c.scripts c.state c.owner c.commits.items c.positions.items)
+        × HasRoom c.scripts (vec_len c.commits) (vec_capacity c.commits) c.positions.items };
+}
+
+impl Config {
+    /// The configuration at the start: no owner, no commits, and every client idle at its first call. It makes room
+    /// for each commit, so no later call takes memory. It fails only for want of memory.
+    pub fn open(
+        alloc: Global,
+        monitor: Monitor,
+        plan: Plan,
+        scripts: Scripts,
+    ) -> Result<Config, AllocError>
+        requires scripts { FitsScripts monitor scripts }
+        requires plan { FitsPlan monitor plan }
+        ensures opened { IfOk result (λ config. config ≡ opened monitor plan scripts) }
+        ensures wakes { IfOk result KeepsWakeUps }
+    {
+        let config = Config::starting(alloc, monitor, plan, scripts)?;
+        // A reading call says what the rule of the machine gives.
+        let _owner = config.owner();
+        Ok(config)
+    }
+
+    /// The machine at the start, with room for every commit.
+    fn starting(
+        alloc: Global,
+        monitor: Monitor,
+        plan: Plan,
+        scripts: Scripts,
+    ) -> Result<Config, AllocError>
+        requires scripts { FitsScripts monitor scripts }
+        requires plan { FitsPlan monitor plan }
+        ensures { IfOk result (λ config. config ≡ opened monitor plan scripts) }
+    {
+        let clients = scripts.clients();
+        let room = all_calls(clients);
+        let positions = all_idle(alloc, clients)?;
+        let commits = Vec::with_capacity(alloc, room)?;
+        let state = start(&monitor);
+        Ok(Config {
+            monitor,
+            plan,
+            scripts,
+            state,
+            owner: None,
+            commits,
+            positions,
+        })
+    }
+
+    /// Makes an event. `NotEnabled` comes exactly where the event isn't allowed, and then all is as before. Under a
+    /// lawful plan no wake-up is lost, whatever events come. It takes no memory.
+    pub fn step(&mut self, event: Event) -> Result<(), NotEnabled>
+        ensures steps { Steps event self.old self.new result }
+        ensures wakes { KeepsWakeUps self.new }
+    {
+        let outcome = self.make(event);
+        // A reading call says what the rule of the machine gives.
+        let _owner = self.owner();
+        outcome
+    }
+
+    /// Makes an event, by the kind of it.
+    fn make(&mut self, event: Event) -> Result<(), NotEnabled>
+        ensures { Steps event self.old self.new result }
+    {
+        match event {
+            Event::Begin { client } => self.begin(client),
+            Event::Lock { client } => self.lock(client),
+            Event::Wait { client } => self.wait(client),
+            Event::Run { client } => self.run(client),
+            Event::Notify { client, target } => match target {
+                None => self.notify_none(client),
+                Some(target) => self.notify_one(client, target),
+            },
+            Event::Unlock { client } => self.unlock(client),
+            Event::Spurious { client } => self.spurious(client),
+        }
+    }
+
+    /// The client that owns the lock.
+    pub fn owner(&self) -> Option<u32>
+        ensures owner { result ≡ self.now.now.owner }
+        ensures rule { IsMachine self.now }
+        ensures wakes { KeepsWakeUps self.now }
+    {
+        self.owner
+    }
+
+    /// The stage of a client.
+    pub fn stage(&self, client: u32) -> Stage
+        requires { client < length self.now.system.clients }
+        ensures { IsSomeAnd (slice_get self.now.now.standings client)
+            (λ standing. result ≡ stage_of standing.phase) }
+    {
+        match self.positions[client as usize].doing {
+            Doing::Idle => Stage::Idle,
+            Doing::Entering => Stage::Entering,
+            Doing::Waiting(condition) => Stage::Waiting(condition),
+            Doing::Woken(condition) => Stage::Woken(condition),
+            Doing::Inside => Stage::Inside,
+            Doing::Notifying { block: _, from: _ } => Stage::Notifying,
+            Doing::Signalling { condition: _ } => Stage::Notifying,
+            Doing::Signalled => Stage::Notifying,
+        }
+    }
+
+    /// The commits so far, in order. With the state they are a run of the implicit machine.
+    pub fn commits(&self) -> &[Commit]
+        ensures commits { result.now ≡ self.now.now.commits }
+        ensures rule { IsMachine self.now }
+        ensures wakes { KeepsWakeUps self.now }
+    {
+        &self.commits
+    }
+
+    /// The state.
+    pub fn state(&self) -> &State
+        ensures state { result.now ≡ self.now.now.state }
+        ensures rule { IsMachine self.now }
+        ensures wakes { KeepsWakeUps self.now }
+    {
+        &self.state
+    }
+
+    /// An idle client with a call left enters.
+    fn begin(&mut self, client: u32) -> Result<(), NotEnabled>
+        ensures { Steps (Event.Begin client) self.old self.new result }
+    {
+        let Some(past) = idle(&self.positions, client) else {
+            return Err(NotEnabled);
+        };
+        if past as usize >= calls(&self.scripts, client).len() {
+            return Err(NotEnabled);
+        }
+        self.positions[client as usize] = Position {
+            past,
+            doing: Doing::Entering,
+        };
+        Ok(())
+    }
+
+    /// A client that enters, or was woken, takes the free lock.
+    fn lock(&mut self, client: u32) -> Result<(), NotEnabled>
+        ensures { Steps (Event.Lock client) self.old self.new result }
+    {
+        if self.owner.is_some() {
+            return Err(NotEnabled);
+        }
+        let Some(past) = ready(&self.positions, client) else {
+            return Err(NotEnabled);
+        };
+        self.owner = Some(client);
+        self.positions[client as usize] = Position {
+            past,
+            doing: Doing::Inside,
+        };
+        Ok(())
+    }
+
+    /// A client inside whose guard is false gives the lock back and waits.
+    fn wait(&mut self, client: u32) -> Result<(), NotEnabled>
+        ensures { Steps (Event.Wait client) self.old self.new result }
+    {
+        let Some(past) = inside(&self.positions, client) else {
+            return Err(NotEnabled);
+        };
+        let call = &calls(&self.scripts, client)[past as usize];
+        if holds(&self.monitor, &self.state, call) {
+            return Err(NotEnabled);
+        }
+        let condition = condition_of(&self.monitor, call);
+        self.owner = None;
+        self.positions[client as usize] = Position {
+            past,
+            doing: Doing::Waiting(condition),
+        };
+        Ok(())
+    }
+
+    /// A client inside whose guard is true makes its step.
+    fn run(&mut self, client: u32) -> Result<(), NotEnabled>
+        ensures { Steps (Event.Run client) self.old self.new result }
+    {
+        let Some(past) = inside(&self.positions, client) else {
+            return Err(NotEnabled);
+        };
+        let call = &calls(&self.scripts, client)[past as usize];
+        if !holds(&self.monitor, &self.state, call) {
+            return Err(NotEnabled);
+        }
+        let block = first_block(&self.monitor, call);
+        let condition = condition_of(&self.monitor, call);
+        let reply = run_block(&self.monitor, &mut self.state, block, call.inputs.items());
+        self.commits.push_reserved(Commit {
+            client,
+            call: past + 1,
+            reply,
+        });
+        self.positions[client as usize] = Position {
+            past,
+            doing: doing_after(block, condition, reply),
+        };
+        Ok(())
+    }
+
+    /// A note of a client that names no target: it wakes each client that waits, or nobody.
+    fn notify_none(&mut self, client: u32) -> Result<(), NotEnabled>
+        ensures { Steps (Event.Notify client None) self.old self.new result }
+    {
+        let Some(next) = next_note(&self.plan, &self.positions, client) else {
+            return Err(NotEnabled);
+        };
+        if !fires(&self.monitor, &self.state, next.note) {
+            self.positions[client as usize] = Position {
+                past: next.past,
+                doing: next.rest,
+            };
+            return Ok(());
+        }
+        if next.note.all {
+            wake_all(&mut self.positions, next.note.condition);
+            self.positions[client as usize] = Position {
+                past: next.past,
+                doing: next.rest,
+            };
+            return Ok(());
+        }
+        if some_waits(&self.positions, next.note.condition) {
+            return Err(NotEnabled);
+        }
+        self.positions[client as usize] = Position {
+            past: next.past,
+            doing: next.rest,
+        };
+        Ok(())
+    }
+
+    /// A signal of a client, which wakes a target that waits.
+    fn notify_one(&mut self, client: u32, target: u32) -> Result<(), NotEnabled>
+        ensures { Steps (Event.Notify client (Some target)) self.old self.new result }
+    {
+        let Some(next) = next_note(&self.plan, &self.positions, client) else {
+            return Err(NotEnabled);
+        };
+        if next.note.all {
+            return Err(NotEnabled);
+        }
+        if !fires(&self.monitor, &self.state, next.note) {
+            return Err(NotEnabled);
+        }
+        let Some(past) = waiting_on(&self.positions, target, next.note.condition) else {
+            return Err(NotEnabled);
+        };
+        self.positions[target as usize] = Position {
+            past,
+            doing: Doing::Woken(next.note.condition),
+        };
+        self.positions[client as usize] = Position {
+            past: next.past,
+            doing: next.rest,
+        };
+        Ok(())
+    }
+
+    /// A client with no note to come gives the lock back, and is past its call.
+    fn unlock(&mut self, client: u32) -> Result<(), NotEnabled>
+        ensures { Steps (Event.Unlock client) self.old self.new result }
+    {
+        let Some(past) = finished(&self.plan, &self.positions, client) else {
+            return Err(NotEnabled);
+        };
+        self.owner = None;
+        self.positions[client as usize] = Position {
+            past: past + 1,
+            doing: Doing::Idle,
+        };
+        Ok(())
+    }
+
+    /// A client that waits is woken by nothing.
+    fn spurious(&mut self, client: u32) -> Result<(), NotEnabled>
+        ensures { Steps (Event.Spurious client) self.old self.new result }
+    {
+        let Some((past, condition)) = waiting(&self.positions, client) else {
+            return Err(NotEnabled);
+        };
+        self.positions[client as usize] = Position {
+            past,
+            doing: Doing::Woken(condition),
+        };
+        Ok(())
+    }
+}
+
+/// Each client idle at its first call, or an error where memory runs out.
+fn all_idle(alloc: Global, clients: &[Client]) -> Result<Vec<Position>, AllocError>
+    ensures { IfOk result (λ positions. positions.items ≡ map idle_position clients.now) }
+{
+    let mut positions = Vec::with_capacity(alloc, clients.len())?;
+    for _client in clients {
+        positions.push(Position {
+            past: 0,
+            doing: Doing::Idle,
+        })?;
+    }
+    Ok(positions)
+}

@@ -1,0 +1,116 @@
+//! The notes that a client has to make.
+
+ghost use Rattle.std.specs.Prelude.{◌≡◌, ◌≤◌, ℕ, true, MatchOption, length};
+ghost use Rattle.mon_implicit.specs.Steps.{FitsState};
+ghost use Rattle.mon_events.specs.Plans.{notes_at};
+ghost use Rattle.mon_explicit.specs.inner.Positions.{HasFinished, HasNoNext, IsNext, IsNoteOf};
+ghost use Rattle.mon_explicit.specs.inner.Positions.{CanTest, doing_after, fires_in};
+
+use super::position::{Doing, Position};
+use mon_events::{Note, Plan};
+use mon_implicit::{Reply, State, condition_holds};
+use mon_monitor::Monitor;
+
+/// The first note to come of a client that is past so many calls, and what it does after it.
+#[derive(Clone, Copy, Debug)]
+pub struct Next {
+    pub past: u32,
+    pub note: Note,
+    pub rest: Doing,
+}
+
+/// The notes of a block.
+fn notes(plan: &Plan, block: u32) -> &[Note]
+    ensures { result.now ≡ notes_at plan.now block }
+{
+    match plan.notes.items().get(block as usize) {
+        Some(list) => list.notes(),
+        None => &[],
+    }
+}
+
+/// What a client does after the reply of its block.
+pub fn doing_after(block: u32, condition: u32, reply: Reply) -> Doing
+    ensures { result ≡ doing_after block condition reply }
+{
+    match reply {
+        Reply::Overflow => Doing::Signalling { condition },
+        Reply::Unit => Doing::Notifying { block, from: 0 },
+        Reply::Int(_) => Doing::Notifying { block, from: 0 },
+        Reply::Bool(_) => Doing::Notifying { block, from: 0 },
+    }
+}
+
+/// How many calls a client is past that has made all its notes.
+pub fn finished(plan: &Plan, positions: &[Position], client: u32) -> Option<u32>
+    ensures { MatchOption result ((past : ℕ) → HasFinished plan.now positions.now client past → ⊥)
+        (λ past. HasFinished plan.now positions.now client past) }
+{
+    match positions.get(client as usize) {
+        Some(one) => match one.doing {
+            Doing::Notifying { block, from } => {
+                if from >= notes(plan, block).len() {
+                    Some(one.past)
+                } else {
+                    None
+                }
+            }
+            Doing::Signalled => Some(one.past),
+            _ => None,
+        },
+        None => None,
+    }
+}
+
+/// The first note to come of a client.
+pub fn next_note(plan: &Plan, positions: &[Position], client: u32) -> Option<Next>
+    ensures { MatchOption result (HasNoNext plan.now positions.now client)
+        (λ next. IsNext plan.now positions.now client next) }
+{
+    match positions.get(client as usize) {
+        Some(one) => match one.doing {
+            Doing::Notifying { block, from } => own_note(plan, block, from, one.past),
+            Doing::Signalling { condition } => Some(Next {
+                past: one.past,
+                note: Note {
+                    condition,
+                    all: false,
+                    tested: false,
+                },
+                rest: Doing::Signalled,
+            }),
+            _ => None,
+        },
+        None => None,
+    }
+}
+
+/// The first note of a block from one on.
+fn own_note(plan: &Plan, block: u32, from: usize, past: u32) -> Option<Next>
+    ensures { MatchOption result (length (notes_at plan.now block) ≤ from)
+        (λ next. IsNoteOf plan.now block from past next) }
+{
+    match notes(plan, block).get(from) {
+        Some(note) => Some(Next {
+            past,
+            note: *note,
+            rest: Doing::Notifying {
+                block,
+                from: from + 1,
+            },
+        }),
+        None => None,
+    }
+}
+
+/// Whether a note fires.
+pub fn fires(monitor: &Monitor, state: &State, note: Note) -> bool
+    requires state { FitsState monitor.now state.now }
+    requires fits { note.tested ≡ true → CanTest monitor.now note }
+    ensures { result ≡ fires_in monitor.now state.now note }
+{
+    if !note.tested {
+        return true;
+    }
+    condition_holds(monitor, state, note.condition)
+}

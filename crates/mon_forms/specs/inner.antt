@@ -1,0 +1,2 @@
+pub mod FormBounds
+pub mod Parts

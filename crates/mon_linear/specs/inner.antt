@@ -1,0 +1,3 @@
+pub mod Limited
+pub mod Merging
+pub mod Rows

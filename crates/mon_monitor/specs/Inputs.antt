@@ -1,0 +1,21 @@
+-- Which guards read inputs.
+use Rattle.std.specs.Prelude.{Bool, nat_le}
+use Rattle.std.specs.List.{list_any}
+use Rattle.mon_linear.specs.declared.form.Term.{Term}
+use Rattle.mon_linear.specs.declared.formula.Formula.{Formula}
+use Rattle.mon_linear.specs.declared.formula.Formula.TheOpen.{Formula-F, Row, Flag, All as Every, Any as Some_of}
+use Rattle.mon_linear.specs.declared.formula.Formula.TheFolds.{fold-Formula}
+
+-- a place of an input
+abbrev pub reads_term : Term → Bool
+reads_term term = nat_le 16 term.place
+
+abbrev pub reads_step : Formula-F Bool → Bool
+reads_step (Row form) = list_any reads_term form.terms
+reads_step (Flag place is) = nat_le 16 place
+reads_step (Every parts) = list_any (λ part. part) parts
+reads_step (Some_of parts) = list_any (λ part. part) parts
+
+-- whether a guard reads inputs
+abbrev pub reads_inputs : Formula → Bool
+reads_inputs = fold-Formula Bool reads_step

@@ -1,0 +1,4 @@
+pub mod Printing
+pub mod Depths
+pub mod Statements
+pub mod Files

@@ -1,0 +1,78 @@
+-- The rule of names: the names that are listed as repeated are those of earlier ones.
+use Rattle.std.proofs.Common.{◌≡◌, ℕ, Bool, true, false, ◌||◌, List, [], ◌∷◌, ◌++◌, map, refl, sym, ap, subst, ◌∙◌, inl, inr}
+use Rattle.std.specs.Prelude.{if◌then◌else◌}
+use Rattle.std.specs.List.{Contains}
+use Rattle.std.specs.Str.{bytes_eq}
+use Rattle.std.proofs.lemmas.List.{append-nil, append_assoc}
+use Rattle.std.proofs.lemmas.List.Elements.{Contains-append_cases, Contains-append_right}
+use Rattle.std.proofs.lemmas.Slice.Eq.{bytes_eq-Decides}
+use Rattle.std.proofs.lemmas.Bool.{cases_Bool}
+use Rattle.mon_forms.specs.declared.fault.TypeFault.{TypeFault}
+use Rattle.mon_forms.specs.declared.fault.TypeFault.TheVariants.{Duplicate}
+use Rattle.mon_rules.specs.Rules.{PlacedName, repeated}
+use Rattle.mon_rules.specs.Judgements.{Repeats}
+use Rattle.mon_forms.proofs.LeastLaws.{contains_head, contains_tail}
+use Rattle.mon_rules.proofs.Members.{first_or_later, none_in, only_in}
+use Rattle.mon_rules.proofs.RepeatedNames.{is_among, repeated-append}
+
+abbrev bare_names : List PlacedName → List (List ℕ)
+bare_names names = map (λ name. name.name) names
+
+among_from : (names : List PlacedName) (name : List ℕ) → is_among names name ≡ true → Contains (bare_names names) name
+among_from [] name test = absurd cc
+among_from (one ∷ names) name test = elim (cases_Bool (bytes_eq one.name name)) [
+  | inl same ↦ subst (λ (text : List ℕ). Contains (one.name ∷ bare_names names) text) ((bytes_eq-Decides one.name name).0 same) (contains_head one.name (bare_names names))
+  | inr other ↦ contains_tail one.name name (bare_names names) (among_from names name (rw other at test))
+]
+
+or_true : (a b : Bool) → b ≡ true → (a || b) ≡ true
+or_true true b is = refl
+or_true false b is = is
+
+in_among : (names : List PlacedName) (name : List ℕ) → Contains (bare_names names) name → is_among names name ≡ true
+in_among [] name within = none_in name within
+in_among (one ∷ names) name within = elim (first_or_later one.name name (bare_names names) within) [
+  | inl is ↦ rw ((bytes_eq-Decides one.name name).1 is) refl
+  | inr later ↦ or_true (bytes_eq one.name name) (is_among names name) (in_among names name later)
+]
+
+-- a repeated name, and the fault that it gives
+pub record RepeatedAt (others names : List PlacedName) (fault : TypeFault) : Type 0 where
+  pub place : ℕ
+  pub is : fault ≡ Duplicate place
+  pub repeats : Repeats others place names
+
+repeated_head : (others : List PlacedName) (name : PlacedName) (names : List PlacedName) (fault : TypeFault) (test : Bool) → is_among others name.name ≡ test → Contains (if test then Duplicate name.at ∷ [] else []) fault → RepeatedAt others (name ∷ names) fault
+repeated_head others name names fault true among within = record {
+  place = name.at;
+  is = sym (only_in (Duplicate name.at) fault within);
+  repeats = ([], name, names, refl, subst (λ (list : List PlacedName). Contains (bare_names list) name.name) (sym (append-nil others)) (among_from others name.name among), refl);
+}
+repeated_head others name names fault false among within = none_in fault within
+
+repeated_later : (others : List PlacedName) (name : PlacedName) (names : List PlacedName) (fault : TypeFault) → RepeatedAt (others ++ name ∷ []) names fault → RepeatedAt others (name ∷ names) fault
+repeated_later others name names fault found =
+    let before = found.repeats.0 in
+    record {
+      place = found.place;
+      is = found.is;
+      repeats = (name ∷ before, found.repeats.1, found.repeats.2, ap (λ more. name ∷ more) found.repeats.3, subst (λ (list : List PlacedName). Contains (bare_names list) found.repeats.1.name) (append_assoc others (name ∷ []) before) found.repeats.4, found.repeats.5);
+    }
+
+pub from_repeated : (others names : List PlacedName) (fault : TypeFault) → Contains (repeated others names) fault → RepeatedAt others names fault
+from_repeated others [] fault within = none_in fault within
+from_repeated others (name ∷ names) fault within =
+    elim (Contains-append_cases (if is_among others name.name then Duplicate name.at ∷ [] else []) (repeated (others ++ name ∷ []) names) fault within) [
+      | inl here ↦ repeated_head others name names fault (is_among others name.name) refl here
+      | inr later ↦ repeated_later others name names fault (from_repeated (others ++ name ∷ []) names fault later)
+    ]
+
+head_repeated : (others : List PlacedName) (name : PlacedName) (names : List PlacedName) → is_among others name.name ≡ true → Contains (repeated others (name ∷ names)) (Duplicate name.at)
+head_repeated others name names among = rw among (contains_head (Duplicate name.at) (repeated (others ++ name ∷ []) names))
+
+pub in_repeated : (others : List PlacedName) (place : ℕ) (names : List PlacedName) → Repeats others place names → Contains (repeated others names) (Duplicate place)
+in_repeated others place names (before, name, after, split, among, is) =
+    let here = head_repeated (others ++ before) name after (in_among (others ++ before) name.name among) in
+    let all = Contains-append_right (repeated others before) (repeated (others ++ before) (name ∷ after)) (Duplicate name.at) here in
+    subst (λ at. Contains (repeated others names) (Duplicate at)) is
+    (subst (λ (list : List TypeFault). Contains list (Duplicate name.at)) (sym (ap (repeated others) split ∙ repeated-append others before (name ∷ after))) all)

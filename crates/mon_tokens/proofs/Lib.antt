@@ -1,0 +1,5 @@
+pub mod Pieces
+pub mod Cutting
+pub mod Identifiers
+pub mod Numerals
+pub mod Digits

@@ -1,0 +1,4 @@
+pub mod Spelling
+pub mod Pieces
+pub mod Lexing
+pub mod Words

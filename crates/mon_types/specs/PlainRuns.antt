@@ -1,0 +1,151 @@
+-- What the statements of a tree do, by ordinary arithmetic and logic, where each name has a value.
+use Rattle.std.specs.Prelude.{◌≡◌, ℕ, ℤ, pos, false, List, [], ◌∷◌, ◌++◌, map, Option, Some, None, slice_get, if◌then◌else◌}
+use Rattle.std.specs.Option.{option_map}
+use Rattle.std.specs.Str.{bytes_eq}
+use Rattle.mon_tree.specs.declared.tree.Decl.{Decl}
+use Rattle.mon_tree.specs.declared.tree.Decl.TheVariants as decls
+use Rattle.mon_tree.specs.declared.tree.Expr.{Expr}
+use Rattle.mon_tree.specs.declared.tree.Expr.TheOpen.{Expr-F, Named}
+use Rattle.mon_tree.specs.declared.tree.Expr.TheFolds.{fold-Expr}
+use Rattle.mon_tree.specs.declared.tree.InputTree.{InputTree}
+use Rattle.mon_tree.specs.declared.tree.StmtTree.{StmtTree}
+use Rattle.mon_tree.specs.declared.tree.StmtTree.TheOpen.{StmtTree-F, Set, If, Return}
+use Rattle.mon_tree.specs.declared.tree.StmtTree.TheFolds.{fold-StmtTree}
+use Rattle.mon_tree.specs.declared.tree.MethodTree.{MethodTree}
+use Rattle.mon_tree.specs.declared.tree.MonitorTree.{MonitorTree}
+use Rattle.mon_linear.specs.Truth.{Valuation}
+use Rattle.mon_base.specs.declared.kind.Kind.{Kind}
+use Rattle.mon_base.specs.declared.value.Value.{Value}
+use Rattle.mon_base.specs.declared.value.Value.TheVariants as values
+use Rattle.mon_forms.specs.Plain.{Plain, number, truth, truth_in, plain_step, addend_value, factor_value}
+use Rattle.mon_monitor.specs.declared.monitor.Block.{Block}
+use Rattle.mon_monitor.specs.MonitorParts.{MonitorParts, AreOfKinds, kinds_of}
+use Rattle.mon_monitor.specs.Bodies.{after, result_value}
+use Rattle.mon_types.specs.Typed.{input_kind, literal_value}
+
+-- ---- what names stand for
+
+-- the number or the truth value that each name stands for
+abbrev pub Environment : Type 0
+Environment = List ℕ → Plain
+
+pub record NamedValue : Type 0 where
+  pub name : List ℕ
+  pub value : Plain
+
+-- what the first of that name is; an unknown name, which no checked statement has, is 0
+abbrev pub environment_of : List NamedValue → Environment
+environment_of [] name = number (pos 0)
+environment_of (first ∷ more) name =
+    if bytes_eq first.name name then first.value else environment_of more name
+
+-- the value of a field, an input or a result
+abbrev pub plain_of : Value → Plain
+plain_of (values.Int value) = number value
+plain_of (values.Bool value) = truth value
+
+-- a constant is its written number, and the fields have the values of a state, in the order of the file
+abbrev pub declared_values : List Decl → List Value → List NamedValue
+declared_values (decls.Const at name value ∷ more) state =
+    record { name = name; value = number (literal_value value) } ∷ declared_values more state
+declared_values (decls.Int at name value ∷ more) (first ∷ rest) =
+    record { name = name; value = plain_of first } ∷ declared_values more rest
+declared_values (decls.Flag at name value ∷ more) (first ∷ rest) =
+    record { name = name; value = plain_of first } ∷ declared_values more rest
+declared_values declared state = []
+
+abbrev pub input_values : List InputTree → List Value → List NamedValue
+input_values (input ∷ more) (first ∷ rest) =
+    record { name = input.name; value = plain_of first } ∷ input_values more rest
+input_values taken inputs = []
+
+-- what the names of a method stand for when it begins
+abbrev pub method_environment : List Decl → MethodTree → List Value → List Value → Environment
+method_environment declared method state inputs =
+    environment_of (declared_values declared state ++ input_values method.inputs inputs)
+
+-- ---- expressions
+
+-- no name has a place here
+abbrev pub no_places : Valuation
+no_places = record { number = λ place. pos 0; flag = λ place. false }
+
+-- One layer, given what its parts mean. Only a name asks what names stand for; the others are
+-- arithmetic and logic alone.
+abbrev pub value_step : Environment → Expr-F Plain ℤ ℤ → Plain
+value_step names (Named at name) = names name
+value_step names layer = plain_step [] no_places layer
+
+abbrev pub expression_value : Environment → Expr → Plain
+expression_value names = fold-Expr Plain ℤ ℤ (value_step names) addend_value factor_value
+
+-- ---- statements
+
+-- what the names stand for, and what was returned, where something was
+pub record PlainState : Type 0 where
+  pub names : Environment
+  pub returned : Option Plain
+
+-- an assignment changes what its target stands for, and nothing else
+abbrev pub reassigned : List ℕ → Plain → Environment → Environment
+reassigned target value names name = if bytes_eq target name then value else names name
+
+-- one after the other
+abbrev pub one_by_one : List (PlainState → PlainState) → PlainState → PlainState
+one_by_one [] before = before
+one_by_one (first ∷ more) before = one_by_one more (first before)
+
+-- The condition of an `if` is read once, before one of its branches runs. A `return` goes on, but a
+-- checked body ends with it.
+abbrev pub run_step : StmtTree-F (PlainState → PlainState) → PlainState → PlainState
+run_step (Set at name value) before = record {
+  names = reassigned name (expression_value before.names value) before.names;
+  returned = before.returned;
+}
+run_step (If at when body other) before =
+    if truth_in (expression_value before.names when) then one_by_one body before
+    else one_by_one other before
+run_step (Return at value) before = record {
+  names = before.names;
+  returned = Some (expression_value before.names value);
+}
+
+abbrev pub statement_run : StmtTree → PlainState → PlainState
+statement_run = fold-StmtTree (PlainState → PlainState) run_step
+
+-- what the statements of a body do to what the names stand for, and what they return
+abbrev pub plain_run : List StmtTree → Environment → PlainState
+plain_run body names =
+    one_by_one (map statement_run body) (record { names = names; returned = None })
+
+-- ---- a block and the statements of its method
+
+-- From a state and inputs the block's body reaches the state that a plain run ends in, read by the
+-- names of the fields, and the block's result is what that run returned.
+pub record RunsAsWritten (monitor : MonitorParts) (block : Block) (state inputs : List Value) (end : PlainState) : Type 0 where
+  pub reaches : map plain_of (after inputs block.body state)
+      ≡ map (λ field. end.names field.name) monitor.fields
+  pub answers : option_map plain_of (result_value (after inputs block.body state) inputs block.result)
+      ≡ end.returned
+
+abbrev pub kinds_taken : MethodTree → List Kind
+kinds_taken method = map (λ input. input_kind input.kind) method.inputs
+
+-- what a method's statements do to a state
+abbrev pub method_run : List Decl → MethodTree → List Value → List Value → PlainState
+method_run declared method state inputs =
+    plain_run method.body (method_environment declared method state inputs)
+
+-- from each state, with all inputs of the method's kinds
+abbrev pub BlockRunsAsWritten : MonitorTree → MonitorParts → MethodTree → Block → Type 0
+BlockRunsAsWritten tree monitor method block =
+    (state inputs : List Value)
+    → AreOfKinds (kinds_of monitor.fields) state → AreOfKinds (kinds_taken method) inputs
+    → RunsAsWritten monitor block state inputs (method_run tree.decls method state inputs)
+
+-- each method's block
+abbrev pub MonitorRunsAsWritten : MonitorTree → MonitorParts → Type 0
+MonitorRunsAsWritten tree monitor =
+    (index : ℕ) (method : MethodTree) (block : Block)
+    → slice_get tree.methods index ≡ Some method → slice_get monitor.blocks index ≡ Some block
+    → BlockRunsAsWritten tree monitor method block

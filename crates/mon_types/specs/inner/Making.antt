@@ -1,0 +1,72 @@
+-- What the parts of the making of a monitor say.
+use Rattle.std.specs.Prelude.{◌≡◌, ℕ, ◌+◌, ◌-◌, ◌⊎◌, true, false, List, [], ◌∷◌, ◌++◌, length, All, Some, slice_get, IsSomeAnd}
+use Rattle.mon_tree.specs.declared.tree.Expr.{Expr}
+use Rattle.mon_tree.specs.declared.tree.StmtTree.{StmtTree}
+use Rattle.mon_tree.specs.declared.tree.MethodTree.{MethodTree}
+use Rattle.mon_linear.specs.declared.formula.Formula.{Formula}
+use Rattle.mon_base.specs.declared.kind.Kind.TheVariants as kinds
+use Rattle.mon_forms.specs.declared.scope.Entry.{Entry}
+use Rattle.mon_forms.specs.Forms.{IsOrdered}
+use Rattle.mon_forms.specs.Making.{has_small_numbers}
+use Rattle.mon_forms.specs.declared.fault.TypeFault.{TypeFault}
+use Rattle.mon_forms.specs.declared.scope.Meaning.{Meaning}
+use Rattle.mon_forms.specs.Scope.{entry_named}
+use Rattle.mon_forms.specs.Sense.{entry_kind, is_other, meaning_kind, sense}
+use Rattle.mon_rules.specs.Rules.{expected, finding}
+use Rattle.mon_monitor.specs.declared.monitor.Stmt.{Stmt}
+use Rattle.mon_monitor.specs.declared.monitor.Ret.{Ret}
+use Rattle.mon_monitor.specs.declared.monitor.Block.{Block}
+use Rattle.mon_monitor.specs.declared.monitor.Condition.{Condition}
+use Rattle.mon_monitor.specs.Inputs.{reads_inputs}
+use Rattle.mon_types.specs.Typed.{AreConditions, assignment, result_of_kind, set_of}
+
+-- The number of the condition with a guard: one that was there, or the new one after them.
+abbrev pub IsNumbered : List Condition → Formula → Expr → ℕ → List Condition → Type 0
+IsNumbered before guard shown number all =
+    (IsSomeAnd (slice_get before (number - 1)) (λ condition. condition.guard ≡ guard) × (number ≡ (number - 1) + 1) × (all ≡ before))
+    ⊎ (All (λ condition. condition.guard ≡ guard → ⊥) before × (number ≡ length before + 1) × (all ≡ before ++ record { guard = guard; reads_inputs = reads_inputs guard; shown = shown } ∷ []))
+
+abbrev pub HasGuard : Formula → Condition → Type 0
+HasGuard guard condition = condition.guard ≡ guard
+
+abbrev pub LacksGuard : Formula → Condition → Type 0
+LacksGuard guard condition = condition.guard ≡ guard → ⊥
+
+-- the block's condition has the number of its guard
+abbrev pub HasNumber : MethodTree → Block → List Condition → List Condition → Type 0
+HasNumber method block before all = IsNumbered before block.guard method.guard block.condition all
+
+-- all conditions are those of the blocks, which have their numbers
+abbrev pub AreNumbered : List MethodTree → List Block → List Condition → Type 0
+AreNumbered methods blocks all = AreConditions [] methods blocks all
+
+-- ---- statements
+
+-- the faults of a value that is assigned to a name, and the assignment
+abbrev pub value_faults : List Entry → List ℕ → Expr → List TypeFault
+value_faults scope name value = expected (entry_kind (entry_named scope name)) (sense scope value)
+
+abbrev pub assigned : List Entry → List ℕ → Expr → List Stmt
+assigned scope name value = set_of scope (entry_named scope name) (sense scope value)
+
+abbrev pub meaning_faults : Meaning → List Entry → Expr → List TypeFault
+meaning_faults meaning scope value = expected (Some (meaning_kind meaning)) (sense scope value)
+
+abbrev pub assigned_at : List Entry → Meaning → Expr → List Stmt
+assigned_at scope meaning value = assignment scope meaning (sense scope value)
+
+-- the result that an expression is
+abbrev pub value_result : List Entry → Expr → Ret
+value_result scope value = result_of_kind scope (sense scope value).kind (sense scope value)
+
+-- each statement breaks no rule
+abbrev pub AreFineStatements : List Entry → List StmtTree → Type 0
+AreFineStatements scope body = All (λ tree. (finding scope tree).faults ≡ []) body
+
+-- the scope of a method in which its guard and its statements break no rule
+pub record IsMethodScope (method : MethodTree) (scope : List Entry) : Type 0 where
+  pub ordered_places : IsOrdered scope
+  pub small_numbers : has_small_numbers scope ≡ true
+  pub guard_fine : (sense scope method.guard).faults ≡ []
+  pub guard_bool : is_other kinds.Bool (sense scope method.guard).kind ≡ false
+  pub body_fine : AreFineStatements scope method.body

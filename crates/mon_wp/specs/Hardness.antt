@@ -1,0 +1,100 @@
+-- Hard queries, and small monitors, whose queries a prover has to decide.
+use Rattle.std.specs.Prelude.{◌≡◌, ◌<◌, ◌≤◌, ℕ, ◌-◌, pos, Bool, true, false, ◌&&◌, nat_le, List, [], ◌∷◌, length, slice_get}
+use Rattle.std.specs.List.{list_all, Contains}
+use Rattle.std.specs.Option.{IsSomeAnd}
+use Rattle.std.specs.Ordering.{int_eq}
+use Rattle.mon_linear.specs.declared.form.Term.{Term}
+use Rattle.mon_linear.specs.Differences.{is_difference}
+use Rattle.mon_linear.specs.declared.measure.TheConstants.{MOST_CUBES}
+use Rattle.mon_linear.specs.Measures.{cubes_of}
+use Rattle.mon_linear.specs.declared.formula.Formula.{Formula}
+use Rattle.mon_monitor.specs.declared.claim.Claim.{Claim}
+use Rattle.mon_monitor.specs.declared.claim.Claim.TheVariants as claims
+use Rattle.mon_monitor.specs.declared.query.Query.{Query}
+use Rattle.mon_monitor.specs.declared.monitor.Block.{Block}
+use Rattle.mon_monitor.specs.declared.monitor.Stmt.{Stmt}
+use Rattle.mon_monitor.specs.declared.monitor.Stmt.TheOpen.{Stmt-F, SetInt, SetBool, If}
+use Rattle.mon_monitor.specs.declared.monitor.Stmt.TheFolds.{fold-Stmt}
+use Rattle.mon_monitor.specs.MonitorParts.{MonitorParts}
+use Rattle.mon_monitor.specs.Candidates.{candidates_of, rows_of}
+use Rattle.mon_monitor.specs.Queries.{query_of}
+use Rattle.mon_wp.specs.NegatedQueries.{negated_query}
+use Rattle.mon_wp.specs.Limits.{is_query_within}
+
+-- ---- hard queries
+
+-- each row of a formula bounds one variable, or the difference of two
+abbrev pub has_difference_rows : Formula → Bool
+has_difference_rows formula = list_all is_difference (rows_of formula)
+
+abbrev pub has_few_cubes : Formula → Bool
+has_few_cubes formula = nat_le (cubes_of formula) MOST_CUBES
+
+-- difference rows alone, and few cubes
+abbrev pub is_decidable : Formula → Bool
+is_decidable formula = has_difference_rows formula && has_few_cubes formula
+
+-- the query is negated within the limits, to such a formula
+abbrev pub is_easy : MonitorParts → Query → Bool
+is_easy monitor query =
+    is_query_within monitor query && is_decidable (negated_query monitor query)
+
+-- the query of a claim is not easy, with all candidates in the place of those that are kept
+abbrev pub IsHard : MonitorParts → Claim → Type 0
+IsHard monitor claim = is_easy monitor (query_of monitor (candidates_of monitor) claim) ≡ false
+
+-- ---- small monitors
+
+-- a constant, or the variable of one place and a constant
+abbrev pub are_simple_terms : List Term → Bool
+are_simple_terms [] = true
+are_simple_terms (term ∷ []) = int_eq term.times (pos 1)
+are_simple_terms (term ∷ next ∷ more) = false
+
+abbrev pub simple_step : Stmt-F Bool → Bool
+simple_step (SetInt field form) = are_simple_terms form.terms
+simple_step (SetBool field is) = has_difference_rows is
+simple_step (If when body other) =
+    has_difference_rows when && (list_all (λ inner. inner) body && list_all (λ inner. inner) other)
+
+-- simple forms are assigned, and conditions and bools that are assigned have difference rows alone
+abbrev pub is_simple_statement : Stmt → Bool
+is_simple_statement = fold-Stmt Bool simple_step
+
+abbrev pub is_simple_block : Block → Bool
+is_simple_block block = has_difference_rows block.guard && list_all is_simple_statement block.body
+
+-- a block of the monitor
+abbrev pub IsBlock : MonitorParts → ℕ → Type 0
+IsBlock monitor block = block < length monitor.blocks
+
+-- a condition of the monitor, numbered from 1
+abbrev pub IsCondition : MonitorParts → ℕ → Type 0
+IsCondition monitor condition = (1 ≤ condition) × (condition ≤ length monitor.conditions)
+
+-- a condition whose guard reads no inputs
+abbrev pub ReadsNone : MonitorParts → ℕ → Type 0
+ReadsNone monitor condition =
+    (1 ≤ condition)
+    × IsSomeAnd (slice_get monitor.conditions (condition - 1)) (λ held. held.reads_inputs ≡ false)
+
+-- the block waits at the condition
+abbrev pub WaitsAt : MonitorParts → ℕ → ℕ → Type 0
+WaitsAt monitor block condition =
+    IsSomeAnd (slice_get monitor.blocks block) (λ held. held.condition ≡ condition)
+
+-- the claims that are asked of a monitor: where a guard reads inputs, only whether no note is needed
+abbrev pub IsClaimOf : MonitorParts → Claim → Type 0
+IsClaimOf monitor (claims.Keeps candidate block) =
+    Contains (candidates_of monitor) candidate × IsBlock monitor block
+IsClaimOf monitor (claims.NoNote block condition) =
+    IsBlock monitor block × IsCondition monitor condition
+IsClaimOf monitor (claims.One condition block) =
+    ReadsNone monitor condition × WaitsAt monitor block condition
+IsClaimOf monitor (claims.NoTest block condition) =
+    IsBlock monitor block × ReadsNone monitor condition
+
+-- blocks are simple, and no query is hard
+pub record IsSmall (monitor : MonitorParts) : Type 0 where
+  pub simple : list_all is_simple_block monitor.blocks ≡ true
+  pub easy : (claim : Claim) → IsClaimOf monitor claim → IsHard monitor claim → ⊥

@@ -1,0 +1,3 @@
+pub mod Negatable
+pub mod Choices
+pub mod Movable

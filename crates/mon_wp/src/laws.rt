@@ -1,0 +1,59 @@
+//! What follows from the definitions alone.
+
+ghost use Rattle.std.specs.Prelude.{◌≡◌, ◌<◌, true, false, All, List, length};
+ghost use Rattle.std.specs.List.{list_all};
+ghost use Rattle.mon_linear.specs.declared.formula.Formula.{Formula};
+ghost use Rattle.mon_linear.specs.Truth.{Valuation, truth_of};
+ghost use Rattle.mon_monitor.specs.declared.monitor.Stmt.{Stmt};
+ghost use Rattle.mon_monitor.specs.declared.query.Query.{Query};
+ghost use Rattle.mon_monitor.specs.Bodies.{fits_64};
+ghost use Rattle.mon_monitor.specs.Candidates.{candidates_of};
+ghost use Rattle.mon_monitor.specs.Inputs.{reads_inputs};
+ghost use Rattle.mon_monitor.specs.MonitorParts.{MonitorParts, IsMonitor};
+ghost use Rattle.mon_monitor.specs.Paths.{path_count};
+ghost use Rattle.mon_monitor.specs.Queries.{for_waiting};
+ghost use Rattle.mon_monitor.specs.Triples.{IsValidQuery};
+ghost use Rattle.mon_wp.specs.Expressible.{is_expressible};
+ghost use Rattle.mon_wp.specs.NegatedQueries.{negated_query, query_fails};
+ghost use Rattle.mon_wp.specs.Paths.{body_paths};
+
+/// A negated query is true at a valuation exactly where the triple of the query fails there: each hypothesis is
+/// true, and the post formula is not after the body.
+pub fn negated_query_is_exact()
+    ensures { (monitor : MonitorParts) (query : Query) (v : Valuation)
+        → IsMonitor monitor → query.block < length monitor.blocks
+        → truth_of v (negated_query monitor query) ≡ query_fails monitor query v }
+{}
+
+/// A query whose negation is true nowhere is valid.
+pub fn refuted_query_is_valid()
+    ensures { (monitor : MonitorParts) (query : Query)
+        → IsMonitor monitor → query.block < length monitor.blocks
+        → ((v : Valuation) → truth_of v (negated_query monitor query) ≡ false)
+        → IsValidQuery monitor query }
+{}
+
+/// A query whose negation is true at some valuation is not valid.
+pub fn satisfied_query_is_invalid()
+    ensures { (monitor : MonitorParts) (query : Query) (v : Valuation)
+        → IsMonitor monitor → query.block < length monitor.blocks
+        → truth_of v (negated_query monitor query) ≡ true
+        → IsValidQuery monitor query → ⊥ }
+{}
+
+/// A body has as many paths as are counted.
+pub fn paths_are_counted()
+    ensures { (body : List Stmt) → length (body_paths body) ≡ path_count body }
+{}
+
+/// A guard that reads no inputs is the same for a client that waits.
+pub fn guard_without_inputs_stays()
+    ensures { (guard : Formula) → reads_inputs guard ≡ false → for_waiting guard ≡ guard }
+{}
+
+/// Each candidate of a monitor whose numbers at the start fit 64 bits has a formula.
+pub fn candidates_are_expressible()
+    ensures { (monitor : MonitorParts)
+        → IsMonitor monitor → All (λ field. fits_64 field.start ≡ true) monitor.fields
+        → list_all is_expressible (candidates_of monitor) ≡ true }
+{}
