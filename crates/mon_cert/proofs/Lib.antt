@@ -1,0 +1,5 @@
+pub mod BranchLemmas
+pub mod DecidingLemmas
+pub mod RowLemmas
+pub mod SoundnessLemmas
+pub mod TextLemmas

@@ -1,0 +1,3 @@
+pub mod CertText
+pub mod Refutes
+pub mod inner

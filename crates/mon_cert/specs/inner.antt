@@ -1,0 +1,4 @@
+pub mod Branches
+pub mod Deciding
+pub mod Rows
+pub mod Texts
