@@ -1,0 +1,2 @@
+pub mod Refutation
+pub mod inner

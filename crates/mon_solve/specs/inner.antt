@@ -1,0 +1,7 @@
+pub mod Added
+pub mod Chains
+pub mod Differences
+pub mod Literals
+pub mod Rows
+pub mod Searches
+pub mod Steps

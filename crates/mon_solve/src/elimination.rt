@@ -1,0 +1,213 @@
+//! The elimination of variables.
+
+ghost use Rattle.std.specs.Prelude.{◌≡◌, ◌++◌, ◌∷◌, [], IfOk, OnOk};
+ghost use Rattle.std.specs.List.{filter};
+ghost use Rattle.mon_solve.specs.inner.Rows.{first_times, is_free, is_lower, is_upper, Pushes};
+ghost use Rattle.mon_solve.specs.inner.Added.{LowersAdded, StaySound, SumAdded, UppersAdded};
+ghost use Rattle.mon_solve.specs.inner.Chains.{KeepsSound, state_of};
+ghost use Rattle.mon_solve.specs.inner.Steps.{Cancels, IsAdded};
+ghost use Rattle.mon_solve.specs.inner.Differences.{CanEliminate, EliminatesAll};
+
+use super::rows::{Numbered, first_times, is_known, put_row};
+use mon_cert::{Combine, WideRow, sum_of_rows};
+use std::alloc::{AllocError, Global};
+use std::mem::replace;
+
+/// A cube's elimination keeps at most so many rows.
+pub(crate) const MOST_ROWS: usize = 4_096;
+
+/// What an elimination has come to.
+#[derive(Debug, Drop)]
+pub(crate) struct Elimination {
+    /// The rows that are left.
+    pub(crate) kept: Vec<Numbered>,
+    /// The sums that were made.
+    pub(crate) combines: Vec<Combine>,
+    /// The number of the next sum.
+    pub(crate) next: u32,
+}
+
+/// How a step of an elimination ends.
+#[derive(Clone, Copy, Debug, PartialEq, Eq)]
+pub(crate) enum Progress {
+    /// Rows are left.
+    Left,
+    /// The last sum is a positive number.
+    Closed,
+    /// There are too many rows, or a number has more than 128 bits.
+    Stopped,
+}
+
+/// Adds a row, unless a kept one says as much.
+fn add_row(left: &mut Elimination, combine: Combine, row: WideRow) -> Result<Progress, AllocError>
+    ensures { IfOk result (IsAdded combine row (state_of left.old) (state_of left.new)) }
+{
+    if is_known(&left.kept, &row) {
+        return Ok(Progress::Left);
+    }
+    if left.next == u32::MAX {
+        return Ok(Progress::Stopped);
+    }
+    left.combines.push(combine)?;
+    if row.is_absurd() {
+        return Ok(Progress::Closed);
+    }
+    let number = left.next;
+    left.next += 1;
+    put_row(&mut left.kept, Numbered { number, row })?;
+    if left.kept.len() > MOST_ROWS {
+        return Ok(Progress::Stopped);
+    }
+    Ok(Progress::Left)
+}
+
+/// The sum of the two rows in which the variable goes, where its factor fits.
+fn cancelling(place: u32, upper: &Numbered, lower: &Numbered) -> Option<Combine>
+    ensures { Cancels place upper.now lower.now result }
+{
+    let left_times = first_times(place, &lower.row).checked_neg()?;
+    Some(Combine {
+        left: upper.number,
+        left_times,
+        right: lower.number,
+        right_times: first_times(place, &upper.row),
+    })
+}
+
+/// Adds the sum of the two rows.
+fn add_sum(
+    alloc: Global,
+    place: u32,
+    upper: &Numbered,
+    lower: &Numbered,
+    left: &mut Elimination,
+) -> Result<Progress, AllocError>
+    ensures { IfOk result (SumAdded place upper.now lower.now left.old left.new) }
+{
+    let Some(combine) = cancelling(place, upper, lower) else {
+        return Ok(Progress::Stopped);
+    };
+    match sum_of_rows(alloc, combine, &upper.row, &lower.row)? {
+        None => Ok(Progress::Stopped),
+        Some(row) => Ok(add_row(left, combine, row)?),
+    }
+}
+
+/// Adds the sums of one upper row and each lower one.
+fn add_sums_of(
+    alloc: Global,
+    place: u32,
+    upper: &Numbered,
+    lowers: &[Numbered],
+    left: &mut Elimination,
+) -> Result<Progress, AllocError>
+    ensures sound { IfOk result (StaySound (upper.now ∷ lowers.now) left.old left.new) }
+    ensures adds { IfOk result (LowersAdded place upper.now lowers.now left.old left.new) }
+{
+    for lower in lowers {
+        match add_sum(alloc, place, upper, lower, left)? {
+            Progress::Left => {}
+            Progress::Closed => return Ok(Progress::Closed),
+            Progress::Stopped => return Ok(Progress::Stopped),
+        }
+    }
+    Ok(Progress::Left)
+}
+
+/// Adds the sum of each upper row and each lower one.
+fn add_sums(
+    alloc: Global,
+    place: u32,
+    uppers: &[Numbered],
+    lowers: &[Numbered],
+    left: &mut Elimination,
+) -> Result<Progress, AllocError>
+    ensures sound { IfOk result (StaySound (uppers.now ++ lowers.now) left.old left.new) }
+    ensures adds { IfOk result (UppersAdded place uppers.now lowers.now left.old left.new) }
+{
+    for upper in uppers {
+        match add_sums_of(alloc, place, upper, lowers, left)? {
+            Progress::Left => {}
+            Progress::Closed => return Ok(Progress::Closed),
+            Progress::Stopped => return Ok(Progress::Stopped),
+        }
+    }
+    Ok(Progress::Left)
+}
+
+/// Rows by what they say of a variable.
+#[derive(Debug, Drop)]
+struct Sides {
+    /// Those that bound it above.
+    uppers: Vec<Numbered>,
+    /// Those that bound it below.
+    lowers: Vec<Numbered>,
+    /// Those without it.
+    free: Vec<Numbered>,
+}
+
+/// Puts a row on its side.
+fn push_side(place: u32, numbered: Numbered, sides: &mut Sides) -> Result<(), AllocError>
+    ensures up { OnOk result (Pushes (is_upper place) numbered sides.old.uppers sides.new.uppers) }
+    ensures low { OnOk result (Pushes (is_lower place) numbered sides.old.lowers sides.new.lowers) }
+    ensures free { OnOk result (Pushes (is_free place) numbered sides.old.free sides.new.free) }
+{
+    let times = first_times(place, &numbered.row);
+    if times > 0 {
+        sides.uppers.push(numbered)?;
+        return Ok(());
+    }
+    if times < 0 {
+        sides.lowers.push(numbered)?;
+        return Ok(());
+    }
+    sides.free.push(numbered)?;
+    Ok(())
+}
+
+/// The rows by what they say of the variable.
+fn sides_of(alloc: Global, place: u32, rows: Vec<Numbered>) -> Result<Sides, AllocError>
+    ensures uppers { IfOk result (λ to. to.uppers.items ≡ filter (is_upper place) rows.items) }
+    ensures lowers { IfOk result (λ to. to.lowers.items ≡ filter (is_lower place) rows.items) }
+    ensures free { IfOk result (λ to. to.free.items ≡ filter (is_free place) rows.items) }
+{
+    let mut sides = Sides {
+        uppers: Vec::new(alloc),
+        lowers: Vec::new(alloc),
+        free: Vec::new(alloc),
+    };
+    for numbered in rows {
+        push_side(place, numbered, &mut sides)?;
+    }
+    Ok(sides)
+}
+
+/// Eliminates a variable.
+fn eliminate(alloc: Global, place: u32, left: &mut Elimination) -> Result<Progress, AllocError>
+    ensures sound { IfOk result (KeepsSound [] (state_of left.old) (state_of left.new)) }
+    ensures eliminates { IfOk result (CanEliminate place (state_of left.old) (state_of left.new)) }
+{
+    let rows = replace(&mut left.kept, Vec::new(alloc));
+    let sides = sides_of(alloc, place, rows)?;
+    left.kept = sides.free;
+    let progress = add_sums(alloc, place, &sides.uppers, &sides.lowers, left)?;
+    Ok(progress)
+}
+
+/// Eliminates the variables one after the other, and tells whether the last sum is a positive number.
+pub(crate) fn eliminate_all(
+    alloc: Global,
+    places: &[u32],
+    left: &mut Elimination,
+) -> Result<bool, AllocError>
+    ensures { IfOk result (EliminatesAll places.now (state_of left.old) (state_of left.new)) }
+{
+    for place in places {
+        match eliminate(alloc, *place, left)? {
+            Progress::Left => {}
+            Progress::Closed => return Ok(true),
+            Progress::Stopped => return Ok(false),
+        }
+    }
+    Ok(false)
+}
