@@ -59,3 +59,7 @@ MOST_TIMES = 2 ^ 31
 -- the greatest magnitude of the constant of a flattened form
 abbrev pub GREATEST_CONSTANT : ℕ
 GREATEST_CONSTANT = 2 ^ 63
+
+-- the most spurious wake-ups that a run by sections may be given
+abbrev pub MOST_EXTRA : ℕ
+MOST_EXTRA = 16384

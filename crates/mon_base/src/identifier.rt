@@ -1,10 +1,30 @@
 //! Identifiers: the names that a file may give.
 
 ghost use Rattle.std.specs.Prelude.{◌≡◌, ◌↔◌, IsTrue};
-ghost use Rattle.std.specs.List.{list_all};
+ghost use Rattle.std.specs.List.{list_all, list_any};
+ghost use Rattle.std.specs.Str.{bytes_eq};
 ghost use Rattle.mon_base.specs.Identifiers.{IsIdentifier, is_digit, is_keyword, is_letter, is_spelled, is_word};
 
 use super::limits::WORD_BYTES;
+
+/// The words of the language, which name nothing. Definitions give them the same name (`specs/Identifiers`).
+pub const KEYWORDS: [&[u8]; 15] = [
+    b"monitor",
+    b"const",
+    b"int",
+    b"bool",
+    b"true",
+    b"false",
+    b"method",
+    b"waituntil",
+    b"if",
+    b"else",
+    b"return",
+    b"client",
+    b"repeat",
+    b"try",
+    b"local",
+];
 
 /// Whether the bytes are one identifier: 1 to 32 letters, digits and underscores, of which the first
 /// is no digit, and no keyword. A blank or anything else before or after it makes them none.
@@ -52,19 +72,11 @@ fn is_word(b: u8) -> bool
 fn is_keyword(text: &[u8]) -> bool
     ensures { result ≡ is_keyword text.now }
 {
-    text == b"monitor".as_slice()
-        || text == b"const".as_slice()
-        || text == b"int".as_slice()
-        || text == b"bool".as_slice()
-        || text == b"true".as_slice()
-        || text == b"false".as_slice()
-        || text == b"method".as_slice()
-        || text == b"waituntil".as_slice()
-        || text == b"if".as_slice()
-        || text == b"else".as_slice()
-        || text == b"return".as_slice()
-        || text == b"client".as_slice()
-        || text == b"repeat".as_slice()
-        || text == b"try".as_slice()
-        || text == b"local".as_slice()
+    is_among(&KEYWORDS, text)
+}
+
+fn is_among(words: &[&[u8]], text: &[u8]) -> bool
+    ensures { result ≡ list_any (λ word. bytes_eq text.now word.now) words.now }
+{
+    words.iter().any(|word| text == *word)
 }

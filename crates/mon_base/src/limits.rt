@@ -7,7 +7,7 @@ pub const FILE_BYTES: usize = 65_536;
 pub const WORD_BYTES: usize = 32;
 
 /// The most levels that may be open at one place.
-pub const LEVELS: usize = 64;
+pub const LEVELS: u32 = 64;
 
 /// The most constants of a monitor.
 pub const CONSTANTS: usize = 64;
@@ -47,3 +47,6 @@ pub const MOST_TIMES: i128 = 1 << 31;
 
 /// The greatest magnitude of the constant of a flattened form, 2^63.
 pub const GREATEST_CONSTANT: i128 = 1 << 63;
+
+/// The most spurious wake-ups that a run by sections may be given.
+pub const MOST_EXTRA: u64 = 16_384;

@@ -34,12 +34,14 @@ pub wrote_both : {s0 s1 s2 : SinkSeen} {answer : Result (Unit {0}) SinkFailed} {
 wrote_both {s0 = s0} {s1 = s1} {s2 = s2} {answer = Ok u} {a = a} {b = b} p q = record {
   written = appends_more s0.written s1.written s2.written a b p.written q.written;
   front = tt;
+  steady = q.steady ∙ p.steady;
   cause = tt;
   later = omega (arith, p.later, q.later);
 }
 wrote_both {s0 = s0} {s1 = s1} {s2 = s2} {answer = Err e} {a = a} {b = b} p q = record {
   written = tt;
   front = appends_front_after s0.written s1.written s2.written a b p.written q.front;
+  steady = tt;
   cause = rises_later (2 ^ 64 - 1) s0.faults s1.faults s2.faults p.later q.cause;
   later = omega (arith, p.later, q.later);
 }
@@ -50,6 +52,7 @@ pub wrote_longer : {s0 s1 : SinkSeen} {fault : SinkFailed} {a : List ℕ} (b : L
 wrote_longer {s0 = s0} {s1 = s1} {a = a} b p = record {
   written = tt;
   front = appends_front_of s0.written s1.written a b p.front;
+  steady = tt;
   cause = p.cause;
   later = p.later;
 }
@@ -58,7 +61,7 @@ wrote_longer {s0 = s0} {s1 = s1} {a = a} b p = record {
 pub wrote_fails : {s0 s1 : SinkSeen} {fault : SinkFailed} {text : List ℕ} (answer : Result (Unit {0}) SinkFailed)
     → IsErr answer → Wrote s0 s1 (Err fault) text → Wrote s0 s1 answer text
 wrote_fails (Ok u) fails p = cc
-wrote_fails (Err e) fails p = record { written = tt; front = p.front; cause = p.cause; later = p.later }
+wrote_fails (Err e) fails p = record { written = tt; front = p.front; steady = tt; cause = p.cause; later = p.later }
 
 -- an equal text
 pub wrote_same : {s0 s1 : SinkSeen} {answer : Result (Unit {0}) SinkFailed} {a : List ℕ} (b : List ℕ)

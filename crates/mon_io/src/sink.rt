@@ -1,4 +1,4 @@
-ghost use Rattle.std.specs.Prelude.{◌≡◌, ◌<◌, ◌≤◌, ◌-◌, ℕ, List, [], Option, IfOk, IsOk, IsSome, OnErr, length, take, drop};
+ghost use Rattle.std.specs.Prelude.{◌≡◌, ◌<◌, ◌≤◌, ◌-◌, ℕ, List, [], Option, IfOk, IsOk, IsSome, OnErr, OnOk, length, take, drop};
 ghost use Rattle.std.specs.Io.KnownBytes.{Appends, Keeps};
 ghost use Rattle.mon_io.specs.Outside.{SinkSeen, Rises, most_faults};
 ghost use Rattle.mon_io.specs.Writing.{Wrote};
@@ -19,7 +19,8 @@ pub trait Sink {
     /// Takes some of the first of these bytes, at least one where there is one, and says how many. It may
     /// keep them until [`flush`](Sink::flush) is called.
     ///
-    /// `SinkFailed` comes only where the count of faults rose in this call, and nothing was taken.
+    /// `SinkFailed` comes only where the count of faults rose in this call, and nothing was taken. The count
+    /// rises in no other call.
     fn write(&mut self, bytes: &[u8]) -> Result<usize, SinkFailed>
         ensures within { IfOk result (λ n. n ≤ length bytes.now) }
         ensures some { IfOk result (λ n. 0 < length bytes.now → 0 < n) }
@@ -27,17 +28,19 @@ pub trait Sink {
             Appends (seen self.old).written (seen self.new).written (take n bytes.now)) }
         ensures kept { OnErr result (Keeps (seen self.old).written (seen self.new).written) }
         ensures cause { OnErr result (Rises (seen self.old).faults (seen self.new).faults) }
+        ensures steady { OnOk result ((seen self.new).faults ≡ (seen self.old).faults) }
         ensures later { (seen self.old).faults ≤ (seen self.new).faults }
         ensures counted { (seen self.new).faults ≤ most_faults };
 
     /// Hands on what the sink has kept. What it has taken stays as it was.
     ///
     /// `SinkFailed` comes only where the count of faults rose in this call, and of no sink that tells its
-    /// bytes.
+    /// bytes. The count rises in no other call.
     fn flush(&mut self) -> Result<(), SinkFailed>
         ensures kept { Keeps (seen self.old).written (seen self.new).written }
         ensures told { IsSome (seen self.old).written → IsOk result }
         ensures cause { OnErr result (Rises (seen self.old).faults (seen self.new).faults) }
+        ensures steady { OnOk result ((seen self.new).faults ≡ (seen self.old).faults) }
         ensures later { (seen self.old).faults ≤ (seen self.new).faults }
         ensures counted { (seen self.new).faults ≤ most_faults };
 }
@@ -67,6 +70,7 @@ fn write_from<S: Sink>(out: &mut S, bytes: &[u8], at: usize) -> Result<usize, Si
         (take (next - at) (drop at bytes.now))) }
     ensures kept { OnErr result (Keeps (S.seen out.old).written (S.seen out.new).written) }
     ensures cause { OnErr result (Rises (S.seen out.old).faults (S.seen out.new).faults) }
+    ensures steady { OnOk result ((S.seen out.new).faults ≡ (S.seen out.old).faults) }
     ensures later { (S.seen out.old).faults ≤ (S.seen out.new).faults }
 {
     let count = out.write(&bytes[at..])?;

@@ -3,9 +3,11 @@ use Rattle.std.proofs.Common.{◌≡◌, ℕ, ◌+◌, ◌<◌, ◌≤◌, List,
 use Rattle.std.proofs.lemmas.List.{append-nil, length-append, length-drop, length-take}
 use Rattle.mon_tokens.specs.declared.token.Token.{Token}
 use Rattle.mon_tokens.specs.declared.piece.Shape.{Shape}
-use Rattle.mon_tokens.specs.declared.piece.Shape.TheVariants as shapes
-use Rattle.mon_tokens.specs.Spelling.{IsShape, Starts, Piece, AreCut, Spells, IsStuck, token, tokens_from}
-use Rattle.mon_tokens.specs.Pieces.{longest_at, limited}
+use Rattle.mon_tokens.specs.Shapes.{Shape as Meant}
+use Rattle.mon_tokens.specs.Shapes as shapes
+use Rattle.mon_tokens.specs.Spelling.{IsShape, Starts, Piece, AreCut, Spells, StartsNoToken, token, tokens_from}
+use Rattle.mon_tokens.specs.inner.Pieces.{longest_at, limited, meant}
+use Rattle.mon_tokens.proofs.Signs.{sign_begins}
 use Rattle.mon_tokens.proofs.Pieces.{starts_from, piece_from, AreCut-push, one_cut_at}
 
 -- the pieces before the rest, and their tokens
@@ -41,41 +43,41 @@ cut_len bytes [] rest cut = omega (arith, ap length cut)
 cut_len bytes (p ∷ ps) rest cut = omega (arith, cut_len cut.0 ps rest cut.2, ap length cut.1.front, length-append p.text cut.0)
 
 pub goes_on : (bytes : List ℕ) (out : List Token) (at : ℕ) (rest : List ℕ) (shape : Shape) (n : ℕ) → limited (longest_at rest) ≡ Some (shape, n) → Going bytes out at rest
-    → Going bytes (out ++ token shape (take n rest) at) (at + n) (drop n rest)
+    → Going bytes (out ++ token (meant shape) (take n rest) at) (at + n) (drop n rest)
 goes_on bytes out at rest shape n e going =
     let s = starts_from rest shape n e in
-    let p : Piece = record { shape = shape; text = take n rest } in
+    let p : Piece = record { shape = meant shape; text = take n rest } in
     let cut = AreCut-push bytes going.pieces p rest (drop n rest) going.cut s.0 in
     let here : text_len going.pieces ≡ at = omega (arith, cut_len bytes going.pieces rest going.cut, going.place) in
-    let pushed : tokens_from 0 (going.pieces ++ p ∷ []) ≡ tokens_from 0 going.pieces ++ token shape (take n rest) at = tokens_push 0 going.pieces p ∙ ap (λ (k : ℕ). tokens_from 0 going.pieces ++ token shape (take n rest) k) (omega arith) in
+    let pushed : tokens_from 0 (going.pieces ++ p ∷ []) ≡ tokens_from 0 going.pieces ++ token (meant shape) (take n rest) at = tokens_push 0 going.pieces p ∙ ap (λ (k : ℕ). tokens_from 0 going.pieces ++ token (meant shape) (take n rest) k) (omega arith) in
     let next : text_len (going.pieces ++ p ∷ []) ≡ at + n = omega (arith, cut_len bytes (going.pieces ++ p ∷ []) (drop n rest) cut, length-drop n rest, s.1, going.place) in
     record {
       pieces = going.pieces ++ p ∷ [];
       cut = cut;
-      are = ap (λ (t : List Token). t ++ token shape (take n rest) at) going.are ∙ sym pushed;
+      are = ap (λ (t : List Token). t ++ token (meant shape) (take n rest) at) going.are ∙ sym pushed;
       place = omega (arith, length-drop n rest, s.1, going.place);
       tokens_at = λ q. tokens_push 0 (going.pieces ++ p ∷ []) q ∙ ap (λ (k : ℕ). tokens_from 0 (going.pieces ++ p ∷ []) ++ token q.shape q.text k) (omega (arith, next));
     }
 
-spells_some : (shape : Shape) (text : List ℕ) → IsShape shape text → 0 < length text
+spells_some : (shape : Meant) (text : List ℕ) → IsShape shape text → 0 < length text
 spells_some shapes.Blank text (b, c, is) = omega (arith, ap length is)
 spells_some shapes.Comment text (line, all, is) = omega (arith, ap length is)
 spells_some shapes.Word text (first, more, c, all, is) = omega (arith, ap length is)
 spells_some shapes.Number text (first, more, c, all, is) = omega (arith, ap length is)
-spells_some (shapes.Sign kind) text (long, is) = long
+spells_some (shapes.Sign kind) text has = let begins = sign_begins text kind has in omega (arith, ap length begins.is)
 
 pub piece_some : (rest : List ℕ) (shape : Shape) (n : ℕ) → limited (longest_at rest) ≡ Some (shape, n) → 0 < n
 piece_some rest shape n e =
     let s = starts_from rest shape n e in
-    omega (arith, spells_some shape (take n rest) s.0.spells, length-take n rest, s.1)
+    omega (arith, spells_some (meant shape) (take n rest) s.0.spells, length-take n rest, s.1)
 
 pub piece_within : (rest : List ℕ) (shape : Shape) (n : ℕ) → limited (longest_at rest) ≡ Some (shape, n) → n ≤ length rest
 piece_within rest shape n e = (starts_from rest shape n e).1
 
-none_starts : (rest : List ℕ) → limited (longest_at rest) ≡ None → (shape : Shape) (text after : List ℕ) → Starts rest shape text after → ⊥
-none_starts rest e shape text after starts = let f = piece_from rest shape text after starts in let both : None ≡ Some (shape, length text) = sym e ∙ f in absurd cc
+none_starts : (rest : List ℕ) → limited (longest_at rest) ≡ None → (shape : Meant) (text after : List ℕ) → Starts rest shape text after → ⊥
+none_starts rest e shape text after starts = let computed = piece_from rest shape text after starts in let both : None ≡ Some (computed.found, length text) = sym e ∙ computed.is in absurd cc
 
-pub is_stuck : (bytes : List ℕ) (out : List Token) (at : ℕ) (rest : List ℕ) → 0 < length rest → limited (longest_at rest) ≡ None → Going bytes out at rest → IsStuck bytes at
+pub is_stuck : (bytes : List ℕ) (out : List Token) (at : ℕ) (rest : List ℕ) → 0 < length rest → limited (longest_at rest) ≡ None → Going bytes out at rest → StartsNoToken bytes at
 is_stuck bytes out at rest more e going = record { pieces = going.pieces; rest = rest; before = going.cut; more = more; place = going.place; none = none_starts rest e }
 
 pub is_done : (bytes : List ℕ) (out : List Token) (at : ℕ) (rest : List ℕ) → length rest ≡ 0 → Going bytes out at rest → Spells bytes out
@@ -84,12 +86,12 @@ is_done bytes out at (b ∷ rest) len going = absurd (omega arith)
 
 -- ---- the laws of the definitions
 
-none_of_nothing : (shape : Shape) (text after : List ℕ) → Starts [] shape text after → ⊥
+none_of_nothing : (shape : Meant) (text after : List ℕ) → Starts [] shape text after → ⊥
 unfolding longest_at
 none_of_nothing shape text after starts = none_starts [] refl shape text after starts
 
 pub one_reading : (bytes : List ℕ) (a b : List Token) → Spells bytes a → Spells bytes b → a ≡ b
 one_reading bytes a b p q = p.2 ∙ ap (tokens_from 0) (one_cut_at bytes p.0 q.0 [] p.1 q.1 none_of_nothing).0 ∙ sym q.2
 
-pub stuck_is_none : (bytes : List ℕ) (at : ℕ) (ts : List Token) → IsStuck bytes at → Spells bytes ts → ⊥
+pub stuck_is_none : (bytes : List ℕ) (at : ℕ) (ts : List Token) → StartsNoToken bytes at → Spells bytes ts → ⊥
 stuck_is_none bytes at ts stuck p = let e = (one_cut_at bytes p.0 stuck.pieces stuck.rest p.1 stuck.before stuck.none).1 in let more = stuck.more in absurd (omega (arith, ap length e))

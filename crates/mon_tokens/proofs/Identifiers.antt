@@ -1,29 +1,15 @@
 -- Identifiers are the words that are no keyword, as pieces say it.
-use Rattle.std.proofs.Common.{◌≡◌, ℕ, ◌≤◌, Bool, true, false, cond, ◌||◌, List, [], ◌∷◌, length, refl, sym, ap, subst, ◌∙◌}
-use Rattle.std.specs.Prelude.{◌&&◌, codes}
+use Rattle.std.proofs.Common.{◌≡◌, ℕ, ◌≤◌, Bool, true, false, List, [], ◌∷◌, length, refl, sym, subst}
+use Rattle.std.specs.Prelude.{◌&&◌}
 use Rattle.std.specs.List.{All, list_all}
-use Rattle.std.specs.Str.{bytes_eq}
 use Rattle.std.proofs.lemmas.List.Elements.{All-cons, All-nil, All-head, All-tail}
-use Rattle.mon_base.specs.Identifiers.{IsIdentifier, is_digit, is_keyword, is_letter, is_spelled, is_word}
-use Rattle.mon_tokens.specs.declared.token.TokenKind.{TokenKind}
+use Rattle.mon_base.specs.Identifiers.{IsIdentifier, is_letter, is_spelled, is_word}
 use Rattle.mon_tokens.specs.declared.token.TokenKind.TheVariants as kinds
-use Rattle.mon_tokens.specs.declared.piece.Class.TheVariants as classes
-use Rattle.mon_tokens.specs.declared.piece.Shape.TheVariants as shapes
-use Rattle.mon_tokens.specs.Spelling.{class_of, is_blank, IsShape, kind_of_word}
+use Rattle.mon_tokens.specs.Shapes as shapes
+use Rattle.mon_tokens.specs.Spelling.{IsShape, kind_of_word}
+use Rattle.mon_tokens.proofs.Keywords.{kind_of_name, named_by_kind}
 
 -- ---- letters and words
-
-letter_is : (b : ℕ) → class_of b ≡ classes.Letter → is_letter b ≡ true
-letter_is b e = by_tests (is_letter b) (is_digit b) (is_blank b) e
-  where
-    by_tests : (l d s : Bool) → cond l classes.Letter (cond d classes.Digit (cond s classes.Blank classes.Other)) ≡ classes.Letter → l ≡ true
-    by_tests true d s e = refl
-    by_tests false true s e = absurd cc
-    by_tests false false true e = absurd cc
-    by_tests false false false e = absurd cc
-
-letter_class : (b : ℕ) → is_letter b ≡ true → class_of b ≡ classes.Letter
-letter_class b e = rw e refl
 
 both : (b c : Bool) → (b && c) ≡ true → (b ≡ true) × (c ≡ true)
 both true c e = (refl, e)
@@ -42,59 +28,13 @@ each_word (b ∷ more) spelled =
 
 spelled_word : (text : List ℕ) → IsShape shapes.Word text → is_spelled text ≡ true
 spelled_word text (first, more, letter, each, is) =
-    subst (λ (t : List ℕ). is_spelled t ≡ true) (sym is) (rw (letter_is first letter) (words_spelled more each))
+    subst (λ (t : List ℕ). is_spelled t ≡ true) (sym is) (rw letter (words_spelled more each))
 
 word_spelled : (text : List ℕ) → is_spelled text ≡ true → IsShape shapes.Word text
 word_spelled [] spelled = absurd (cc)
 word_spelled (first ∷ more) spelled =
     let parts = both (is_letter first) (list_all is_word more) spelled in
-    (first, more, letter_class first parts.0, each_word more parts.1, refl)
-
--- ---- keywords
-
-no_word : (b : Bool) (k o : TokenKind) (r : Bool) → (k ≡ kinds.Ident → ⊥) → (o ≡ kinds.Ident → r ≡ false) → cond b k o ≡ kinds.Ident → (b || r) ≡ false
-no_word true k o r other rest e = absurd (other e)
-no_word false k o r other rest e = rest e
-
-no_text : (b : Bool) (k o : TokenKind) (r : Bool) → (r ≡ false → o ≡ kinds.Ident) → (b || r) ≡ false → cond b k o ≡ kinds.Ident
-no_text true k o r rest e = absurd (cc)
-no_text false k o r rest e = rest e
-
-named_by_kind : (text : List ℕ) → kind_of_word text ≡ kinds.Ident → is_keyword text ≡ false
-named_by_kind text =
-    no_word (bytes_eq text (codes "monitor")) kinds.KeyMonitor _ _ (λ e. cc)
-    (no_word (bytes_eq text (codes "const")) kinds.KeyConst _ _ (λ e. cc)
-    (no_word (bytes_eq text (codes "int")) kinds.KeyInt _ _ (λ e. cc)
-    (no_word (bytes_eq text (codes "bool")) kinds.KeyBool _ _ (λ e. cc)
-    (no_word (bytes_eq text (codes "true")) kinds.KeyTrue _ _ (λ e. cc)
-    (no_word (bytes_eq text (codes "false")) kinds.KeyFalse _ _ (λ e. cc)
-    (no_word (bytes_eq text (codes "method")) kinds.KeyMethod _ _ (λ e. cc)
-    (no_word (bytes_eq text (codes "waituntil")) kinds.KeyWaituntil _ _ (λ e. cc)
-    (no_word (bytes_eq text (codes "if")) kinds.KeyIf _ _ (λ e. cc)
-    (no_word (bytes_eq text (codes "else")) kinds.KeyElse _ _ (λ e. cc)
-    (no_word (bytes_eq text (codes "return")) kinds.KeyReturn _ _ (λ e. cc)
-    (no_word (bytes_eq text (codes "client")) kinds.KeyClient _ _ (λ e. cc)
-    (no_word (bytes_eq text (codes "repeat")) kinds.KeyRepeat _ _ (λ e. cc)
-    (no_word (bytes_eq text (codes "try")) kinds.KeyTry _ _ (λ e. cc)
-    (no_word (bytes_eq text (codes "local")) kinds.KeyLocal _ _ (λ e. cc) (λ e. refl)))))))))))))))
-
-kind_of_name : (text : List ℕ) → is_keyword text ≡ false → kind_of_word text ≡ kinds.Ident
-kind_of_name text =
-    no_text (bytes_eq text (codes "monitor")) kinds.KeyMonitor _ _
-    (no_text (bytes_eq text (codes "const")) kinds.KeyConst _ _
-    (no_text (bytes_eq text (codes "int")) kinds.KeyInt _ _
-    (no_text (bytes_eq text (codes "bool")) kinds.KeyBool _ _
-    (no_text (bytes_eq text (codes "true")) kinds.KeyTrue _ _
-    (no_text (bytes_eq text (codes "false")) kinds.KeyFalse _ _
-    (no_text (bytes_eq text (codes "method")) kinds.KeyMethod _ _
-    (no_text (bytes_eq text (codes "waituntil")) kinds.KeyWaituntil _ _
-    (no_text (bytes_eq text (codes "if")) kinds.KeyIf _ _
-    (no_text (bytes_eq text (codes "else")) kinds.KeyElse _ _
-    (no_text (bytes_eq text (codes "return")) kinds.KeyReturn _ _
-    (no_text (bytes_eq text (codes "client")) kinds.KeyClient _ _
-    (no_text (bytes_eq text (codes "repeat")) kinds.KeyRepeat _ _
-    (no_text (bytes_eq text (codes "try")) kinds.KeyTry _ _
-    (no_text (bytes_eq text (codes "local")) kinds.KeyLocal _ _ (λ e. refl)))))))))))))))
+    (first, more, parts.0, each_word more parts.1, refl)
 
 -- ---- identifiers
 

@@ -1,3 +1,6 @@
+pub mod Classes
+pub mod Signs
+pub mod Keywords
 pub mod Pieces
 pub mod Cutting
 pub mod Identifiers

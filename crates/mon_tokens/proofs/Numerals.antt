@@ -1,33 +1,14 @@
 -- Each token stands within the text, a number's text is digits, and a name's is an identifier.
-use Rattle.std.proofs.Common.{◌≡◌, ℕ, ◌+◌, ◌<◌, ◌≤◌, Bool, true, false, cond, List, [], ◌∷◌, ◌++◌, length, take, drop, All, refl, sym, ap, subst, ◌∙◌, append_assoc, arith}
-use Rattle.std.specs.Prelude.{codes}
-use Rattle.std.specs.Str.{bytes_eq}
+use Rattle.std.proofs.Common.{◌≡◌, ℕ, ◌+◌, ◌<◌, ◌≤◌, true, List, [], ◌∷◌, ◌++◌, length, take, drop, All, refl, sym, ap, subst, ◌∙◌, append_assoc, arith}
 use Rattle.std.proofs.lemmas.List.{length-append, take_at, drop_at}
 use Rattle.std.proofs.lemmas.List.Elements.{All-cons, All-nil, All-append}
-use Rattle.mon_tokens.specs.declared.token.TokenKind.{TokenKind}
 use Rattle.mon_tokens.specs.declared.token.TokenKind.TheVariants as kinds
 use Rattle.mon_tokens.specs.declared.token.Token.{Token}
-use Rattle.mon_tokens.specs.declared.piece.Class.TheVariants as classes
-use Rattle.mon_tokens.specs.declared.piece.Shape.{Shape}
-use Rattle.mon_tokens.specs.declared.piece.Shape.TheVariants as shapes
-use Rattle.mon_tokens.specs.Spelling.{class_of, is_letter, is_blank, is_digit, sign, IsShape, Starts, Piece, AreCut, Spells, IsToken, IsDecimal, IsIdentifier, text_of, token, tokens_from, kind_of_word}
+use Rattle.mon_tokens.specs.Shapes.{Shape}
+use Rattle.mon_tokens.specs.Shapes as shapes
+use Rattle.mon_tokens.specs.Spelling.{is_digit, IsShape, Starts, Piece, AreCut, Spells, IsToken, IsDecimal, IsIdentifier, text_of, token, tokens_from, kind_of_word}
 use Rattle.mon_tokens.proofs.Identifiers.{identifier_of_word}
-
-digit_is : (b : ℕ) → class_of b ≡ classes.Digit → is_digit b ≡ true
-digit_is b e = by_tests (is_letter b) (is_digit b) (is_blank b) e
-  where
-    by_tests : (l d s : Bool) → cond l classes.Letter (cond d classes.Digit (cond s classes.Blank classes.Other)) ≡ classes.Digit → d ≡ true
-    by_tests true d s e = absurd cc
-    by_tests false true s e = refl
-    by_tests false false true e = absurd cc
-    by_tests false false false e = absurd cc
-
-no_step : (b : Bool) (k o : TokenKind) → (k ≡ kinds.Number → ⊥) → (o ≡ kinds.Number → ⊥) → cond b k o ≡ kinds.Number → ⊥
-no_step true k o p q e = p e
-no_step false k o p q e = q e
-
-no_number : (text : List ℕ) → kind_of_word text ≡ kinds.Number → ⊥
-no_number text = no_step (bytes_eq text (codes "monitor")) kinds.KeyMonitor _ (λ e. cc) (no_step (bytes_eq text (codes "const")) kinds.KeyConst _ (λ e. cc) (no_step (bytes_eq text (codes "int")) kinds.KeyInt _ (λ e. cc) (no_step (bytes_eq text (codes "bool")) kinds.KeyBool _ (λ e. cc) (no_step (bytes_eq text (codes "true")) kinds.KeyTrue _ (λ e. cc) (no_step (bytes_eq text (codes "false")) kinds.KeyFalse _ (λ e. cc) (no_step (bytes_eq text (codes "method")) kinds.KeyMethod _ (λ e. cc) (no_step (bytes_eq text (codes "waituntil")) kinds.KeyWaituntil _ (λ e. cc) (no_step (bytes_eq text (codes "if")) kinds.KeyIf _ (λ e. cc) (no_step (bytes_eq text (codes "else")) kinds.KeyElse _ (λ e. cc) (no_step (bytes_eq text (codes "return")) kinds.KeyReturn _ (λ e. cc) (no_step (bytes_eq text (codes "client")) kinds.KeyClient _ (λ e. cc) (no_step (bytes_eq text (codes "repeat")) kinds.KeyRepeat _ (λ e. cc) (no_step (bytes_eq text (codes "try")) kinds.KeyTry _ (λ e. cc) (no_step (bytes_eq text (codes "local")) kinds.KeyLocal _ (λ e. cc) (λ e. cc)))))))))))))))
+use Rattle.mon_tokens.proofs.Keywords.{no_number, sign_fixed}
 
 pub text_at : (whole before text after : List ℕ) (t : Token) → whole ≡ before ++ (text ++ after) → t.at ≡ length before → t.len ≡ length text → (text_of whole t ≡ text) × (t.at + t.len ≤ length whole)
 text_at whole before text after t parts at len =
@@ -58,17 +39,15 @@ piece_tokens whole before shapes.Number text bytes after at parts is s =
     some text (first, more, c, all, e) = omega (arith, ap length e)
 
     digits : (text : List ℕ) → IsShape shapes.Number text → All (λ b. is_digit b ≡ true) text
-    digits text (first, more, c, all, e) = subst (All (λ b. is_digit b ≡ true)) (sym e) (All-cons (λ b. is_digit b ≡ true) first more (digit_is first c) all)
+    digits text (first, more, c, all, e) = subst (All (λ b. is_digit b ≡ true)) (sym e) (All-cons (λ b. is_digit b ≡ true) first more c all)
 piece_tokens whole before (shapes.Sign kind) text bytes after at parts is s =
     let t : Token = record { kind = kind; at = at; len = length text } in
+    let fixed = sign_fixed text kind s.spells in
     All-cons (IsToken whole) t [] (record {
       within = (text_at whole before text after t parts is refl).1;
-      numeral = λ e. absurd (no_sign kinds.Number refl e s.spells);
-      identifier = λ e. absurd (no_sign kinds.Ident refl e s.spells);
+      numeral = λ e. absurd (fixed.0 e);
+      identifier = λ e. absurd (fixed.1 e);
     }) (All-nil (IsToken whole))
-  where
-    no_sign : (other : TokenKind) → sign other ≡ [] → kind ≡ other → IsShape (shapes.Sign kind) text → ⊥
-    no_sign other none e (some, spelled) = let empty : length text ≡ 0 = ap length (spelled ∙ ap sign e ∙ none) in omega arith
 
 tokens_at : (whole before bytes : List ℕ) (at : ℕ) (ps : List Piece) → whole ≡ before ++ bytes → at ≡ length before → AreCut bytes ps [] → All (IsToken whole) (tokens_from at ps)
 tokens_at whole before bytes at [] parts is cut = All-nil (IsToken whole)

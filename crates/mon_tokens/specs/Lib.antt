@@ -1,4 +1,5 @@
+pub mod Shapes
 pub mod Spelling
-pub mod Pieces
 pub mod Lexing
 pub mod Words
+pub mod inner

@@ -3,8 +3,10 @@
 ghost use Rattle.std.specs.Prelude.{◌≡◌, ◌++◌, ◌<◌, ◌≤◌, ◌^◌, List, length, IfOk, IfErr, OnOk};
 ghost use Rattle.mon_tokens.specs.declared.token.Token.{Token};
 ghost use Rattle.mon_tokens.specs.declared.lexing.LexFault.TheVariants.{OutOfMemory};
-ghost use Rattle.mon_tokens.specs.Spelling.{Spells, IsStuck, token};
+ghost use Rattle.mon_tokens.specs.Spelling.{Spells, StartsNoToken, token};
 ghost use Rattle.mon_tokens.specs.Lexing.{IsAt, Reads};
+ghost use Rattle.mon_base.specs.Limits.{FILE_BYTES};
+ghost use Rattle.mon_tokens.specs.inner.Pieces.{meant};
 
 use super::piece::{Shape, kind_of_word, piece_at};
 use super::token::{Token, TokenKind};
@@ -40,7 +42,7 @@ impl<T: Drop> From<AllocFailed<T>> for LexFault {
 /// Adds the token of a piece at an offset; a blank or a comment adds none.
 fn push_token(out: &mut Vec<Token>, shape: Shape, text: &[u8], at: u32) -> Result<(), AllocError>
     requires { length text.now < 2 ^ 32 }
-    ensures { OnOk result (out.new.items ≡ out.old.items ++ token shape text.now at) }
+    ensures { OnOk result (out.new.items ≡ out.old.items ++ token (meant shape) text.now at) }
 {
     let kind = match shape {
         Shape::Blank | Shape::Comment => return Ok(()),
@@ -62,9 +64,9 @@ fn push_token(out: &mut Vec<Token>, shape: Shape, text: &[u8], at: u32) -> Resul
 ///
 /// `At` gives the first offset at which no token, blank or comment starts.
 pub fn tokens(alloc: Global, bytes: &[u8]) -> Result<Vec<Token>, LexFault>
-    requires { length bytes.now ≤ 65536 }
+    requires { length bytes.now ≤ FILE_BYTES }
     ensures spelled { IfOk result (λ v. Spells bytes.now v.items) }
-    ensures stuck { IfErr result (λ fault. IsAt fault (IsStuck bytes.now)) }
+    ensures stuck { IfErr result (λ fault. IsAt fault (StartsNoToken bytes.now)) }
 
     // Bytes that spell tokens are read as these, unless memory runs out.
     ensures complete { (spelled : List Token) → Spells bytes.now spelled → Reads result spelled }

@@ -1,14 +1,15 @@
 //! The piece at the front of the bytes: a blank, a comment or a token.
 
-ghost use Rattle.std.specs.Prelude.{◌≡◌, ℕ, List, length, ◌≤◌, ◌<◌, ◌+◌};
-ghost use Rattle.std.specs.List.{prefix_len};
-ghost use Rattle.mon_tokens.specs.Spelling.{class_of, is_letter, is_word, is_digit, is_blank, is_in_line, is_run, kind_of_word};
-ghost use Rattle.mon_tokens.specs.Pieces.{two_signs, one_sign, sign_of, pair_or_sign, other_at, by_class, longest_at, limited};
+ghost use Rattle.std.specs.Prelude.{◌≡◌, ℕ, List, length, IfSome, nat_eq, find, option_map, ◌≤◌, ◌<◌, ◌+◌};
+ghost use Rattle.std.specs.List.{position, prefix_len, starts_with};
+ghost use Rattle.std.specs.Str.{bytes_eq};
+ghost use Rattle.mon_tokens.specs.Spelling.{is_letter, is_word, is_digit, is_blank, is_in_line, kind_of_word};
+ghost use Rattle.mon_base.specs.Limits.{FILE_BYTES};
+ghost use Rattle.mon_tokens.specs.inner.Pieces.{class_of, is_run, other_at, by_class, longest_at, limited, sign_at};
 
-use super::token::TokenKind;
-
-/// The most bytes of a word or a number.
-pub const LONGEST_RUN: usize = 32;
+use super::token::{KEYWORD_KINDS, SIGNS, TokenKind};
+use mon_base::limits::WORD_BYTES;
+use mon_base::{KEYWORDS, is_in_line};
 
 /// What a byte outside comments can begin.
 #[derive(Clone, Copy, Debug, PartialEq, Eq)]
@@ -68,12 +69,6 @@ fn is_word(b: u8) -> bool
     is_letter(b) || is_digit(b)
 }
 
-fn is_in_line(b: u8) -> bool
-    ensures { result ≡ is_in_line b }
-{
-    b != b'\n'
-}
-
 fn word_len(bytes: &[u8]) -> usize
     ensures len { result ≡ prefix_len is_word bytes.now }
     ensures within { result ≤ length bytes.now }
@@ -95,71 +90,38 @@ fn line_len(bytes: &[u8]) -> usize
     bytes.iter().take_while(|b| is_in_line(**b)).count()
 }
 
-fn two_signs(a: u8, b: u8) -> Option<TokenKind>
-    ensures { result ≡ two_signs a b }
+/// The first of these signs that stands at the front, and its length.
+fn sign_among(signs: &[(&[u8], TokenKind)], bytes: &[u8]) -> Option<(TokenKind, usize)>
+    ensures { result ≡ option_map (λ row. (row.1, length row.0.now))
+        (find (λ row. starts_with nat_eq bytes.now row.0.now) signs.now) }
 {
-    match (a, b) {
-        (b'=', b'=') => Some(TokenKind::Equal),
-        (b'!', b'=') => Some(TokenKind::Differs),
-        (b'<', b'=') => Some(TokenKind::AtMost),
-        (b'>', b'=') => Some(TokenKind::AtLeast),
-        (b'&', b'&') => Some(TokenKind::And),
-        (b'|', b'|') => Some(TokenKind::Or),
-        _ => None,
-    }
+    let (sign, kind) = signs.iter().find(|(sign, _)| bytes.starts_with(sign))?;
+    Some((*kind, sign.len()))
 }
 
-fn one_sign(a: u8) -> Option<TokenKind>
-    ensures { result ≡ one_sign a }
+/// The longest sign at the front, and its length.
+fn sign_at(bytes: &[u8]) -> Option<(TokenKind, usize)>
+    ensures { result ≡ sign_at bytes.now }
 {
-    match a {
-        b'{' => Some(TokenKind::OpenBrace),
-        b'}' => Some(TokenKind::CloseBrace),
-        b'(' => Some(TokenKind::OpenParen),
-        b')' => Some(TokenKind::CloseParen),
-        b';' => Some(TokenKind::Semicolon),
-        b',' => Some(TokenKind::Comma),
-        b'=' => Some(TokenKind::Assign),
-        b'<' => Some(TokenKind::Less),
-        b'>' => Some(TokenKind::More),
-        b'!' => Some(TokenKind::Not),
-        b'+' => Some(TokenKind::Plus),
-        b'-' => Some(TokenKind::Minus),
-        b'*' => Some(TokenKind::Star),
-        _ => None,
-    }
+    sign_among(SIGNS.as_slice(), bytes)
 }
 
 /// The comment or sign at the front, whatever follows it.
-#[tactic(auto, unfolding(crate::specs::Pieces::other_at))]
-fn other_at(first: u8, rest: &[u8]) -> Option<(Shape, usize)>
-    requires { length rest.now < 65536 }
-    ensures { result ≡ other_at first rest.now }
+#[tactic(auto, unfolding(crate::specs::inner::Pieces::other_at))]
+fn other_at(bytes: &[u8]) -> Option<(Shape, usize)>
+    ensures { result ≡ other_at bytes.now }
 {
-    match rest {
-        [second, line @ ..] => {
-            if first == b'/' && *second == b'/' {
-                return Some((Shape::Comment, 2 + line_len(line)));
-            }
-            match two_signs(first, *second) {
-                Some(kind) => Some((Shape::Sign(kind), 2)),
-                None => match one_sign(first) {
-                    Some(kind) => Some((Shape::Sign(kind), 1)),
-                    None => None,
-                },
-            }
-        }
-        _ => match one_sign(first) {
-            Some(kind) => Some((Shape::Sign(kind), 1)),
-            None => None,
-        },
+    if bytes.starts_with(b"//") {
+        return Some((Shape::Comment, line_len(bytes)));
     }
+    let (kind, len) = sign_at(bytes)?;
+    Some((Shape::Sign(kind), len))
 }
 
 /// The longest piece at the front, of any length.
-#[tactic(auto, unfolding(crate::specs::Pieces::longest_at))]
+#[tactic(auto, unfolding(crate::specs::inner::Pieces::longest_at))]
 fn longest_at(bytes: &[u8]) -> Option<(Shape, usize)>
-    requires { length bytes.now ≤ 65536 }
+    requires { length bytes.now ≤ FILE_BYTES }
     ensures { result ≡ longest_at bytes.now }
 {
     match bytes {
@@ -167,7 +129,7 @@ fn longest_at(bytes: &[u8]) -> Option<(Shape, usize)>
             Class::Letter => Some((Shape::Word, 1 + word_len(rest))),
             Class::Digit => Some((Shape::Number, 1 + digits_len(rest))),
             Class::Blank => Some((Shape::Blank, 1)),
-            Class::Other => other_at(*first, rest),
+            Class::Other => other_at(bytes),
         },
         _ => None,
     }
@@ -185,12 +147,12 @@ fn is_run(shape: Shape) -> bool
 
 /// The piece at the front, and its length in bytes. A word or a number that is too long is none.
 pub fn piece_at(bytes: &[u8]) -> Option<(Shape, usize)>
-    requires { length bytes.now ≤ 65536 }
+    requires { length bytes.now ≤ FILE_BYTES }
     ensures { result ≡ limited (longest_at bytes.now) }
 {
     match longest_at(bytes) {
         Some((shape, len)) => {
-            if is_run(shape) && LONGEST_RUN < len {
+            if is_run(shape) && WORD_BYTES < len {
                 None
             } else {
                 Some((shape, len))
@@ -200,41 +162,20 @@ pub fn piece_at(bytes: &[u8]) -> Option<(Shape, usize)>
     }
 }
 
+/// The place of the text among the words.
+fn place_among(words: &[&[u8]], text: &[u8]) -> Option<usize>
+    ensures place { result ≡ position (λ word. bytes_eq text.now word.now) words.now }
+    ensures within { IfSome result (λ place. place < length words.now) }
+{
+    words.iter().position(|word| text == *word)
+}
+
 /// The keyword that a word is, or `Ident`.
 pub fn kind_of_word(text: &[u8]) -> TokenKind
     ensures { result ≡ kind_of_word text.now }
 {
-    if text == b"monitor".as_slice() {
-        TokenKind::KeyMonitor
-    } else if text == b"const".as_slice() {
-        TokenKind::KeyConst
-    } else if text == b"int".as_slice() {
-        TokenKind::KeyInt
-    } else if text == b"bool".as_slice() {
-        TokenKind::KeyBool
-    } else if text == b"true".as_slice() {
-        TokenKind::KeyTrue
-    } else if text == b"false".as_slice() {
-        TokenKind::KeyFalse
-    } else if text == b"method".as_slice() {
-        TokenKind::KeyMethod
-    } else if text == b"waituntil".as_slice() {
-        TokenKind::KeyWaituntil
-    } else if text == b"if".as_slice() {
-        TokenKind::KeyIf
-    } else if text == b"else".as_slice() {
-        TokenKind::KeyElse
-    } else if text == b"return".as_slice() {
-        TokenKind::KeyReturn
-    } else if text == b"client".as_slice() {
-        TokenKind::KeyClient
-    } else if text == b"repeat".as_slice() {
-        TokenKind::KeyRepeat
-    } else if text == b"try".as_slice() {
-        TokenKind::KeyTry
-    } else if text == b"local".as_slice() {
-        TokenKind::KeyLocal
-    } else {
-        TokenKind::Ident
+    match place_among(&KEYWORDS, text) {
+        Some(place) => KEYWORD_KINDS[place],
+        None => TokenKind::Ident,
     }
 }
