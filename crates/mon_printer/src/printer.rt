@@ -5,6 +5,7 @@ ghost use Rattle.std.specs.List.{flat_map};
 ghost use Rattle.mon_printer.specs.Canonical.{tree_text, declaration_text, method_text, input_texts, kind_text, literal_text, minus_text, joined};
 ghost use Rattle.mon_io.specs.Writing.{Wrote};
 
+pub(crate) mod clients;
 mod depth;
 pub(crate) mod expressions;
 mod statements;

@@ -1,6 +1,7 @@
 -- The canonical words of a monitor file, whatever their offsets, derive the same tree but for offsets.
 use Rattle.std.proofs.Common.{◌≡◌, ℕ, Bool, true, false, List, [], ◌∷◌, ◌++◌, map, refl, ap, ◌∙◌, append_assoc}
 use Rattle.std.specs.List.{flat_map}
+use Rattle.mon_base.specs.Limits.{LEVELS}
 use Rattle.mon_tokens.specs.declared.token.TokenKind.{TokenKind}
 use Rattle.mon_tokens.specs.declared.token.TokenKind.TheVariants as kinds
 use Rattle.mon_tree.specs.declared.tree.Lit.{Lit}
@@ -182,7 +183,7 @@ canonical_derives ws tree is printed h =
     let named = cut_ident tree.name (mark kinds.OpenBrace 0 ∷ from_decls) key.rest key.bare_rest in
     let opening = cut_mark kinds.OpenBrace from_decls named.1.rest named.1.bare_rest in
     let d = cut_tree (each_again IsDeclaration IsDeclaration unplaced_declaration declaration_words declaration_again tree.decls at_decls.0 at_decls.2) from_methods opening.rest opening.bare_rest in
-    let methods = each_again IsMethod IsMethod unplaced_method method_words (method_again (IsExpression 64) (IsStatement 64) (expression_again 64) (statement_again 64)) tree.methods at_decls.3.0 at_decls.3.2 in
+    let methods = each_again IsMethod IsMethod unplaced_method method_words (method_again (IsExpression LEVELS) (IsStatement LEVELS) (expression_again LEVELS) (statement_again LEVELS)) tree.methods at_decls.3.0 at_decls.3.2 in
     let m = cut_tree methods end d.cut.rest d.cut.bare_rest in
     let closing = last_mark kinds.CloseBrace m.cut.rest m.cut.bare_rest in
     let made : MonitorTree = record { name = tree.name; decls = d.again; methods = m.again } in

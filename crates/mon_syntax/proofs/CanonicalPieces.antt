@@ -1,6 +1,6 @@
 -- Texts that are cut into pieces before whatever may follow them, and the words that the pieces say.
-use Rattle.std.proofs.Common.{◌≡◌, ℕ, zero, suc, ◌+◌, ◌*◌, ◌-◌, ◌/◌, ◌%◌, ◌^◌, ◌<◌, ◌≤◌, Bool, true, false, cond, eqb, ◌||◌, List, [], ◌∷◌, ◌++◌, length, take, map, All, Some, None, refl, sym, ap, subst, ◌∙◌, append_assoc, arith}
-use Rattle.std.specs.Prelude.{codes, if◌then◌else◌, decimal}
+use Rattle.std.proofs.Common.{◌≡◌, ℕ, ◌+◌, ◌*◌, ◌-◌, ◌/◌, ◌%◌, ◌^◌, ◌<◌, ◌≤◌, Bool, true, false, cond, eqb, ◌||◌, List, [], ◌∷◌, ◌++◌, length, take, map, All, Option, Some, refl, sym, ap, subst, ◌∙◌, append_assoc, arith}
+use Rattle.std.specs.Prelude.{codes, if◌then◌else◌, decimal, option_map}
 use Rattle.std.specs.List.{flat_map, prefix_len, list_all}
 use Rattle.std.proofs.lemmas.Bool.{le-ltb, and_parts}
 use Rattle.std.proofs.lemmas.List.{length-append, take_at, drop_at, map-append}
@@ -11,14 +11,17 @@ use Rattle.mon_tokens.specs.declared.token.TokenKind.{TokenKind}
 use Rattle.mon_tokens.specs.declared.token.TokenKind.TheVariants as kinds
 use Rattle.mon_tokens.specs.declared.token.Token.{Token}
 use Rattle.mon_tokens.specs.declared.piece.Class.TheVariants as classes
-use Rattle.mon_tokens.specs.declared.piece.Shape.{Shape}
-use Rattle.mon_tokens.specs.declared.piece.Shape.TheVariants as shapes
+use Rattle.mon_tokens.specs.declared.piece.Shape.{Shape as Coded}
+use Rattle.mon_tokens.specs.declared.piece.Shape.TheVariants as coded
+use Rattle.mon_tokens.specs.Shapes.{Shape}
+use Rattle.mon_tokens.specs.Shapes as shapes
 use Rattle.mon_tokens.proofs.Identifiers.{name_piece}
-use Rattle.mon_tokens.specs.Spelling.{class_of, is_word, is_letter, is_digit, IsShape, IsIdentifier, Starts, Piece, AreCut, Spells, token, tokens_from, kind_of_word}
-use Rattle.mon_tokens.specs.Pieces.{two_signs, one_sign, other_at, longest_at, limited}
+use Rattle.mon_tokens.specs.Spelling.{is_word, is_letter, is_digit, IsShape, IsIdentifier, Starts, Piece, AreCut, Spells, token, tokens_from, kind_of_word}
+use Rattle.mon_tokens.specs.inner.Pieces.{class_of, longest_at, limited, meant, sign_at}
 use Rattle.mon_tokens.specs.Words.{Word, ident, numeral, mark, word_of, word, words, number_of_digits}
 use Rattle.mon_syntax.proofs.CanonicalWords.{bare}
-use Rattle.mon_tokens.proofs.Pieces.{starts_from}
+use Rattle.mon_tokens.proofs.Classes.{letter_class, digit_class}
+use Rattle.mon_tokens.proofs.Pieces.{starts_from, looked_up}
 use Rattle.mon_tokens.proofs.Numerals.{text_at}
 
 -- ---- what pieces say
@@ -42,15 +45,15 @@ pub record Reads (bytes : List ℕ) (ws : List Word) : Type 0 where
 pub reads_nothing : Reads [] []
 reads_nothing = record { pieces = []; cut = refl; say = refl }
 
-pub reads_piece : (text rest : List ℕ) (shape : Shape) (more : List Word) → limited (longest_at (text ++ rest)) ≡ Some (shape, length text) → Reads rest more → Reads (text ++ rest) (said shape text ++ more)
+pub reads_piece : (text rest : List ℕ) (shape : Coded) (more : List Word) → limited (longest_at (text ++ rest)) ≡ Some (shape, length text) → Reads rest more → Reads (text ++ rest) (said (meant shape) text ++ more)
 reads_piece text rest shape more e r =
     let s = starts_from (text ++ rest) shape (length text) e in
-    let cut_off : Starts (text ++ rest) shape (take (length text) (text ++ rest)) rest = subst (λ (l : List ℕ). Starts (text ++ rest) shape (take (length text) (text ++ rest)) l) (drop_at text rest (length text) refl) s.0 in
-    let starts : Starts (text ++ rest) shape text rest = subst (λ (l : List ℕ). Starts (text ++ rest) shape l rest) (take_at text rest (length text) refl) cut_off in
+    let cut_off : Starts (text ++ rest) (meant shape) (take (length text) (text ++ rest)) rest = subst (λ (l : List ℕ). Starts (text ++ rest) (meant shape) (take (length text) (text ++ rest)) l) (drop_at text rest (length text) refl) s.0 in
+    let starts : Starts (text ++ rest) (meant shape) text rest = subst (λ (l : List ℕ). Starts (text ++ rest) (meant shape) l rest) (take_at text rest (length text) refl) cut_off in
     record {
-      pieces = record { shape = shape; text = text } ∷ r.pieces;
+      pieces = record { shape = meant shape; text = text } ∷ r.pieces;
       cut = (rest, starts, r.cut);
-      say = ap (λ (l : List Word). said shape text ++ l) r.say;
+      say = ap (λ (l : List Word). said (meant shape) text ++ l) r.say;
     }
 
 bare-word_of : (kind : TokenKind) (text : List ℕ) (at : ℕ) → bare (word_of kind text at) ≡ word_of kind text 0
@@ -143,52 +146,51 @@ says_same {needs} {gives} {a} {b} {u} {v} e f s = subst (λ (t : List ℕ). Says
 
 pub space : Says false true (32 ∷ []) []
 unfolding longest_at
-space = record { before = λ rest more r. (refl, reads_piece (32 ∷ []) rest shapes.Blank more refl r) }
+space = record { before = λ rest more r. (refl, reads_piece (32 ∷ []) rest coded.Blank more refl r) }
 
 pub line_feed : Says false true (10 ∷ []) []
 unfolding longest_at
-line_feed = record { before = λ rest more r. (refl, reads_piece (10 ∷ []) rest shapes.Blank more refl r) }
+line_feed = record { before = λ rest more r. (refl, reads_piece (10 ∷ []) rest coded.Blank more refl r) }
 
 -- a sign that begins no longer one
-lone_at : (a : ℕ) (kind : TokenKind) → class_of a ≡ classes.Other → one_sign a ≡ Some kind → ((b : ℕ) → two_signs a b ≡ None) → eqb a 47 ≡ false → (rest : List ℕ) → limited (longest_at (a ∷ rest)) ≡ Some (shapes.Sign kind, 1)
-unfolding longest_at other_at
-lone_at a kind c e none no_line [] = rw (c, e) refl
-lone_at a kind c e none no_line (b ∷ rest) = rw (c, no_line, none b, e) refl
+lone_at : (a : ℕ) (kind : TokenKind) → class_of a ≡ classes.Other → eqb 47 a ≡ false → (rest : List ℕ) → sign_at (a ∷ rest) ≡ Some (kind, 1) → limited (longest_at (a ∷ rest)) ≡ Some (coded.Sign kind, 1)
+lone_at a kind c no_line rest found =
+    ap limited (looked_up a rest c no_line ∙ ap (λ (sign : Option (TokenKind × ℕ)). option_map (λ sign. (coded.Sign sign.0, sign.1)) sign) found)
 
-pub lone : (a : ℕ) (kind : TokenKind) → class_of a ≡ classes.Other → one_sign a ≡ Some kind → ((b : ℕ) → two_signs a b ≡ None) → eqb a 47 ≡ false → is_word a ≡ false → Says false true (a ∷ []) (word_of kind (a ∷ []) 0 ∷ [])
-lone a kind c e none no_line no_word = record { before = λ rest more r. (rw no_word refl, reads_piece (a ∷ []) rest (shapes.Sign kind) more (lone_at a kind c e none no_line rest) r) }
+pub lone : (a : ℕ) (kind : TokenKind) → class_of a ≡ classes.Other → eqb 47 a ≡ false → is_word a ≡ false → ((rest : List ℕ) → sign_at (a ∷ rest) ≡ Some (kind, 1)) → Says false true (a ∷ []) (word_of kind (a ∷ []) 0 ∷ [])
+lone a kind c no_line no_word found = record { before = λ rest more r. (rw no_word refl, reads_piece (a ∷ []) rest (coded.Sign kind) more (lone_at a kind c no_line rest (found rest)) r) }
 
 -- a sign between blanks
-pub between_blanks : (text : List ℕ) (kind : TokenKind) → ((rest : List ℕ) → limited (longest_at (text ++ (32 ∷ rest))) ≡ Some (shapes.Sign kind, length text)) → Says false true (32 ∷ (text ++ (32 ∷ []))) (word_of kind text 0 ∷ [])
+pub between_blanks : (text : List ℕ) (kind : TokenKind) → ((rest : List ℕ) → limited (longest_at (text ++ (32 ∷ rest))) ≡ Some (coded.Sign kind, length text)) → Says false true (32 ∷ (text ++ (32 ∷ []))) (word_of kind text 0 ∷ [])
 between_blanks text kind here =
     let sign : Says false false (text ++ (32 ∷ [])) (word_of kind text 0 ∷ []) = record {
       before = λ rest more r.
           let blank : Reads (32 ∷ rest) more = (space.before rest more r).1 in
-          let whole : Reads (text ++ (32 ∷ rest)) (word_of kind text 0 ∷ more) = reads_piece text (32 ∷ rest) (shapes.Sign kind) more (here rest) blank in
+          let whole : Reads (text ++ (32 ∷ rest)) (word_of kind text 0 ∷ more) = reads_piece text (32 ∷ rest) (coded.Sign kind) more (here rest) blank in
           subst (λ (t : List ℕ). Reads t (word_of kind text 0 ∷ more)) (sym (append_assoc text (32 ∷ []) rest)) whole;
     } in
     space ▷ sign
 
 pub begin_brace : Says false true (codes "{") (mark kinds.OpenBrace 0 ∷ [])
-begin_brace = lone 123 kinds.OpenBrace refl refl (λ b. refl) refl refl
+begin_brace = lone 123 kinds.OpenBrace refl refl refl (λ rest. refl)
 
 pub end_brace : Says false true (codes "}") (mark kinds.CloseBrace 0 ∷ [])
-end_brace = lone 125 kinds.CloseBrace refl refl (λ b. refl) refl refl
+end_brace = lone 125 kinds.CloseBrace refl refl refl (λ rest. refl)
 
 pub begin_paren : Says false true (codes "(") (mark kinds.OpenParen 0 ∷ [])
-begin_paren = lone 40 kinds.OpenParen refl refl (λ b. refl) refl refl
+begin_paren = lone 40 kinds.OpenParen refl refl refl (λ rest. refl)
 
 pub end_paren : Says false true (codes ")") (mark kinds.CloseParen 0 ∷ [])
-end_paren = lone 41 kinds.CloseParen refl refl (λ b. refl) refl refl
+end_paren = lone 41 kinds.CloseParen refl refl refl (λ rest. refl)
 
 pub semicolon : Says false true (codes ";") (mark kinds.Semicolon 0 ∷ [])
-semicolon = lone 59 kinds.Semicolon refl refl (λ b. refl) refl refl
+semicolon = lone 59 kinds.Semicolon refl refl refl (λ rest. refl)
 
 pub comma : Says false true (codes ",") (mark kinds.Comma 0 ∷ [])
-comma = lone 44 kinds.Comma refl refl (λ b. refl) refl refl
+comma = lone 44 kinds.Comma refl refl refl (λ rest. refl)
 
 pub minus : Says false true (codes "-") (mark kinds.Minus 0 ∷ [])
-minus = lone 45 kinds.Minus refl refl (λ b. refl) refl refl
+minus = lone 45 kinds.Minus refl refl refl (λ rest. refl)
 
 -- ---- words and numbers
 
@@ -216,20 +218,22 @@ number_ends (b ∷ rest) h = by_tests (is_letter b) (is_digit b) h
     by_tests false true h = absurd cc
     by_tests false false h = refl
 
-word_at : (text rest : List ℕ) → IsShape shapes.Word text → length text ≤ 32 → ends rest ≡ true → limited (longest_at (text ++ rest)) ≡ Some (shapes.Word, length text)
+word_at : (text rest : List ℕ) → IsShape shapes.Word text → length text ≤ 32 → ends rest ≡ true → limited (longest_at (text ++ rest)) ≡ Some (coded.Word, length text)
 unfolding longest_at
-word_at text rest (first, more, c, all, is) short h =
+word_at text rest (first, more, is_first, all, is) short h =
+    let c = letter_class first is_first in
     let n : 1 + prefix_len is_word (more ++ rest) ≡ length text = omega (arith, prefix_all is_word more rest all (word_ends rest h), ap length is) in
-    subst (λ (t : List ℕ). limited (longest_at (t ++ rest)) ≡ Some (shapes.Word, length text)) (sym is) (rw (c, n, le-ltb 32 (length text) short) refl)
+    subst (λ (t : List ℕ). limited (longest_at (t ++ rest)) ≡ Some (coded.Word, length text)) (sym is) (rw (c, n, le-ltb 32 (length text) short) refl)
 
-number_at : (text rest : List ℕ) → IsShape shapes.Number text → length text ≤ 32 → ends rest ≡ true → limited (longest_at (text ++ rest)) ≡ Some (shapes.Number, length text)
+number_at : (text rest : List ℕ) → IsShape shapes.Number text → length text ≤ 32 → ends rest ≡ true → limited (longest_at (text ++ rest)) ≡ Some (coded.Number, length text)
 unfolding longest_at
-number_at text rest (first, more, c, all, is) short h =
+number_at text rest (first, more, is_first, all, is) short h =
+    let c = digit_class first is_first in
     let n : 1 + prefix_len is_digit (more ++ rest) ≡ length text = omega (arith, prefix_all is_digit more rest all (number_ends rest h), ap length is) in
-    subst (λ (t : List ℕ). limited (longest_at (t ++ rest)) ≡ Some (shapes.Number, length text)) (sym is) (rw (c, n, le-ltb 32 (length text) short) refl)
+    subst (λ (t : List ℕ). limited (longest_at (t ++ rest)) ≡ Some (coded.Number, length text)) (sym is) (rw (c, n, le-ltb 32 (length text) short) refl)
 
 pub one_word : (text : List ℕ) → IsShape shapes.Word text → length text ≤ 32 → Says true false text (word_of (kind_of_word text) text 0 ∷ [])
-one_word text spelled short = record { before = λ rest more r. reads_piece text rest shapes.Word more (word_at text rest spelled short r.0) r.1 }
+one_word text spelled short = record { before = λ rest more r. reads_piece text rest coded.Word more (word_at text rest spelled short r.0) r.1 }
 
 pub name : (text : List ℕ) → IsIdentifier text → Says true false text (ident text 0 ∷ [])
 name text is = let piece = name_piece text is in subst (λ (k : TokenKind). Says true false text (word_of k text 0 ∷ [])) piece.no_keyword (one_word text piece.spelled piece.short)
@@ -239,23 +243,10 @@ all_words [] h = All-nil (λ b. is_word b ≡ true)
 all_words (x ∷ xs) h = let parts = and_parts (is_word x) (list_all is_word xs) h in All-cons (λ b. is_word b ≡ true) x xs parts.0 (all_words xs parts.1)
 
 -- a word that is written out
-pub keyword : (first : ℕ) (more : List ℕ) → class_of first ≡ classes.Letter → list_all is_word more ≡ true → length more < 32 → Says true false (first ∷ more) (word_of (kind_of_word (first ∷ more)) (first ∷ more) 0 ∷ [])
+pub keyword : (first : ℕ) (more : List ℕ) → is_letter first ≡ true → list_all is_word more ≡ true → length more < 32 → Says true false (first ∷ more) (word_of (kind_of_word (first ∷ more)) (first ∷ more) 0 ∷ [])
 keyword first more c all short = one_word (first ∷ more) (first, more, c, all_words more all, refl) (omega arith)
 
 -- ---- numbers
-
-digit_class : (d : ℕ) → d < 10 → class_of (48 + d) ≡ classes.Digit
-digit_class zero h = refl
-digit_class (suc zero) h = refl
-digit_class (suc (suc zero)) h = refl
-digit_class (suc (suc (suc zero))) h = refl
-digit_class (suc (suc (suc (suc zero)))) h = refl
-digit_class (suc (suc (suc (suc (suc zero))))) h = refl
-digit_class (suc (suc (suc (suc (suc (suc zero)))))) h = refl
-digit_class (suc (suc (suc (suc (suc (suc (suc zero))))))) h = refl
-digit_class (suc (suc (suc (suc (suc (suc (suc (suc zero)))))))) h = refl
-digit_class (suc (suc (suc (suc (suc (suc (suc (suc (suc zero))))))))) h = refl
-digit_class (suc (suc (suc (suc (suc (suc (suc (suc (suc (suc d)))))))))) h = absurd (omega arith)
 
 digit_test : (d : ℕ) → d < 10 → is_digit (48 + d) ≡ true
 digit_test d h = grind arith
@@ -266,7 +257,7 @@ pub record Written (n : ℕ) (digits : List ℕ) : Type 0 where
   pub value : number_of_digits digits ≡ n
 
 one_digit : (n : ℕ) → n < 10 → Written n ((48 + n) ∷ [])
-one_digit n h = record { spelled = (48 + n, [], digit_class n h, All-nil (λ b. is_digit b ≡ true), refl); value = omega arith }
+one_digit n h = record { spelled = (48 + n, [], digit_test n h, All-nil (λ b. is_digit b ≡ true), refl); value = omega arith }
 
 pushed : (digits : List ℕ) (d : ℕ) → d < 10 → IsShape shapes.Number digits → IsShape shapes.Number (digits ++ ((48 + d) ∷ []))
 pushed digits d h (first, more, c, all, is) =
@@ -291,5 +282,5 @@ pub number : (n : ℕ) → n < 10 ^ 32 → Says true false (decimal n) (numeral 
 number n h =
     let w = written n h in
     let short : length (decimal n) ≤ 32 = length-decimal-le_wide 32 n (omega arith) h (wide n h) in
-    let digits : Says true false (decimal n) (numeral (number_of_digits (decimal n)) 0 ∷ []) = record { before = λ rest more r. reads_piece (decimal n) rest shapes.Number more (number_at (decimal n) rest w.spelled short r.0) r.1 } in
+    let digits : Says true false (decimal n) (numeral (number_of_digits (decimal n)) 0 ∷ []) = record { before = λ rest more r. reads_piece (decimal n) rest coded.Number more (number_at (decimal n) rest w.spelled short r.0) r.1 } in
     subst (λ (k : ℕ). Says true false (decimal n) (numeral k 0 ∷ [])) w.value digits

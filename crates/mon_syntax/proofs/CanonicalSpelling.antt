@@ -16,7 +16,7 @@ use Rattle.mon_tree.specs.declared.tree.StmtTree.TheFolds.{fold-roll-StmtTree, m
 use Rattle.mon_tree.specs.declared.tree.MethodTree.{MethodTree}
 use Rattle.mon_tree.specs.declared.tree.MonitorTree.{MonitorTree}
 use Rattle.mon_tokens.specs.Spelling.{Spells}
-use Rattle.mon_tokens.specs.Pieces.{longest_at, other_at}
+use Rattle.mon_tokens.specs.inner.Pieces.{longest_at, other_at}
 use Rattle.mon_tokens.specs.Words.{Word, ident, mark, words}
 use Rattle.mon_syntax.specs.Grammar.{kind_word}
 use Rattle.mon_printer.specs.Canonical.{otherwise, statement_step, statement_text, literal_text, declaration_text, kind_text, input_text, input_texts, joined, method_text, tree_text}
@@ -39,7 +39,7 @@ block_begin = end_paren ▷ space ▷ begin_brace ▷ line_feed
 
 -- ---- statements
 
-blanks : (n : ℕ) → Says false false (replicate n 32) []
+pub blanks : (n : ℕ) → Says false false (replicate n 32) []
 blanks zero = says_nothing false
 blanks (suc n) = less (space ▷ blanks n)
 
@@ -119,7 +119,7 @@ literal_of : (negative : Bool) (at digits : ℕ) → ArePrintable (literal_words
 literal_of true at digits ok = less (minus ▷ number digits ok.1.0)
 literal_of false at digits ok = number digits ok.0
 
-literal : (l : Lit) → ArePrintable (literal_words l) → Says true false (literal_text l) (literal_words l)
+pub literal : (l : Lit) → ArePrintable (literal_words l) → Says true false (literal_text l) (literal_words l)
 literal l ok = literal_of l.minus l.at l.digits ok
 
 declaration : (d : Decl) → ArePrintable (declaration_words d) → Says false true (declaration_text d) (declaration_words d)

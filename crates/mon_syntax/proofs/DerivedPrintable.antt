@@ -5,6 +5,7 @@ use Rattle.std.specs.List.{flat_map, fold}
 use Rattle.std.proofs.Math.Nat.{pow-suc, pow-le-pow_right}
 use Rattle.std.proofs.lemmas.List.Elements.{All-head, All-tail}
 use Rattle.std.proofs.lemmas.List.Folds.{flat_map-map}
+use Rattle.mon_base.specs.Limits.{LEVELS}
 use Rattle.mon_tokens.specs.declared.token.TokenKind.{TokenKind}
 use Rattle.mon_tokens.specs.declared.token.TokenKind.TheVariants as kinds
 use Rattle.mon_tokens.specs.declared.token.Token.{Token}
@@ -328,8 +329,8 @@ method m = record {
   gives = λ ws r ok.
       let got =
       (IsMark kinds.KeyMethod &> (is_name m.name m.at & (IsMark kinds.OpenParen &> (all_inputs m.inputs & (IsMark kinds.CloseParen
-      &> IsMark kinds.KeyWaituntil &> IsMark kinds.OpenParen &> (expression 64 m.guard & (IsMark kinds.CloseParen
-      &> block (IsStatement 64) (statement 64) m.body))))))).gives ws r ok in
+      &> IsMark kinds.KeyWaituntil &> IsMark kinds.OpenParen &> (expression LEVELS m.guard & (IsMark kinds.CloseParen
+      &> block (IsStatement LEVELS) (statement LEVELS) m.body))))))).gives ws r ok in
       let i = inputs_words m.inputs in
       let g = mark kinds.CloseParen 0 ∷ mark kinds.KeyWaituntil 0 ∷ mark kinds.OpenParen 0 ∷ expression_words m.guard in
       let b = mark kinds.CloseParen 0 ∷ mark kinds.OpenBrace 0 ∷ flat_map statement_words m.body in

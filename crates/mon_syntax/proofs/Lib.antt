@@ -6,6 +6,7 @@ pub mod ExpressionReads
 pub mod StatementReads
 pub mod FileFaults
 pub mod MonitorReads
+pub mod ItemReads
 pub mod ClientReads
 pub mod ListItems
 pub mod Rounds
@@ -24,3 +25,6 @@ pub mod SpelledExpressions
 pub mod CanonicalSpelling
 pub mod DerivedPrintable
 pub mod NameLaws
+pub mod ClientWords
+pub mod ClientSpelling
+pub mod ClientDerivation

@@ -1,18 +1,19 @@
 -- The items of each list: where one begins there is a word, and it takes a word at least.
-use Rattle.std.proofs.Common.{◌≡◌, ℕ, ◌<◌, Bool, true, false, List, [], ◌∷◌, ◌++◌, length, sym, ◌∙◌, arith}
+use Rattle.std.proofs.Common.{◌≡◌, ℕ, ◌<◌, Bool, true, false, List, [], ◌∷◌, ◌++◌, length, arith}
 use Rattle.mon_tokens.specs.declared.token.TokenKind.TheVariants as kinds
 use Rattle.mon_syntax.specs.declared.expression_parser.Join.{Join}
 use Rattle.mon_tokens.specs.Words.{Word}
 use Rattle.mon_syntax.specs.Grammar.{Rule, IsFactor, IsAddend, IsUnary, IsStatement, IsDeclaration, IsMethod}
-use Rattle.mon_syntax.specs.ClientGrammar.{IsCall, IsClient}
-use Rattle.mon_syntax.specs.inner.Reading.{Read, begins, begins_listed, begins_ident, begins_statement, begins_declaration, minus_of, sign_of, inner_at, part_at, factor_at, addend_at, unary_at, statement_at, declaration_at, later_input_at, method_at, call_at, client_at}
+use Rattle.mon_syntax.specs.ClientGrammar.{IsItem, IsClient}
+use Rattle.mon_syntax.specs.inner.Reading.{Read, begins, begins_listed, begins_statement, begins_declaration, minus_of, sign_of, inner_at, part_at, factor_at, addend_at, unary_at, statement_at, declaration_at, later_input_at, method_at, begins_item, later_argument_at, item_at, client_at}
 use Rattle.mon_syntax.specs.inner.Calls.{AreItems}
 use Rattle.mon_syntax.proofs.Readers.{Reads, Anything, shorter}
 use Rattle.mon_syntax.proofs.Openings.{begins_none, listed_none}
 use Rattle.mon_syntax.proofs.ExpressionReads.{NoStar, IsPart, IsInner, AfterInner, factor_reads, factor_begins, addend_reads, addend_begins, part_reads, part_begins, inner_reads, unary_reads}
 use Rattle.mon_syntax.proofs.StatementReads.{NoElse, no_statement, statement_reads, statement_begins}
 use Rattle.mon_syntax.proofs.MonitorReads.{no_declaration, declaration_reads, declaration_begins, IsLaterInput, later_input_reads, later_input_begins, method_reads, method_begins}
-use Rattle.mon_syntax.proofs.ClientReads.{no_call, call_reads, call_begins, client_reads, client_begins}
+use Rattle.mon_syntax.proofs.ItemReads.{IsLaterArgument, later_argument_reads, later_argument_begins, no_item, item_reads, item_begins}
+use Rattle.mon_syntax.proofs.ClientReads.{client_reads, client_begins}
 
 are_items : {A : Type 0} (starts : List Word → Bool) (IsTree : Rule A) (item : List Word → Read A) (After : List Word → Type 0)
     → starts [] ≡ false → ((x : A) (taken rest : List Word) → IsTree x taken → starts (taken ++ rest) ≡ true) → Reads IsTree item After → AreItems starts item
@@ -46,8 +47,11 @@ later_input_items = are_items (begins kinds.Comma) IsLaterInput later_input_at A
 pub method_items : AreItems (begins kinds.KeyMethod) method_at
 method_items = are_items (begins kinds.KeyMethod) IsMethod method_at Anything (begins_none kinds.KeyMethod) method_begins method_reads
 
-pub call_items : AreItems begins_ident call_at
-call_items = are_items begins_ident IsCall call_at Anything no_call call_begins call_reads
+pub later_argument_items : AreItems (begins kinds.Comma) later_argument_at
+later_argument_items = are_items (begins kinds.Comma) IsLaterArgument later_argument_at Anything (begins_none kinds.Comma) later_argument_begins later_argument_reads
+
+pub item_items : (levels : ℕ) → AreItems begins_item (item_at levels)
+item_items levels = are_items begins_item (IsItem levels) (item_at levels) Anything no_item (item_begins levels) (item_reads levels)
 
 pub client_items : AreItems (begins kinds.KeyClient) client_at
 client_items = are_items (begins kinds.KeyClient) IsClient client_at Anything (begins_none kinds.KeyClient) client_begins client_reads

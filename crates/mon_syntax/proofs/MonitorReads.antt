@@ -1,6 +1,7 @@
 -- The readers of a monitor file's parts, and of the whole file.
 use Rattle.std.proofs.Common.{◌≡◌, ℕ, ◌-◌, Bool, true, false, List, [], ◌∷◌, ◌++◌, length, drop, Ok, Err, refl, sym, ap, subst, ◌∙◌, inl, inr}
 use Rattle.std.specs.Prelude.{◌⊎◌}
+use Rattle.mon_base.specs.Limits.{LEVELS}
 use Rattle.mon_tokens.specs.declared.token.TokenKind.{TokenKind}
 use Rattle.mon_tokens.specs.declared.token.TokenKind.TheVariants as kinds
 use Rattle.mon_tokens.specs.declared.token.Token.{Token}
@@ -322,7 +323,7 @@ method_reads_of IsGuard guard IsBody body r s =
 
 pub method_reads : Reads IsMethod method_at Anything
 unfolding method_at
-method_reads = method_reads_of (IsExpression 64) (condition_at 64) (IsBlock (IsStatement 64)) (block_at (statement_at 64)) (condition_reads 64) (body_reads 64)
+method_reads = method_reads_of (IsExpression LEVELS) (condition_at LEVELS) (IsBlock (IsStatement LEVELS)) (block_at (statement_at LEVELS)) (condition_reads LEVELS) (body_reads LEVELS)
 
 method_opens_of : (IsGuard : Rule Expr) (IsBody : Rule (List StmtTree)) (Fact : List Word → Type 0) → At kinds.KeyMethod Fact → (x : MethodTree) → Opens (IsMethodOf IsGuard IsBody x) Fact
 method_opens_of IsGuard IsBody Fact so x =
@@ -331,7 +332,7 @@ method_opens_of IsGuard IsBody Fact so x =
     Fact (mark_opens kinds.KeyMethod Fact so)
 
 method_opens : (Fact : List Word → Type 0) → At kinds.KeyMethod Fact → (x : MethodTree) → Opens (IsMethod x) Fact
-method_opens Fact so x = method_opens_of (IsExpression 64) (IsBlock (IsStatement 64)) Fact so x
+method_opens Fact so x = method_opens_of (IsExpression LEVELS) (IsBlock (IsStatement LEVELS)) Fact so x
 
 pub method_begins : (x : MethodTree) → Opens (IsMethod x) (λ ws. begins kinds.KeyMethod ws ≡ true)
 method_begins x = method_opens (λ ws. begins kinds.KeyMethod ws ≡ true) (begins_at kinds.KeyMethod) x

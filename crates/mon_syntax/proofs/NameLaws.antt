@@ -1,16 +1,17 @@
 -- The names of derived trees are identifiers: they are the names among their words, and those of tokens are identifiers.
-use Rattle.std.proofs.Common.{◌≡◌, ℕ, Bool, true, false, List, [], ◌∷◌, ◌++◌, All, map, refl, sym, ap, subst, ◌∙◌, append_assoc, append-nil}
+use Rattle.std.proofs.Common.{◌≡◌, ℕ, zero, suc, inl, inr, Bool, true, false, List, [], ◌∷◌, ◌++◌, All, map, refl, sym, ap, subst, ◌∙◌, append_assoc, append-nil}
 use Rattle.std.specs.Prelude.{nat_lt, if◌then◌else◌}
 use Rattle.std.specs.List.{flat_map}
 use Rattle.std.proofs.lemmas.List.Concat.{flat_map-append}
+use Rattle.std.proofs.lemmas.List.Folds.{flat_map-map}
 use Rattle.std.proofs.lemmas.List.Elements.{All-cons, All-nil}
+use Rattle.mon_base.specs.Limits.{LEVELS}
 use Rattle.mon_tokens.specs.declared.token.TokenKind.{TokenKind}
 use Rattle.mon_tokens.specs.declared.token.TokenKind.TheVariants as kinds
 use Rattle.mon_tokens.specs.declared.token.Token.{Token}
 use Rattle.mon_tree.specs.declared.tree.Decl.{Decl}
 use Rattle.mon_tree.specs.declared.tree.Decl.TheVariants as decls
 use Rattle.mon_tree.specs.declared.tree.InputTree.{InputTree}
-use Rattle.mon_tree.specs.declared.tree.Op.{Op}
 use Rattle.mon_tree.specs.declared.tree.Expr.{Expr, roll-Expr}
 use Rattle.mon_tree.specs.declared.tree.Expr.TheOpen.{Expr-F, Addend-F, Factor-F, Number, Truth, Named, Minus, Not, Product, Sum, Compare, Both, Either}
 use Rattle.mon_tree.specs.declared.tree.Expr.TheFolds.{fold-Addend, fold-Factor, fold-roll-Expr, fold-roll-Addend, fold-roll-Factor, map-Expr, ind-Expr}
@@ -21,8 +22,9 @@ use Rattle.mon_tree.specs.declared.tree.StmtTree.TheOpen.{StmtTree-F, Set, If, R
 use Rattle.mon_tree.specs.declared.tree.StmtTree.TheFolds.{fold-roll-StmtTree, map-StmtTree, ind-StmtTree}
 use Rattle.mon_tree.specs.declared.tree.MethodTree.{MethodTree}
 use Rattle.mon_tree.specs.declared.tree.MonitorTree.{MonitorTree}
-use Rattle.mon_tree.specs.declared.tree.Item.{Item, roll-Item}
-use Rattle.mon_tree.specs.declared.tree.Item.TheOpen.{Call}
+use Rattle.mon_tree.specs.declared.tree.Arg.{Arg}
+use Rattle.mon_tree.specs.declared.tree.Item.{Item}
+use Rattle.mon_tree.specs.declared.tree.Item.TheOpen.{Call, Repeat}
 use Rattle.mon_tree.specs.declared.tree.Item.TheVariants as items
 use Rattle.mon_tree.specs.declared.tree.Item.TheFolds.{fold-roll-Item}
 use Rattle.mon_tree.specs.declared.tree.ClientTree.{ClientTree}
@@ -30,12 +32,11 @@ use Rattle.mon_tree.specs.declared.tree.ClientsTree.{ClientsTree}
 use Rattle.mon_tree.specs.Names.{Names, all_names, expression_names, expression_names_step, addend_names_step, factor_names_step, statement_names, statement_names_step, declared_name, method_names, names_in, item_names, item_names_step, client_names, names_in_clients}
 use Rattle.mon_tokens.specs.Spelling.{IsIdentifier, Spells}
 use Rattle.mon_tokens.specs.Words.{Word, ident, numeral, mark, words}
-use Rattle.mon_syntax.specs.Grammar.{◌⌢◌, Each, IsIdent, IsMark, Derives}
-use Rattle.mon_syntax.specs.ClientGrammar.{IsCall, IsClient, DerivesClients}
+use Rattle.mon_syntax.specs.Grammar.{◌⌢◌, Each, IsBlock, IsIdent, IsNumeral, IsMarkAt, IsMark, truth_word, Derives}
+use Rattle.mon_syntax.specs.ClientGrammar.{IsArgument, AreArguments, IsCall, IsRepeat, IsItem, IsClient, DerivesClients}
 use Rattle.mon_syntax.proofs.CanonicalWords.{Spelled, in_parentheses, words_at, joined_words, spelled, spelled_step, addend_words, factor_words, expression_words, else_words, statement_words, statement_words_step, minus_words, literal_words, declaration_words, input_words, inputs_words, method_words, tree_words}
 use Rattle.mon_syntax.proofs.Printable.{ArePrintable, addend_tail, factor_tail, expression_layer, statement_layer}
 use Rattle.mon_syntax.proofs.DerivedPrintable.{derived_printable, words_printable}
-use Rattle.mon_syntax.proofs.ClientReads.{call_from}
 use Rattle.mon_tokens.proofs.Numerals.{tokens_are}
 
 -- ---- the names among words
@@ -271,19 +272,57 @@ each_says IsTree names one [] ws p = ap names_said p
 each_says IsTree names one (x ∷ xs) ws p =
     ap names_said p.4 ∙ both_said p.0 p.1 (names x) (flat_map names xs) (one x p.0 p.2) (each_says IsTree names one xs p.1 p.3)
 
-call_named : (at : ℕ) (name : List ℕ) → item_names (items.Call at name []) ≡ name ∷ []
-call_named at name = ap item_names (sym (items.rolls-Call at name [])) ∙ fold-roll-Item Names item_names_step (Call at name [])
+mark_at_says : (kind : TokenKind) (at : ℕ) → Says (IsMarkAt kind at) []
+mark_at_says kind at ws p = ap names_said p
 
-item_says : (item : Item) → Says (IsCall item) (item_names item)
-item_says item ws rule =
-    let p = call_from item ws rule in
-    (ident_says p.0.0.name p.0.0.at & mark_says kinds.OpenParen & mark_says kinds.CloseParen & mark_says kinds.Semicolon) ws p.2
-    ∙ sym (ap item_names p.1 ∙ call_named p.0.0.at p.0.0.name)
+numeral_says : (value at : ℕ) → Says (IsNumeral value at) []
+numeral_says value at ws p = ap names_said p
+
+argument_says : (argument : Arg) → Says (IsArgument argument) []
+argument_says argument ws (inl p) = (mark_at_says kinds.Minus p.0 & numeral_says p.1 p.2) ws p.4
+argument_says argument ws (inr (inl p)) = numeral_says p.1 p.0 ws p.3
+argument_says argument ws (inr (inr p)) = mark_at_says (truth_word p.1) p.0 ws p.3
+
+later_say : (given : List Arg) → Says (Each (λ argument. IsMark kinds.Comma ⌢ IsArgument argument) given) []
+later_say [] ws p = ap names_said p
+later_say (first ∷ rest) ws p = ((mark_says kinds.Comma & argument_says first) & later_say rest) ws p
+
+arguments_say : (given : List Arg) → Says (AreArguments given) []
+arguments_say [] ws p = ap names_said p
+arguments_say (first ∷ rest) ws p = (argument_says first & later_say rest) ws p
+
+call_named : (at : ℕ) (name : List ℕ) (given : List Arg) → item_names (items.Call at name given) ≡ name ∷ []
+call_named at name given = ap item_names (sym (items.rolls-Call at name given)) ∙ fold-roll-Item Names item_names_step (Call at name given)
+
+call_says : (item : Item) → Says (IsCall item) (item_names item)
+call_says item ws p =
+    (ident_says p.1 p.0 & mark_says kinds.OpenParen & arguments_say p.2 & mark_says kinds.CloseParen & mark_says kinds.Semicolon) ws p.4
+    ∙ sym (ap item_names p.3 ∙ call_named p.0 p.1 p.2)
+
+block_says : (IsInner : Item → List Word → Type 0) → ((item : Item) → Says (IsInner item) (item_names item)) → (body : List Item) → Says (IsBlock IsInner body) (flat_map item_names body)
+block_says IsInner inner body ws p =
+    (mark_says kinds.OpenBrace & each_says IsInner item_names inner body & mark_says kinds.CloseBrace) ws p ∙ append-nil (flat_map item_names body)
+
+repeat_named : (at times : ℕ) (body : List Item) → item_names (items.Repeat at times body) ≡ flat_map item_names body
+repeat_named at times body =
+    ap item_names (sym (items.rolls-Repeat at times body)) ∙ fold-roll-Item Names item_names_step (Repeat at times body) ∙ flat_map-map (λ (names : Names). names) item_names body
+
+repeat_says : (IsInner : Item → List Word → Type 0) → ((item : Item) → Says (IsInner item) (item_names item)) → (item : Item) → Says (IsRepeat IsInner item) (item_names item)
+repeat_says IsInner inner item ws p =
+    (mark_at_says kinds.KeyRepeat p.0 & numeral_says p.1 p.2 & block_says IsInner inner p.3) ws p.5
+    ∙ sym (ap item_names p.4 ∙ repeat_named p.0 p.1 p.3)
+
+item_says : (levels : ℕ) (item : Item) → Says (IsItem levels item) (item_names item)
+item_says zero item ws p = call_says item ws p
+item_says (suc levels) item ws (inl p) = call_says item ws p
+item_says (suc levels) item ws (inr p) = repeat_says (IsItem levels) (item_says levels) item ws p
+
+client_says_of : (IsBody : List Item → List Word → Type 0) → ((body : List Item) → Says (IsBody body) (flat_map item_names body))
+    → (client : ClientTree) → Says (IsMark kinds.KeyClient ⌢ IsIdent client.name client.at ⌢ IsBody client.items) (client_names client)
+client_says_of IsBody body client ws p = (mark_says kinds.KeyClient & ident_says client.name client.at & body client.items) ws p
 
 client_says : (client : ClientTree) → Says (IsClient client) (client_names client)
-client_says client ws p =
-    (mark_says kinds.KeyClient & ident_says client.name client.at & mark_says kinds.OpenBrace & each_says IsCall item_names item_says client.items & mark_says kinds.CloseBrace) ws p
-    ∙ ap (λ n. client.name ∷ n) (append-nil (flat_map item_names client.items))
+client_says client = client_says_of (IsBlock (IsItem LEVELS)) (block_says (IsItem LEVELS) (item_says LEVELS)) client
 
 pub clients_named : (bytes : List ℕ) (tokens : List Token) (tree : ClientsTree) → Spells bytes tokens → DerivesClients bytes tokens tree → All IsIdentifier (names_in_clients tree)
 clients_named bytes tokens tree spelled derived =

@@ -3,10 +3,11 @@ use Rattle.std.proofs.Common.{◌≡◌, ℕ, Bool, true, false, List, [], ◌++
 use Rattle.mon_tokens.specs.declared.token.TokenKind.{TokenKind}
 use Rattle.mon_tree.specs.declared.tree.Expr.{Expr}
 use Rattle.mon_tokens.specs.Words.{Word}
-use Rattle.mon_syntax.specs.Grammar.{Rule, ◌⌢◌, Each, IsMarkAt, IsMark, IsChain}
-use Rattle.mon_syntax.specs.inner.Reading.{Read, ◌⊗◌, made_at, each_at, placed_at, mark_at, ident_at, chain_of}
+use Rattle.mon_tokens.specs.declared.token.TokenKind.TheVariants as kinds
+use Rattle.mon_syntax.specs.Grammar.{Rule, ◌⌢◌, Each, IsBlock, IsMarkAt, IsMark, IsChain}
+use Rattle.mon_syntax.specs.inner.Reading.{Read, ◌⊗◌, made_at, each_at, placed_at, mark_at, ident_at, numeral_at, body_of, braces_at, chain_of}
 use Rattle.mon_syntax.proofs.Readers.{Reads, Anything, Heads, Both, pair_reads, made_reads, each_reads}
-use Rattle.mon_syntax.proofs.WordReads.{IsPlacedName, placed_reads, mark_reads, ident_reads}
+use Rattle.mon_syntax.proofs.WordReads.{IsPlacedName, IsPlacedNumber, placed_reads, mark_reads, ident_reads, numeral_reads}
 use Rattle.mon_syntax.proofs.Openings.{Opens, At, mark_opens, each_opens}
 
 -- ---- rules
@@ -74,8 +75,25 @@ placed_then kind IsTree read F r = pair_reads (λ at. IsMarkAt kind at) (placed_
 pub ident_then : {A : Type 0} (IsTree : Rule A) (read : List Word → Read A) (F : List Word → Type 0) → Reads IsTree read F → Reads (Both IsPlacedName IsTree) (ident_at ⊗ read) F
 ident_then IsTree read F r = pair_reads IsPlacedName ident_at Anything IsTree read F ident_reads r (λ y taken rest is after. tt)
 
+pub numeral_then : {A : Type 0} (IsTree : Rule A) (read : List Word → Read A) (F : List Word → Type 0) → Reads IsTree read F → Reads (Both IsPlacedNumber IsTree) (numeral_at ⊗ read) F
+numeral_then IsTree read F r = pair_reads IsPlacedNumber numeral_at Anything IsTree read F numeral_reads r (λ y taken rest is after. tt)
+
 pub then_mark : {A : Type 0} (kind : TokenKind) (IsTree : Rule A) (read : List Word → Read A) (F : List Word → Type 0) → Reads IsTree read F → At kind F → Reads (Both IsTree (λ (unit : Unit {0}). IsMark kind)) (read ⊗ mark_at kind) Anything
 then_mark kind IsTree read F r ends = pair_reads IsTree read F (λ unit. IsMark kind) (mark_at kind) Anything r (mark_reads kind) (λ y taken rest is after. mark_opens kind F ends taken rest is)
+
+-- items between braces
+pub braces_reads : {A : Type 0} (starts : List Word → Bool) (IsInner : Rule A) (inner : List Word → Read A) (F : List Word → Type 0) → Heads starts → starts [] ≡ false → Reads IsInner inner F
+    → ((x : A) → Opens (IsInner x) (λ ws. starts ws ≡ true)) → ((ws : List Word) → starts ws ≡ true → F ws) → At kinds.CloseBrace (λ ws. (starts ws ≡ false) × F ws)
+    → Reads (IsBlock IsInner) (braces_at starts inner) Anything
+braces_reads {A} starts IsInner inner F heads none r begin follow ends =
+    made_reads (Both (λ (unit : Unit {0}). IsMark kinds.OpenBrace) IsBody) (mark_at kinds.OpenBrace ⊗ each_at starts inner ⊗ mark_at kinds.CloseBrace) Anything body_of (IsBlock IsInner)
+    (mark_then kinds.OpenBrace IsBody (each_at starts inner ⊗ mark_at kinds.CloseBrace) Anything
+    (then_mark kinds.CloseBrace (Each IsInner) (each_at starts inner) (λ ws. (starts ws ≡ false) × F ws) (each_reads starts IsInner inner F heads none r begin follow) ends))
+    (λ x ws p. p)
+    (λ y ws p. ((tt, (y, tt)), refl, p))
+  where
+    IsBody : Rule (List A × Unit {0})
+    IsBody = Both (Each IsInner) (λ (unit : Unit {0}). IsMark kinds.CloseBrace)
 
 -- ---- a chain: one part, and others that each begin with a sign
 

@@ -1,12 +1,12 @@
 -- The canonical text of an expression is cut into pieces that say its canonical words.
-use Rattle.std.proofs.Common.{◌≡◌, ℕ, ◌≤◌, Bool, true, false, eqb, List, [], ◌∷◌, ◌++◌, map, Some, refl, sym, ap, subst, ◌∙◌, append_assoc, arith}
+use Rattle.std.proofs.Common.{◌≡◌, ℕ, ◌≤◌, Bool, true, false, eqb, List, [], ◌∷◌, ◌++◌, map, Some, refl, sym, subst, append_assoc, arith}
 use Rattle.std.specs.Prelude.{codes, if◌then◌else◌, nat_lt, decimal}
 use Rattle.std.specs.List.{flat_map}
-use Rattle.std.proofs.lemmas.Bool.{eqb-true, ltb-false}
+use Rattle.std.proofs.lemmas.Bool.{ltb-false}
 use Rattle.mon_tokens.specs.declared.token.TokenKind.{TokenKind}
 use Rattle.mon_tokens.specs.declared.token.TokenKind.TheVariants as kinds
-use Rattle.mon_tokens.specs.declared.piece.Class.TheVariants as classes
-use Rattle.mon_tokens.specs.declared.piece.Shape.TheVariants as shapes
+use Rattle.mon_tokens.specs.declared.piece.Shape.TheVariants as coded
+use Rattle.mon_tokens.specs.Shapes as shapes
 use Rattle.mon_tree.specs.declared.tree.Op.{Op}
 use Rattle.mon_tree.specs.declared.tree.Op.TheVariants as ops
 use Rattle.mon_tree.specs.declared.tree.Addend.{Addend, roll-Addend}
@@ -14,9 +14,9 @@ use Rattle.mon_tree.specs.declared.tree.Factor.{Factor, roll-Factor}
 use Rattle.mon_tree.specs.declared.tree.Expr.{Expr, roll-Expr}
 use Rattle.mon_tree.specs.declared.tree.Expr.TheOpen.{Expr-F, Addend-F, Factor-F, Number, Truth, Named, Minus, Not, Product, Sum, Compare, Both, Either}
 use Rattle.mon_tree.specs.declared.tree.Expr.TheFolds.{fold-roll-Expr, fold-roll-Addend, fold-roll-Factor, map-Expr, ind-Expr}
-use Rattle.mon_tokens.specs.Spelling.{class_of, IsShape}
+use Rattle.mon_tokens.specs.Spelling.{is_letter, is_digit, IsShape}
 use Rattle.mon_tokens.proofs.Identifiers.{name_piece}
-use Rattle.mon_tokens.specs.Pieces.{other_at, longest_at, limited}
+use Rattle.mon_tokens.specs.inner.Pieces.{other_at, longest_at, limited}
 use Rattle.mon_tokens.specs.Words.{Word, mark}
 use Rattle.mon_syntax.specs.Grammar.{truth_word, op_sign, sum_sign}
 use Rattle.mon_printer.specs.Canonical.{Printed, printed, printed_step, expression_text, at_level, parts_at, joined, truth_text, addend_sign, addend_text, factor_text, op_text}
@@ -31,29 +31,27 @@ use Rattle.mon_syntax.proofs.Printable.{ArePrintable, printable_front, printable
 pub record Begins (text : List ℕ) : Type 0 where
   pub first : ℕ
   pub more : List ℕ
-  pub no_equal : eqb first 61 ≡ false
+  pub no_equal : eqb 61 first ≡ false
   pub is : text ≡ first ∷ more
 
--- no letter and no digit is `=`
-no_equal : (b : ℕ) → (class_of b ≡ classes.Other → ⊥) → eqb b 61 ≡ false
-no_equal b other = by_test (eqb b 61) refl
-  where
-    by_test : (t : Bool) → eqb b 61 ≡ t → t ≡ false
-    by_test true h = absurd (other (ap class_of (eqb-true b 61 h)))
-    by_test false h = refl
+no_equal_is_letter : (b : ℕ) → is_letter b ≡ true → eqb 61 b ≡ false
+no_equal_is_letter b letter = grind arith
+
+no_equal_is_digit : (b : ℕ) → is_digit b ≡ true → eqb 61 b ≡ false
+no_equal_is_digit b digit = grind arith
 
 word_begins : (text : List ℕ) → IsShape shapes.Word text → Begins text
-word_begins text (first, more, c, all, is) = record { first = first; more = more; no_equal = no_equal first (λ other. let both : classes.Letter ≡ classes.Other = sym c ∙ other in absurd cc); is = is }
+word_begins text (first, more, letter, all, is) = record { first = first; more = more; no_equal = no_equal_is_letter first letter; is = is }
 
 number_begins : (text : List ℕ) → IsShape shapes.Number text → Begins text
-number_begins text (first, more, c, all, is) = record { first = first; more = more; no_equal = no_equal first (λ other. let both : classes.Digit ≡ classes.Other = sym c ∙ other in absurd cc); is = is }
+number_begins text (first, more, digit, all, is) = record { first = first; more = more; no_equal = no_equal_is_digit first digit; is = is }
 
-not_at : (text : List ℕ) (rest : List ℕ) → Begins text → limited (longest_at (33 ∷ (text ++ rest))) ≡ Some (shapes.Sign kinds.Not, 1)
+not_at : (text : List ℕ) (rest : List ℕ) → Begins text → limited (longest_at (33 ∷ (text ++ rest))) ≡ Some (coded.Sign kinds.Not, 1)
 unfolding longest_at other_at
-not_at text rest b = subst (λ (t : List ℕ). limited (longest_at (33 ∷ (t ++ rest))) ≡ Some (shapes.Sign kinds.Not, 1)) (sym b.is) (let none = b.no_equal in rw none refl)
+not_at text rest b = subst (λ (t : List ℕ). limited (longest_at (33 ∷ (t ++ rest))) ≡ Some (coded.Sign kinds.Not, 1)) (sym b.is) (let none = b.no_equal in rw none refl)
 
 not_before : (text : List ℕ) (ws : List Word) → Begins text → Says true false text ws → Says true true (33 ∷ text) (mark kinds.Not 0 ∷ ws)
-not_before text ws b s = record { before = λ rest more r. (refl, reads_piece (33 ∷ []) (text ++ rest) (shapes.Sign kinds.Not) (ws ++ more) (not_at text rest b) (s.before rest more r)) }
+not_before text ws b s = record { before = λ rest more r. (refl, reads_piece (33 ∷ []) (text ++ rest) (coded.Sign kinds.Not) (ws ++ more) (not_at text rest b) (s.before rest more r)) }
 
 -- ---- an expression
 

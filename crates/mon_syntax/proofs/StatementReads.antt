@@ -6,12 +6,12 @@ use Rattle.mon_tree.specs.declared.tree.Expr.{Expr}
 use Rattle.mon_tree.specs.declared.tree.StmtTree.{StmtTree}
 use Rattle.mon_tree.specs.declared.tree.StmtTree.TheVariants as statements
 use Rattle.mon_tokens.specs.Words.{Word, ident, numeral, mark}
-use Rattle.mon_syntax.specs.Grammar.{Rule, ◌⌢◌, Each, IsIdent, IsMarkAt, IsMark, IsExpression, IsBlock, IsElse, IsSimple, IsIf, IsStatement}
-use Rattle.mon_syntax.specs.inner.Reading.{Read, ◌⊗◌, made_at, choice_at, pure_at, each_at, placed_at, mark_at, ident_at, begins, begins_ident, begins_statement, expression_at, condition_at, body_of, block_at, else_of, else_at, set_of, set_at, return_of, return_at, if_of, if_at, simple_at, statement_at}
-use Rattle.mon_syntax.proofs.Readers.{Reads, Anything, Both, pair_reads, made_reads, pure_reads, choice_reads, each_reads, before}
+use Rattle.mon_syntax.specs.Grammar.{Rule, ◌⌢◌, IsIdent, IsMarkAt, IsMark, IsExpression, IsBlock, IsElse, IsSimple, IsIf, IsStatement}
+use Rattle.mon_syntax.specs.inner.Reading.{Read, ◌⊗◌, made_at, choice_at, pure_at, placed_at, mark_at, ident_at, begins, begins_ident, begins_statement, expression_at, condition_at, block_at, else_of, else_at, set_of, set_at, return_of, return_at, if_of, if_at, simple_at, statement_at}
+use Rattle.mon_syntax.proofs.Readers.{Reads, Anything, Both, pair_reads, made_reads, pure_reads, choice_reads, before}
 use Rattle.mon_syntax.proofs.WordReads.{IsPlacedName, begins_heads, statement_heads}
 use Rattle.mon_syntax.proofs.Openings.{Opens, At, mark_opens, placed_opens, ident_opens, then_opens, begins_at}
-use Rattle.mon_syntax.proofs.Sequences.{three_right, three_left, within_second, same_reads, mark_then, placed_then, ident_then, then_mark}
+use Rattle.mon_syntax.proofs.Sequences.{three_right, three_left, within_second, same_reads, mark_then, placed_then, ident_then, then_mark, braces_reads}
 use Rattle.mon_syntax.proofs.ExpressionReads.{NoOr, semicolon_no_or, IsParenthesized, parentheses_read, expression_reads}
 
 abbrev pub NoElse : List Word → Type 0
@@ -115,15 +115,7 @@ statement_no_else (numeral value at ∷ rest) h = refl
 pub block_reads : (IsInner : Rule StmtTree) (inner : List Word → Read StmtTree) → Reads IsInner inner NoElse → ((x : StmtTree) → Opens (IsInner x) (λ ws. begins_statement ws ≡ true))
     → Reads (IsBlock IsInner) (block_at inner) Anything
 unfolding block_at
-block_reads IsInner inner r begin =
-    made_reads (Both (λ (unit : Unit {0}). IsMark kinds.OpenBrace) IsBody) (mark_at kinds.OpenBrace ⊗ each_at begins_statement inner ⊗ mark_at kinds.CloseBrace) Anything body_of (IsBlock IsInner)
-    (mark_then kinds.OpenBrace IsBody (each_at begins_statement inner ⊗ mark_at kinds.CloseBrace) Anything
-    (then_mark kinds.CloseBrace (Each IsInner) (each_at begins_statement inner) (λ ws. (begins_statement ws ≡ false) × NoElse ws) (each_reads begins_statement IsInner inner NoElse statement_heads no_statement r begin statement_no_else) brace_ends))
-    (λ x ws p. p)
-    (λ y ws p. ((tt, (y, tt)), refl, p))
-  where
-    IsBody : Rule (List StmtTree × Unit {0})
-    IsBody = Both (Each IsInner) (λ (unit : Unit {0}). IsMark kinds.CloseBrace)
+block_reads IsInner inner r begin = braces_reads begins_statement IsInner inner NoElse statement_heads no_statement r begin statement_no_else brace_ends
 
 abbrev IsOther : Rule StmtTree → Rule (List StmtTree)
 IsOther IsInner body = IsMark kinds.KeyElse ⌢ IsBlock IsInner body

@@ -10,11 +10,14 @@ use Rattle.mon_tree.specs.declared.tree.Op.{Op}
 use Rattle.mon_tree.specs.declared.tree.Op.TheVariants as ops
 use Rattle.mon_tree.specs.declared.tree.Expr.{Expr}
 use Rattle.mon_tree.specs.declared.tree.Expr.TheVariants as exprs
+use Rattle.mon_tree.specs.declared.tree.Arg.{Arg}
+use Rattle.mon_tree.specs.declared.tree.Arg.TheVariants as args
 use Rattle.mon_syntax.specs.declared.word.PlacedName.{PlacedName}
 use Rattle.mon_syntax.specs.declared.word.PlacedNumber.{PlacedNumber}
 use Rattle.mon_tokens.specs.Words.{Word, ident, numeral, mark}
 use Rattle.mon_syntax.specs.Grammar.{Rule, IsIdent, IsNumeral, IsMarkAt, IsMark, truth_word, op_sign, sum_sign, kind_word, IsAtom}
-use Rattle.mon_syntax.specs.inner.Reading.{code, is_kind, placed_at, mark_at, ident_at, numeral_at, listed_at, truth_of, op_of, minus_of, kind_of, begins, is_listed, begins_listed, begins_ident, begins_statement, begins_declaration, atom_at}
+use Rattle.mon_syntax.specs.ClientGrammar.{plain}
+use Rattle.mon_syntax.specs.inner.Reading.{code, is_kind, placed_at, mark_at, ident_at, numeral_at, listed_at, truth_of, op_of, minus_of, kind_of, begins, is_listed, begins_listed, begins_ident, begins_statement, begins_item, begins_declaration, atom_at, plain_argument_at}
 use Rattle.mon_syntax.proofs.Readers.{Reads, Anything, Heads, One, one_reads}
 
 -- ---- kinds
@@ -287,6 +290,41 @@ atom_one = record {
 pub atom_reads : Reads IsAtom atom_at Anything
 atom_reads = one_reads IsAtom atom_at atom_one
 
+-- ---- arguments without a sign
+
+-- NUM | "true" | "false"
+abbrev pub IsPlainArgument : Rule Arg
+IsPlainArgument argument ws =
+    ((at : ℕ) × (digits : ℕ) × (argument ≡ plain at digits) × IsNumeral digits at ws)
+    ⊎ ((at : ℕ) × (value : Bool) × (argument ≡ args.Bool at value) × IsMarkAt (truth_word value) at ws)
+
+plain_argument_one : One IsPlainArgument plain_argument_at
+unfolding plain_argument_at
+plain_argument_one = record {
+  nothing = refl;
+  word = by_word;
+  again = again;
+  example = record { made = plain 0 0; words = numeral 0 0 ∷ []; is = inl (0, 0, refl, refl) };
+}
+  where
+    by_truth : (k : TokenKind) (at : ℕ) (o : Option Bool) → truth_of k ≡ o → IfListed truth_word o k
+        → ((rest : List Word) → plain_argument_at (mark k at ∷ rest) ≡ Err (suc (length rest)))
+        ⊎ ((x : Arg) × ((rest : List Word) → plain_argument_at (mark k at ∷ rest) ≡ Ok (x, rest)) × IsPlainArgument x (mark k at ∷ []))
+    by_truth k at (Some b) h is = inr (args.Bool at b, λ rest. rw h refl, inr (at, b, refl, ap (λ (j : TokenKind). mark j at ∷ []) is))
+    by_truth k at None h is = inl (λ rest. rw h refl)
+
+    by_word : (w : Word) → ((rest : List Word) → plain_argument_at (w ∷ rest) ≡ Err (suc (length rest))) ⊎ ((x : Arg) × ((rest : List Word) → plain_argument_at (w ∷ rest) ≡ Ok (x, rest)) × IsPlainArgument x (w ∷ []))
+    by_word (mark k at) = by_truth k at (truth_of k) refl (is_truth k)
+    by_word (ident name at) = inl (λ rest. refl)
+    by_word (numeral value at) = inr (plain at value, λ rest. refl, inl (at, value, refl, refl))
+
+    again : (x : Arg) (ws : List Word) → IsPlainArgument x ws → (w : Word) × (ws ≡ w ∷ []) × ((rest : List Word) → plain_argument_at (w ∷ rest) ≡ Ok (x, rest))
+    again x ws (inl p) = (numeral p.1 p.0, p.3, λ rest. ap (λ (y : Arg). Ok (y, rest)) (sym p.2))
+    again x ws (inr p) = (mark (truth_word p.1) p.0, p.3, λ rest. rw (truth_is p.1) (ap (λ (y : Arg). Ok (y, rest)) (sym p.2)))
+
+pub plain_argument_reads : Reads IsPlainArgument plain_argument_at Anything
+plain_argument_reads = one_reads IsPlainArgument plain_argument_at plain_argument_one
+
 -- ---- tests of the next word
 
 heads_of : (starts : List Word → Bool) → ((w : Word) (us vs : List Word) → starts (w ∷ us) ≡ starts (w ∷ vs)) → Heads starts
@@ -327,6 +365,15 @@ unfolding begins_statement begins begins_ident
 statement_heads = heads_of begins_statement alone
   where
     alone : (w : Word) (us vs : List Word) → begins_statement (w ∷ us) ≡ begins_statement (w ∷ vs)
+    alone (mark k at) us vs = refl
+    alone (ident name at) us vs = refl
+    alone (numeral value at) us vs = refl
+
+pub item_heads : Heads begins_item
+unfolding begins_item begins begins_ident
+item_heads = heads_of begins_item alone
+  where
+    alone : (w : Word) (us vs : List Word) → begins_item (w ∷ us) ≡ begins_item (w ∷ vs)
     alone (mark k at) us vs = refl
     alone (ident name at) us vs = refl
     alone (numeral value at) us vs = refl

@@ -1,26 +1,63 @@
--- The grammar of client files of the first form: which words are a tree's, one definition for each production.
-use Rattle.std.specs.Prelude.{◌≡◌, ℕ, ◌≤◌, List, [], length}
+-- The grammar of client files: which words are a tree's, one definition for each production.
+use Rattle.std.specs.Prelude.{◌≡◌, ℕ, zero, suc, ◌≤◌, ◌⊎◌, Bool, true, false, List, [], ◌∷◌, length}
+use Rattle.mon_base.specs.Limits.{LEVELS}
 use Rattle.mon_tokens.specs.declared.token.TokenKind.TheVariants as kinds
 use Rattle.mon_tokens.specs.declared.token.Token.{Token}
-use Rattle.mon_tree.specs.declared.tree.Item.{Item, out-Item}
-use Rattle.mon_tree.specs.declared.tree.Item.TheOpen.{Item-F, Call}
+use Rattle.mon_tree.specs.declared.tree.Arg.{Arg}
+use Rattle.mon_tree.specs.declared.tree.Arg.TheVariants as args
+use Rattle.mon_tree.specs.declared.tree.Item.{Item}
+use Rattle.mon_tree.specs.declared.tree.Item.TheVariants as items
 use Rattle.mon_tree.specs.declared.tree.ClientTree.{ClientTree}
 use Rattle.mon_tree.specs.declared.tree.ClientsTree.{ClientsTree}
 use Rattle.mon_tokens.specs.Spelling.{Spells}
-use Rattle.mon_tokens.specs.Words.{Word, words}
-use Rattle.mon_syntax.specs.Grammar.{Rule, ◌⌢◌, Each, IsIdent, IsMark}
+use Rattle.mon_tokens.specs.Words.{words}
+use Rattle.mon_syntax.specs.Grammar.{Rule, ◌⌢◌, Each, IsBlock, IsIdent, IsNumeral, IsMarkAt, IsMark, truth_word}
 
--- call = ID "(" ")" ";"
-abbrev pub IsCallLayer : Item-F Item → List Word → Type 0
-IsCallLayer (Call at name args) ws = (args ≡ []) × (IsIdent name at ⌢ IsMark kinds.OpenParen ⌢ IsMark kinds.CloseParen ⌢ IsMark kinds.Semicolon) ws
-IsCallLayer item ws = ⊥
+-- ---- arguments
 
+-- a number after a minus sign at `at`, and one without a sign
+abbrev pub negative : ℕ → ℕ → ℕ → Arg
+negative at digits place = args.Int at (record { at = place; minus = true; digits = digits })
+
+abbrev pub plain : ℕ → ℕ → Arg
+plain at digits = args.Int at (record { at = at; minus = false; digits = digits })
+
+-- argument = ["-"] NUM | "true" | "false"
+abbrev pub IsArgument : Rule Arg
+IsArgument argument ws =
+    ((at : ℕ) × (digits : ℕ) × (place : ℕ) × (argument ≡ negative at digits place) × (IsMarkAt kinds.Minus at ⌢ IsNumeral digits place) ws)
+    ⊎ ((at : ℕ) × (digits : ℕ) × (argument ≡ plain at digits) × IsNumeral digits at ws)
+    ⊎ ((at : ℕ) × (value : Bool) × (argument ≡ args.Bool at value) × IsMarkAt (truth_word value) at ws)
+
+-- [argument ("," argument)*]
+abbrev pub AreArguments : Rule (List Arg)
+AreArguments [] ws = ws ≡ []
+AreArguments (first ∷ rest) ws = (IsArgument first ⌢ Each (λ argument. IsMark kinds.Comma ⌢ IsArgument argument) rest) ws
+
+-- ---- items
+
+-- ID "(" [argument ("," argument)*] ")" ";"
 abbrev pub IsCall : Rule Item
-IsCall item = IsCallLayer (out-Item item)
+IsCall item ws =
+    (at : ℕ) × (name : List ℕ) × (given : List Arg) × (item ≡ items.Call at name given)
+    × (IsIdent name at ⌢ IsMark kinds.OpenParen ⌢ AreArguments given ⌢ IsMark kinds.CloseParen ⌢ IsMark kinds.Semicolon) ws
 
--- client = "client" ID "{" call* "}"
+-- "repeat" NUM "{" item* "}"
+abbrev pub IsRepeat : Rule Item → Rule Item
+IsRepeat Inner item ws =
+    (at : ℕ) × (times : ℕ) × (place : ℕ) × (body : List Item) × (item ≡ items.Repeat at times body)
+    × (IsMarkAt kinds.KeyRepeat at ⌢ IsNumeral times place ⌢ IsBlock Inner body) ws
+
+-- an item, where so many levels may still be opened; the brace of a repeat opens one
+abbrev pub IsItem : ℕ → Rule Item
+IsItem zero item ws = IsCall item ws
+IsItem (suc levels) item ws = IsCall item ws ⊎ IsRepeat (IsItem levels) item ws
+
+-- ---- files
+
+-- client = "client" ID "{" item* "}"
 abbrev pub IsClient : Rule ClientTree
-IsClient client = IsMark kinds.KeyClient ⌢ IsIdent client.name client.at ⌢ IsMark kinds.OpenBrace ⌢ Each IsCall client.items ⌢ IsMark kinds.CloseBrace
+IsClient client = IsMark kinds.KeyClient ⌢ IsIdent client.name client.at ⌢ IsBlock (IsItem LEVELS) client.items
 
 -- client_file = client*
 abbrev pub IsClientFile : Rule ClientsTree

@@ -1,5 +1,6 @@
 -- The grammar of monitor files: which words are a tree's, one definition for each production.
 use Rattle.std.specs.Prelude.{◌≡◌, ℕ, zero, suc, ◌≤◌, ◌⊎◌, Bool, true, false, List, [], ◌∷◌, ◌++◌, length, Option, Some, None}
+use Rattle.mon_base.specs.Limits.{LEVELS}
 use Rattle.mon_tokens.specs.declared.token.TokenKind.{TokenKind}
 use Rattle.mon_tokens.specs.declared.token.TokenKind.TheVariants as kinds
 use Rattle.mon_tokens.specs.declared.token.Token.{Token}
@@ -58,6 +59,10 @@ IsMarkAt kind at ws = ws ≡ mark kind at ∷ []
 -- a keyword or a sign, wherever it stands
 abbrev pub IsMark : TokenKind → List Word → Type 0
 IsMark kind ws = (at : ℕ) × IsMarkAt kind at ws
+
+-- "{" x* "}"
+abbrev pub IsBlock : {Tree : Type 0} → Rule Tree → Rule (List Tree)
+IsBlock Inner body = IsMark kinds.OpenBrace ⌢ Each Inner body ⌢ IsMark kinds.CloseBrace
 
 abbrev pub truth_word : Bool → TokenKind
 truth_word true = kinds.KeyTrue
@@ -150,10 +155,6 @@ IsExpression levels = IsDisjunction (IsUnary levels)
 
 -- ---- statements
 
--- "{" statement* "}"
-abbrev pub IsBlock : Rule StmtTree → Rule (List StmtTree)
-IsBlock Inner body = IsMark kinds.OpenBrace ⌢ Each Inner body ⌢ IsMark kinds.CloseBrace
-
 -- ["else" block]: an absent block and an empty one give the same tree
 abbrev pub IsElse : Rule StmtTree → Rule (List StmtTree)
 IsElse Inner body ws = ((body ≡ []) × (ws ≡ [])) ⊎ (IsMark kinds.KeyElse ⌢ IsBlock Inner body) ws
@@ -210,8 +211,8 @@ AreInputs (first ∷ rest) ws = (IsInput first ⌢ Each (λ input. IsMark kinds.
 abbrev pub IsMethod : Rule MethodTree
 IsMethod method =
     IsMark kinds.KeyMethod ⌢ IsIdent method.name method.at ⌢ IsMark kinds.OpenParen ⌢ AreInputs method.inputs ⌢ IsMark kinds.CloseParen
-    ⌢ IsMark kinds.KeyWaituntil ⌢ IsMark kinds.OpenParen ⌢ IsExpression 64 method.guard ⌢ IsMark kinds.CloseParen
-    ⌢ IsBlock (IsStatement 64) method.body
+    ⌢ IsMark kinds.KeyWaituntil ⌢ IsMark kinds.OpenParen ⌢ IsExpression LEVELS method.guard ⌢ IsMark kinds.CloseParen
+    ⌢ IsBlock (IsStatement LEVELS) method.body
 
 -- monitor_file = "monitor" ID "{" declaration* method* "}"
 abbrev pub IsMonitorFile : Rule MonitorTree

@@ -2,10 +2,13 @@
 use Rattle.std.specs.Prelude.{◌≡◌, List}
 use Rattle.mon_tokens.specs.declared.token.Token.{Token}
 use Rattle.mon_tree.specs.declared.tree.MonitorTree.{MonitorTree}
-use Rattle.mon_tree.specs.Offsets.{unplaced}
+use Rattle.mon_tree.specs.declared.tree.ClientsTree.{ClientsTree}
+use Rattle.mon_tree.specs.Offsets.{unplaced, unplaced_clients}
 use Rattle.mon_tokens.specs.Spelling.{Spells}
 use Rattle.mon_printer.specs.Canonical.{tree_text}
+use Rattle.mon_printer.specs.CanonicalClients.{clients_text}
 use Rattle.mon_syntax.specs.Grammar.{Derives}
+use Rattle.mon_syntax.specs.ClientGrammar.{DerivesClients}
 
 -- what is printed of the tree spells tokens that derive the same tree, but for offsets
 pub record IsPrintedAgain (tree : MonitorTree) : Type 0 where
@@ -14,3 +17,11 @@ pub record IsPrintedAgain (tree : MonitorTree) : Type 0 where
   pub spelled : Spells (tree_text tree) printed
   pub derived : Derives (tree_text tree) printed again
   pub same : unplaced again ≡ unplaced tree
+
+-- the same of a client file's tree
+pub record ArePrintedAgain (tree : ClientsTree) : Type 0 where
+  pub printed : List Token
+  pub again : ClientsTree
+  pub spelled : Spells (clients_text tree) printed
+  pub derived : DerivesClients (clients_text tree) printed again
+  pub same : unplaced_clients again ≡ unplaced_clients tree

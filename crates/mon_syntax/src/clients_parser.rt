@@ -1,4 +1,4 @@
-//! The parser of client files of the first form: one function for each production.
+//! The parser of client files: one function for each production.
 
 ghost use Rattle.std.specs.Prelude.{◌≡◌, ℕ, ◌≤◌, List, IfOk, IfErr, length};
 ghost use Rattle.mon_tokens.specs.Spelling.{Spells};
@@ -6,52 +6,27 @@ ghost use Rattle.mon_tokens.specs.Words.{words};
 ghost use Rattle.mon_syntax.specs.ClientGrammar.{IsClientFile, DerivesClients};
 ghost use Rattle.mon_syntax.specs.Fault.{AnswersEach, IsFault};
 ghost use Rattle.mon_syntax.specs.inner.Takes.{Takes};
-ghost use Rattle.mon_syntax.specs.inner.Reading.{Gives, AreTokens, call_at, calls_at, client_at, clients_at, client_file};
+ghost use Rattle.mon_syntax.specs.inner.Reading.{Gives, AreTokens, client_at, clients_at, client_file};
 
 use super::cursor::Cursor;
 use super::fault::{Stop, SyntaxFault, fault_of};
+use super::item_parser::item_block;
 use super::many::many;
 use super::word::PlacedName;
+use mon_base::limits::LEVELS;
 use mon_list::Seq;
 use mon_tokens::{Token, TokenKind};
-use mon_tree::{ClientTree, ClientsTree, Item};
+use mon_tree::{ClientTree, ClientsTree};
 use std::alloc::Global;
 
-/// call = ID "(" ")" ";"
-#[tactic(auto, unfolding(crate::specs::inner::Reading::call_at))]
-fn call(alloc: Global, input: &mut Cursor<'_>) -> Result<Item, Stop>
-    ensures { Takes result input.new (call_at input.old) }
-{
-    let PlacedName { at, name } = input.ident(alloc)?;
-    input.mark(TokenKind::OpenParen)?;
-    input.mark(TokenKind::CloseParen)?;
-    input.mark(TokenKind::Semicolon)?;
-    let args = Seq::of(Vec::new(alloc));
-    Ok(Item::Call { at, name, args })
-}
-
-/// call*
-fn calls(alloc: Global, input: &mut Cursor<'_>) -> Result<Seq<Item>, Stop>
-    ensures { Takes result input.new (calls_at input.old) }
-{
-    many(
-        alloc,
-        input,
-        |input| input.begins_ident(),
-        |input| call(alloc, input),
-    )
-}
-
-/// client = "client" ID "{" call* "}"
+/// client = "client" ID "{" item* "}"
 #[tactic(auto, unfolding(crate::specs::inner::Reading::client_at))]
 fn client(alloc: Global, input: &mut Cursor<'_>) -> Result<ClientTree, Stop>
     ensures { Takes result input.new (client_at input.old) }
 {
     input.mark(TokenKind::KeyClient)?;
     let PlacedName { at, name } = input.ident(alloc)?;
-    input.mark(TokenKind::OpenBrace)?;
-    let items = calls(alloc, input)?;
-    input.mark(TokenKind::CloseBrace)?;
+    let items = item_block(alloc, LEVELS, input)?;
     Ok(ClientTree { at, name, items })
 }
 
@@ -80,10 +55,11 @@ fn whole(alloc: Global, bytes: &[u8], tokens: &[Token]) -> Result<ClientsTree, S
     Ok(ClientsTree { clients })
 }
 
-/// The tree of a client file of the first form, from its bytes and the tokens that spell them.
+/// The tree of a client file, from its bytes and the tokens that spell them.
 ///
-/// It answers [`SyntaxFault::At`] where the grammar derives no tree, and [`SyntaxFault::OutOfMemory`]
-/// where there is no memory for the tree.
+/// It answers [`SyntaxFault::At`] where the grammar derives no tree, with the place of the first token
+/// that doesn't fit, and [`SyntaxFault::OutOfMemory`] where there is no memory for the tree. The brace of
+/// a `repeat` opens a level, and no more than 64 may be open; the recursion is bounded by them.
 pub fn parse_clients(
     alloc: Global,
     bytes: &[u8],

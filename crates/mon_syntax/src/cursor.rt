@@ -2,16 +2,16 @@
 
 ghost use Rattle.std.specs.Prelude.{◌≡◌, ◌==◌, ℕ, List, length};
 ghost use Rattle.mon_tokens.specs.Words.{words};
-ghost use Rattle.mon_syntax.specs.inner.Reading.{AreTokens, IsMarkKind, atom_at, begins, begins_ident, begins_listed, ident_at, kind_of, listed_at, mark_at, minus_of, numeral_at, op_of, placed_at, truth_of};
+ghost use Rattle.mon_syntax.specs.inner.Reading.{AreTokens, IsMarkKind, atom_at, begins, begins_ident, begins_listed, ident_at, kind_of, listed_at, mark_at, minus_of, numeral_at, op_of, placed_at, plain_argument_at, truth_of};
 ghost use Rattle.mon_syntax.specs.inner.Takes.{Takes};
 
 use super::fault::{Stop, stop_before};
 use super::word::{
     PlacedName, PlacedNumber, is_kind, kind_of, minus_of, name_of, named, number, number_of, op_of,
-    truth, truth_of,
+    plain_argument, truth, truth_argument, truth_of,
 };
 use mon_tokens::{Token, TokenKind};
-use mon_tree::{Expr, InputKind, Op};
+use mon_tree::{Arg, Expr, InputKind, Op};
 use std::alloc::Global;
 use std::marker::Model;
 
@@ -242,6 +242,26 @@ impl<'a> Cursor<'a> {
         ensures { Takes result self.new (listed_at kind_of self.old) }
     {
         listed!(self, kind_of)
+    }
+
+    /// NUM | "true" | "false"
+    #[tactic(auto, unfolding(crate::specs::inner::Reading::plain_argument_at, crate::specs::inner::Reading::AreTokens))]
+    pub fn plain_argument(&mut self) -> Result<Arg, Stop>
+        ensures { Takes result self.new (plain_argument_at self.old) }
+    {
+        match self.tokens {
+            [first, rest @ ..] => {
+                let argument = match first.kind {
+                    TokenKind::Number => plain_argument(self.bytes, first),
+                    TokenKind::KeyTrue => truth_argument(first, true),
+                    TokenKind::KeyFalse => truth_argument(first, false),
+                    _ => return Err(stop_before(self.tokens)),
+                };
+                self.tokens = rest;
+                Ok(argument)
+            }
+            _ => Err(stop_before(self.tokens)),
+        }
     }
 
     /// NUM | "true" | "false" | ID

@@ -8,7 +8,7 @@ ghost use Rattle.mon_tree.specs.Names.{names_in, names_in_clients};
 ghost use Rattle.mon_tokens.specs.Spelling.{IsIdentifier, Spells};
 ghost use Rattle.mon_syntax.specs.Grammar.{Derives};
 ghost use Rattle.mon_syntax.specs.ClientGrammar.{DerivesClients};
-ghost use Rattle.mon_syntax.specs.PrintedAgain.{IsPrintedAgain};
+ghost use Rattle.mon_syntax.specs.PrintedAgain.{ArePrintedAgain, IsPrintedAgain};
 
 /// The grammar derives one tree at most from a file's tokens.
 pub fn derives_one_tree()
@@ -20,8 +20,10 @@ pub fn derives_one_tree()
 
 /// What is printed of a derived tree spells tokens that derive the same tree, but for offsets.
 pub fn printed_tree_derives()
-    ensures { (bytes : List ℕ) (tokens : List Token) (tree : MonitorTree)
+    ensures monitors { (bytes : List ℕ) (tokens : List Token) (tree : MonitorTree)
         → Spells bytes tokens → Derives bytes tokens tree → IsPrintedAgain tree }
+    ensures clients { (bytes : List ℕ) (tokens : List Token) (tree : ClientsTree)
+        → Spells bytes tokens → DerivesClients bytes tokens tree → ArePrintedAgain tree }
 {}
 
 /// Every name in a derived tree is an identifier that is no keyword: those that the file declares,

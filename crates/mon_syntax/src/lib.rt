@@ -11,6 +11,7 @@ mod clients_parser;
 mod cursor;
 mod expression_parser;
 mod fault;
+mod item_parser;
 mod laws;
 mod many;
 mod monitor_parser;
@@ -22,7 +23,7 @@ mod word;
 pub use clients_parser::parse_clients;
 pub use fault::SyntaxFault;
 pub use laws::{derives_one_tree, names_are_identifiers, printed_tree_derives};
-pub use mon_printer::print_monitor;
+pub use mon_printer::{print_clients, print_monitor};
 pub use mon_tokens::{
     LexFault, Token, TokenKind, each_is_token, is_identifier, one_spelling, tokens,
 };

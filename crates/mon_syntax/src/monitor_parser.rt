@@ -13,13 +13,11 @@ use super::fault::{Stop, SyntaxFault, fault_of};
 use super::many::{many, with_first};
 use super::statement_parser::{block, condition};
 use super::word::{PlacedName, PlacedNumber};
+use mon_base::limits::LEVELS;
 use mon_list::Seq;
 use mon_tokens::{Token, TokenKind};
 use mon_tree::{Decl, InputTree, Lit, MethodTree, MonitorTree};
 use std::alloc::Global;
-
-/// So many levels may be open at once.
-const LEVELS: u32 = 64;
 
 // ---- declarations
 

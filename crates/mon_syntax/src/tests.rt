@@ -1,3 +1,4 @@
+mod client_files;
 mod levels;
 mod monitors;
 mod places;

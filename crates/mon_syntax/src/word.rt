@@ -3,11 +3,12 @@
 ghost use Rattle.std.specs.Prelude.{◌≡◌, IfOk};
 ghost use Rattle.mon_tokens.specs.Spelling.{IsDecimal, text_of};
 ghost use Rattle.mon_tokens.specs.Words.{number_of_digits};
+ghost use Rattle.mon_syntax.specs.ClientGrammar.{plain};
 ghost use Rattle.mon_syntax.specs.inner.Reading.{is_kind, kind_of, minus_of, op_of, truth_of};
 
 use mon_base::Name;
 use mon_tokens::{Token, TokenKind};
-use mon_tree::{Expr, InputKind, Op};
+use mon_tree::{Arg, Expr, InputKind, Lit, Op};
 use std::alloc::{AllocError, Global};
 
 /// An identifier and its offset.
@@ -139,6 +140,31 @@ pub fn truth(token: &Token, value: bool) -> Expr
     ensures { result ≡ Expr.Truth token.now.at value }
 {
     Expr::Truth {
+        at: token.at,
+        value,
+    }
+}
+
+// ---- arguments without a sign
+
+pub fn plain_argument(bytes: &[u8], token: &Token) -> Arg
+    requires { IsDecimal (text_of bytes.now token.now) }
+    ensures { result ≡ plain token.now.at (number_of_digits (text_of bytes.now token.now)) }
+{
+    Arg::Int {
+        at: token.at,
+        value: Lit {
+            at: token.at,
+            minus: false,
+            digits: number_of(bytes, token),
+        },
+    }
+}
+
+pub fn truth_argument(token: &Token, value: bool) -> Arg
+    ensures { result ≡ Arg.Bool token.now.at value }
+{
+    Arg::Bool {
         at: token.at,
         value,
     }

@@ -6,6 +6,7 @@
 #![tactic(auto)]
 
 mod clone;
+mod named;
 mod tree;
 
 pub use clone::{copy_expression, copy_statement};

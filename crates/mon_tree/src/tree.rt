@@ -173,9 +173,9 @@ pub enum Item {
     },
 }
 
-/// An argument of a call. A truth value's `at` is its offset.
+/// An argument of a call. `at` is the offset of its first token: the minus sign's, or the number's where it has none.
 #[derive(Debug, Drop)]
 pub enum Arg {
-    Int(Lit),
+    Int { at: u32, value: Lit },
     Bool { at: u32, value: bool },
 }

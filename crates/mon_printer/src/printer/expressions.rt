@@ -149,8 +149,10 @@ fn write_number<S: Sink>(number: u128, out: &mut S) -> Result<(), SinkFailed>
     write_piece(digits.format(number).as_bytes(), out)
 }
 
-/// Writes an expression between pieces.
-pub(crate) fn write_around<S: Sink>(
+/// Writes an expression in canonical form, after these pieces and before another. It takes no memory.
+///
+/// After `SinkFailed` some of the first bytes were taken, and not all.
+pub fn write_around<S: Sink>(
     before: &[&[u8]],
     expression: &Expr,
     after: &[u8],

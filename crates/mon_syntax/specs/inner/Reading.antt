@@ -1,5 +1,6 @@
 -- Reading from left to right, with how many words are left at the first that does not fit. The laws with the grammar are in proofs/.
 use Rattle.std.specs.Prelude.{◌≡◌, ℕ, zero, suc, Bool, true, false, ◌||◌, ◌-◌, List, [], ◌∷◌, length, drop, All, Option, Some, None, Result, Ok, Err, ◌==◌, if◌then◌else◌}
+use Rattle.mon_base.specs.Limits.{LEVELS}
 use Rattle.mon_tokens.specs.declared.token.TokenKind.{TokenKind}
 use Rattle.mon_tokens.specs.declared.token.TokenKind.TheVariants as kinds
 use Rattle.mon_tokens.specs.declared.token.Token.{Token}
@@ -19,6 +20,8 @@ use Rattle.mon_tree.specs.declared.tree.StmtTree.{StmtTree}
 use Rattle.mon_tree.specs.declared.tree.StmtTree.TheVariants as statements
 use Rattle.mon_tree.specs.declared.tree.MethodTree.{MethodTree}
 use Rattle.mon_tree.specs.declared.tree.MonitorTree.{MonitorTree}
+use Rattle.mon_tree.specs.declared.tree.Arg.{Arg}
+use Rattle.mon_tree.specs.declared.tree.Arg.TheVariants as args
 use Rattle.mon_tree.specs.declared.tree.Item.{Item}
 use Rattle.mon_tree.specs.declared.tree.Item.TheVariants as items
 use Rattle.mon_tree.specs.declared.tree.ClientTree.{ClientTree}
@@ -34,6 +37,7 @@ use Rattle.mon_syntax.specs.declared.word.PlacedNumber.{PlacedNumber}
 use Rattle.mon_tokens.specs.Spelling.{IsToken}
 use Rattle.mon_tokens.specs.Words.{Word, ident, numeral, mark}
 use Rattle.mon_syntax.specs.Grammar.{chain, comparison, both, either}
+use Rattle.mon_syntax.specs.ClientGrammar.{negative, plain}
 
 infixl 10 ◌>>=◌
 abbrev pub ◌>>=◌ : {A B : Type 0} → Result A ℕ → (A → Result B ℕ) → Result B ℕ
@@ -173,6 +177,13 @@ numeral_at (mark k at ∷ rest) = Err (suc (length rest))
 numeral_at (ident name at ∷ rest) = Err (suc (length rest))
 numeral_at (numeral value at ∷ rest) = Ok (record { at = at; value = value }, rest)
 
+-- "{" item* "}"
+abbrev pub body_of : {A : Type 0} → Unit {0} × (List A × Unit {0}) → List A
+body_of (left, (body, right)) = body
+
+abbrev pub braces_at : {A : Type 0} → (List Word → Bool) → (List Word → Read A) → List Word → Read (List A)
+braces_at starts item = made_at body_of (mark_at kinds.OpenBrace ⊗ each_at starts item ⊗ mark_at kinds.CloseBrace)
+
 -- what a table says of the keyword or sign that comes next
 abbrev pub found_or : {A : Type 0} → Option A → List Word → ℕ → Read A
 found_or (Some a) rest left = Ok (a, rest)
@@ -237,6 +248,9 @@ begins_ident (numeral value at ∷ rest) = false
 
 unfoldable pub begins_statement : List Word → Bool
 begins_statement ws = begins_ident ws || (begins kinds.KeyIf ws || begins kinds.KeyReturn ws)
+
+unfoldable pub begins_item : List Word → Bool
+begins_item ws = begins_ident ws || begins kinds.KeyRepeat ws
 
 unfoldable pub begins_declaration : List Word → Bool
 begins_declaration ws = begins kinds.KeyConst ws || (begins kinds.KeyInt ws || begins kinds.KeyBool ws)
@@ -358,11 +372,8 @@ expression_at levels = disjunction_at (unary_at levels)
 unfoldable pub condition_at : ℕ → List Word → Read Expr
 condition_at levels = made_at inner_of (mark_at kinds.OpenParen ⊗ expression_at levels ⊗ mark_at kinds.CloseParen)
 
-abbrev pub body_of : Unit {0} × (List StmtTree × Unit {0}) → List StmtTree
-body_of (left, (body, right)) = body
-
 unfoldable pub block_at : (List Word → Read StmtTree) → List Word → Read (List StmtTree)
-block_at statement = made_at body_of (mark_at kinds.OpenBrace ⊗ each_at begins_statement statement ⊗ mark_at kinds.CloseBrace)
+block_at statement = braces_at begins_statement statement
 
 abbrev pub else_of : Unit {0} × List StmtTree → List StmtTree
 else_of (word, body) = body
@@ -474,7 +485,7 @@ abbrev pub method_of : (PlacedName × List InputTree) × (Unit {0} × (Expr × L
 method_of (head, (word, (guard, body))) = record { at = head.0.at; name = head.0.name; inputs = head.1; guard = guard; body = body }
 
 unfoldable pub method_at : List Word → Read MethodTree
-method_at = made_at method_of (head_at ⊗ mark_at kinds.KeyWaituntil ⊗ condition_at 64 ⊗ block_at (statement_at 64))
+method_at = made_at method_of (head_at ⊗ mark_at kinds.KeyWaituntil ⊗ condition_at LEVELS ⊗ block_at (statement_at LEVELS))
 
 unfoldable pub methods_at : List Word → Read (List MethodTree)
 methods_at = each_at (begins kinds.KeyMethod) method_at
@@ -490,20 +501,71 @@ monitor_file ws = whole (monitor_at ws)
 
 -- ---- client files
 
-abbrev pub call_of : PlacedName × (Unit {0} × (Unit {0} × Unit {0})) → Item
-call_of (name, (left, (right, semicolon))) = items.Call name.at name.name []
+-- NUM | "true" | "false"
+abbrev pub truth_argument_from : Option Bool → ℕ → List Word → Read Arg
+truth_argument_from (Some value) at rest = Ok (args.Bool at value, rest)
+truth_argument_from None at rest = Err (suc (length rest))
+
+unfoldable pub plain_argument_at : List Word → Read Arg
+plain_argument_at [] = Err 0
+plain_argument_at (mark k at ∷ rest) = truth_argument_from (truth_of k) at rest
+plain_argument_at (ident name at ∷ rest) = Err (suc (length rest))
+plain_argument_at (numeral value at ∷ rest) = Ok (plain at value, rest)
+
+-- "-" NUM
+abbrev pub negative_argument_of : ℕ × PlacedNumber → Arg
+negative_argument_of (at, number) = negative at number.value number.at
+
+unfoldable pub negative_argument_at : List Word → Read Arg
+negative_argument_at = made_at negative_argument_of (placed_at kinds.Minus ⊗ numeral_at)
+
+unfoldable pub argument_at : List Word → Read Arg
+argument_at = choice_at (begins kinds.Minus) negative_argument_at plain_argument_at
+
+abbrev pub later_argument_of : Unit {0} × Arg → Arg
+later_argument_of (comma, argument) = argument
+
+unfoldable pub later_argument_at : List Word → Read Arg
+later_argument_at = made_at later_argument_of (mark_at kinds.Comma ⊗ argument_at)
+
+abbrev pub arguments_of : Arg × List Arg → List Arg
+arguments_of (first, rest) = first ∷ rest
+
+unfoldable pub later_arguments_at : List Word → Read (List Arg)
+later_arguments_at = each_at (begins kinds.Comma) later_argument_at
+
+-- the arguments, of which there is one at least
+unfoldable pub some_arguments_at : List Word → Read (List Arg)
+some_arguments_at = made_at arguments_of (argument_at ⊗ later_arguments_at)
+
+unfoldable pub arguments_at : List Word → Read (List Arg)
+arguments_at = choice_at (begins kinds.CloseParen) (pure_at []) some_arguments_at
+
+abbrev pub call_of : PlacedName × (Unit {0} × (List Arg × (Unit {0} × Unit {0}))) → Item
+call_of (name, (left, (given, (right, semicolon)))) = items.Call name.at name.name given
 
 unfoldable pub call_at : List Word → Read Item
-call_at = made_at call_of (ident_at ⊗ mark_at kinds.OpenParen ⊗ mark_at kinds.CloseParen ⊗ mark_at kinds.Semicolon)
+call_at = made_at call_of (ident_at ⊗ mark_at kinds.OpenParen ⊗ arguments_at ⊗ mark_at kinds.CloseParen ⊗ mark_at kinds.Semicolon)
 
-unfoldable pub calls_at : List Word → Read (List Item)
-calls_at = each_at begins_ident call_at
+-- over the reader of the items inside
+unfoldable pub items_at : (List Word → Read Item) → List Word → Read (List Item)
+items_at item = braces_at begins_item item
 
-abbrev pub client_of : Unit {0} × (PlacedName × (Unit {0} × (List Item × Unit {0}))) → ClientTree
-client_of (word, (name, (left, (calls, right)))) = record { at = name.at; name = name.name; items = calls }
+abbrev pub repeat_of : ℕ × (PlacedNumber × List Item) → Item
+repeat_of (at, (times, body)) = items.Repeat at times.value body
+
+unfoldable pub repeat_at : (List Word → Read Item) → List Word → Read Item
+repeat_at item = made_at repeat_of (placed_at kinds.KeyRepeat ⊗ numeral_at ⊗ items_at item)
+
+unfoldable pub item_at : ℕ → List Word → Read Item
+item_at zero = call_at
+item_at (suc levels) = choice_at (begins kinds.KeyRepeat) (repeat_at (item_at levels)) call_at
+
+abbrev pub client_of : Unit {0} × (PlacedName × List Item) → ClientTree
+client_of (word, (name, body)) = record { at = name.at; name = name.name; items = body }
 
 unfoldable pub client_at : List Word → Read ClientTree
-client_at = made_at client_of (mark_at kinds.KeyClient ⊗ ident_at ⊗ mark_at kinds.OpenBrace ⊗ calls_at ⊗ mark_at kinds.CloseBrace)
+client_at = made_at client_of (mark_at kinds.KeyClient ⊗ ident_at ⊗ items_at (item_at LEVELS))
 
 unfoldable pub clients_at : List Word → Read (List ClientTree)
 clients_at = each_at (begins kinds.KeyClient) client_at

@@ -1,7 +1,7 @@
-//! How deep a monitor may be nested.
+//! How deep a monitor and a client may be nested.
 
 use super::super::*;
-use super::monitor;
+use super::{clients, monitor};
 use std::alloc::{AllocError, Global};
 use std::test::*;
 
@@ -46,6 +46,14 @@ const MIXED: Nest = Nest {
     after: b"} }",
 };
 
+const REPEATS: Nest = Nest {
+    before: b"client A { ",
+    left: b"repeat 2 { ",
+    inside: b"put();",
+    right: b"}",
+    after: b"}",
+};
+
 fn text(alloc: Global, nest: &Nest, levels: usize) -> Result<Vec<u8>, AllocError> {
     let mut out = Vec::from_slice(alloc, nest.before)?;
     for _ in 0..levels {
@@ -75,6 +83,18 @@ fn levels_are_open_up_to_64(rt: HostRuntime) -> Result<(), Fail> {
             Some(Err(SyntaxFault::At { at })) => assert_eq!(rt; at, place),
             _ => assert!(rt; false, "no fault"),
         }
+    }
+    Ok(())
+}
+
+#[test]
+fn repeats_are_open_up_to_64(rt: HostRuntime) -> Result<(), Fail> {
+    let most = text(rt.alloc(), &REPEATS, 64)?;
+    assert!(rt; matches!(clients(rt.alloc(), &most), Some(Ok(_))));
+    let more = text(rt.alloc(), &REPEATS, 65)?;
+    match clients(rt.alloc(), &more) {
+        Some(Err(SyntaxFault::At { at })) => assert_eq!(rt; at, 715),
+        _ => assert!(rt; false, "no fault"),
     }
     Ok(())
 }

@@ -72,7 +72,12 @@ fn a_fault_stands_at_the_first_token_that_does_not_fit(rt: HostRuntime) {
 fn a_client_file_has_its_faults(rt: HostRuntime) {
     let files = [
         (b"client A { put() }".as_slice(), 17),
-        (b"client A { put(3); }".as_slice(), 15),
+        (b"client A { put(3 4); }".as_slice(), 17),
+        (b"client A { put(3, ); }".as_slice(), 18),
+        (b"client A { put(-true); }".as_slice(), 16),
+        (b"client A { put(n); }".as_slice(), 15),
+        (b"client A { repeat { } }".as_slice(), 18),
+        (b"client A { repeat 2 { put(); }".as_slice(), 30),
         (b"client A { } client".as_slice(), 19),
     ];
     for (text, place) in files {

@@ -1,8 +1,8 @@
 //! What is printed is the canonical form.
 
 use super::super::*;
-use super::monitor;
 use super::monitors::ALL;
+use super::{clients, monitor};
 use mon_io::MemSink;
 use std::alloc::{AllocError, Global};
 use std::test::*;
@@ -84,5 +84,31 @@ fn an_empty_else_is_not_printed(rt: HostRuntime) -> Result<(), Fail> {
 }
 ";
     assert_eq!(rt; out.bytes(), expected.as_slice());
+    Ok(())
+}
+
+#[test]
+fn a_client_file_is_printed_in_canonical_form(rt: HostRuntime) -> Result<(), Fail> {
+    let text = b"client A {
+  put();
+  repeat 2 {
+    repeat 10 {
+      put(-3, true);
+    }
+  }
+}
+client B {
+}
+";
+    let line = squeezed(rt.alloc(), text)?;
+    let tree = clients(rt.alloc(), &line)
+        .ok_or("tokens")?
+        .ok()
+        .ok_or("tree")?;
+    let mut out = MemSink::open(rt.alloc(), 4096, Vec::new(rt.alloc()))?;
+    print_clients(&tree, &mut out)
+        .ok()
+        .ok_or("a sink that takes all")?;
+    assert_eq!(rt; out.bytes(), text.as_slice());
     Ok(())
 }

@@ -1,8 +1,8 @@
-use Rattle.std.proofs.Common.{◌≡◌, rules, Ok, Err}
+use Rattle.std.proofs.Common.{rules, Ok, Err}
 use Rattle.std.proofs.lemmas.Result.{err_from_is_err_and}
 use Rattle.std.specs.Fn.{FnReturnsAt}
 use Rattle.mon_syntax.specs.inner.Calls.{CallsAtMut}
-use Rattle.mon_syntax.proofs.Rounds.{begin_going, round_goes, round_stops, rounds_end}
+use Rattle.mon_syntax.proofs.Rounds.{round_goes, round_stops, rounds_end}
 use Rattle.mon_syntax.proofs.many.many.Goals as goal
 
 pub returns-in_err-item : goal.returns-in_err-item
