@@ -11,7 +11,6 @@ pub mod FineParts
 pub mod SoundSenses
 pub mod MakingLemmas
 pub mod SmallScopes
-pub mod Least
 pub mod WholeFaults
 pub mod FormValues
 pub mod SenseValues

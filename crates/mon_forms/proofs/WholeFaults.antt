@@ -14,7 +14,7 @@ use Rattle.mon_base.specs.declared.kind.Kind.TheVariants as kinds
 use Rattle.mon_forms.specs.declared.fault.TypeFault.{TypeFault}
 use Rattle.mon_forms.specs.declared.fault.TypeFault.TheVariants as faults
 use Rattle.mon_forms.specs.declared.scope.Entry.{Entry}
-use Rattle.mon_forms.specs.Faults.{least, ◌or_else◌}
+use Rattle.mon_forms.specs.Faults.{least, order, ◌or_else◌}
 use Rattle.mon_forms.specs.Faults.{earlier_of}
 use Rattle.mon_forms.specs.Forms.{Form, is_constant, is_limited, minus, product, scaled}
 use Rattle.mon_forms.specs.inner.FormBounds.{IsFormOf}
@@ -23,8 +23,8 @@ use Rattle.mon_forms.specs.inner.Parts.{addend_sense, factor_sense}
 use Rattle.mon_forms.specs.Sense.{Sense, FactorSense, is_other, large_form, part_faults, product_faults, sense, sum_form, wrong_type}
 use Rattle.mon_forms.proofs.SenseLayers.{sense-Minus, sense-Not, sense-Product, sense-Sum, sense-Compare, sense-Both, sense-Either}
 use Rattle.mon_forms.proofs.SoundSenses.{every_sense_is_sound}
-use Rattle.mon_forms.proofs.Least.{earlier_not_none, least_append, least_or_else}
-use Rattle.mon_forms.proofs.LeastLaws.{none_is_least}
+use Rattle.mon_base.proofs.Least.{earlier_not_none, least_append}
+use Rattle.mon_forms.proofs.LeastLaws.{least_or_else, none_is_least}
 use Rattle.mon_forms.proofs.MakingLemmas.{rest_after}
 
 -- ---- a whole of some parts
@@ -47,7 +47,7 @@ least_of_one : (of : Sense → List TypeFault) (part : Sense) → least (flat_ma
 least_of_one of part = ap least (append-nil (of part))
 
 least_of_first : (of : Sense → List TypeFault) (first : Sense) (rest : List Sense) → least (flat_map of (first ∷ rest)) ≡ earlier_of (least (of first)) (least (flat_map of rest))
-least_of_first of first rest = least_append (of first) (flat_map of rest)
+least_of_first of first rest = least_append order (of first) (flat_map of rest)
 
 least_of_two : (of : Sense → List TypeFault) (left right : Sense) → least (flat_map of (left ∷ right ∷ [])) ≡ earlier_of (least (of left)) (least (of right))
 least_of_two of left right = least_of_first of left (right ∷ []) ∙ ap (earlier_of (least (of left))) (least_of_one of right)
@@ -191,7 +191,7 @@ both_none (Some fault) other none = absurd (cc)
 
 earlier_both_none : (one other : Option TypeFault) → earlier_of one other ≡ None → (one ≡ None) × (other ≡ None)
 earlier_both_none None other none = (refl, none)
-earlier_both_none (Some fault) other none = absurd (earlier_not_none fault other none)
+earlier_both_none (Some fault) other none = absurd (earlier_not_none order fault other none)
 
 is_wanted : (test : Bool) (fault : TypeFault) → least (if test then fault ∷ [] else []) ≡ None → test ≡ false
 is_wanted true fault none = absurd (cc)

@@ -1,7 +1,9 @@
 -- The order of faults: by place, and at one place by rule.
-use Rattle.std.specs.Prelude.{◌≡◌, ℕ, ◌+◌, Bool, false, ◌&&◌, ◌||◌, nat_lt, ◌==◌, List, [], ◌∷◌, Option, Some, None, Contains, All, if◌then◌else◌}
-use Rattle.mon_forms.specs.declared.fault.Counted.{Counted}
-use Rattle.mon_forms.specs.declared.fault.Counted.TheVariants as counted
+use Rattle.std.specs.Prelude.{◌≡◌, ℕ, ◌+◌, Bool, List, [], ◌∷◌, Option, Some}
+use Rattle.mon_base.specs.Least as ordered
+use Rattle.mon_base.specs.Least.{Order}
+use Rattle.mon_base.specs.declared.counted.Counted.{Counted}
+use Rattle.mon_base.specs.declared.counted.Counted.TheVariants as counted
 use Rattle.mon_forms.specs.declared.fault.TypeFault.{TypeFault}
 use Rattle.mon_forms.specs.declared.fault.TypeFault.TheVariants as faults
 
@@ -36,28 +38,28 @@ rank (faults.ReadOnly at) = 10
 rank (faults.Misplaced at) = 11
 rank faults.OutOfMemory = 12
 
--- the one comes before the other
-abbrev pub is_before : TypeFault → TypeFault → Bool
-is_before a b = nat_lt (place a) (place b) || (place a == place b && nat_lt (rank a) (rank b))
+abbrev pub order : Order TypeFault
+order = record { place = place; rank = rank }
 
 -- a fault of the list, and none of the list comes before it
-pub record IsLeast (among : List TypeFault) (fault : TypeFault) : Type 0 where
-  pub one : Contains among fault
-  pub least : All (λ other. is_before other fault ≡ false) among
+abbrev pub IsLeast : List TypeFault → TypeFault → Type 0
+IsLeast = ordered.IsLeast order
 
--- the least, where there is one
-abbrev pub earlier : TypeFault → Option TypeFault → Option TypeFault
-earlier fault None = Some fault
-earlier fault (Some other) = if is_before other fault then Some other else Some fault
-
+-- the fault that stands first, at one place the first in the order of the rules
 abbrev pub least : List TypeFault → Option TypeFault
-least [] = None
-least (fault ∷ more) = earlier fault (least more)
+least = ordered.least order
+
+-- this fault, or one after it that comes before it
+abbrev pub earlier : TypeFault → Option TypeFault → Option TypeFault
+earlier = ordered.earlier order
 
 -- the earlier of two faults that may be, and the one where neither comes before the other
 abbrev pub earlier_of : Option TypeFault → Option TypeFault → Option TypeFault
-earlier_of None other = other
-earlier_of (Some fault) other = earlier fault other
+earlier_of = ordered.earlier_of order
+
+-- the one comes before the other
+abbrev pub is_before : TypeFault → TypeFault → Bool
+is_before = ordered.is_before order
 
 -- what is found first among faults is one of them that none comes before
 abbrev pub FindsLeast : List TypeFault → Type 0

@@ -4,7 +4,8 @@ ghost use Rattle.std.specs.Prelude.{◌≡◌, ◌≤◌};
 ghost use Rattle.mon_forms.specs.Faults.{counted_rank, is_before, place, rank};
 ghost use Rattle.mon_forms.specs.Faults.{earlier_of};
 
-use crate::fault::{Counted, TypeFault};
+use crate::fault::TypeFault;
+use mon_base::Counted;
 
 /// The earlier of two faults, and the one where they are at one place and of one rule.
 pub fn earlier_of(one: Option<TypeFault>, other: Option<TypeFault>) -> Option<TypeFault>

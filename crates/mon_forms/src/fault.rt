@@ -4,23 +4,9 @@ ghost use Rattle.std.specs.Prelude.{◌≡◌};
 ghost use Rattle.mon_forms.specs.declared.fault.TypeFault.TheVariants.{OutOfMemory};
 ghost use Rattle.mon_forms.specs.Faults.{is_before};
 
+use mon_base::Counted;
 use std::alloc::{AllocError, AllocFailed};
 use thiserror::Error;
-
-/// What a monitor has too many of.
-#[derive(Clone, Copy, Debug, PartialEq, Eq)]
-pub enum Counted {
-    /// More than 64 constants.
-    Constants,
-    /// More than 16 fields.
-    Fields,
-    /// More than 16 methods.
-    Methods,
-    /// More than 6 inputs of a method.
-    Parameters,
-    /// More than 64 statements in a body, with inner ones.
-    Statements,
-}
 
 /// A rule that a tree breaks, with the offset of the place where it is broken.
 #[derive(Clone, Copy, Debug, Drop, Error)]

@@ -18,11 +18,11 @@ mod scope;
 mod whole_fault;
 
 pub use earlier::earlier_of;
-pub use fault::{Counted, TypeFault};
+pub use fault::TypeFault;
 pub use finding::{first_place, is_other, kind_of, kind_of_name};
 pub use first_fault::{fault_in, large_number};
 pub use laws::{forms_keep_meaning, least_is_least, scope_is_ordered, scope_numbers_are_small};
 pub use making::{form_of, formula_of};
-pub use mon_base::Kind;
+pub use mon_base::{Counted, Kind};
 pub use scope::{Entry, Meaning, find, scope_of};
 pub use whole_fault::wrong_type;

@@ -1,28 +1,19 @@
 -- The implicit step: what one call does.
-use Rattle.std.specs.Prelude.{◌≡◌, ◌⊎◌, ◌-◌, ℕ, Bool, true, false, List, [], map, Option, Some, None, IsSomeAnd, slice_get}
+use Rattle.std.specs.Prelude.{◌≡◌, ◌⊎◌, ◌-◌, ℕ, Bool, true, false, List, [], Option, Some, None, IsSomeAnd, slice_get}
 use Rattle.mon_linear.specs.Truth.{truth_of}
-use Rattle.mon_base.specs.declared.kind.Kind.{Kind}
 use Rattle.mon_base.specs.declared.value.Value.{Value}
 use Rattle.mon_base.specs.declared.value.Value.TheVariants as values
-use Rattle.mon_monitor.specs.declared.monitor.Method.{Method}
 use Rattle.mon_monitor.specs.declared.monitor.Block.{Block}
 use Rattle.mon_monitor.specs.declared.monitor.Condition.{Condition}
+pub use Rattle.mon_monitor.specs.MonitorParts.{kinds_in, start_of}
 use Rattle.mon_monitor.specs.MonitorParts.{MonitorParts, AreOfKinds, kinds_of}
 use Rattle.mon_monitor.specs.Bodies.{valuation, after, Overflows, result_value}
 use Rattle.mon_implicit.specs.declared.commit.Reply.{Reply}
 use Rattle.mon_implicit.specs.declared.commit.Reply.TheVariants as replies
 
--- the state at the start
-abbrev pub start_of : MonitorParts → List Value
-start_of monitor = map (λ field. field.start) monitor.fields
-
 -- the state gives each field a value of its kind
 abbrev pub FitsState : MonitorParts → List Value → Type 0
 FitsState monitor state = AreOfKinds (kinds_of monitor.fields) state
-
-abbrev pub kinds_in : Option Method → List Kind
-kinds_in None = []
-kinds_in (Some method) = method.inputs
 
 -- the inputs of a call are of the kinds of the method's parameters
 abbrev pub FitsInputs : MonitorParts → ℕ → List Value → Type 0

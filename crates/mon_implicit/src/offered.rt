@@ -1,6 +1,6 @@
 //! Whether what a caller put together meets the rules of scripts.
 
-ghost use Rattle.std.specs.Prelude.{◌≡◌, ◌≢◌, ◌≤◌, ◌↔◌, IsTrue, All, AllPairs, Any, length, sum_by};
+ghost use Rattle.std.specs.Prelude.{◌≡◌, ◌≢◌, ◌≤◌, ◌↔◌, IsTrue, All, AllPairs, length, sum_by};
 ghost use Rattle.std.specs.List.{zip};
 ghost use Rattle.mon_base.specs.Identifiers.{IsIdentifier};
 ghost use Rattle.mon_monitor.specs.MonitorParts.{IsOfKind, AreOfKinds};
@@ -8,7 +8,7 @@ ghost use Rattle.mon_implicit.specs.Scripted.{AreClients, FitsCall, FitsScripts}
 
 use super::script::{Call, Client};
 use mon_base::limits::{CALLS, CLIENTS};
-use mon_base::{Kind, Name, Value, is_identifier};
+use mon_base::{Kind, Value, first_repeat, is_identifier};
 use mon_monitor::Monitor;
 
 /// Whether these clients may be scripts: at most 32, whose names are distinct identifiers and no
@@ -35,25 +35,7 @@ fn are_named(clients: &[Client]) -> bool
 fn are_distinct(clients: &[Client]) -> bool
     ensures { IsTrue result ↔ AllPairs (λ client other. client.name ≢ other.name) clients.now }
 {
-    for (i, client) in clients.iter().enumerate() {
-        if is_among(&clients[..i], &client.name) {
-            return false;
-        }
-    }
-    true
-}
-
-/// Whether some client has this name.
-fn is_among(clients: &[Client], name: &Name) -> bool
-    ensures { IsTrue result ↔ Any (λ client. client.name ≡ name.now) clients.now }
-{
-    clients.iter().any(|client| are_same(&client.name, name))
-}
-
-fn are_same(a: &Name, b: &Name) -> bool
-    ensures { IsTrue result ↔ (a.now ≡ b.now) }
-{
-    a.bytes() == b.bytes()
+    first_repeat(clients).is_none()
 }
 
 /// Whether there are at most 16,384 calls in all.

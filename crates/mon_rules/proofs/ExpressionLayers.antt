@@ -11,7 +11,7 @@ use Rattle.mon_forms.specs.Sense.{Sense, AddendSense, FactorSense, sense, sense_
 use Rattle.mon_forms.specs.inner.Parts.{addend_sense, factor_sense}
 use Rattle.mon_forms.proofs.SenseLayers.{addends, factors, found_addend, found_factor}
 use Rattle.mon_rules.specs.Occurrences.{layer_parts, parts_of}
-use Rattle.mon_rules.proofs.Members.{first_or_later, none_in, from_map}
+use Rattle.mon_base.proofs.Members.{first_or_later, from_map, none_in}
 
 -- ---- what is found
 

@@ -20,8 +20,8 @@ use Rattle.mon_forms.specs.Sense.{Sense, AddendSense, faults_in, first_in, form_
 use Rattle.mon_forms.specs.inner.Parts.{addend_sense, broken_product, sum_from}
 use Rattle.mon_rules.specs.Occurrences.{IsBelow, StandsIn, layer_parts, parts_of}
 use Rattle.mon_rules.specs.Judgements.{Fit, IsFine, IsLarge, IsLargeNumber, IsNotLinear, IsOther, IsUnknownName, layer_kind}
-use Rattle.mon_forms.proofs.LeastLaws.{contains_head}
-use Rattle.mon_rules.proofs.Members.{in_these, in_those, none_in, only_in, or_else_cases}
+use Rattle.mon_base.proofs.Members.{contains_head, none_in, only_in}
+use Rattle.mon_rules.proofs.OrElse.{in_these, in_those, or_else_cases}
 use Rattle.mon_rules.proofs.ExpressionLayers.{by_parts, sense_is, sense_of_layer}
 use Rattle.mon_rules.proofs.PartRules.{InPart, WrongPart, fit_none, none_fit, part_cases, part_in, wrong_part_in}
 use Rattle.mon_rules.proofs.ProductRules.{BreaksProduct, factor_senses, from_large_form, from_product, in_large_form, large_product_in, nonlinear_in}

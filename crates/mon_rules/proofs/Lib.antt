@@ -1,8 +1,7 @@
-pub mod Least
 pub mod RepeatedNames
 pub mod CountedDown
 pub mod Findings
-pub mod Members
+pub mod OrElse
 pub mod ExpressionLayers
 pub mod PartRules
 pub mod ProductRules

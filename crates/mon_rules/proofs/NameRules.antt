@@ -1,40 +1,25 @@
 -- The rule of names: the names that are listed as repeated are those of earlier ones.
-use Rattle.std.proofs.Common.{◌≡◌, ℕ, Bool, true, false, ◌||◌, List, [], ◌∷◌, ◌++◌, map, refl, sym, ap, subst, ◌∙◌, inl, inr}
+use Rattle.std.proofs.Common.{◌≡◌, ℕ, Bool, true, false, List, [], ◌∷◌, ◌++◌, map, refl, sym, ap, subst, ◌∙◌, inl, inr}
 use Rattle.std.specs.Prelude.{if◌then◌else◌}
 use Rattle.std.specs.List.{Contains}
-use Rattle.std.specs.Str.{bytes_eq}
 use Rattle.std.proofs.lemmas.List.{append-nil, append_assoc}
 use Rattle.std.proofs.lemmas.List.Elements.{Contains-append_cases, Contains-append_right}
-use Rattle.std.proofs.lemmas.Slice.Eq.{bytes_eq-Decides}
-use Rattle.std.proofs.lemmas.Bool.{cases_Bool}
+use Rattle.mon_base.proofs.Names.{among_in, any-map, in_among as among_test}
 use Rattle.mon_forms.specs.declared.fault.TypeFault.{TypeFault}
 use Rattle.mon_forms.specs.declared.fault.TypeFault.TheVariants.{Duplicate}
 use Rattle.mon_rules.specs.Rules.{PlacedName, repeated}
 use Rattle.mon_rules.specs.Judgements.{Repeats}
-use Rattle.mon_forms.proofs.LeastLaws.{contains_head, contains_tail}
-use Rattle.mon_rules.proofs.Members.{first_or_later, none_in, only_in}
+use Rattle.mon_base.proofs.Members.{contains_head, none_in, only_in}
 use Rattle.mon_rules.proofs.RepeatedNames.{is_among, repeated-append}
 
 abbrev bare_names : List PlacedName → List (List ℕ)
 bare_names names = map (λ name. name.name) names
 
 among_from : (names : List PlacedName) (name : List ℕ) → is_among names name ≡ true → Contains (bare_names names) name
-among_from [] name test = absurd cc
-among_from (one ∷ names) name test = elim (cases_Bool (bytes_eq one.name name)) [
-  | inl same ↦ subst (λ (text : List ℕ). Contains (one.name ∷ bare_names names) text) ((bytes_eq-Decides one.name name).0 same) (contains_head one.name (bare_names names))
-  | inr other ↦ contains_tail one.name name (bare_names names) (among_from names name (rw other at test))
-]
-
-or_true : (a b : Bool) → b ≡ true → (a || b) ≡ true
-or_true true b is = refl
-or_true false b is = is
+among_from names name test = among_in (bare_names names) name (sym (any-map (λ (one : PlacedName). one.name) names name) ∙ test)
 
 in_among : (names : List PlacedName) (name : List ℕ) → Contains (bare_names names) name → is_among names name ≡ true
-in_among [] name within = none_in name within
-in_among (one ∷ names) name within = elim (first_or_later one.name name (bare_names names) within) [
-  | inl is ↦ rw ((bytes_eq-Decides one.name name).1 is) refl
-  | inr later ↦ or_true (bytes_eq one.name name) (is_among names name) (in_among names name later)
-]
+in_among names name within = any-map (λ (one : PlacedName). one.name) names name ∙ among_test (bare_names names) name within
 
 -- a repeated name, and the fault that it gives
 pub record RepeatedAt (others names : List PlacedName) (fault : TypeFault) : Type 0 where

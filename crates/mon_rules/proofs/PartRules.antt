@@ -14,8 +14,8 @@ use Rattle.mon_forms.specs.Faults.{◌or_else◌}
 use Rattle.mon_forms.specs.Sense.{Sense, faults_in, first_in, is_other, kind_in, part_faults, sense, wrong_type}
 use Rattle.mon_forms.proofs.FineParts.{or_else_none}
 use Rattle.mon_rules.specs.Judgements.{Fit, IsFine}
-use Rattle.mon_forms.proofs.LeastLaws.{contains_head}
-use Rattle.mon_rules.proofs.Members.{all_empty, each_empty, each_is, from_flat_map, in_flat_map, in_these, in_those, only_in, none_in, or_else_cases}
+use Rattle.mon_base.proofs.Members.{all_empty, contains_head, each_empty, each_is, from_flat_map, in_flat_map, none_in, only_in}
+use Rattle.mon_rules.proofs.OrElse.{in_these, in_those, or_else_cases}
 
 -- ---- one expression of another kind
 

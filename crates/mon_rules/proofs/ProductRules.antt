@@ -18,8 +18,8 @@ use Rattle.mon_forms.specs.inner.Parts.{broken_from, broken_product, factor_sens
 use Rattle.mon_forms.proofs.SenseLayers.{sense-Product}
 use Rattle.mon_forms.proofs.FineParts.{or_else_none}
 use Rattle.mon_rules.specs.Judgements.{Fit, HasLargeProduct, IsFine, Reached, has_constant}
-use Rattle.mon_forms.proofs.LeastLaws.{contains_head, contains_tail}
-use Rattle.mon_rules.proofs.Members.{each_is, first_or_later, in_these, none_in, only_in, or_else_cases}
+use Rattle.mon_base.proofs.Members.{contains_head, contains_tail, each_is, first_or_later, none_in, only_in}
+use Rattle.mon_rules.proofs.OrElse.{in_these, or_else_cases}
 use Rattle.mon_rules.proofs.PartRules.{fit_none}
 
 -- ---- a form with too large a number

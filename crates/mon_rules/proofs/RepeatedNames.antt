@@ -1,26 +1,42 @@
 -- Repeated names, name by name.
-use Rattle.std.proofs.Common.{◌≡◌, ℕ, ◌+◌, ◌<◌, ◌≤◌, Bool, true, false, ◌||◌, List, [], ◌∷◌, ◌++◌, length, get_or, take, map, sym, ap, ◌∙◌, refl, Option, Some, None, if◌then◌else◌}
-use Rattle.std.specs.List.{list_any}
+use Rattle.std.proofs.Common.{◌≡◌, ◌↔◌, IsTrue, ℕ, ◌+◌, ◌<◌, ◌≤◌, Bool, true, false, ◌||◌, List, [], ◌∷◌, ◌++◌, length, get_or, take, map, sym, ap, ◌∙◌, refl, Option, Some, None, if◌then◌else◌}
+use Rattle.std.specs.List.{Contains, list_any}
 use Rattle.std.specs.Str.{bytes_eq}
 use Rattle.std.proofs.lemmas.List.{append-nil, append_assoc, map_more, take_all}
 use Rattle.std.proofs.lemmas.List.Folds.{list_any-append}
+use Rattle.mon_base.proofs.Names.{any-map, test_among}
 use Rattle.mon_forms.specs.declared.fault.TypeFault.{TypeFault}
 use Rattle.mon_forms.specs.declared.fault.TypeFault.TheVariants.{Duplicate}
-use Rattle.mon_forms.specs.Faults.{least}
+use Rattle.mon_forms.specs.Faults.{least, order}
 use Rattle.mon_rules.specs.Rules.{PlacedName, repeated}
 use Rattle.mon_forms.specs.Faults.{earlier_of}
-use Rattle.mon_rules.proofs.Least.{least_both}
+use Rattle.mon_base.proofs.Least.{least_both}
 
 -- the name is one of these
 abbrev pub is_among : List PlacedName → List ℕ → Bool
 is_among names name = list_any (λ other. bytes_eq other.name name) names
 
-pub among-map : {X : Type 0} (f : X → PlacedName) (xs : List X) (name : List ℕ) → is_among (map f xs) name ≡ list_any (λ x. bytes_eq (f x).name name) xs
+among-map : {X : Type 0} (f : X → PlacedName) (xs : List X) (name : List ℕ) → is_among (map f xs) name ≡ list_any (λ x. bytes_eq (f x).name name) xs
 among-map f [] name = refl
 among-map f (x ∷ xs) name = ap (λ b. bytes_eq (f x).name name || b) (among-map f xs name)
 
-pub among-both : {X Y : Type 0} (f : X → PlacedName) (g : Y → PlacedName) (xs : List X) (ys : List Y) (name : List ℕ) → (list_any (λ x. bytes_eq (f x).name name) xs || list_any (λ y. bytes_eq (g y).name name) ys) ≡ is_among (map f xs ++ map g ys) name
+among-both : {X Y : Type 0} (f : X → PlacedName) (g : Y → PlacedName) (xs : List X) (ys : List Y) (name : List ℕ) → (list_any (λ x. bytes_eq (f x).name name) xs || list_any (λ y. bytes_eq (g y).name name) ys) ≡ is_among (map f xs ++ map g ys) name
 among-both f g xs ys name = sym (list_any-append (λ other. bytes_eq other.name name) (map f xs) (map g ys) ∙ ap (λ b. b || is_among (map g ys) name) (among-map f xs name) ∙ ap (λ b. list_any (λ x. bytes_eq (f x).name name) xs || b) (among-map g ys name))
+
+-- what decides whether a name is one of these is the test of it
+pub again_among : {X : Type 0} (f : X → PlacedName) (xs : List X) (name : List ℕ) (again : Bool) → IsTrue again ↔ Contains (map (λ x. (f x).name) xs) name → again ≡ is_among (map f xs) name
+again_among f xs name again decides = test_among (map (λ x. (f x).name) xs) name again decides ∙ sym (any-map (λ x. (f x).name) xs name) ∙ sym (among-map f xs name)
+
+pub again_both : {X Y : Type 0} (f : X → PlacedName) (g : Y → PlacedName) (xs : List X) (ys : List Y) (name : List ℕ) (again : Bool)
+    → IsTrue again ↔ Contains (map (λ x. (f x).name) xs ++ map (λ y. (g y).name) ys) name → again ≡ is_among (map f xs ++ map g ys) name
+again_both f g xs ys name again decides =
+    let these = map (λ x. (f x).name) xs in
+    let those = map (λ y. (g y).name) ys in
+    test_among (these ++ those) name again decides
+    ∙ list_any-append (λ other. bytes_eq other name) these those
+    ∙ ap (λ test. test || list_any (λ other. bytes_eq other name) those) (sym (any-map (λ x. (f x).name) xs name))
+    ∙ ap (λ test. list_any (λ x. bytes_eq (f x).name name) xs || test) (sym (any-map (λ y. (g y).name) ys name))
+    ∙ among-both f g xs ys name
 
 pub repeated-append : (front xs ys : List PlacedName) → repeated front (xs ++ ys) ≡ repeated front xs ++ repeated (front ++ xs) ys
 repeated-append front [] ys = rw append-nil refl
@@ -37,11 +53,11 @@ one_least false at = refl
 pub repeated_more : {X : Type 0} (front : List PlacedName) (f : X → PlacedName) (xs : List X) (i : ℕ) (x : X) (again : Bool) (before this : Option TypeFault) → i < length xs → x ≡ get_or xs i x → before ≡ least (repeated front (map f (take i xs))) → again ≡ is_among (front ++ map f (take i xs)) (f x).name → this ≡ (if again then Some (Duplicate (f x).at) else None) → earlier_of before this ≡ least (repeated front (map f (take (i + 1) xs)))
 repeated_more front f xs i x again before this lt is past among here =
     let last : this ≡ least (repeated (front ++ map f (take i xs)) (f x ∷ [])) = here ∙ one_least again (f x).at ∙ ap (λ b. least ((if b then Duplicate (f x).at ∷ [] else []) ++ [])) among in
-    rw (map_more f xs i x lt, ← is, repeated-append) (least_both before this (repeated front (map f (take i xs))) (repeated (front ++ map f (take i xs)) (f x ∷ [])) past last)
+    rw (map_more f xs i x lt, ← is, repeated-append) (least_both order before this (repeated front (map f (take i xs))) (repeated (front ++ map f (take i xs)) (f x ∷ [])) past last)
 
 pub repeated_all : {X : Type 0} (front : List PlacedName) (f : X → PlacedName) (xs : List X) (i : ℕ) (a : Option TypeFault) → length xs ≤ i → a ≡ least (repeated front (map f (take i xs))) → a ≡ least (repeated front (map f xs))
 repeated_all front f xs i a past is = is ∙ ap (λ ys. least (repeated front (map f ys))) (take_all i xs past)
 
 -- declarations and then methods
 pub repeated_both : (xs ys : List PlacedName) (a b : Option TypeFault) → a ≡ least (repeated [] xs) → b ≡ least (repeated xs ys) → earlier_of a b ≡ least (repeated [] (xs ++ ys))
-repeated_both xs ys a b left right = rw repeated-append (least_both a b (repeated [] xs) (repeated xs ys) left right)
+repeated_both xs ys a b left right = rw repeated-append (least_both order a b (repeated [] xs) (repeated xs ys) left right)

@@ -19,8 +19,8 @@ use Rattle.mon_forms.specs.Sense.{entry_kind, faults_in, first_in, sense, wrong_
 use Rattle.mon_rules.specs.Rules.{Finding, expected, finding, finding_step, inner_faults, misplaced, target_faults}
 use Rattle.mon_rules.specs.Occurrences.{IsBelow, StandsIn, expression_of, inner_of, layer_expression, layer_inner}
 use Rattle.mon_rules.specs.Judgements.{HasReadOnlyTarget, HasUnknownTarget, HasWrongValue, IsFine, IsOther, IsReturn}
-use Rattle.mon_forms.proofs.LeastLaws.{contains_head}
-use Rattle.mon_rules.proofs.Members.{from_flat_map, from_map, in_flat_map, in_map, in_these, in_those, none_in, only_in, or_else_cases}
+use Rattle.mon_base.proofs.Members.{contains_head, from_flat_map, from_map, in_flat_map, in_map, none_in, only_in}
+use Rattle.mon_rules.proofs.OrElse.{in_these, in_those, or_else_cases}
 use Rattle.mon_rules.proofs.PartRules.{WrongAt, from_wrong_type, in_wrong_type}
 use Rattle.mon_rules.proofs.ExpressionRules.{BrokenIn, from_expression}
 

@@ -13,8 +13,8 @@ use Rattle.mon_tree.specs.declared.tree.MonitorTree.{MonitorTree}
 use Rattle.mon_base.specs.Limits.{CONSTANTS, FIELDS, INPUTS, METHODS, STATEMENTS}
 use Rattle.mon_base.specs.declared.kind.Kind.{Kind}
 use Rattle.mon_base.specs.declared.kind.Kind.TheVariants as kinds
-use Rattle.mon_forms.specs.declared.fault.Counted.{Counted}
-use Rattle.mon_forms.specs.declared.fault.Counted.TheVariants as counted
+use Rattle.mon_base.specs.declared.counted.Counted.{Counted}
+use Rattle.mon_base.specs.declared.counted.Counted.TheVariants as counted
 use Rattle.mon_forms.specs.declared.fault.TypeFault.{TypeFault}
 use Rattle.mon_forms.specs.declared.fault.TypeFault.TheVariants as faults
 use Rattle.mon_forms.specs.declared.scope.Entry.{Entry}
@@ -23,8 +23,7 @@ use Rattle.mon_forms.specs.Sense.{large_number, sense}
 use Rattle.mon_rules.specs.Rules.{Finding, body_faults, constant_place, declared_names, early_faults, early_returns, expected, faults_in_each, faults_in_methods, faults_of, field_place, finding, input_names, literal_faults, method_faults, method_names, over, over_at, places_in, repeated}
 use Rattle.mon_rules.specs.Occurrences.{HasExpression, HasStatement, expression_of}
 use Rattle.mon_rules.specs.Judgements.{Breaks, HasEarlyReturn, HasLargeLiteral, IsFine, IsFirstOver, IsLargeLiteral, IsOther, IsReturn, Repeats}
-use Rattle.mon_forms.proofs.LeastLaws.{contains_head}
-use Rattle.mon_rules.proofs.Members.{from_flat_map, in_flat_map, none_in, only_in}
+use Rattle.mon_base.proofs.Members.{contains_head, from_flat_map, in_flat_map, none_in, only_in}
 use Rattle.mon_rules.proofs.PartRules.{WrongAt}
 use Rattle.mon_rules.proofs.NameRules.{from_repeated, in_repeated}
 use Rattle.mon_rules.proofs.ExpressionRules.{BreaksHere, LargeNumber, from_expression, from_large_number, in_expression, in_large_number}

@@ -15,8 +15,8 @@ use Rattle.mon_tree.specs.declared.tree.MonitorTree.{MonitorTree}
 use Rattle.mon_base.specs.Limits.{CONSTANTS, FIELDS, GREATEST_NUMBER, INPUTS, METHODS, STATEMENTS}
 use Rattle.mon_base.specs.declared.kind.Kind.{Kind}
 use Rattle.mon_base.specs.declared.kind.Kind.TheVariants as kinds
-use Rattle.mon_forms.specs.declared.fault.Counted.{Counted}
-use Rattle.mon_forms.specs.declared.fault.Counted.TheVariants as counted
+use Rattle.mon_base.specs.declared.counted.Counted.{Counted}
+use Rattle.mon_base.specs.declared.counted.Counted.TheVariants as counted
 use Rattle.mon_forms.specs.declared.fault.TypeFault.{TypeFault}
 use Rattle.mon_forms.specs.declared.fault.TypeFault.TheVariants as faults
 use Rattle.mon_forms.specs.declared.scope.Entry.{Entry}

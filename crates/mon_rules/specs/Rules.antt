@@ -11,11 +11,12 @@ use Rattle.mon_tree.specs.declared.tree.StmtTree.TheOpen.{StmtTree-F, Set, If, R
 use Rattle.mon_tree.specs.declared.tree.StmtTree.TheFolds.{fold-StmtTree}
 use Rattle.mon_tree.specs.declared.tree.MethodTree.{MethodTree}
 use Rattle.mon_tree.specs.declared.tree.MonitorTree.{MonitorTree}
+use Rattle.mon_tree.specs.Names.{declared_name as bare_name}
 use Rattle.mon_base.specs.Limits.{CONSTANTS, FIELDS, FILE_BYTES, INPUTS, METHODS, STATEMENTS}
 use Rattle.mon_base.specs.declared.kind.Kind.{Kind}
 use Rattle.mon_base.specs.declared.kind.Kind.TheVariants as kinds
-use Rattle.mon_forms.specs.declared.fault.Counted.{Counted}
-use Rattle.mon_forms.specs.declared.fault.Counted.TheVariants.{Constants, Fields, Methods, Parameters, Statements}
+use Rattle.mon_base.specs.declared.counted.Counted.{Counted}
+use Rattle.mon_base.specs.declared.counted.Counted.TheVariants.{Constants, Fields, Methods, Parameters, Statements}
 use Rattle.mon_forms.specs.declared.fault.TypeFault.{TypeFault}
 use Rattle.mon_forms.specs.declared.fault.TypeFault.TheVariants.{Unknown, Duplicate, TooMany, ReadOnly, Misplaced}
 use Rattle.mon_forms.specs.declared.scope.Entry.{Entry}
@@ -30,10 +31,13 @@ pub record PlacedName : Type 0 where
   pub name : List ℕ
   pub at : ℕ
 
+abbrev pub declared_at : Decl → ℕ
+declared_at (decls.Const at name value) = at
+declared_at (decls.Int at name value) = at
+declared_at (decls.Flag at name value) = at
+
 abbrev pub declared_name : Decl → PlacedName
-declared_name (decls.Const at name value) = record { name = name; at = at }
-declared_name (decls.Int at name value) = record { name = name; at = at }
-declared_name (decls.Flag at name value) = record { name = name; at = at }
+declared_name decl = record { name = bare_name decl; at = declared_at decl }
 
 abbrev pub input_name : InputTree → PlacedName
 input_name input = record { name = input.name; at = input.at }

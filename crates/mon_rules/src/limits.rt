@@ -5,7 +5,7 @@ ghost use Rattle.std.specs.Prelude.{◌≡◌, map, slice_get};
 ghost use Rattle.std.specs.List.{flat_map};
 ghost use Rattle.mon_base.specs.Limits.{CONSTANTS, FIELDS, INPUTS, METHODS, STATEMENTS};
 ghost use Rattle.mon_tree.specs.declared.tree.StmtTree.{out-StmtTree};
-ghost use Rattle.mon_forms.specs.declared.fault.Counted.TheVariants.{Constants, Fields, Methods, Parameters, Statements};
+ghost use Rattle.mon_base.specs.declared.counted.Counted.TheVariants.{Constants, Fields, Methods, Parameters, Statements};
 ghost use Rattle.mon_forms.specs.Faults.{least};
 ghost use Rattle.mon_rules.specs.Rules.{constant_place, field_place, over, over_at, places_in, statement_places};
 ghost use Rattle.mon_rules.specs.inner.Counting.{counted, declares_constant, statement_place};

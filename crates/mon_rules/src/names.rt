@@ -1,12 +1,12 @@
 //! Names that are those of earlier declarations, methods or inputs.
 
-ghost use Rattle.std.specs.Prelude.{◌≡◌, [], ◌++◌, ◌||◌, Some, None, if◌then◌else◌};
+ghost use Rattle.std.specs.Prelude.{◌≡◌, ◌↔◌, ◌<◌, [], ◌++◌, Contains, IsTrue, Some, None, if◌then◌else◌, length, map, slice_get, take};
+ghost use Rattle.mon_tree.specs.Names.{declared_name as bare_name};
 ghost use Rattle.mon_forms.specs.declared.fault.TypeFault.TheVariants as faults;
 ghost use Rattle.mon_forms.specs.Faults.{least};
 ghost use Rattle.mon_rules.specs.Rules.{declared_name, declared_names, input_names, method_names, repeated};
-ghost use Rattle.mon_rules.specs.inner.Parts.{has_declaration, has_input, has_method};
 
-use mon_base::Name;
+use mon_base::{Named, is_among, is_repeated};
 use mon_forms::{TypeFault, earlier_of};
 use mon_tree::{Decl, InputTree, MethodTree};
 
@@ -22,7 +22,7 @@ fn repeated_declaration(decls: &[Decl]) -> Option<TypeFault>
 {
     let mut fault = None;
     for (i, decl) in decls.iter().enumerate() {
-        let again = is_declared(&decls[..i], name_of(decl).bytes());
+        let again = is_repeated(decls, i);
         fault = earlier_of(fault, repeated_at(again, place_of_name(decl)));
     }
     fault
@@ -33,8 +33,7 @@ fn repeated_method(decls: &[Decl], methods: &[MethodTree]) -> Option<TypeFault>
 {
     let mut fault = None;
     for (i, method) in methods.iter().enumerate() {
-        let name = method.name.bytes();
-        let again = is_method_name(decls, &methods[..i], name);
+        let again = is_taken(decls, methods, i);
         fault = earlier_of(fault, repeated_at(again, method.at));
     }
     fault
@@ -46,8 +45,7 @@ pub(crate) fn repeated_input(decls: &[Decl], inputs: &[InputTree]) -> Option<Typ
 {
     let mut fault = None;
     for (i, input) in inputs.iter().enumerate() {
-        let name = input.name.bytes();
-        let again = is_input_name(decls, &inputs[..i], name);
+        let again = is_taken(decls, inputs, i);
         fault = earlier_of(fault, repeated_at(again, input.at));
     }
     fault
@@ -64,50 +62,17 @@ fn repeated_at(again: bool, at: u32) -> Option<TypeFault>
     }
 }
 
-fn is_declared(decls: &[Decl], name: &[u8]) -> bool
-    ensures { result ≡ has_declaration decls.now name.now }
+/// The name at this place is that of a declaration, or also stands earlier.
+fn is_taken<T: Named>(decls: &[Decl], items: &[T], place: usize) -> bool
+    requires { place < length items.now }
+    ensures { (item : _) → slice_get items.now place ≡ Some item → IsTrue result
+        ↔ Contains (map bare_name decls.now ++ map T.name_of (take place items.now))
+        (T.name_of item) }
 {
-    decls.iter().any(|decl| name_of(decl).bytes() == name)
+    is_repeated(items, place) || is_among(decls, items[place].name())
 }
 
-/// The name is that of a declaration or of one of the methods.
-fn is_method_name(decls: &[Decl], methods: &[MethodTree], name: &[u8]) -> bool
-    ensures { result ≡ (has_declaration decls.now name.now || has_method methods.now name.now) }
-{
-    is_declared(decls, name) || is_method(methods, name)
-}
-
-/// The name is that of a declaration or of one of the inputs.
-fn is_input_name(decls: &[Decl], inputs: &[InputTree], name: &[u8]) -> bool
-    ensures { result ≡ (has_declaration decls.now name.now || has_input inputs.now name.now) }
-{
-    is_declared(decls, name) || is_input(inputs, name)
-}
-
-fn is_method(methods: &[MethodTree], name: &[u8]) -> bool
-    ensures { result ≡ has_method methods.now name.now }
-{
-    methods.iter().any(|method| method.name.bytes() == name)
-}
-
-fn is_input(inputs: &[InputTree], name: &[u8]) -> bool
-    ensures { result ≡ has_input inputs.now name.now }
-{
-    inputs.iter().any(|input| input.name.bytes() == name)
-}
-
-/// The name that a declaration declares.
-fn name_of(decl: &Decl) -> &Name
-    ensures { result.now ≡ (declared_name decl.now).name }
-{
-    match decl {
-        Decl::Const { name, .. } => name,
-        Decl::Int { name, .. } => name,
-        Decl::Flag { name, .. } => name,
-    }
-}
-
-/// The offset of that name.
+/// The offset of the name that a declaration declares.
 pub(crate) fn place_of_name(decl: &Decl) -> u32
     ensures { result ≡ (declared_name decl.now).at }
 {

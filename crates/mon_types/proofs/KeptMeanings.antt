@@ -14,7 +14,7 @@ use Rattle.mon_linear.specs.Truth.{Valuation, truth_of}
 use Rattle.mon_base.specs.declared.kind.Kind.{Kind}
 use Rattle.mon_base.specs.declared.kind.Kind.TheVariants as kinds
 use Rattle.mon_forms.specs.declared.fault.TypeFault.{TypeFault}
-use Rattle.mon_forms.specs.declared.fault.Counted.TheVariants.{Constants, Fields, Methods, Parameters, Statements}
+use Rattle.mon_base.specs.declared.counted.Counted.TheVariants.{Constants, Fields, Methods, Parameters, Statements}
 use Rattle.mon_forms.specs.declared.scope.Entry.{Entry}
 use Rattle.mon_forms.specs.Scope.{scope_of, entry_named}
 use Rattle.mon_forms.specs.Sense.{Sense, sense, entry_kind, is_other, wrong_type}

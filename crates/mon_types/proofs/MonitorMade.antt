@@ -11,8 +11,8 @@ use Rattle.mon_tree.specs.declared.tree.MonitorTree.{MonitorTree}
 use Rattle.mon_tree.specs.Names.{names_in}
 use Rattle.mon_base.specs.Identifiers.{IsIdentifier}
 use Rattle.mon_base.specs.declared.kind.Kind.TheVariants as kinds
-use Rattle.mon_forms.specs.declared.fault.Counted.{Counted}
-use Rattle.mon_forms.specs.declared.fault.Counted.TheVariants.{Constants, Fields, Methods, Parameters, Statements}
+use Rattle.mon_base.specs.declared.counted.Counted.{Counted}
+use Rattle.mon_base.specs.declared.counted.Counted.TheVariants.{Constants, Fields, Methods, Parameters, Statements}
 use Rattle.mon_forms.specs.declared.fault.TypeFault.{TypeFault}
 use Rattle.mon_forms.specs.Scope.{field_count, scope_of}
 use Rattle.mon_forms.specs.Sense.{sense}

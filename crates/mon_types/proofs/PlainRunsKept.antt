@@ -22,7 +22,7 @@ use Rattle.mon_base.specs.Limits.{GREATEST_NUMBER}
 use Rattle.mon_base.specs.declared.kind.Kind.TheVariants as kinds
 use Rattle.mon_base.specs.declared.value.Value.{Value}
 use Rattle.mon_base.specs.declared.value.Value.TheVariants as values
-use Rattle.mon_forms.specs.declared.fault.Counted.TheVariants.{Constants, Fields, Methods}
+use Rattle.mon_base.specs.declared.counted.Counted.TheVariants.{Constants, Fields, Methods}
 use Rattle.mon_forms.specs.declared.scope.Entry.{Entry}
 use Rattle.mon_forms.specs.declared.scope.Meaning.TheVariants as meanings
 use Rattle.mon_forms.specs.Scope.{constant_entry, constant_value, declared_from, field_entry, input_entry, input_meaning, inputs_from, scope_of}

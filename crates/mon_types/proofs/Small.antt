@@ -5,8 +5,8 @@ use Rattle.std.proofs.lemmas.List.Elements.{All-nil, All-cons}
 use Rattle.mon_tokens.specs.declared.token.TokenKind.{TokenKind}
 use Rattle.mon_tokens.specs.declared.token.TokenKind.TheVariants as kinds
 use Rattle.mon_tokens.specs.declared.token.Token.{Token}
-use Rattle.mon_tokens.specs.declared.piece.Shape.{Shape}
-use Rattle.mon_tokens.specs.declared.piece.Shape.TheVariants as shapes
+use Rattle.mon_tokens.specs.Shapes.{Shape}
+use Rattle.mon_tokens.specs.Shapes as shapes
 use Rattle.mon_tree.specs.declared.tree.Decl.{Decl}
 use Rattle.mon_tree.specs.declared.tree.Decl.TheVariants as decls
 use Rattle.mon_tree.specs.declared.tree.InputTree.{InputTree}
@@ -14,6 +14,7 @@ use Rattle.mon_tree.specs.declared.tree.MethodTree.{MethodTree}
 use Rattle.mon_tree.specs.declared.tree.MonitorTree.{MonitorTree}
 use Rattle.mon_tokens.specs.Words.{Word, word, words}
 use Rattle.mon_tokens.specs.Spelling.{IsShape, Piece, AreCut, token, tokens_from, Spells}
+use Rattle.mon_tokens.proofs.Signs.{sign_begins}
 use Rattle.mon_syntax.specs.Grammar.{Rule, ◌⌢◌, Each, IsIdent, IsMark, IsLiteral, IsExpression, IsBlock, IsStatement, IsDeclaration, IsInput, AreInputs, IsMethod, IsMonitorFile, IsParsed, truth_word, kind_word}
 use Rattle.mon_rules.specs.Rules.{HasFewNames}
 
@@ -24,7 +25,7 @@ text_long shapes.Blank text at is = omega arith
 text_long shapes.Comment text at is = omega arith
 text_long shapes.Word text at is = subst (λ (t : List ℕ). 1 ≤ length t) (sym is.4) (omega arith)
 text_long shapes.Number text at is = subst (λ (t : List ℕ). 1 ≤ length t) (sym is.4) (omega arith)
-text_long (shapes.Sign kind) text at is = let some = is.0 in omega arith
+text_long (shapes.Sign kind) text at is = let begins = sign_begins text kind is in omega (arith, ap length begins.is)
 
 tokens_few : (bytes : List ℕ) (at : ℕ) (pieces : List Piece) (rest : List ℕ) → AreCut bytes pieces rest → length (tokens_from at pieces) ≤ length bytes
 tokens_few bytes at [] rest cut = omega arith

@@ -6,9 +6,9 @@ use Rattle.mon_tree.specs.declared.tree.Factor.{Factor}
 use Rattle.mon_tree.specs.declared.tree.Expr.TheVariants as exprs
 use Rattle.mon_forms.specs.declared.fault.TypeFault.{TypeFault}
 use Rattle.mon_forms.specs.declared.scope.Entry.{Entry}
-use Rattle.mon_forms.specs.Faults.{least}
+use Rattle.mon_forms.specs.Faults.{least, order}
 use Rattle.mon_forms.specs.Sense.{sense}
-use Rattle.mon_forms.proofs.Least.{least_turn}
+use Rattle.mon_base.proofs.Least.{least_turn}
 use Rattle.mon_forms.proofs.first_fault.+fault_in.Goals as goal
 
 of_comparison : {E : Type 0} (scope : List Entry) (op : Op) (here there left right expression : Expr) (r : Result (Option TypeFault) E) → here ≡ left → there ≡ right → expression ≡ exprs.Compare op left right
@@ -40,15 +40,15 @@ fault_in-returns-in_ok-other-in-Compare t c =
 
 pub fault_in_factors-loop-factor-preserved : goal.fault_in_factors-loop-factor-preserved
 fault_in_factors-loop-factor-preserved t c =
-    least_turn (λ (factor : Factor). (sense c.args.scope.now factor.of).faults) c.args.factors.now c.loop-factor.factor-index c.factor-item.result c.loop-factor.fault c.in_ok-fault_in.field-0 c.earlier_of-fault.result
+    least_turn order (λ (factor : Factor). (sense c.args.scope.now factor.of).faults) c.args.factors.now c.loop-factor.factor-index c.factor-item.result c.loop-factor.fault c.in_ok-fault_in.field-0 c.earlier_of-fault.result
     c.loop-factor-test.true c.factor-item.is c.loop-factor.invariant c.in_ok-fault_in.ensures c.earlier_of-fault.ensures
 
 pub fault_in_addends-loop-addend-preserved : goal.fault_in_addends-loop-addend-preserved
 fault_in_addends-loop-addend-preserved t c =
-    least_turn (λ (addend : Addend). (sense c.args.scope.now addend.of).faults) c.args.addends.now c.loop-addend.addend-index c.addend-item.result c.loop-addend.fault c.in_ok-fault_in.field-0 c.earlier_of-fault.result
+    least_turn order (λ (addend : Addend). (sense c.args.scope.now addend.of).faults) c.args.addends.now c.loop-addend.addend-index c.addend-item.result c.loop-addend.fault c.in_ok-fault_in.field-0 c.earlier_of-fault.result
     c.loop-addend-test.true c.addend-item.is c.loop-addend.invariant c.in_ok-fault_in.ensures c.earlier_of-fault.ensures
 
 pub fault_in_parts-loop-part-preserved : goal.fault_in_parts-loop-part-preserved
 fault_in_parts-loop-part-preserved t c =
-    least_turn (λ (part : Expr). (sense c.args.scope.now part).faults) c.args.parts.now c.loop-part.part-index c.part-item.result c.loop-part.fault c.in_ok-fault_in.field-0 c.earlier_of-fault.result
+    least_turn order (λ (part : Expr). (sense c.args.scope.now part).faults) c.args.parts.now c.loop-part.part-index c.part-item.result c.loop-part.fault c.in_ok-fault_in.field-0 c.earlier_of-fault.result
     c.loop-part-test.true c.part-item.is c.loop-part.invariant c.in_ok-fault_in.ensures c.earlier_of-fault.ensures

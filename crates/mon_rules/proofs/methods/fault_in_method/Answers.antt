@@ -1,12 +1,12 @@
 use Rattle.std.proofs.Common.{◌++◌, map, Some, ◌∙◌, ap}
 use Rattle.mon_base.specs.Limits.{INPUTS}
-use Rattle.mon_forms.specs.declared.fault.Counted.TheVariants.{Parameters}
+use Rattle.mon_base.specs.declared.counted.Counted.TheVariants.{Parameters}
 use Rattle.mon_base.specs.declared.kind.Kind.TheVariants as kinds
-use Rattle.mon_forms.specs.Faults.{least}
+use Rattle.mon_forms.specs.Faults.{least, order}
 use Rattle.mon_forms.specs.Scope.{scope_of}
 use Rattle.mon_forms.specs.Sense.{sense}
 use Rattle.mon_rules.specs.Rules.{body_faults, declared_name, expected, input_name, over, repeated}
-use Rattle.mon_rules.proofs.Least.{least_both}
+use Rattle.mon_base.proofs.Least.{least_both}
 use Rattle.mon_rules.proofs.methods.fault_in_method.Goals as goal
 
 pub returns : goal.returns
@@ -22,6 +22,6 @@ returns c =
     let a = repeated (map declared_name declared) (map input_name method.inputs) in
     let b = over INPUTS Parameters (map (λ input. input.at) method.inputs) in
     let g = expected (Some kinds.Bool) (sense scope method.guard) in
-    let one = c.earlier_of-inputs_fault.ensures ∙ least_both _ _ a b repeats many in
-    let two = c.earlier_of.ensures ∙ least_both _ _ (a ++ b) g one guard in
-    c.earlier_of-2.ensures ∙ least_both _ _ (a ++ b ++ g) (body_faults scope method.body) two body
+    let one = c.earlier_of-inputs_fault.ensures ∙ least_both order _ _ a b repeats many in
+    let two = c.earlier_of.ensures ∙ least_both order _ _ (a ++ b) g one guard in
+    c.earlier_of-2.ensures ∙ least_both order _ _ (a ++ b ++ g) (body_faults scope method.body) two body

@@ -1,0 +1,7 @@
+use Rattle.std.proofs.Common.{◌≡◌, take}
+use Rattle.std.specs.List.{flat_map}
+use Rattle.mon_script.specs.Faults.{least, number_faults}
+use Rattle.mon_script.proofs.arguments.large_number.Given as goal
+
+abbrev pub invariant-loop-argument : goal.invariant-loop-argument
+invariant-loop-argument l = l.fault ≡ least (flat_map number_faults (take l.argument-index l.arguments))

@@ -1,0 +1,181 @@
+-- The faults of a client file's tree, as a list, and their order: by place, and at one place by rule.
+use Rattle.std.specs.Prelude.{ℕ, ◌+◌, Bool, true, false, ◌==◌, nat_lt, if◌then◌else◌, List, [], ◌∷◌, ◌++◌, length, map, Option, Some, None, slice_get, zip}
+use Rattle.std.specs.List.{flat_map, list_any}
+use Rattle.std.specs.Str.{bytes_eq}
+use Rattle.mon_tree.specs.declared.tree.Arg.{Arg}
+use Rattle.mon_tree.specs.declared.tree.Arg.TheVariants as args
+use Rattle.mon_tree.specs.declared.tree.Item.{Item, out-Item}
+use Rattle.mon_tree.specs.declared.tree.Item.TheOpen.{Item-F, Call, Repeat}
+use Rattle.mon_tree.specs.declared.tree.Item.TheFolds.{fold-Item}
+use Rattle.mon_tree.specs.declared.tree.ClientTree.{ClientTree}
+use Rattle.mon_tree.specs.declared.tree.ClientsTree.{ClientsTree}
+use Rattle.mon_base.specs.Least as ordered
+use Rattle.mon_base.specs.Least.{Order}
+use Rattle.mon_base.specs.Limits.{CALLS, CLIENTS, GREATEST_NUMBER}
+use Rattle.mon_base.specs.declared.kind.Kind.{Kind}
+use Rattle.mon_base.specs.declared.kind.Kind.TheVariants as kinds
+use Rattle.mon_monitor.specs.MonitorParts.{MonitorParts}
+use Rattle.mon_implicit.specs.Steps.{kinds_in}
+use Rattle.mon_script.specs.declared.fault.ScriptFault.{ScriptFault}
+use Rattle.mon_script.specs.declared.fault.ScriptFault.TheVariants.{UnknownMethod, WrongCount, WrongType, TooLarge, DuplicateClient, TooManyClients, TooManyCalls, OutOfMemory}
+use Rattle.mon_script.specs.Scripts.{call_count, joined, method_named}
+
+-- ---- what stands in a tree
+
+-- the items that stand directly in clients, in the order of the file
+abbrev pub items_in : List ClientTree → List Item
+items_in clients = flat_map (λ client. client.items) clients
+
+abbrev pub place_step : Item-F Item → ℕ
+place_step (Call at name arguments) = at
+place_step (Repeat at times inner) = at
+
+-- the offset of an item's first token
+abbrev pub place_of : Item → ℕ
+place_of item = place_step (out-Item item)
+
+-- a call as it stands in the file
+pub record PlacedCall : Type 0 where
+  pub at : ℕ
+  pub name : List ℕ
+  pub arguments : List Arg
+
+abbrev pub placed_step : Item-F (List PlacedCall) → List PlacedCall
+placed_step (Call here called given) = record { at = here; name = called; arguments = given } ∷ []
+placed_step (Repeat here times inner) = joined inner
+
+-- the calls that stand in an item, those in a `repeat` too, each once
+abbrev pub placed_calls : Item → List PlacedCall
+placed_calls = fold-Item (List PlacedCall) placed_step
+
+-- ---- arguments
+
+-- the offset of an argument's first token
+abbrev pub argument_place : Arg → ℕ
+argument_place (args.Int at value) = at
+argument_place (args.Bool at value) = at
+
+-- the argument is one for an input of this kind: a number for an int, a truth value for a bool
+abbrev pub is_for : Kind → Arg → Bool
+is_for kinds.Int (args.Int at value) = true
+is_for kinds.Bool (args.Bool at value) = true
+is_for kind argument = false
+
+abbrev pub number_faults : Arg → List ScriptFault
+number_faults (args.Int at value) =
+    if nat_lt GREATEST_NUMBER value.digits then TooLarge value.at ∷ [] else []
+number_faults (args.Bool at value) = []
+
+abbrev pub type_faults : Kind × Arg → List ScriptFault
+type_faults (kind, argument) =
+    if is_for kind argument then [] else WrongType (argument_place argument) ∷ []
+
+-- ---- calls
+
+-- the kinds of the inputs of the method with this number
+abbrev pub inputs_of : MonitorParts → ℕ → List Kind
+inputs_of monitor method = kinds_in (slice_get monitor.methods method)
+
+-- there are as many arguments as inputs, and then each is for its input
+abbrev pub argument_faults : List Kind → ℕ → List Arg → List ScriptFault
+argument_faults inputs at given =
+    if length given == length inputs then flat_map type_faults (zip inputs given)
+    else WrongCount at ∷ []
+
+-- the name is a method's, and then the arguments are for its inputs
+abbrev pub method_faults : MonitorParts → ℕ → List Arg → Option ℕ → List ScriptFault
+method_faults monitor at given None = UnknownMethod at ∷ []
+method_faults monitor at given (Some method) = argument_faults (inputs_of monitor method) at given
+
+abbrev pub call_faults : MonitorParts → PlacedCall → List ScriptFault
+call_faults monitor call =
+    method_faults monitor call.at call.arguments (method_named monitor call.name)
+    ++ flat_map number_faults call.arguments
+
+abbrev pub item_faults : MonitorParts → Item → List ScriptFault
+item_faults monitor item = flat_map (call_faults monitor) (placed_calls item)
+
+-- ---- clients
+
+abbrev pub is_among : List ClientTree → List ℕ → Bool
+is_among clients name = list_any (λ other. bytes_eq other.name name) clients
+
+-- clients with the name of an earlier one
+abbrev pub doubled : List ClientTree → List ClientTree → List ScriptFault
+doubled before [] = []
+doubled before (client ∷ more) =
+    (if is_among before client.name then DuplicateClient client.at ∷ [] else [])
+    ++ doubled (before ++ client ∷ []) more
+
+abbrev pub too_many_at : Option ℕ → List ScriptFault
+too_many_at None = []
+too_many_at (Some at) = TooManyClients at ∷ []
+
+-- the first client over the limit
+abbrev pub over_clients : List ClientTree → List ScriptFault
+over_clients clients = too_many_at (slice_get (map (λ client. client.at) clients) CLIENTS)
+
+-- after so many calls, the first item with which there are more than the limit
+abbrev pub over_calls : ℕ → List Item → List ScriptFault
+over_calls before [] = []
+over_calls before (item ∷ more) =
+    if nat_lt CALLS (before + call_count item) then TooManyCalls (place_of item) ∷ []
+    else over_calls (before + call_count item) more
+
+-- ---- files
+
+-- each rule that the tree breaks, and where; of too many things the first over the limit
+abbrev pub faults_of : MonitorParts → ClientsTree → List ScriptFault
+faults_of monitor tree =
+    flat_map (item_faults monitor) (items_in tree.clients)
+    ++ doubled [] tree.clients
+    ++ over_clients tree.clients
+    ++ over_calls 0 (items_in tree.clients)
+
+-- ---- the order of faults
+
+-- where the rule is broken; want of memory breaks no rule and is in no list
+abbrev pub place : ScriptFault → ℕ
+place (UnknownMethod at) = at
+place (WrongCount at) = at
+place (WrongType at) = at
+place (TooLarge at) = at
+place (DuplicateClient at) = at
+place (TooManyClients at) = at
+place (TooManyCalls at) = at
+place OutOfMemory = 0
+
+-- in the order of the variants
+abbrev pub rank : ScriptFault → ℕ
+rank (UnknownMethod at) = 0
+rank (WrongCount at) = 1
+rank (WrongType at) = 2
+rank (TooLarge at) = 3
+rank (DuplicateClient at) = 4
+rank (TooManyClients at) = 5
+rank (TooManyCalls at) = 6
+rank OutOfMemory = 7
+
+abbrev pub order : Order ScriptFault
+order = record { place = place; rank = rank }
+
+-- a fault of the list, and none of the list comes before it
+abbrev pub IsLeast : List ScriptFault → ScriptFault → Type 0
+IsLeast = ordered.IsLeast order
+
+-- the fault that stands first, at one place the first in the order of the rules
+abbrev pub least : List ScriptFault → Option ScriptFault
+least = ordered.least order
+
+-- the earlier of two faults that may be, and the one where neither comes before the other
+abbrev pub earlier_of : Option ScriptFault → Option ScriptFault → Option ScriptFault
+earlier_of = ordered.earlier_of order
+
+-- the one comes before the other
+abbrev pub is_before : ScriptFault → ScriptFault → Bool
+is_before = ordered.is_before order
+
+-- the fault is the first of those in the tree, unless memory ran out
+abbrev pub HasCause : MonitorParts → ClientsTree → ScriptFault → Type 0
+HasCause monitor tree OutOfMemory = Unit {0}
+HasCause monitor tree fault = IsLeast (faults_of monitor tree) fault

@@ -1,0 +1,86 @@
+-- The rules of client files, one by one: a tree breaks a rule at a place.
+use Rattle.std.specs.Prelude.{◌≡◌, ◌≢◌, ℕ, ◌<◌, ◌≤◌, ◌↔◌, false, List, [], ◌∷◌, ◌++◌, length, map, Contains, Some, None, slice_get, sum_by, zip}
+use Rattle.std.specs.List.{flat_map}
+use Rattle.mon_tree.specs.declared.tree.Lit.{Lit}
+use Rattle.mon_tree.specs.declared.tree.Arg.{Arg}
+use Rattle.mon_tree.specs.declared.tree.Arg.TheVariants as args
+use Rattle.mon_tree.specs.declared.tree.Item.{Item}
+use Rattle.mon_tree.specs.declared.tree.ClientTree.{ClientTree}
+use Rattle.mon_tree.specs.declared.tree.ClientsTree.{ClientsTree}
+use Rattle.mon_base.specs.Limits.{CALLS, CLIENTS, GREATEST_NUMBER}
+use Rattle.mon_base.specs.declared.kind.Kind.{Kind}
+use Rattle.mon_monitor.specs.MonitorParts.{MonitorParts}
+use Rattle.mon_script.specs.declared.fault.ScriptFault.{ScriptFault}
+use Rattle.mon_script.specs.declared.fault.ScriptFault.TheVariants as faults
+use Rattle.mon_script.specs.Scripts.{call_count, method_named}
+use Rattle.mon_script.specs.Faults.{PlacedCall, argument_place, faults_of, inputs_of, is_for, items_in, place_of, placed_calls}
+
+-- some call of the tree is such a one, in a `repeat` or in none
+abbrev pub OfCall : ClientsTree → (PlacedCall → Type 0) → Type 0
+OfCall tree P = (call : PlacedCall) × Contains (flat_map placed_calls (items_in tree.clients)) call × P call
+
+-- the call is one of the method with this number
+abbrev pub CallsMethod : MonitorParts → PlacedCall → ℕ → Type 0
+CallsMethod monitor call method = method_named monitor call.name ≡ Some method
+
+-- the called name is no method
+abbrev pub BreaksUnknownMethod : MonitorParts → ClientsTree → ℕ → Type 0
+BreaksUnknownMethod monitor tree place =
+    OfCall tree (λ call. (call.at ≡ place) × (method_named monitor call.name ≡ None))
+
+-- the call has more or fewer arguments than the method has inputs
+abbrev pub BreaksWrongCount : MonitorParts → ClientsTree → ℕ → Type 0
+BreaksWrongCount monitor tree place = OfCall tree (λ call.
+    (method : ℕ) × (call.at ≡ place) × CallsMethod monitor call method
+    × (length call.arguments ≢ length (inputs_of monitor method)))
+
+-- an argument is a number for a bool or a truth value for an int; asked where the count agrees
+abbrev pub BreaksWrongType : MonitorParts → ClientsTree → ℕ → Type 0
+BreaksWrongType monitor tree place = OfCall tree (λ call.
+    (method : ℕ) × (kind : Kind) × (argument : Arg) × CallsMethod monitor call method
+    × (length call.arguments ≡ length (inputs_of monitor method))
+    × Contains (zip (inputs_of monitor method) call.arguments) (kind, argument)
+    × (is_for kind argument ≡ false) × (argument_place argument ≡ place))
+
+-- a written number of an argument is above the greatest one
+abbrev pub BreaksTooLarge : ClientsTree → ℕ → Type 0
+BreaksTooLarge tree place = OfCall tree (λ call.
+    (at : ℕ) × (value : Lit) × Contains call.arguments (args.Int at value)
+    × (value.at ≡ place) × (GREATEST_NUMBER < value.digits))
+
+-- a client has the name of an earlier one
+abbrev pub BreaksDuplicateClient : ClientsTree → ℕ → Type 0
+BreaksDuplicateClient tree place =
+    (before : List ClientTree) × (client : ClientTree) × (after : List ClientTree)
+    × (tree.clients ≡ before ++ client ∷ after)
+    × Contains (map (λ other. other.name) before) client.name
+    × (client.at ≡ place)
+
+-- it is the first client over the limit
+abbrev pub BreaksTooManyClients : ClientsTree → ℕ → Type 0
+BreaksTooManyClients tree place = slice_get (map (λ client. client.at) tree.clients) CLIENTS ≡ Some place
+
+-- it is the first item, of those that stand directly in clients, with which the calls of the file are above
+-- the limit, with each `repeat` written out
+abbrev pub BreaksTooManyCalls : ClientsTree → ℕ → Type 0
+BreaksTooManyCalls tree place =
+    (before : List Item) × (item : Item) × (after : List Item)
+    × (items_in tree.clients ≡ before ++ item ∷ after)
+    × (sum_by call_count before ≤ CALLS)
+    × (CALLS < sum_by call_count (before ++ item ∷ []))
+    × (place_of item ≡ place)
+
+-- The tree breaks the rule of a fault at its place.
+abbrev pub Breaks : MonitorParts → ClientsTree → ScriptFault → Type 0
+Breaks monitor tree (faults.UnknownMethod at) = BreaksUnknownMethod monitor tree at
+Breaks monitor tree (faults.WrongCount at) = BreaksWrongCount monitor tree at
+Breaks monitor tree (faults.WrongType at) = BreaksWrongType monitor tree at
+Breaks monitor tree (faults.TooLarge at) = BreaksTooLarge tree at
+Breaks monitor tree (faults.DuplicateClient at) = BreaksDuplicateClient tree at
+Breaks monitor tree (faults.TooManyClients at) = BreaksTooManyClients tree at
+Breaks monitor tree (faults.TooManyCalls at) = BreaksTooManyCalls tree at
+Breaks monitor tree faults.OutOfMemory = ⊥
+
+-- the faults that are listed are exactly the rules that the tree breaks, each at its place
+abbrev pub ListsBrokenRules : MonitorParts → ClientsTree → Type 0
+ListsBrokenRules monitor tree = (fault : ScriptFault) → Contains (faults_of monitor tree) fault ↔ Breaks monitor tree fault

@@ -1,0 +1,53 @@
+//! From the tree of a client file to its scripts.
+
+ghost use Rattle.std.specs.Prelude.{◌≡◌, [], All, IfErr, IfOk};
+ghost use Rattle.mon_base.specs.Identifiers.{IsIdentifier};
+ghost use Rattle.mon_tree.specs.Names.{names_in_clients};
+ghost use Rattle.mon_implicit.specs.Scripted.{FitsScripts};
+ghost use Rattle.mon_script.specs.Faults.{HasCause, faults_of, least};
+ghost use Rattle.mon_script.specs.Scripts.{IsScripted};
+
+use crate::calls::fault_in_clients;
+use crate::counting::over_calls;
+use crate::earlier::earlier_of;
+use crate::fault::ScriptFault;
+use crate::making::make_clients;
+use crate::names::{doubled_client, over_clients};
+use mon_implicit::Scripts;
+use mon_monitor::Monitor;
+use mon_tree::ClientsTree;
+use std::alloc::Global;
+
+/// The scripts that a client file's tree stands for, each `repeat` written out, where the tree keeps all the
+/// rules of `specs/ScriptRules`. Every tree that the grammar derives meets what is asked of its names.
+///
+/// # Errors
+///
+/// The first rule that is broken: the one at the least place, and at one place the first in the order of
+/// [`ScriptFault`]; or out of memory.
+pub fn clients(alloc: Global, tree: &ClientsTree, monitor: &Monitor) -> Result<Scripts, ScriptFault>
+    requires named { All IsIdentifier (names_in_clients tree.now) }
+    // The scripts are those that the tree stands for,
+    ensures scripted { IfOk result (λ scripts. IsScripted tree.now monitor.now scripts) }
+    // each call of which is one of the monitor's.
+    ensures fits { IfOk result (λ scripts. FitsScripts monitor.now scripts) }
+    // No rule is broken where there are scripts,
+    ensures unbroken { IfOk result (λ _. faults_of monitor.now tree.now ≡ []) }
+    // and a fault is the first of those that are.
+    ensures fault { IfErr result (λ fault. HasCause monitor.now tree.now fault) }
+{
+    match first_fault(tree, monitor) {
+        Some(fault) => Err(fault),
+        None => Ok(Scripts::of(make_clients(alloc, monitor, tree.clients.items())?)),
+    }
+}
+
+/// The first rule that the tree breaks.
+fn first_fault(tree: &ClientsTree, monitor: &Monitor) -> Option<ScriptFault>
+    ensures { result ≡ least (faults_of monitor.now tree.now) }
+{
+    let clients = tree.clients.items();
+    let first = earlier_of(fault_in_clients(monitor, clients), doubled_client(clients));
+    let first = earlier_of(first, over_clients(clients));
+    earlier_of(first, over_calls(clients))
+}
