@@ -119,8 +119,12 @@ with_state v state = record {
   flag = λ place. if nat_lt place 16 then truth_or (v.flag place) (slice_get state place) else v.flag place;
 }
 
--- wherever the one formula is true, the other is after the body, run without regard to 64 bits
+-- the valuation after a body, run without regard to 64 bits: the fields have the values that the body reaches
+abbrev pub valuation_after : Places → List Stmt → Valuation → Valuation
+valuation_after places body v =
+    with_state v (after (values_from v 16 places.inputs) body (values_from v 0 places.fields))
+
+-- wherever the one formula is true, the other is after the body
 abbrev pub IsValid : Places → Formula → List Stmt → Formula → Type 0
 IsValid places before body then_after =
-    (v : Valuation) → truth_of v before ≡ true
-    → truth_of (with_state v (after (values_from v 16 places.inputs) body (values_from v 0 places.fields))) then_after ≡ true
+    (v : Valuation) → truth_of v before ≡ true → truth_of (valuation_after places body v) then_after ≡ true

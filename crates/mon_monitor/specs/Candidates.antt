@@ -1,5 +1,5 @@
 -- The candidates of a monitor: the facts about its fields that are tried as parts of an invariant.
-use Rattle.std.specs.Prelude.{◌≡◌, ℕ, ◌+◌, ◌==◌, ℤ, pos, neg_ℤ, ◌+ℤ◌, ◌-ℤ◌, Bool, true, false, not, nat_lt, List, [], ◌∷◌, ◌++◌, map, take, All, if◌then◌else◌}
+use Rattle.std.specs.Prelude.{◌≡◌, ◌⊎◌, ℕ, ◌+◌, ◌==◌, ℤ, pos, neg_ℤ, ◌+ℤ◌, ◌-ℤ◌, Bool, true, false, not, nat_lt, List, [], ◌∷◌, ◌++◌, map, take, All, if◌then◌else◌}
 use Rattle.std.specs.List.{flat_map, filter}
 use Rattle.std.specs.Ordering.{int_eq}
 use Rattle.std.specs.Cmp.Lexicographic.{pointwise}
@@ -7,8 +7,7 @@ use Rattle.mon_linear.specs.declared.form.Term.{Term}
 use Rattle.mon_linear.specs.Linear.{Linear, same_term}
 use Rattle.mon_linear.specs.declared.formula.Formula.{Formula}
 use Rattle.mon_linear.specs.declared.formula.Formula.TheVariants as formulas
-use Rattle.mon_linear.specs.declared.formula.Formula.TheOpen.{Formula-F, Row, Flag, All as Every, Any as Some_of}
-use Rattle.mon_linear.specs.declared.formula.Formula.TheFolds.{fold-Formula}
+use Rattle.mon_linear.specs.Places.{rows_of}
 use Rattle.mon_linear.specs.Truth.{truth_of}
 use Rattle.mon_base.specs.declared.kind.Kind.{Kind}
 use Rattle.mon_base.specs.declared.kind.Kind.TheVariants as kinds
@@ -22,7 +21,7 @@ use Rattle.mon_monitor.specs.Bodies.{number_of_value, valuation}
 
 -- ---- what a candidate says
 
--- the field's number, and its opposite
+-- the field, counted once, and once less than none
 abbrev pub once : ℕ → Term
 once field = record { place = field; times = pos 1 }
 
@@ -52,16 +51,6 @@ abbrev pub AllHold : List Value → List Candidate → Type 0
 AllHold state kept = All (λ candidate. candidate_truth state candidate ≡ true) kept
 
 -- ---- the numbers with which an int field is compared
-
-abbrev pub rows_layer : Formula-F (List Linear) → List Linear
-rows_layer (Row form) = form ∷ []
-rows_layer (Flag place is) = []
-rows_layer (Every parts) = flat_map (λ part. part) parts
-rows_layer (Some_of parts) = flat_map (λ part. part) parts
-
--- the rows of a formula, from left to right
-abbrev pub rows_of : Formula → List Linear
-rows_of = fold-Formula (List Linear) rows_layer
 
 -- the `d` of a row that says `field <= d` or `field >= d`, and nothing else
 abbrev pub bound_of : ℕ → Linear → List ℤ
@@ -128,3 +117,9 @@ pair_candidates fields =
 abbrev pub candidates_of : MonitorParts → List Candidate
 candidates_of monitor =
     field_candidates monitor.blocks 0 monitor.fields ++ pair_candidates (int_fields 0 monitor.fields)
+
+-- some of the candidates, in their order, each at most as often
+abbrev pub AreSomeOf : List Candidate → List Candidate → Type 0
+AreSomeOf [] all = Unit {0}
+AreSomeOf (one ∷ kept) [] = ⊥
+AreSomeOf (one ∷ kept) (first ∷ all) = ((one ≡ first) × AreSomeOf kept all) ⊎ AreSomeOf (one ∷ kept) all

@@ -107,6 +107,15 @@ fits_block places block = fits_formula places block.guard && (list_all (fits_sta
 abbrev pub kinds_of : List Field → List Kind
 kinds_of fields = map (λ field. field.kind) fields
 
+-- the kinds of a method's inputs
+abbrev pub kinds_in : Option Method → List Kind
+kinds_in None = []
+kinds_in (Some method) = method.inputs
+
+-- the value of each field at the start
+abbrev pub start_of : MonitorParts → List Value
+start_of monitor = map (λ field. field.start) monitor.fields
+
 -- each method has at most 6 inputs, and one block, in the order of the methods
 abbrev pub AreBlocks : List Field → ℕ → List Method → List Block → Type 0
 AreBlocks fields number [] [] = Unit {0}

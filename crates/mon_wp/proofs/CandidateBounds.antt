@@ -1,5 +1,5 @@
 -- The candidates of a monitor have formulas: their bounds are small, and they compare different fields.
-use Rattle.std.proofs.Common.{◌≡◌, ℕ, zero, suc, ◌+◌, ◌<◌, ◌≤◌, ◌^◌, ℤ, pos, neg_ℤ, ◌+ℤ◌, ◌-ℤ◌, Bool, true, false, not, ◌&&◌, List, [], ◌∷◌, ◌++◌, map, length, take, cond, sym, subst, arith, ap, refl, ◌∙◌}
+use Rattle.std.proofs.Common.{◌≡◌, ℕ, zero, suc, ◌+◌, ◌^◌, ℤ, pos, neg_ℤ, ◌+ℤ◌, ◌-ℤ◌, Bool, true, false, not, ◌&&◌, List, [], ◌∷◌, ◌++◌, map, take, cond, sym, subst, arith, ap, refl, ◌∙◌}
 use Rattle.std.specs.Prelude.{◌==◌, int_le, int_lt}
 use Rattle.std.specs.List.{All, list_all, filter, flat_map}
 use Rattle.std.specs.Ordering.{int_eq}
@@ -13,18 +13,18 @@ use Rattle.mon_base.specs.declared.kind.Kind.TheVariants as kinds
 use Rattle.mon_base.specs.declared.value.Value.{Value}
 use Rattle.mon_base.specs.declared.value.Value.TheVariants as values
 use Rattle.mon_linear.specs.Linear.{Linear, same_term}
+use Rattle.mon_linear.specs.Places.{rows_layer, rows_of}
 use Rattle.mon_linear.specs.declared.formula.Formula.{Formula}
 use Rattle.mon_linear.specs.declared.formula.Formula.TheOpen.{Formula-F, Row, Flag, All as Every, Any as Some_of}
 use Rattle.mon_linear.specs.declared.formula.Formula.TheViews.{roll-Formula}
 use Rattle.mon_linear.specs.declared.formula.Formula.TheFolds.{ind-Formula, map-Formula, fold-roll-Formula}
-use Rattle.mon_monitor.specs.declared.candidate.Candidate.{Candidate}
 use Rattle.mon_monitor.specs.declared.candidate.Candidate.TheVariants as candidates
 use Rattle.mon_monitor.specs.declared.monitor.Field.{Field}
 use Rattle.mon_monitor.specs.declared.monitor.Method.{Method}
 use Rattle.mon_monitor.specs.declared.monitor.Block.{Block}
 use Rattle.mon_monitor.specs.Bodies.{number_of_value, fits_64}
-use Rattle.mon_monitor.specs.MonitorParts.{MonitorParts, IsMonitor, Places, AreBlocks, kinds_of, fits_term, fits_form, fits_formula_step, fits_formula, fits_statement, fits_result, fits_block}
-use Rattle.mon_monitor.specs.Candidates.{once, opposite, rows_layer, rows_of, bound_of, around, guard_bounds, distinct, pool_limit, pool, bounded, kind_candidates, field_candidates, int_number, int_fields, pair_candidates, candidates_of}
+use Rattle.mon_monitor.specs.MonitorParts.{MonitorParts, IsMonitor, Places, AreBlocks, kinds_of, fits_term, fits_formula_step, fits_formula, fits_statement, fits_result}
+use Rattle.mon_monitor.specs.Candidates.{once, opposite, bound_of, around, guard_bounds, distinct, pool_limit, pool, bounded, kind_candidates, field_candidates, int_fields, pair_candidates, candidates_of}
 use Rattle.mon_wp.specs.Expressible.{is_expressible}
 
 both_hold : (a b : Bool) → a ≡ true → b ≡ true → (a && b) ≡ true

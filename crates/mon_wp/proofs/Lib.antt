@@ -13,3 +13,7 @@ mod WaitingForms
 mod WaitingGuards
 mod UnreadGuards
 mod CandidateBounds
+mod CandidateFields
+mod FormulaPlaces
+mod PlacedQueries
+pub mod FewerKept

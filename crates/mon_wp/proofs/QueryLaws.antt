@@ -45,7 +45,7 @@ query_exact monitor query v rule within =
     by_block (Some block) there fits =
         exact_triple (places_of monitor block) query.hyps block.body query.post v (fits block refl).few_fields (fits block refl).body
 
-all_truth : (v : Valuation) (parts : List Formula) → truth_of v (formulas.All parts) ≡ list_all (truth_of v) parts
+pub all_truth : (v : Valuation) (parts : List Formula) → truth_of v (formulas.All parts) ≡ list_all (truth_of v) parts
 all_truth v parts =
     ap (truth_of v) (sym (rolls-All parts)) ∙ fold-roll-Formula Bool (layer_truth v) (Every parts) ∙ list_all-map (λ part. part) (truth_of v) parts
 

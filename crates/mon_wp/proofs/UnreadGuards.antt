@@ -1,5 +1,5 @@
 -- A guard that reads no inputs is the same for a client that waits.
-use Rattle.std.proofs.Common.{◌≡◌, ℕ, ◌+◌, ◌<◌, ◌≤◌, Bool, true, false, ◌||◌, List, [], ◌∷◌, map, cond, sym, subst, arith, ap, refl, ◌∙◌}
+use Rattle.std.proofs.Common.{◌≡◌, ℕ, ◌+◌, Bool, true, false, ◌||◌, List, [], ◌∷◌, map, cond, sym, subst, arith, ap, refl, ◌∙◌}
 use Rattle.std.specs.Prelude.{nat_lt, nat_le}
 use Rattle.std.specs.List.{list_any}
 use Rattle.mon_linear.specs.declared.form.Term.{Term}

@@ -1,10 +1,11 @@
--- Hard queries, and small monitors, whose queries a prover has to decide.
+-- Hard queries, where all candidates are kept, and small monitors, whose claims have none: a prover has to decide those,
+-- since the variables of every query have few places.
 use Rattle.std.specs.Prelude.{◌≡◌, ◌<◌, ◌≤◌, ℕ, ◌-◌, pos, Bool, true, false, ◌&&◌, nat_le, List, [], ◌∷◌, length, slice_get}
 use Rattle.std.specs.List.{list_all, Contains}
 use Rattle.std.specs.Option.{IsSomeAnd}
 use Rattle.std.specs.Ordering.{int_eq}
 use Rattle.mon_linear.specs.declared.form.Term.{Term}
-use Rattle.mon_linear.specs.Differences.{is_difference}
+use Rattle.mon_linear.specs.Differences.{has_difference_rows}
 use Rattle.mon_linear.specs.declared.measure.TheConstants.{MOST_CUBES}
 use Rattle.mon_linear.specs.Measures.{cubes_of}
 use Rattle.mon_linear.specs.declared.formula.Formula.{Formula}
@@ -16,16 +17,12 @@ use Rattle.mon_monitor.specs.declared.monitor.Stmt.{Stmt}
 use Rattle.mon_monitor.specs.declared.monitor.Stmt.TheOpen.{Stmt-F, SetInt, SetBool, If}
 use Rattle.mon_monitor.specs.declared.monitor.Stmt.TheFolds.{fold-Stmt}
 use Rattle.mon_monitor.specs.MonitorParts.{MonitorParts}
-use Rattle.mon_monitor.specs.Candidates.{candidates_of, rows_of}
+use Rattle.mon_monitor.specs.Candidates.{candidates_of}
 use Rattle.mon_monitor.specs.Queries.{query_of}
 use Rattle.mon_wp.specs.NegatedQueries.{negated_query}
 use Rattle.mon_wp.specs.Limits.{is_query_within}
 
 -- ---- hard queries
-
--- each row of a formula bounds one variable, or the difference of two
-abbrev pub has_difference_rows : Formula → Bool
-has_difference_rows formula = list_all is_difference (rows_of formula)
 
 abbrev pub has_few_cubes : Formula → Bool
 has_few_cubes formula = nat_le (cubes_of formula) MOST_CUBES

@@ -3,4 +3,5 @@ pub mod NegatedQueries
 pub mod Limits
 pub mod Hardness
 pub mod Expressible
+pub mod QueryPlaces
 pub mod inner
