@@ -26,7 +26,8 @@ struct Branch<'a> {
 /// Whether the certificate refutes the formula, which is then true at no valuation.
 ///
 /// It follows one branch after the other from a list of its own and calls itself nowhere, so the depth of its
-/// calls is the same for every formula and certificate. It fails only for want of memory.
+/// calls is the same for every formula and certificate, and none is too deep for it. Making, copying and dropping a
+/// formula recurse as deep as it is: a stack of 8 MB bore 20,000 levels. It fails only for want of memory.
 pub fn accepts(alloc: Global, formula: &Formula, cert: &Cert) -> Result<bool, AllocError>
     ensures exact { IfOk result (λ accepted. IsTrue accepted ↔ Refutes formula.now cert.now) }
     ensures sound { IfOk result (λ accepted. IsTrue accepted

@@ -1,16 +1,16 @@
 -- Chains of sums that grow at their end.
-use Rattle.std.proofs.Common.{◌≡◌, ◌⊎◌, inl, inr, ℕ, zero, suc, ◌+◌, ◌<◌, ◌≤◌, Bool, true, false, not, cond, ◌&&◌, List, [], ◌∷◌, ◌++◌, length, Option, Some, None, sym, subst, arith, ap, refl, ◌∙◌}
+use Rattle.std.proofs.Common.{◌≡◌, inl, inr, ℕ, zero, suc, ◌+◌, Bool, true, false, ◌&&◌, List, [], ◌∷◌, ◌++◌, length, Option, Some, None, sym, subst, arith, ap, refl, ◌∙◌}
 use Rattle.std.specs.Prelude.{slice_get}
 use Rattle.std.specs.List.{AllByRecursion as Each}
 use Rattle.std.specs.Option.{is_some}
 use Rattle.mon_linear.specs.Linear.{Linear}
 use Rattle.mon_cert.specs.declared.cert.Combine.{Combine}
-use Rattle.mon_cert.specs.Refutes.{chain_closes, chain_goes, is_nil, is_absurd, made, made_of}
+use Rattle.mon_cert.specs.Refutes.{chain_closes, chain_goes, is_nil, is_absurd, made}
 use Rattle.mon_solve.specs.declared.rows.Numbered.{Numbered}
 use Rattle.mon_solve.specs.declared.elimination.Progress.{Progress}
 use Rattle.mon_solve.specs.declared.elimination.Progress.TheVariants.{Left, Closed, Stopped}
-use Rattle.mon_solve.specs.inner.Chains.{rows_after, chain_stands, HasNumber, State, IsSound, StaysSound}
-use Rattle.mon_solve.specs.inner.Steps.{IsKnown, IsPut, IsClosed, IsSummed, cancelling, sum_at, next_row}
+use Rattle.mon_solve.specs.inner.Chains.{rows_after, chain_stands, HasNumber, State, StandsAtNumbers, StaysSound}
+use Rattle.mon_solve.specs.inner.Steps.{IsPut, IsSummed, cancelling, sum_at, next_row}
 use Rattle.mon_solve.proofs.RowLemmas.{each_weaker, each_with}
 
 after_push : (combines : List Combine) (combine : Combine) (rows : List (Option Linear)) → rows_after (combines ++ combine ∷ []) rows ≡ rows_after combines rows ++ made combine (rows_after combines rows) ∷ []
@@ -59,7 +59,7 @@ push_length (first ∷ rows) new = let rest = push_length rows new in omega arit
 made_here : (rows : List (Option Linear)) (place : ℕ) (upper lower : Numbered) (row : Linear) → HasNumber rows upper → HasNumber rows lower → sum_at place upper lower ≡ Some row → made (cancelling place upper lower) rows ≡ Some row
 made_here rows place upper lower row up down is = rw (up, down) is
 
-pub put_sound : (rows : List (Option Linear)) (others : List Numbered) (combine : Combine) (row : Linear) (before after : State) → IsSound rows others before → made combine (rows_after before.combines rows) ≡ Some row → IsPut combine row before after → IsSound rows others after
+pub put_sound : (rows : List (Option Linear)) (others : List Numbered) (combine : Combine) (row : Linear) (before after : State) → StandsAtNumbers rows others before → made combine (rows_after before.combines rows) ≡ Some row → IsPut combine row before after → StandsAtNumbers rows others after
 put_sound rows others combine row before after sound is put =
     let now = ap (λ (combines : List Combine). rows_after combines rows) put.combines ∙ after_push before.combines combine rows ∙ ap (λ (some : Option Linear). rows_after before.combines rows ++ some ∷ []) is in
     let longer = ap length now ∙ push_length (rows_after before.combines rows) (Some row) in
@@ -77,9 +77,9 @@ put_sound rows others combine row before after sound is put =
     stays : rows_after after.combines rows ≡ rows_after before.combines rows ++ Some row ∷ [] → (numbered : Numbered) → HasNumber (rows_after before.combines rows) numbered → HasNumber (rows_after after.combines rows) numbered
     stays now numbered h = ap (λ (all : List (Option Linear)). slice_get all numbered.number) now ∙ get_more (rows_after before.combines rows) (Some row) (Some numbered.row) numbered.number h
 
-pub sum_sound : (rows : List (Option Linear)) (others : List Numbered) (place : ℕ) (upper lower : Numbered) (before after : State) (progress : Progress) → IsSound rows others before
+pub sum_sound : (rows : List (Option Linear)) (others : List Numbered) (place : ℕ) (upper lower : Numbered) (before after : State) (progress : Progress) → StandsAtNumbers rows others before
     → HasNumber (rows_after before.combines rows) upper → HasNumber (rows_after before.combines rows) lower → IsSummed place upper lower before after progress → StaysSound rows others after progress
-sum_sound rows others place upper lower before after Left sound up down (row, is, inl known) = subst (IsSound rows others) (sym known.same) sound
+sum_sound rows others place upper lower before after Left sound up down (row, is, inl known) = subst (StandsAtNumbers rows others) (sym known.same) sound
 sum_sound rows others place upper lower before after Left sound up down (row, is, inr put) = put_sound rows others (cancelling place upper lower) row before after sound (made_here _ place upper lower row up down is) put
 sum_sound rows others place upper lower before after Closed sound up down (row, is, closed) =
     ap (λ (combines : List Combine). chain_closes combines rows) closed.combines ∙ closes_push before.combines (cancelling place upper lower) rows row sound.made (made_here _ place upper lower row up down is) closed.absurd_row

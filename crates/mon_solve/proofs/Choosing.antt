@@ -1,16 +1,15 @@
 -- A variable that counts once, minus once or not at all can be chosen.
-use Rattle.std.proofs.Common.{◌≡◌, ◌⊎◌, inl, inr, ℕ, zero, suc, ◌+◌, ◌<◌, ◌≤◌, ◌^◌, ℤ, pos, neg_ℤ, ◌+ℤ◌, ◌-ℤ◌, ◌*ℤ◌, ◌≤ℤ◌, ◌<ℤ◌, Bool, true, false, not, cond, ◌&&◌, List, [], ◌∷◌, ◌++◌, map, Option, Some, None, sym, subst, arith, ap, refl, ◌∙◌}
-use Rattle.std.specs.Prelude.{◌==◌, nat_lt, int_le, int_lt}
+use Rattle.std.proofs.Common.{◌≡◌, ◌⊎◌, inl, inr, ℕ, ℤ, pos, neg_ℤ, ◌+ℤ◌, ◌-ℤ◌, ◌≤ℤ◌, Bool, true, false, not, cond, ◌&&◌, List, [], ◌∷◌, map, Option, Some, None, sym, subst, arith, ap, refl, ◌∙◌}
+use Rattle.std.specs.Prelude.{◌==◌}
 use Rattle.std.specs.List.{filter, AllByRecursion as Each}
 use Rattle.std.proofs.lemmas.Int.{ints}
 use Rattle.mon_linear.specs.declared.form.Term.{Term}
 use Rattle.mon_linear.specs.Linear.{Linear}
 use Rattle.mon_linear.specs.Truth.{Valuation, value_of, sum_of}
-use Rattle.mon_solve.specs.Refutation.{IsIn}
 use Rattle.mon_solve.specs.declared.rows.Numbered.{Numbered}
 use Rattle.mon_solve.specs.inner.Rows.{first_times, is_upper, is_lower, is_free}
-use Rattle.mon_solve.specs.inner.Differences.{once, minus_once, difference_terms, IsNode, IsShort, IsUpper, IsLower, Holds, PairHolds, RowsHold, with_number}
-use Rattle.mon_solve.proofs.RowLemmas.{each_weaker, each_filter}
+use Rattle.mon_solve.specs.inner.Differences.{once, minus_once, difference_terms, IsNode, IsShort, IsUpper, IsLower, RowHolds, PairHolds, RowsHold, with_number}
+use Rattle.mon_solve.proofs.RowLemmas.{each_weaker}
 use Rattle.mon_solve.proofs.DifferenceRows.{by_layout, number_at, difference_value}
 
 -- ---- numbers between
@@ -192,13 +191,13 @@ choose place rest bits v uppers lowers others up down free pairs held =
     let made = between (map (rest_of place v) lowers) (map (rest_of place v) uppers) (lows_and_highs place rest bits v uppers lowers up down pairs) in
     record {
       number = made.number;
-      upper_rows = each_both (IsUpper place rest bits) (λ (upper : Numbered). (made.number +ℤ rest_of place v upper) ≤ℤ pos 0) (Holds (with_number place made.number v))
+      upper_rows = each_both (IsUpper place rest bits) (λ (upper : Numbered). (made.number +ℤ rest_of place v upper) ≤ℤ pos 0) (RowHolds (with_number place made.number v))
           (λ upper is h. at_most_zero _ _ (upper_value place rest bits v made.number upper is) h) uppers up
           (each_mapped (λ (high : ℤ). (made.number +ℤ high) ≤ℤ pos 0) (rest_of place v) uppers made.under);
-      lower_rows = each_both (IsLower place rest bits) (λ (lower : Numbered). rest_of place v lower ≤ℤ made.number) (Holds (with_number place made.number v))
+      lower_rows = each_both (IsLower place rest bits) (λ (lower : Numbered). rest_of place v lower ≤ℤ made.number) (RowHolds (with_number place made.number v))
           (λ lower is h. less_at_most _ made.number (rest_of place v lower) (lower_value place rest bits v made.number lower is) h) lowers down
           (each_mapped (λ (low : ℤ). low ≤ℤ made.number) (rest_of place v) lowers made.over);
-      other_rows = each_both (IsFree place) (Holds v) (Holds (with_number place made.number v)) (λ other is h. at_most_zero _ _ (is v made.number) h) others free held;
+      other_rows = each_both (IsFree place) (RowHolds v) (RowHolds (with_number place made.number v)) (λ other is h. at_most_zero _ _ (is v made.number) h) others free held;
     }
 
 -- ---- the three kinds of rows

@@ -1,11 +1,10 @@
 -- A list of different things among so many is at most as long, and so few rows are kept.
-use Rattle.std.proofs.Common.{◌≡◌, ◌⊎◌, inl, inr, ℕ, zero, suc, ◌+◌, ◌*◌, ◌<◌, ◌≤◌, List, [], ◌∷◌, ◌++◌, length, map, Option, Some, None, sym, subst, arith, ap, refl, ◌∙◌}
+use Rattle.std.proofs.Common.{◌≡◌, inl, inr, ℕ, suc, ◌+◌, ◌*◌, ◌≤◌, List, [], ◌∷◌, ◌++◌, length, map, Option, Some, None, sym, subst, arith, ap, refl, ◌∙◌}
 use Rattle.std.specs.List.{AllByRecursion as Each}
 use Rattle.mon_linear.specs.declared.form.Term.{Term}
-use Rattle.mon_solve.specs.Refutation.{IsIn}
+use Rattle.mon_linear.specs.Places.{IsIn}
 use Rattle.mon_solve.specs.declared.rows.Numbered.{Numbered}
 use Rattle.mon_solve.specs.inner.Differences.{difference_terms, IsNode, IsShort, Apart}
-use Rattle.mon_solve.proofs.RowLemmas.{each_weaker}
 use Rattle.mon_solve.proofs.Choosing.{Among}
 
 -- ---- different things

@@ -1,21 +1,18 @@
 -- Difference rows, and sums of two in which a variable goes.
-use Rattle.std.proofs.Common.{◌≡◌, ◌⊎◌, inl, inr, ℕ, zero, suc, ◌+◌, ◌*◌, ◌<◌, ◌≤◌, ◌^◌, ℤ, pos, neg_ℤ, ◌+ℤ◌, ◌-ℤ◌, ◌*ℤ◌, ◌≤ℤ◌, ◌<ℤ◌, Bool, true, false, not, cond, ◌&&◌, List, [], ◌∷◌, ◌++◌, Option, Some, None, sym, subst, arith, ap, refl, ◌∙◌}
-use Rattle.std.specs.Prelude.{◌==◌, nat_lt, int_le, int_lt}
-use Rattle.std.specs.List.{list_all, AllByRecursion as Each}
-use Rattle.std.proofs.lemmas.Bool.{cases_lt}
+use Rattle.std.proofs.Common.{◌≡◌, ℕ, suc, ◌+◌, ◌<◌, ◌≤◌, ◌^◌, ℤ, pos, neg_ℤ, ◌+ℤ◌, ◌-ℤ◌, ◌*ℤ◌, ◌≤ℤ◌, ◌<ℤ◌, Bool, true, false, cond, ◌&&◌, List, [], ◌∷◌, Option, Some, None, sym, arith, ap, refl, ◌∙◌}
+use Rattle.std.specs.Prelude.{nat_lt, int_le, int_lt}
+use Rattle.std.specs.List.{list_all}
 use Rattle.std.proofs.lemmas.Int.{ints}
 use Rattle.std.proofs.Math.Nat.{pow-suc}
 use Rattle.std.proofs.Math.Pow.{pow_mono}
 use Rattle.mon_linear.specs.declared.form.Term.{Term}
 use Rattle.mon_linear.specs.Linear.{Linear}
 use Rattle.mon_linear.specs.Truth.{Valuation, value_of, sum_of}
-use Rattle.mon_linear.specs.Sums.{combined_terms, sum_of_multiples, sum_fits, fits_128, product_fits, term_fits, terms_fit, constants_fit}
+use Rattle.mon_linear.specs.Sums.{combined_terms, sum_of_multiples, sum_fits, fits_128, product_fits, term_fits}
 use Rattle.mon_linear.proofs.SumLemmas.{combined_value, sum_value}
-use Rattle.mon_solve.specs.Refutation.{IsIn}
 use Rattle.mon_solve.specs.declared.rows.Numbered.{Numbered}
-use Rattle.mon_solve.specs.inner.Rows.{first_times}
-use Rattle.mon_solve.specs.inner.Differences.{once, minus_once, difference_terms, IsNode, IsShort, IsUpper, IsLower, Holds, PairHolds, with_number}
-use Rattle.mon_solve.proofs.Terms.{Rises, Counts, IsProper, combined_proper, one_at, proper_unique}
+use Rattle.mon_solve.specs.inner.Differences.{once, minus_once, difference_terms, IsNode, IsUpper, IsLower}
+use Rattle.mon_solve.proofs.Terms.{Counts, IsProper, combined_proper, one_at, proper_unique}
 
 -- ---- which of two places is lower
 

@@ -1,5 +1,5 @@
 -- The rows and the places of formulas.
-use Rattle.std.proofs.Common.{◌≡◌, ℕ, zero, suc, ◌+◌, ◌<◌, ◌≤◌, min, Bool, true, false, ◌&&◌, List, [], ◌∷◌, ◌++◌, length, map, take, get_or, reverse, Option, Some, None, sym, subst, arith, ap, refl, ◌∙◌}
+use Rattle.std.proofs.Common.{◌≡◌, ℕ, ◌+◌, ◌<◌, ◌≤◌, min, Bool, true, false, ◌&&◌, List, [], ◌∷◌, ◌++◌, length, map, take, get_or, Option, Some, None, sym, subst, arith, ap, refl, ◌∙◌}
 use Rattle.std.specs.Prelude.{nat_le, IsTrue}
 use Rattle.std.specs.List.{list_all, flat_map, AllByRecursion as Each}
 use Rattle.std.proofs.lemmas.List.{take_more}
@@ -11,12 +11,12 @@ use Rattle.mon_linear.specs.declared.formula.Formula.TheFolds.{fold-roll-Formula
 use Rattle.mon_linear.specs.Differences.{is_difference}
 use Rattle.mon_linear.specs.Linear.{Linear}
 use Rattle.mon_linear.specs.Measures.{cubes_of, nodes_of}
-use Rattle.mon_linear.specs.Truth.{Valuation, truth_of}
 use Rattle.mon_cert.specs.declared.cert.Cert.{Cert}
 use Rattle.mon_cert.specs.declared.cert.Literal.{Literal}
-use Rattle.mon_solve.specs.Refutation.{IsIn, HasPlaces, rows_layer, rows_of, HasFewPlaces, IsDecidable, HoldsSomewhere, IsAnswer}
+use Rattle.mon_linear.specs.Places.{IsIn, HasPlaces, rows_layer, rows_of, HasFewPlaces}
+use Rattle.mon_solve.specs.Refutation.{IsDecidable, HoldsSomewhere, IsAnswer}
 use Rattle.mon_solve.specs.inner.Literals.{noted}
-use Rattle.mon_solve.specs.inner.Searches.{weight, terms_of, terms_in, IsSmallRow, IsSmall, CanHold, IsFound}
+use Rattle.mon_solve.specs.inner.Searches.{weight, terms_of, terms_in, IsSmallRow, CanHold, IsFound}
 use Rattle.mon_solve.proofs.RowLemmas.{each_append, each_first, each_last}
 use Rattle.mon_solve.proofs.PlaceLemmas.{noted-append, noted_has, noted_few}
 use Rattle.mon_solve.proofs.SearchLemmas.{all_rows, any_rows}

@@ -1,4 +1,5 @@
 pub mod RowLemmas
+mod BucketLemmas
 mod Terms
 mod DifferenceRows
 mod Choosing

@@ -1,13 +1,12 @@
 -- The literals of a cube: their clashes, their rows and where they are true.
-use Rattle.std.proofs.Common.{◌≡◌, ◌⊎◌, inl, inr, ℕ, zero, suc, ◌+◌, ◌*◌, ◌<◌, ◌≤◌, ◌^◌, ℤ, pos, neg_ℤ, ◌+ℤ◌, ◌*ℤ◌, ◌≤ℤ◌, ◌<ℤ◌, Bool, true, false, not, cond, ◌&&◌, ◌||◌, List, [], ◌∷◌, ◌++◌, length, map, take, get_or, lit≤, Option, Some, None, sym, subst, arith, ap, refl, ◌∙◌}
+use Rattle.std.proofs.Common.{◌≡◌, ◌⊎◌, inl, inr, ℕ, zero, suc, ◌+◌, ◌<◌, ◌≤◌, ◌^◌, ℤ, pos, neg_ℤ, ◌+ℤ◌, ◌*ℤ◌, ◌≤ℤ◌, ◌<ℤ◌, Bool, true, false, not, cond, ◌&&◌, ◌||◌, List, [], ◌∷◌, ◌++◌, length, map, take, get_or, lit≤, Option, Some, None, sym, subst, arith, ap, refl, ◌∙◌}
 use Rattle.std.specs.Prelude.{◌==◌, nat_lt, int_le, int_lt, slice_get}
-use Rattle.std.specs.List.{list_any, flat_map, position, position_or_len, AllByRecursion as Each}
+use Rattle.std.specs.List.{list_any, position, position_or_len, AllByRecursion as Each}
 use Rattle.std.proofs.lemmas.Int.{ints}
 use Rattle.std.proofs.lemmas.List.{take_more}
 use Rattle.std.proofs.lemmas.List.Quantifiers.{position-Some}
 use Rattle.mon_linear.specs.declared.form.Term.{Term}
-use Rattle.mon_linear.specs.Linear.{Linear, IsLinear}
-use Rattle.mon_linear.specs.Differences.{is_difference}
+use Rattle.mon_linear.specs.Linear.{Linear}
 use Rattle.mon_linear.specs.Truth.{Valuation, value_of}
 use Rattle.mon_linear.specs.Sums.{sum_of_multiples, sum_fits, fits_128}
 use Rattle.mon_cert.specs.declared.cert.Combine.{Combine}
@@ -18,14 +17,14 @@ use Rattle.mon_cert.specs.declared.cert.Cert.TheOpen.{Cert-F}
 use Rattle.mon_cert.specs.declared.cert.Cert.TheViews.{roll-Cert, out-roll-Cert}
 use Rattle.mon_cert.specs.declared.cert.Literal.{Literal}
 use Rattle.mon_cert.specs.declared.cert.Literal.TheVariants.{Row, Flag}
-use Rattle.mon_cert.specs.Refutes.{are_opposite, chain_closes, closes, is_absurd, literal_truth, made, made_of, row_of}
-use Rattle.mon_solve.specs.Refutation.{HasPlaces, IsIn}
+use Rattle.mon_cert.specs.Refutes.{chain_closes, closes, is_absurd, literal_truth, made_of, row_of}
+use Rattle.mon_linear.specs.Places.{HasPlaces, IsIn}
 use Rattle.mon_solve.specs.declared.rows.Numbered.{Numbered}
 use Rattle.mon_solve.specs.inner.Rows.{is_as_tight, with_row}
-use Rattle.mon_solve.specs.inner.Chains.{HasNumber, State, IsSound}
-use Rattle.mon_solve.specs.inner.Differences.{Apart, Holds, IsShort, IsReady, RowsHold, CanSolve, EliminatesAll}
-use Rattle.mon_solve.specs.inner.Literals.{noted, terms_in_literal, terms_in_literals, is_opposite, is_absurd_literal, IsSmallLiteral, AreSmall, AreTrue, LiteralHolds, HasClash, IsLiteral, HaveNoAbsurd, HasAbsurd, IsGatheredRow, IsGathered, IsStartOf, IsStart, IsRefuting, CanBeTrue}
-use Rattle.mon_solve.proofs.RowLemmas.{each_get, each_push, each_append, each_first, each_last, each_weaker, each_with, new_among, with_apart, covered, known_holds}
+use Rattle.mon_solve.specs.inner.Chains.{HasNumber, State, StandsAtNumbers}
+use Rattle.mon_solve.specs.inner.Differences.{Apart, RowHolds, IsShort, RowsHold, EliminatesAll}
+use Rattle.mon_solve.specs.inner.Literals.{noted, terms_in_literal, terms_in_literals, is_opposite, is_absurd_literal, IsSmallLiteral, AreSmall, AreTrue, LiteralHolds, HasClash, FitsLiteral, HaveNoAbsurd, IsGatheredRow, IsGathered, IsStartOf, IsStart, IsRefuting, CanBeTrue}
+use Rattle.mon_solve.proofs.RowLemmas.{each_push, each_append, each_first, each_last, each_with, new_among, with_apart, covered, known_holds}
 use Rattle.mon_solve.proofs.Counting.{few_rows}
 use Rattle.mon_solve.proofs.ShortRows.{short_of}
 use Rattle.mon_solve.proofs.PlaceLemmas.{noted-append, noted_has, noted_few}
@@ -69,6 +68,18 @@ position_none p xs h = by_test (nat_lt (position_or_len p xs) (length xs)) refl 
     by_test : (found : Bool) → nat_lt (position_or_len p xs) (length xs) ≡ found → cond found (Some (position_or_len p xs)) None ≡ None → list_any p xs ≡ false
     by_test true e h = absurd cc
     by_test false e h = len_none p xs (grind arith)
+
+unopposed_length : (form : Linear) (literals : List Literal) → position_or_len (is_opposite (Row form)) literals ≡ length literals
+unopposed_length form [] = refl
+unopposed_length form (literal ∷ literals) = let more = unopposed_length form literals in omega arith
+
+-- No literal is opposite to a row.
+pub row_unopposed : (form : Linear) (literals : List Literal) → None ≡ position (is_opposite (Row form)) literals
+row_unopposed form literals = by_test (nat_lt (position_or_len (is_opposite (Row form)) literals) (length literals)) refl
+  where
+    by_test : (there : Bool) → nat_lt (position_or_len (is_opposite (Row form)) literals) (length literals) ≡ there → None ≡ cond there (Some (position_or_len (is_opposite (Row form)) literals)) None
+    by_test true e = let all = unopposed_length form literals in absurd (grind arith)
+    by_test false e = refl
 
 pub clash_found : (literals : List Literal) (i other : ℕ) (literal : Literal) → i < length literals → literal ≡ get_or literals i literal → position (is_opposite literal) literals ≡ Some other
     → closes literals (out-Cert (certificates.Clash i other)) ≡ true
@@ -122,7 +133,7 @@ gets_row [] i form is = absurd cc
 gets_row (first ∷ literals) zero form is = let same : first ≡ Row form = cc in ap (λ (literal : Literal). Some (row_of literal)) same
 gets_row (first ∷ literals) (suc i) form is = gets_row literals i form is
 
-absurd_row : (literals : List Literal) (i : ℕ) (literal : Literal) → i < length literals → slice_get literals i ≡ Some literal → is_absurd_literal literal ≡ true → IsLiteral literal
+absurd_row : (literals : List Literal) (i : ℕ) (literal : Literal) → i < length literals → slice_get literals i ≡ Some literal → is_absurd_literal literal ≡ true → FitsLiteral literal
     → chain_closes (record { left = i; left_times = pos 1; right = i; right_times = pos 0 } ∷ []) (map row_of literals) ≡ true
 absurd_row literals i (Row form) h is e linear =
     let empty = empty_form form e in
@@ -130,7 +141,7 @@ absurd_row literals i (Row form) h is e linear =
     (gets_row literals i form is ∙ ap (λ (row : Linear). Some (Some row)) empty.0)
 absurd_row literals i (Flag place truth) h is e linear = absurd cc
 
-pub absurd_found : (literals : List Literal) (i : ℕ) (literal : Literal) → i < length literals → literal ≡ get_or literals i literal → is_absurd_literal literal ≡ true → IsLiteral literal
+pub absurd_found : (literals : List Literal) (i : ℕ) (literal : Literal) → i < length literals → literal ≡ get_or literals i literal → is_absurd_literal literal ≡ true → FitsLiteral literal
     → chain_closes (record { left = i; left_times = pos 1; right = i; right_times = pos 0 } ∷ []) (map row_of literals) ≡ true
 absurd_found literals i literal h is e linear = absurd_row literals i literal h (gets literals i literal h is) e linear
 
@@ -165,7 +176,7 @@ row_gathered literals i form before after h is next start gathered = by_kept gat
       covers = λ v held.
           let with_held = subst (RowsHold v) put held in
           subst (Each (LiteralHolds v)) (sym next)
-          (each_push (LiteralHolds v) (take i literals) (Row form) (start.covers v (covered v before (record { number = i; row = form }) none with_held)) (new_among (Holds v) before (record { number = i; row = form }) with_held));
+          (each_push (LiteralHolds v) (take i literals) (Row form) (start.covers v (covered v before (record { number = i; row = form }) none with_held)) (new_among (RowHolds v) before (record { number = i; row = form }) with_held));
       each = λ places small sane.
           let smalls = subst (Each (IsSmallLiteral places)) next small in
           let sanes = subst HaveNoAbsurd next sane in
@@ -242,8 +253,8 @@ row_count (literal ∷ literals) = let rest = row_count literals in omega arith
 pub chain_found : (literals : List Literal) (places : List ℕ) (kept : List Numbered) (combines : List Combine) (next : ℕ) (after : State) → combines ≡ [] → next ≡ length literals → IsStart literals kept
     → EliminatesAll places (record { kept = kept; combines = combines; next = next }) after true → chain_closes after.combines (map row_of literals) ≡ true
 chain_found literals places kept combines next after none count start found =
-    let sound : IsSound (map row_of literals) [] (record { kept = kept; combines = []; next = length literals }) = record { made = refl; count = row_count literals; others_stand = tt; kept_stand = start.numbers } in
-    found (map row_of literals) (subst (λ (n : ℕ). IsSound (map row_of literals) [] (record { kept = kept; combines = combines; next = n })) (sym count) (subst (λ (some : List Combine). IsSound (map row_of literals) [] (record { kept = kept; combines = some; next = length literals })) (sym none) sound))
+    let sound : StandsAtNumbers (map row_of literals) [] (record { kept = kept; combines = []; next = length literals }) = record { made = refl; count = row_count literals; others_stand = tt; kept_stand = start.numbers } in
+    found (map row_of literals) (subst (λ (n : ℕ). StandsAtNumbers (map row_of literals) [] (record { kept = kept; combines = combines; next = n })) (sym count) (subst (λ (some : List Combine). StandsAtNumbers (map row_of literals) [] (record { kept = kept; combines = some; next = length literals })) (sym none) sound))
 
 pub none_found : (literals : List Literal) (places places_noted : List ℕ) (kept : List Numbered) (combines : List Combine) (next : ℕ) (after : State) → length literals ≤ 65536 → next ≡ length literals → places ≡ places_noted → places_noted ≡ noted [] (terms_in_literals literals)
     → IsStart literals kept → HaveNoAbsurd literals → EliminatesAll places (record { kept = kept; combines = combines; next = next }) after false → IsRefuting literals None

@@ -1,19 +1,17 @@
 -- The loops over the upper and the lower rows.
-use Rattle.std.proofs.Common.{◌≡◌, ◌⊎◌, inl, inr, ℕ, zero, suc, ◌+◌, ◌*◌, ◌<◌, ◌≤◌, ◌^◌, ℤ, pos, neg_ℤ, ◌+ℤ◌, ◌≤ℤ◌, ◌<ℤ◌, Bool, true, false, cond, ◌&&◌, List, [], ◌∷◌, ◌++◌, length, take, get_or, Option, Some, None, sym, subst, arith, ap, refl, ◌∙◌}
+use Rattle.std.proofs.Common.{◌≡◌, ℕ, zero, suc, ◌+◌, ◌*◌, ◌<◌, ◌≤◌, ◌^◌, ℤ, pos, neg_ℤ, ◌≤ℤ◌, ◌<ℤ◌, Bool, true, false, cond, List, [], ◌∷◌, ◌++◌, length, take, get_or, Option, sym, subst, arith, ap, refl, ◌∙◌}
 use Rattle.std.specs.List.{filter, AllByRecursion as Each}
 use Rattle.std.proofs.lemmas.Int.{ints}
 use Rattle.std.proofs.lemmas.List.{take_more}
 use Rattle.mon_linear.specs.Linear.{Linear}
-use Rattle.mon_linear.specs.Truth.{Valuation, value_of}
-use Rattle.mon_cert.specs.declared.cert.Combine.{Combine}
 use Rattle.mon_solve.specs.declared.rows.Numbered.{Numbered}
 use Rattle.mon_solve.specs.declared.elimination.Progress.{Progress}
 use Rattle.mon_solve.specs.declared.elimination.Progress.TheVariants.{Left, Closed, Stopped}
-use Rattle.mon_solve.specs.inner.Rows.{first_times, is_upper, is_lower, is_free}
-use Rattle.mon_solve.specs.inner.Chains.{rows_after, HasNumber, State, IsSound, StaysSound, KeepsSound}
+use Rattle.mon_solve.specs.inner.Rows.{is_upper, is_lower, is_free}
+use Rattle.mon_solve.specs.inner.Chains.{rows_after, HasNumber, State, StaysSound, KeepsSound}
 use Rattle.mon_solve.specs.inner.Steps.{IsSummed}
-use Rattle.mon_solve.specs.inner.Differences.{difference_terms, IsShort, IsReady, IsUpper, IsLower, Apart, Holds, PairHolds, RowsHold, IsCase, HasSums, AddsSums, LowersHold, PairsHold, AddsPairs, with_number, IsEliminated, Eliminates, CanEliminate}
-use Rattle.mon_solve.proofs.RowLemmas.{each_get, each_push, each_append, each_first, each_last, each_weaker, each_filter}
+use Rattle.mon_solve.specs.inner.Differences.{IsShort, AreReadyRows, IsUpper, IsLower, Apart, RowHolds, PairHolds, IsCase, HasSums, AddsSums, LowersHold, PairsHold, AddsPairs, with_number, CanEliminate}
+use Rattle.mon_solve.proofs.RowLemmas.{each_get, each_push, each_append, each_first, each_last, each_filter}
 use Rattle.mon_solve.proofs.DifferenceRows.{doubled}
 use Rattle.mon_solve.proofs.Choosing.{Kind, above_it, below_it, free_of, kind_of, IsFree, choose, each_kind}
 use Rattle.mon_solve.proofs.Counting.{few_rows}
@@ -259,7 +257,7 @@ filter_length test (first ∷ rows) = by_test (test first) (filter_length test r
 pairs_below : (u l : ℕ) → u ≤ 1089 → l ≤ 1089 → u * l ≤ 2097152
 pairs_below u l h g = grind arith
 
-pub few_pairs : (place : ℕ) (rest : List ℕ) (bits : ℕ) (before : State) → length rest < 32 → IsReady (place ∷ rest) bits before → length (filter (is_upper place) before.kept) * length (filter (is_lower place) before.kept) ≤ 2097152
+pub few_pairs : (place : ℕ) (rest : List ℕ) (bits : ℕ) (before : State) → length rest < 32 → AreReadyRows (place ∷ rest) bits before → length (filter (is_upper place) before.kept) * length (filter (is_lower place) before.kept) ≤ 2097152
 few_pairs place rest bits before few ready =
     let most = few_rows (place ∷ rest) bits before.kept (omega arith) ready.each ready.apart in
     let up = filter_length (is_upper place) before.kept in
@@ -269,7 +267,7 @@ few_pairs place rest bits before few ready =
 room_left : (a p m : ℕ) → a + 2097152 < m → p ≤ 2097152 → a + p < m
 room_left a p m h g = omega arith
 
-eliminate_case : (place : ℕ) (rest : List ℕ) (bits : ℕ) (before : State) → length rest < 32 → bits < 127 → IsReady (place ∷ rest) bits before → before.next + 2 ^ 21 < 2 ^ 32
+eliminate_case : (place : ℕ) (rest : List ℕ) (bits : ℕ) (before : State) → length rest < 32 → bits < 127 → AreReadyRows (place ∷ rest) bits before → before.next + 2 ^ 21 < 2 ^ 32
     → IsCase place rest bits (filter (is_upper place) before.kept) (filter (is_lower place) before.kept) (length (filter (is_upper place) before.kept) * length (filter (is_lower place) before.kept)) (sides_left place before)
 eliminate_case place rest bits before few small ready room = record {
   few = few;
@@ -298,7 +296,7 @@ eliminates place before after Left adds rest bits few small ready room =
       chosen = λ v held.
           let chosen = choose place rest bits v (filter (is_upper place) before.kept) (filter (is_lower place) before.kept) (filter (is_free place) before.kept) case.each_upper case.each_lower
           (each_filter (IsShort (place ∷ rest) bits) (IsFree place) (is_free place) (λ n short e. (free_kind place rest bits n short e).1) before.kept ready.each) (sums.sums v held) (sums.covers v held) in
-          (chosen.number, each_kind (Holds (with_number place chosen.number v)) place before.kept chosen.upper_rows chosen.lower_rows chosen.other_rows);
+          (chosen.number, each_kind (RowHolds (with_number place chosen.number v)) place before.kept chosen.upper_rows chosen.lower_rows chosen.other_rows);
     }
 eliminates place before after Closed adds rest bits few small ready room = tt
 eliminates place before after Stopped adds rest bits few small ready room = adds rest bits (eliminate_case place rest bits before few small ready room)

@@ -1,10 +1,10 @@
 -- Places, each once.
-use Rattle.std.proofs.Common.{◌≡◌, ◌⊎◌, inl, inr, ℕ, zero, suc, ◌+◌, ◌<◌, ◌≤◌, Bool, true, false, cond, ◌||◌, List, [], ◌∷◌, ◌++◌, length, take, drop, get_or, sym, subst, arith, ap, refl, ◌∙◌}
+use Rattle.std.proofs.Common.{◌≡◌, inl, inr, ℕ, zero, suc, ◌+◌, ◌<◌, ◌≤◌, Bool, true, false, cond, ◌||◌, List, [], ◌∷◌, ◌++◌, length, take, get_or, sym, arith, ap, refl, ◌∙◌}
 use Rattle.std.specs.Prelude.{◌==◌}
-use Rattle.std.specs.List.{list_any, flat_map, AllByRecursion as Each}
+use Rattle.std.specs.List.{list_any, AllByRecursion as Each}
 use Rattle.std.proofs.lemmas.List.{take_more}
 use Rattle.mon_linear.specs.declared.form.Term.{Term}
-use Rattle.mon_solve.specs.Refutation.{HasPlaces, IsIn}
+use Rattle.mon_linear.specs.Places.{HasPlaces, IsIn}
 use Rattle.mon_solve.specs.inner.Literals.{with_place, noted}
 use Rattle.mon_solve.proofs.RowLemmas.{each_push, each_weaker}
 use Rattle.mon_solve.proofs.Choosing.{Among}

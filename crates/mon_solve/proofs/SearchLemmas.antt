@@ -1,6 +1,6 @@
 -- The stack of what is left to do.
-use Rattle.std.proofs.Common.{◌≡◌, ◌⊎◌, inl, inr, ℕ, zero, suc, ◌+◌, ◌-◌, ◌<◌, ◌≤◌, ℤ, pos, Bool, true, false, not, cond, ◌&&◌, ◌||◌, List, [], ◌∷◌, ◌++◌, length, map, reverse, take, get_or, sum, Option, Some, None, sym, subst, arith, ap, refl, ◌∙◌}
-use Rattle.std.specs.Prelude.{slice_get, int_le}
+use Rattle.std.proofs.Common.{◌≡◌, ◌⊎◌, inl, inr, ℕ, zero, suc, ◌+◌, ◌-◌, ◌<◌, ◌≤◌, Bool, true, false, ◌||◌, List, [], ◌∷◌, ◌++◌, length, map, reverse, take, get_or, sum, Option, Some, None, sym, subst, arith, ap, refl, ◌∙◌}
+use Rattle.std.specs.Prelude.{slice_get}
 use Rattle.std.specs.List.{fold, list_all, list_any, flat_map, AllByRecursion as Each}
 use Rattle.std.proofs.lemmas.List.{reverse-append, reverse-reverse}
 use Rattle.mon_linear.specs.declared.formula.Formula.{Formula}
@@ -9,15 +9,15 @@ use Rattle.mon_linear.specs.declared.formula.Formula.TheOpen as layers
 use Rattle.mon_linear.specs.declared.formula.Formula.TheFolds.{fold-roll-Formula}
 use Rattle.mon_linear.specs.Linear.{Linear}
 use Rattle.mon_linear.specs.Measures.{nodes_of, nodes_layer}
-use Rattle.mon_linear.specs.Truth.{Valuation, layer_truth, truth_of, value_of}
+use Rattle.mon_linear.specs.Truth.{Valuation, layer_truth, truth_of}
 use Rattle.mon_cert.specs.declared.cert.Cert.{Cert, out-Cert}
 use Rattle.mon_cert.specs.declared.cert.Cert.TheVariants as certificates
 use Rattle.mon_cert.specs.declared.cert.Literal.{Literal}
 use Rattle.mon_cert.specs.declared.cert.Literal.TheVariants.{Row, Flag}
 use Rattle.mon_cert.specs.Refutes.{RefutesFrom, row, flag, every, split, closed, ended, closes, literal_truth}
-use Rattle.mon_solve.specs.Refutation.{rows_of, rows_layer}
-use Rattle.mon_solve.specs.inner.Literals.{IsSmallLiteral, AreSmall, AreTrue, CanBeTrue, IsClosing}
-use Rattle.mon_solve.specs.inner.Searches.{weight, IsSmallRow, IsSmall, CanHold, IsPutOff, IsAnyOf, IsFound, IsFoundAt}
+use Rattle.mon_linear.specs.Places.{rows_of, rows_layer}
+use Rattle.mon_solve.specs.inner.Literals.{IsSmallLiteral, IsClosing}
+use Rattle.mon_solve.specs.inner.Searches.{weight, IsSmallRow, HasSmallRows, CanHold, IsPutOff, IsAnyOf, IsFound, IsFoundAt}
 use Rattle.mon_solve.proofs.RowLemmas.{each_push, each_append, each_first, each_last}
 
 -- ---- reversed lists
@@ -113,7 +113,7 @@ all_rows parts = ap rows_of (sym (formulas.rolls-All parts)) ∙ fold-roll-Formu
 pub any_rows : (parts : List Formula) → rows_of (formulas.Any parts) ≡ flat_map (λ rows. rows) (map rows_of parts)
 any_rows parts = ap rows_of (sym (formulas.rolls-Any parts)) ∙ fold-roll-Formula (List Linear) rows_layer (layers.Any parts)
 
-parts_small : (few : List ℕ) (parts : List Formula) → Each (IsSmallRow few) (flat_map (λ rows. rows) (map rows_of parts)) → Each (IsSmall few) parts
+parts_small : (few : List ℕ) (parts : List Formula) → Each (IsSmallRow few) (flat_map (λ rows. rows) (map rows_of parts)) → Each (HasSmallRows few) parts
 parts_small few [] all = tt
 parts_small few (part ∷ parts) all =
     (each_first (IsSmallRow few) (rows_of part) (flat_map (λ rows. rows) (map rows_of parts)) all, parts_small few parts (each_last (IsSmallRow few) (rows_of part) (flat_map (λ rows. rows) (map rows_of parts)) all))
@@ -132,8 +132,8 @@ put_row todo literals form =
     record {
       refutes = λ cert h. row form (reverse todo) literals cert h;
       solves = λ can few short small each.
-          let form_small = subst (Each (IsSmallRow few)) (row_rows form) (each_last (IsSmall few) todo (formulas.Row form ∷ []) each).0 in
-          let held = can few short (each_push (IsSmallLiteral few) literals (Row form) small form_small.0) (each_first (IsSmall few) todo (formulas.Row form ∷ []) each) in (
+          let form_small = subst (Each (IsSmallRow few)) (row_rows form) (each_last (HasSmallRows few) todo (formulas.Row form ∷ []) each).0 in
+          let held = can few short (each_push (IsSmallLiteral few) literals (Row form) small form_small.0) (each_first (HasSmallRows few) todo (formulas.Row form ∷ []) each) in (
             held.0,
             each_first (λ (literal : Literal). literal_truth held.0 literal ≡ true) literals (Row form ∷ []) held.1,
             each_push (λ (formula : Formula). truth_of held.0 formula ≡ true) todo (formulas.Row form) held.2
@@ -150,7 +150,7 @@ put_flag todo literals place is =
     record {
       refutes = λ cert h. flag place is (reverse todo) literals cert h;
       solves = λ can few short small each.
-          let held = can few short (each_push (IsSmallLiteral few) literals (Flag place is) small tt) (each_first (IsSmall few) todo (formulas.Flag place is ∷ []) each) in (
+          let held = can few short (each_push (IsSmallLiteral few) literals (Flag place is) small tt) (each_first (HasSmallRows few) todo (formulas.Flag place is ∷ []) each) in (
             held.0,
             each_first (λ (literal : Literal). literal_truth held.0 literal ≡ true) literals (Flag place is ∷ []) held.1,
             each_push (λ (formula : Formula). truth_of held.0 formula ≡ true) todo (formulas.Flag place is) held.2
@@ -169,8 +169,8 @@ put_all todo literals parts =
       refutes = λ cert h. every parts (reverse todo) literals cert
           (subst (λ (left : List Formula). RefutesFrom left literals cert) (reverse-append todo (reverse parts) ∙ ap (λ (some : List Formula). some ++ reverse todo) (reverse-reverse parts)) h);
       solves = λ can few short small each.
-          let small_parts = parts_small few parts (subst (Each (IsSmallRow few)) (all_rows parts) (each_last (IsSmall few) todo (formulas.All parts ∷ []) each).0) in
-          let held = can few short small (each_append (IsSmall few) todo (reverse parts) (each_first (IsSmall few) todo (formulas.All parts ∷ []) each) (each_reverse (IsSmall few) parts small_parts)) in
+          let small_parts = parts_small few parts (subst (Each (IsSmallRow few)) (all_rows parts) (each_last (HasSmallRows few) todo (formulas.All parts ∷ []) each).0) in
+          let held = can few short small (each_append (HasSmallRows few) todo (reverse parts) (each_first (HasSmallRows few) todo (formulas.All parts ∷ []) each) (each_reverse (HasSmallRows few) parts small_parts)) in
           let parts_held = each_unreverse (λ (formula : Formula). truth_of held.0 formula ≡ true) parts (each_last (λ (formula : Formula). truth_of held.0 formula ≡ true) todo (reverse parts) held.2) in (
             held.0,
             held.1,
@@ -320,8 +320,8 @@ pub part_holds : (parts todo stack copied : List Formula) (literals gathered : L
     → stack ≡ copied ++ copy ∷ [] → copied ≡ todo → copy ≡ part → gathered ≡ literals → IsFound stack gathered None → IsFoundAt parts todo literals None
 part_holds parts todo stack copied literals gathered copy part i l is e f g h found few short small each =
     let at = gets parts i part l is in
-    let smalls = parts_small few parts (subst (Each (IsSmallRow few)) (any_rows parts) (each_last (IsSmall few) todo (formulas.Any parts ∷ []) each).0) in
-    let held = part_found todo stack copied literals gathered copy part None e f g h found few short small (each_push (IsSmall few) todo part (each_first (IsSmall few) todo (formulas.Any parts ∷ []) each) (each_of (IsSmall few) parts i part at smalls)) in (
+    let smalls = parts_small few parts (subst (Each (IsSmallRow few)) (any_rows parts) (each_last (HasSmallRows few) todo (formulas.Any parts ∷ []) each).0) in
+    let held = part_found todo stack copied literals gathered copy part None e f g h found few short small (each_push (HasSmallRows few) todo part (each_first (HasSmallRows few) todo (formulas.Any parts ∷ []) each) (each_of (HasSmallRows few) parts i part at smalls)) in (
       held.0,
       held.1,
       each_push (λ (formula : Formula). truth_of held.0 formula ≡ true) todo (formulas.Any parts) (each_first (λ (formula : Formula). truth_of held.0 formula ≡ true) todo (part ∷ []) held.2)

@@ -1,6 +1,5 @@
 -- What the sum of two difference rows adds.
-use Rattle.std.proofs.Common.{◌≡◌, ◌⊎◌, inl, inr, ℕ, zero, suc, ◌+◌, ◌*◌, ◌<◌, ◌≤◌, ◌^◌, ℤ, pos, neg_ℤ, ◌+ℤ◌, ◌≤ℤ◌, ◌<ℤ◌, Bool, true, false, cond, ◌&&◌, List, [], ◌∷◌, ◌++◌, length, Option, Some, None, sym, subst, arith, ap, refl, ◌∙◌}
-use Rattle.std.specs.Prelude.{int_le}
+use Rattle.std.proofs.Common.{◌≡◌, inl, inr, ℕ, ◌+◌, ◌<◌, ◌^◌, ℤ, pos, neg_ℤ, ◌+ℤ◌, ◌≤ℤ◌, ◌<ℤ◌, true, false, List, length, Option, Some, None, sym, subst, arith, ap, refl, ◌∙◌}
 use Rattle.std.specs.List.{AllByRecursion as Each}
 use Rattle.mon_linear.specs.Linear.{Linear}
 use Rattle.mon_linear.specs.Truth.{Valuation, value_of}
@@ -12,8 +11,8 @@ use Rattle.mon_solve.specs.declared.elimination.Progress.{Progress}
 use Rattle.mon_solve.specs.declared.elimination.Progress.TheVariants.{Left, Closed, Stopped}
 use Rattle.mon_solve.specs.inner.Chains.{State}
 use Rattle.mon_solve.specs.inner.Rows.{first_times, with_row}
-use Rattle.mon_solve.specs.inner.Steps.{IsKnown, IsPut, IsClosed, IsSummed, CannotAdd, cancelling, sum_at, next_row}
-use Rattle.mon_solve.specs.inner.Differences.{difference_terms, IsNode, IsShort, IsReady, IsUpper, IsLower, Apart, Holds, PairHolds, RowsHold, HasSums, AddsSums}
+use Rattle.mon_solve.specs.inner.Steps.{IsKnown, IsPut, IsSummed, CannotAdd, cancelling, sum_at, next_row}
+use Rattle.mon_solve.specs.inner.Differences.{difference_terms, IsNode, IsShort, AreReadyRows, IsUpper, IsLower, Apart, RowHolds, PairHolds, RowsHold, HasSums, AddsSums}
 use Rattle.mon_solve.proofs.RowLemmas.{each_with, new_among, with_apart, covered, known_holds}
 use Rattle.mon_solve.proofs.DifferenceRows.{summed, Summed, pair_value}
 use Rattle.mon_solve.proofs.Choosing.{upper_times, lower_times}
@@ -65,13 +64,13 @@ at_most a b e h = subst (λ (n : ℤ). n ≤ℤ pos 0) e h
 row_short : (rest : List ℕ) (bits : ℕ) (upper lower : Numbered) (before : State) (row : Linear) → IsSumOf rest bits upper lower row → is_absurd row ≡ false → IsShort rest (bits + 1) (next_row before row)
 row_short rest bits upper lower before row sum sane = record { plus = sum.plus; minus = sum.minus; terms = sum.terms; plus_in = sum.plus_in; minus_in = sum.minus_in; above = sum.above; below = sum.below; sane = sane }
 
-known_adds : (rest : List ℕ) (bits : ℕ) (upper lower : Numbered) (before after : State) (row : Linear) → IsSumOf rest bits upper lower row → IsReady rest (bits + 1) before → IsKnown row before after → HasSums rest (bits + 1) 1 before after (λ v. PairHolds v upper lower)
+known_adds : (rest : List ℕ) (bits : ℕ) (upper lower : Numbered) (before after : State) (row : Linear) → IsSumOf rest bits upper lower row → AreReadyRows rest (bits + 1) before → IsKnown row before after → HasSums rest (bits + 1) 1 before after (λ v. PairHolds v upper lower)
 known_adds rest bits upper lower before after row sum ready known = subst (λ (state : State). HasSums rest (bits + 1) 1 before state (λ v. PairHolds v upper lower)) (sym known.same) made
   where
     made : HasSums rest (bits + 1) 1 before before (λ v. PairHolds v upper lower)
     made = record { ready = ready; next = omega arith; covers = λ v held. held; sums = λ v held. at_most _ _ (sum.worth v) (known_holds v before.kept row known.known held) }
 
-put_adds : (rest : List ℕ) (bits : ℕ) (upper lower : Numbered) (before after : State) (combine : Combine) (row : Linear) → IsSumOf rest bits upper lower row → IsReady rest (bits + 1) before → IsPut combine row before after → HasSums rest (bits + 1) 1 before after (λ v. PairHolds v upper lower)
+put_adds : (rest : List ℕ) (bits : ℕ) (upper lower : Numbered) (before after : State) (combine : Combine) (row : Linear) → IsSumOf rest bits upper lower row → AreReadyRows rest (bits + 1) before → IsPut combine row before after → HasSums rest (bits + 1) 1 before after (λ v. PairHolds v upper lower)
 put_adds rest bits upper lower before after combine row sum ready put =
     let next = put.next in
     record {
@@ -81,13 +80,13 @@ put_adds rest bits upper lower before after combine row sum ready put =
       };
       next = omega arith;
       covers = λ v held. covered v before.kept (next_row before row) put.new (subst (RowsHold v) put.kept held);
-      sums = λ v held. at_most _ _ (sum.worth v) (new_among (Holds v) before.kept (next_row before row) (subst (RowsHold v) put.kept held));
+      sums = λ v held. at_most _ _ (sum.worth v) (new_among (RowHolds v) before.kept (next_row before row) (subst (RowsHold v) put.kept held));
     }
 
 fits_one : (k : ℤ) → k ≡ neg_ℤ (pos 1) → fits_128 (neg_ℤ k) ≡ false → ⊥
 fits_one k e h = let no : fits_128 (neg_ℤ (neg_ℤ (pos 1))) ≡ false = rw e at h in absurd cc
 
-never_stops : (place : ℕ) (rest : List ℕ) (bits : ℕ) (upper lower : Numbered) (before : State) → length rest < 32 → IsLower place rest bits lower → IsReady rest (bits + 1) before → before.next + 1 < 2 ^ 32
+never_stops : (place : ℕ) (rest : List ℕ) (bits : ℕ) (upper lower : Numbered) (before : State) → length rest < 32 → IsLower place rest bits lower → AreReadyRows rest (bits + 1) before → before.next + 1 < 2 ^ 32
     → (sum : Linear) → sum_at place upper lower ≡ Some sum → IsSumOf rest bits upper lower sum → CannotAdd place upper lower before → ⊥
 never_stops place rest bits upper lower before few down ready room sum is sum_of (inl h) = fits_one _ (ap (first_times place) down.terms ∙ lower_times place down.plus down.other) h
 never_stops place rest bits upper lower before few down ready room sum is sum_of (inr (inl h)) = none_some sum _ h is
@@ -99,7 +98,7 @@ never_stops place rest bits upper lower before few down ready room sum is sum_of
     absurd (omega arith)
 
 pub sum_adds : (place : ℕ) (rest : List ℕ) (bits : ℕ) (upper lower : Numbered) (before after : State) (progress : Progress) → length rest < 32 → bits < 127 → IsUpper place rest bits upper → IsLower place rest bits lower
-    → IsReady rest (bits + 1) before → before.next + 1 < 2 ^ 32 → IsSummed place upper lower before after progress → AddsSums rest (bits + 1) 1 before after (λ v. PairHolds v upper lower) progress
+    → AreReadyRows rest (bits + 1) before → before.next + 1 < 2 ^ 32 → IsSummed place upper lower before after progress → AddsSums rest (bits + 1) 1 before after (λ v. PairHolds v upper lower) progress
 sum_adds place rest bits upper lower before after progress few small up down ready room added =
     let sum = summed place rest bits upper lower small up down in
     by_progress progress _ (sum_is place rest bits upper lower up down sum) (sum_of place rest bits upper lower sum) added

@@ -2,17 +2,28 @@
 
 ghost use Rattle.std.specs.Prelude.{◌≡◌, ◌≤◌, IfOk, OnOk, length, []};
 ghost use Rattle.std.specs.List.{position};
-ghost use Rattle.mon_solve.specs.inner.Literals.{is_absurd_literal, is_opposite, noted, terms_in_literal, terms_in_literals, HasAbsurd, HasClash, IsClosing, IsGathered, IsLiteral, FindsChain, IsStart};
+ghost use Rattle.mon_solve.specs.inner.Literals.{is_absurd_literal, is_opposite, noted, terms_in_literal, terms_in_literals, HasAbsurd, HasClash, IsClosing, IsGathered, FitsLiteral, FindsChain, IsStart};
 
 use super::elimination::{Elimination, MOST_ROWS, eliminate_all};
-use super::places::note_places;
-use super::rows::{Numbered, is_known, put_row};
+use super::places::{note_places, side_of};
+use super::rows::{Numbered, Rows, side_for};
 use mon_cert::{Cert, Combine, Literal, WideRow, are_opposite};
 use mon_list::Seq;
 use std::alloc::{AllocError, Global};
 
-/// The number of the first literal that is the given one's flag with the other truth.
+/// The number of the first literal that is the given one's flag with the other truth. A row has none, and
+/// none is looked for.
 fn opposite_of(literals: &[Literal], literal: &Literal) -> Option<usize>
+    ensures { result ≡ position (is_opposite literal.now) literals.now }
+{
+    match literal {
+        Literal::Row(_) => None,
+        Literal::Flag { .. } => first_opposite(literals, literal),
+    }
+}
+
+/// The number of the first literal that is the given one's flag with the other truth.
+fn first_opposite(literals: &[Literal], literal: &Literal) -> Option<usize>
     ensures { result ≡ position (is_opposite literal.now) literals.now }
 {
     literals
@@ -39,7 +50,7 @@ fn clash(literals: &[Literal]) -> Option<Cert>
 /// Whether the literal is a row with no variable and a constant above 0.
 fn is_absurd_literal(literal: &Literal) -> bool
     ensures exact { result ≡ is_absurd_literal literal.now }
-    ensures rule { IsLiteral literal.now }
+    ensures rule { FitsLiteral literal.now }
 {
     match literal {
         Literal::Row(form) => match form.terms() {
@@ -73,18 +84,18 @@ fn gather_row(
     alloc: Global,
     number: u32,
     literal: &Literal,
-    kept: &mut Vec<Numbered>,
+    kept: &mut Rows,
 ) -> Result<(), AllocError>
-    ensures { IfOk result (λ done. IsGathered number literal.now kept.old.items kept.new.items) }
+    ensures { IfOk result (λ done. IsGathered number literal.now kept.old kept.new) }
 {
     match literal {
         Literal::Row(form) => {
             let _constant = form.constant();
             let row = WideRow::of_form(alloc, form)?;
-            if is_known(kept, &row) {
+            if kept.is_known(&row) {
                 return Ok(());
             }
-            put_row(kept, Numbered { number, row })?;
+            kept.put(Numbered { number, row })?;
             Ok(())
         }
         Literal::Flag { .. } => Ok(()),
@@ -92,11 +103,11 @@ fn gather_row(
 }
 
 /// The rows of the literals under their numbers, of those with the same terms the tightest.
-fn gathered_rows(alloc: Global, literals: &[Literal]) -> Result<Vec<Numbered>, AllocError>
+fn gathered_rows(alloc: Global, side: u32, literals: &[Literal]) -> Result<Rows, AllocError>
     requires { length literals.now ≤ 65536 }
-    ensures { IfOk result (λ kept. IsStart literals.now kept.items) }
+    ensures { IfOk result (λ kept. IsStart literals.now kept) }
 {
-    let mut kept = Vec::new(alloc);
+    let mut kept = Rows::new(alloc, side_for(side, literals.len()))?;
     for i in 0..literals.len() {
         gather_row(alloc, i as u32, &literals[i], &mut kept)?;
     }
@@ -140,13 +151,15 @@ fn refuting_chain(alloc: Global, literals: &[Literal]) -> Result<Option<Vec<Comb
     if let Some(combine) = absurd_sum(literals) {
         return Ok(Some(Vec::from_array(alloc, [combine])?));
     }
-    let kept = gathered_rows(alloc, literals)?;
+    let places = places_of(alloc, literals)?;
+    let side = side_of(&places);
+    let kept = gathered_rows(alloc, side, literals)?;
     if kept.len() > MOST_ROWS {
         return Ok(None);
     }
-    let places = places_of(alloc, literals)?;
     let mut left = Elimination {
         kept,
+        side,
         combines: Vec::new(alloc),
         next: first_sum(literals),
     };

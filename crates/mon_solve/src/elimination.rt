@@ -8,7 +8,7 @@ ghost use Rattle.mon_solve.specs.inner.Chains.{KeepsSound, state_of};
 ghost use Rattle.mon_solve.specs.inner.Steps.{Cancels, IsAdded};
 ghost use Rattle.mon_solve.specs.inner.Differences.{CanEliminate, EliminatesAll};
 
-use super::rows::{Numbered, first_times, is_known, put_row};
+use super::rows::{Numbered, Rows, first_times, side_for};
 use mon_cert::{Combine, WideRow, sum_of_rows};
 use std::alloc::{AllocError, Global};
 use std::mem::replace;
@@ -20,7 +20,9 @@ pub(crate) const MOST_ROWS: usize = 4_096;
 #[derive(Debug, Drop)]
 pub(crate) struct Elimination {
     /// The rows that are left.
-    pub(crate) kept: Vec<Numbered>,
+    pub(crate) kept: Rows,
+    /// The number modulo which their places differ.
+    pub(crate) side: u32,
     /// The sums that were made.
     pub(crate) combines: Vec<Combine>,
     /// The number of the next sum.
@@ -42,7 +44,7 @@ pub(crate) enum Progress {
 fn add_row(left: &mut Elimination, combine: Combine, row: WideRow) -> Result<Progress, AllocError>
     ensures { IfOk result (IsAdded combine row (state_of left.old) (state_of left.new)) }
 {
-    if is_known(&left.kept, &row) {
+    if left.kept.is_known(&row) {
         return Ok(Progress::Left);
     }
     if left.next == u32::MAX {
@@ -54,7 +56,7 @@ fn add_row(left: &mut Elimination, combine: Combine, row: WideRow) -> Result<Pro
     }
     let number = left.next;
     left.next += 1;
-    put_row(&mut left.kept, Numbered { number, row })?;
+    left.kept.put(Numbered { number, row })?;
     if left.kept.len() > MOST_ROWS {
         return Ok(Progress::Stopped);
     }
@@ -187,9 +189,13 @@ fn eliminate(alloc: Global, place: u32, left: &mut Elimination) -> Result<Progre
     ensures sound { IfOk result (KeepsSound [] (state_of left.old) (state_of left.new)) }
     ensures eliminates { IfOk result (CanEliminate place (state_of left.old) (state_of left.new)) }
 {
-    let rows = replace(&mut left.kept, Vec::new(alloc));
-    let sides = sides_of(alloc, place, rows)?;
-    left.kept = sides.free;
+    let none = Rows::new(alloc, 1)?;
+    let rows = replace(&mut left.kept, none);
+    let sides = sides_of(alloc, place, rows.into_rows())?;
+    let pairs = sides.uppers.len().saturating_mul(sides.lowers.len());
+    let side = side_for(left.side, sides.free.len().saturating_add(pairs));
+    let kept = Rows::of(alloc, side, sides.free)?;
+    left.kept = kept;
     let progress = add_sums(alloc, place, &sides.uppers, &sides.lowers, left)?;
     Ok(progress)
 }

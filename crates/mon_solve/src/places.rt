@@ -1,6 +1,6 @@
 //! The places of variables, each once.
 
-ghost use Rattle.std.specs.Prelude.{◌≡◌, [], IfOk, OnOk};
+ghost use Rattle.std.specs.Prelude.{◌≡◌, ◌<◌, [], IfOk, OnOk};
 ghost use Rattle.mon_solve.specs.inner.Literals.{noted, with_place};
 ghost use Rattle.mon_solve.specs.inner.Searches.{terms_in, terms_in_all};
 
@@ -62,4 +62,33 @@ pub(crate) fn places_of_formula(alloc: Global, formula: &Formula) -> Result<Vec<
     let mut places = Vec::new(alloc);
     note_formula(&mut places, formula)?;
     Ok(places)
+}
+
+/// The numbers modulo which places are told apart are at most so large.
+const MOST_SIDE: u32 = 64;
+
+/// Whether the places differ modulo the number.
+fn are_apart(places: &[u32], side: u32) -> bool
+    requires { 0 < side }
+{
+    for i in 0..places.len() {
+        if places[..i]
+            .iter()
+            .any(|other| *other % side == places[i] % side)
+        {
+            return false;
+        }
+    }
+    true
+}
+
+/// The least number modulo which the places differ, or the greatest that is tried. Rows are found as fast as
+/// their places are told apart by it; what is found does not hang on it.
+pub(crate) fn side_of(places: &[u32]) -> u32 {
+    for side in 1..MOST_SIDE {
+        if are_apart(places, side) {
+            return side;
+        }
+    }
+    MOST_SIDE
 }

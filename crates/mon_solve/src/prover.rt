@@ -2,7 +2,8 @@
 
 ghost use Rattle.std.specs.Prelude.{◌≡◌, ◌≤◌, ◌↔◌, IfOk, IsTrue};
 ghost use Rattle.mon_linear.specs.Measures.{nodes_of};
-ghost use Rattle.mon_solve.specs.Refutation.{HasFewPlaces, IsAnswer};
+ghost use Rattle.mon_linear.specs.Places.{HasFewPlaces};
+ghost use Rattle.mon_solve.specs.Refutation.{IsAnswer};
 
 use super::places::{MOST_PLACES, places_of_formula};
 use super::search::search;
@@ -14,7 +15,9 @@ use std::alloc::{AllocError, Global};
 ///
 /// There is none only where the formula holds at some valuation in whole numbers, or has a row that is no
 /// difference row, or has more than 1,024 cubes, or its rows have variables of more than 32 places. So a
-/// formula of difference rows with no more cubes and places is decided. It fails only for want of memory.
+/// formula of difference rows with no more cubes and places is decided. The negated query of a claim of a
+/// monitor has variables of at most 28 places, as `placed_queries_have_few_places` of `mon_wp` says, so of such
+/// a formula the last cause never comes. It fails only for want of memory.
 ///
 /// The formula is split at each any, unless the literals before it close already. In each cube two flags
 /// with opposite truths are looked for, and then the variables of the rows are eliminated one after the
@@ -23,7 +26,10 @@ use std::alloc::{AllocError, Global};
 /// Of rows with the same terms the tightest stays. Rows that are no difference rows go the same way, and are
 /// given up where a number leaves 128 bits or a cube has more than 4,096 rows.
 ///
-/// It recurses as deep as anys stand in one another.
+/// It recurses as deep as anys stand in one another, and the calls that copy, measure and drop a formula as deep as
+/// alls and anys do. A stack of 8 MB bore 20,000 alls in one another, and 7,600 anys. What is inside an any is copied,
+/// so memory grows with the square of their depth: 1,000 took 130 MB. A condition of a monitor opens at most 64
+/// levels, and where a truth value is assigned, those of its expression stand in place of a flag.
 pub fn refute(alloc: Global, formula: &Formula) -> Result<Option<Cert>, AllocError>
     requires { nodes_of formula.now ≤ 65536 }
     ensures { IfOk result (IsAnswer formula.now) }
@@ -36,7 +42,8 @@ pub fn refute(alloc: Global, formula: &Formula) -> Result<Option<Cert>, AllocErr
     Ok(search(alloc, stack, Vec::new(alloc))?)
 }
 
-/// Whether the variables of the formula's rows have at most 32 places. It fails only for want of memory.
+/// Whether the variables of the formula's rows have at most 32 places, as those of a monitor's negated queries have.
+/// It fails only for want of memory.
 pub fn has_few_places(alloc: Global, formula: &Formula) -> Result<bool, AllocError>
     ensures { IfOk result (λ answer. IsTrue answer ↔ HasFewPlaces formula.now) }
 {

@@ -31,10 +31,10 @@ pub record State : Type 0 where
   pub next : ℕ
 
 abbrev pub state_of : Elimination → State
-state_of left = record { kept = left.kept.items; combines = left.combines.items; next = left.next }
+state_of left = record { kept = left.kept; combines = left.combines.items; next = left.next }
 
 -- The sums can be made, and the kept rows and the others stand at their numbers.
-pub record IsSound (rows : List (Option Linear)) (others : List Numbered) (state : State) : Type 0 where
+pub record StandsAtNumbers (rows : List (Option Linear)) (others : List Numbered) (state : State) : Type 0 where
   pub made : chain_stands state.combines rows ≡ true
   pub count : length (rows_after state.combines rows) ≡ state.next
   pub others_stand : Each (HasNumber (rows_after state.combines rows)) others
@@ -42,11 +42,11 @@ pub record IsSound (rows : List (Option Linear)) (others : List Numbered) (state
 
 -- That, or the chain closes.
 abbrev pub StaysSound : List (Option Linear) → List Numbered → State → Progress → Type 0
-StaysSound rows others after Left = IsSound rows others after
+StaysSound rows others after Left = StandsAtNumbers rows others after
 StaysSound rows others after Closed = chain_closes after.combines rows ≡ true
 StaysSound rows others after Stopped = Unit {0}
 
 -- Whatever other rows there are, those given and they stay at their numbers, or the chain closes.
 abbrev pub KeepsSound : List Numbered → State → State → Progress → Type 0
 KeepsSound given before after progress =
-    (rows : List (Option Linear)) (others : List Numbered) → IsSound rows (given ++ others) before → StaysSound rows (given ++ others) after progress
+    (rows : List (Option Linear)) (others : List Numbered) → StandsAtNumbers rows (given ++ others) before → StaysSound rows (given ++ others) after progress

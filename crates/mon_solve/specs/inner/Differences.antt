@@ -1,15 +1,15 @@
 -- For private contracts: rows that bound a variable or the difference of two, and what their elimination keeps.
-use Rattle.std.specs.Prelude.{◌≡◌, ◌⊎◌, ℕ, ◌+◌, ◌*◌, ◌<◌, ◌≤◌, ◌^◌, ℤ, pos, neg_ℤ, ◌+ℤ◌, ◌≤ℤ◌, ◌<ℤ◌, ◌==◌, nat_lt, if◌then◌else◌, Bool, false, true, List, [], ◌∷◌, ◌++◌, length, Option, Some, None}
+use Rattle.std.specs.Prelude.{◌≡◌, ℕ, ◌+◌, ◌*◌, ◌<◌, ◌≤◌, ◌^◌, ℤ, pos, neg_ℤ, ◌+ℤ◌, ◌≤ℤ◌, ◌<ℤ◌, ◌==◌, nat_lt, if◌then◌else◌, Bool, false, true, List, [], ◌∷◌, length, Option, Some, None}
 use Rattle.std.specs.List.{AllByRecursion as Each}
 use Rattle.mon_linear.specs.declared.form.Term.{Term}
 use Rattle.mon_linear.specs.Linear.{Linear}
 use Rattle.mon_linear.specs.Truth.{Valuation, value_of}
 use Rattle.mon_cert.specs.Refutes.{chain_closes, is_absurd}
-use Rattle.mon_solve.specs.Refutation.{IsIn}
+use Rattle.mon_linear.specs.Places.{IsIn}
 use Rattle.mon_solve.specs.declared.rows.Numbered.{Numbered}
 use Rattle.mon_solve.specs.declared.elimination.Progress.{Progress}
 use Rattle.mon_solve.specs.declared.elimination.Progress.TheVariants.{Left, Closed, Stopped}
-use Rattle.mon_solve.specs.inner.Chains.{IsSound, State}
+use Rattle.mon_solve.specs.inner.Chains.{StandsAtNumbers, State}
 
 -- ---- difference rows
 
@@ -50,7 +50,7 @@ abbrev pub Apart : List Numbered → Type 0
 Apart [] = Unit {0}
 Apart (numbered ∷ others) = Each (λ (other : Numbered). numbered.row.terms ≡ other.row.terms → ⊥) others × Apart others
 
-pub record IsReady (places : List ℕ) (bits : ℕ) (state : State) : Type 0 where
+pub record AreReadyRows (places : List ℕ) (bits : ℕ) (state : State) : Type 0 where
   pub each : Each (IsShort places bits) state.kept
   pub apart : Apart state.kept
 
@@ -74,11 +74,11 @@ pub record IsLower (place : ℕ) (rest : List ℕ) (bits : ℕ) (numbered : Numb
   pub above : neg_ℤ (pos (2 ^ bits)) ≤ℤ numbered.row.constant
   pub below : numbered.row.constant <ℤ pos (2 ^ bits)
 
-abbrev pub Holds : Valuation → Numbered → Type 0
-Holds valuation numbered = value_of valuation numbered.row ≤ℤ pos 0
+abbrev pub RowHolds : Valuation → Numbered → Type 0
+RowHolds valuation numbered = value_of valuation numbered.row ≤ℤ pos 0
 
 abbrev pub RowsHold : Valuation → List Numbered → Type 0
-RowsHold valuation rows = Each (Holds valuation) rows
+RowsHold valuation rows = Each (RowHolds valuation) rows
 
 -- The sum of the two rows holds.
 abbrev pub PairHolds : Valuation → Numbered → Numbered → Type 0
@@ -90,12 +90,12 @@ pub record IsCase (place : ℕ) (rest : List ℕ) (bits : ℕ) (uppers lowers : 
   pub small : bits < 127
   pub each_upper : Each (IsUpper place rest bits) uppers
   pub each_lower : Each (IsLower place rest bits) lowers
-  pub ready : IsReady rest (bits + 1) before
+  pub ready : AreReadyRows rest (bits + 1) before
   pub room : before.next + pairs < 2 ^ 32
 
 -- What adding them leaves: where the rows hold that are kept then, those before and the sums hold.
 pub record HasSums (rest : List ℕ) (bits : ℕ) (pairs : ℕ) (before after : State) (SumsHold : Valuation → Type 0) : Type 0 where
-  pub ready : IsReady rest bits after
+  pub ready : AreReadyRows rest bits after
   pub next : after.next ≤ before.next + pairs
   pub covers : (valuation : Valuation) → RowsHold valuation after.kept → RowsHold valuation before.kept
   pub sums : (valuation : Valuation) → RowsHold valuation after.kept → SumsHold valuation
@@ -134,7 +134,7 @@ with_number place number valuation = record { number = λ at. if at == place the
 
 -- What the elimination of a variable leaves: where the rows hold, the variable can be chosen.
 pub record IsEliminated (place : ℕ) (rest : List ℕ) (bits : ℕ) (before after : State) : Type 0 where
-  pub ready : IsReady rest (bits + 1) after
+  pub ready : AreReadyRows rest (bits + 1) after
   pub next : after.next ≤ before.next + 2 ^ 21
   pub chosen : (valuation : Valuation) → RowsHold valuation after.kept → (number : ℤ) × RowsHold (with_number place number valuation) before.kept
 
@@ -146,14 +146,14 @@ Eliminates place rest bits before after Stopped = ⊥
 -- In difference rows with one place more than the rest, the variable of that place goes.
 abbrev pub CanEliminate : ℕ → State → State → Progress → Type 0
 CanEliminate place before after progress =
-    (rest : List ℕ) (bits : ℕ) → length rest < 32 → bits < 127 → IsReady (place ∷ rest) bits before → before.next + 2 ^ 21 < 2 ^ 32 → Eliminates place rest bits before after progress
+    (rest : List ℕ) (bits : ℕ) → length rest < 32 → bits < 127 → AreReadyRows (place ∷ rest) bits before → before.next + 2 ^ 21 < 2 ^ 32 → Eliminates place rest bits before after progress
 
 -- Difference rows of few places have a solution, with each truth value as it is.
 abbrev pub CanSolve : List ℕ → State → Type 0
 CanSolve places before =
-    length places ≤ 32 → IsReady places 95 before → before.next ≤ 65536 → (valuation : Valuation) → (solution : Valuation) × RowsHold solution before.kept × (solution.flag ≡ valuation.flag)
+    length places ≤ 32 → AreReadyRows places 95 before → before.next ≤ 65536 → (valuation : Valuation) → (solution : Valuation) × RowsHold solution before.kept × (solution.flag ≡ valuation.flag)
 
 -- The chain closes, or such rows have a solution.
 abbrev pub EliminatesAll : List ℕ → State → State → Bool → Type 0
-EliminatesAll places before after true = (rows : List (Option Linear)) → IsSound rows [] before → chain_closes after.combines rows ≡ true
+EliminatesAll places before after true = (rows : List (Option Linear)) → StandsAtNumbers rows [] before → chain_closes after.combines rows ≡ true
 EliminatesAll places before after false = CanSolve places before

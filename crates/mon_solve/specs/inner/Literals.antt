@@ -6,17 +6,17 @@ use Rattle.std.specs.List.{list_any, flat_map, AllByRecursion as Each}
 use Rattle.mon_linear.specs.declared.form.Term.{Term}
 use Rattle.mon_linear.specs.Linear.{Linear, IsLinear}
 use Rattle.mon_linear.specs.Differences.{is_difference}
-use Rattle.mon_linear.specs.Truth.{Valuation, value_of}
+use Rattle.mon_linear.specs.Truth.{Valuation}
 use Rattle.mon_cert.specs.declared.cert.Combine.{Combine}
 use Rattle.mon_cert.specs.declared.cert.Cert.{Cert, out-Cert}
 use Rattle.mon_cert.specs.declared.cert.Literal.{Literal}
 use Rattle.mon_cert.specs.declared.cert.Literal.TheVariants.{Row, Flag}
 use Rattle.mon_cert.specs.Refutes.{are_opposite, chain_closes, closes, is_absurd, literal_truth, row_of}
-use Rattle.mon_solve.specs.Refutation.{HasPlaces}
+use Rattle.mon_linear.specs.Places.{HasPlaces}
 use Rattle.mon_solve.specs.declared.rows.Numbered.{Numbered}
 use Rattle.mon_solve.specs.inner.Rows.{is_as_tight, with_row}
 use Rattle.mon_solve.specs.inner.Chains.{HasNumber}
-use Rattle.mon_solve.specs.inner.Differences.{Apart, Holds, IsShort, RowsHold}
+use Rattle.mon_solve.specs.inner.Differences.{Apart, RowHolds, IsShort, RowsHold}
 
 -- ---- places
 
@@ -58,7 +58,7 @@ AreTrue valuation literals = Each (λ (literal : Literal). literal_truth valuati
 
 -- The literal's row holds, where it is a row.
 abbrev pub LiteralHolds : Valuation → Literal → Type 0
-LiteralHolds valuation (Row form) = Holds valuation (record { number = 0; row = form })
+LiteralHolds valuation (Row form) = RowHolds valuation (record { number = 0; row = form })
 LiteralHolds valuation (Flag place is) = Unit {0}
 
 -- No literal is another's flag with the other truth, or the certificate says which.
@@ -67,9 +67,9 @@ HasClash literals None = Each (λ (literal : Literal). list_any (is_opposite lit
 HasClash literals (Some cert) = closes literals (out-Cert cert) ≡ true
 
 -- A row's rule holds.
-abbrev pub IsLiteral : Literal → Type 0
-IsLiteral (Row form) = IsLinear form
-IsLiteral (Flag place is) = Unit {0}
+abbrev pub FitsLiteral : Literal → Type 0
+FitsLiteral (Row form) = IsLinear form
+FitsLiteral (Flag place is) = Unit {0}
 
 abbrev pub HaveNoAbsurd : List Literal → Type 0
 HaveNoAbsurd literals = Each (λ (literal : Literal). is_absurd_literal literal ≡ false) literals

@@ -1,5 +1,5 @@
 -- For private contracts: what a sum of two rows adds to what there is.
-use Rattle.std.specs.Prelude.{◌≡◌, ◌⊎◌, ℕ, ◌+◌, ◌<◌, ◌≤◌, ◌^◌, neg_ℤ, false, true, List, [], ◌∷◌, ◌++◌, length, Option, Some, None, MatchOption}
+use Rattle.std.specs.Prelude.{◌≡◌, ◌⊎◌, ℕ, ◌+◌, ◌<◌, ◌≤◌, ◌^◌, neg_ℤ, false, true, [], ◌∷◌, ◌++◌, length, Option, Some, None, MatchOption}
 use Rattle.std.specs.List.{list_any}
 use Rattle.mon_linear.specs.Linear.{Linear}
 use Rattle.mon_linear.specs.Sums.{fits_128}
@@ -29,7 +29,7 @@ pub record IsPut (combine : Combine) (row : Linear) (before after : State) : Typ
   pub next : after.next ≡ before.next + 1
 
 -- The row closes the chain.
-pub record IsClosed (combine : Combine) (row : Linear) (before after : State) : Type 0 where
+pub record ClosesChain (combine : Combine) (row : Linear) (before after : State) : Type 0 where
   pub absurd_row : is_absurd row ≡ true
   pub combines : after.combines ≡ before.combines ++ combine ∷ []
 
@@ -41,7 +41,7 @@ HasNoRoom row before =
 
 abbrev pub IsAdded : Combine → Linear → State → State → Progress → Type 0
 IsAdded combine row before after Left = IsKnown row before after ⊎ IsPut combine row before after
-IsAdded combine row before after Closed = IsClosed combine row before after
+IsAdded combine row before after Closed = ClosesChain combine row before after
 IsAdded combine row before after Stopped = HasNoRoom row before
 
 -- The sum of two rows in which the variable goes.

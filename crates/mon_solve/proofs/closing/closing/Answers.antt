@@ -1,4 +1,4 @@
-use Rattle.mon_solve.proofs.LiteralLemmas.{can_be_true, chain_certificate}
+use Rattle.mon_solve.proofs.LiteralLemmas.{can_be_true}
 use Rattle.mon_solve.proofs.closing.closing.Goals as goal
 
 pub returns-in-None : goal.returns-in-None

@@ -1,5 +1,5 @@
-use Rattle.std.proofs.Common.{◌<◌, length, arith}
-use Rattle.mon_solve.specs.declared.elimination.Progress.TheVariants.{Left, Closed, Stopped}
+use Rattle.std.proofs.Common.{arith}
+use Rattle.mon_solve.specs.declared.elimination.Progress.TheVariants.{Left, Closed}
 use Rattle.mon_solve.specs.inner.Chains.{state_of}
 use Rattle.mon_solve.proofs.Loops.{lower_sound, lower_stops, one_more_lower, all_lowers}
 use Rattle.mon_solve.proofs.elimination.add_sums_of.Goals as goal

@@ -1,4 +1,4 @@
-use Rattle.std.proofs.Common.{◌≡◌, ◌∷◌, ◌≤◌, length}
+use Rattle.std.proofs.Common.{◌∷◌}
 use Rattle.mon_solve.specs.declared.elimination.Progress.TheVariants.{Left}
 use Rattle.mon_solve.specs.inner.Chains.{KeepsSound, state_of}
 use Rattle.mon_solve.proofs.Loops.{AddedLowers}

@@ -1,4 +1,4 @@
-use Rattle.std.proofs.Common.{◌<◌, length, arith}
+use Rattle.std.proofs.Common.{arith}
 use Rattle.mon_solve.specs.inner.Chains.{state_of}
 use Rattle.mon_solve.proofs.PlaceSteps.{none_so_far, one_place_more, place_stops, all_places}
 use Rattle.mon_solve.proofs.elimination.eliminate_all.Goals as goal

@@ -1,5 +1,5 @@
-use Rattle.std.proofs.Common.{arith, rules, sym, ◌∙◌}
-use Rattle.mon_solve.proofs.SearchLemmas.{put_off, put_less, any_found, any_room, nothing_left, nothing_popped, any_closed, one_more_part, all_parts, part_holds, part_room}
+use Rattle.std.proofs.Common.{arith}
+use Rattle.mon_solve.proofs.SearchLemmas.{put_off, put_less, any_room, nothing_left, nothing_popped, any_closed, one_more_part, all_parts, part_holds, part_room}
 use Rattle.mon_solve.proofs.search.+search.Goals as goal
 
 pub search-loop-formula-smaller : goal.search-loop-formula-smaller
