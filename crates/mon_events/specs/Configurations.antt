@@ -71,8 +71,8 @@ abbrev pub block_condition : MonitorParts → ℕ → ℕ
 block_condition monitor block = option_map_or (λ one. one.condition) (slice_get monitor.blocks block) 0
 
 -- the condition of its block
-abbrev pub condition_of : System → ℕ → ℕ → ℕ
-condition_of system client past = option_map_or (λ call. block_condition system.monitor call.method) (call_at system client past) 0
+abbrev pub waited_condition : System → ℕ → ℕ → ℕ
+waited_condition system client past = option_map_or (λ call. block_condition system.monitor call.method) (call_at system client past) 0
 
 -- the notes of its block
 abbrev pub notes_of : System → ℕ → ℕ → List Note

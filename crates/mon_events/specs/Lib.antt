@@ -5,3 +5,4 @@ pub mod Events
 pub mod Pending
 pub mod Laws
 pub mod Logs
+pub mod PlanText

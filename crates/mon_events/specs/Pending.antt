@@ -10,8 +10,8 @@ use Rattle.mon_events.specs.declared.plan.CondKind.TheVariants as kinds
 use Rattle.mon_events.specs.declared.plan.Note.{Note}
 use Rattle.mon_events.specs.declared.event.Event.{Event}
 use Rattle.mon_events.specs.declared.event.Event.TheVariants as events
-use Rattle.mon_events.specs.Plans.{kind_at, has_note, has_broadcast, FitsPlan}
-use Rattle.mon_events.specs.Configurations.{System, Phase, Standing, Configuration, StandsAt, guard_of, condition_of, notes_of}
+use Rattle.mon_events.specs.Plans.{condition_kind, has_note, has_broadcast, FitsPlan}
+use Rattle.mon_events.specs.Configurations.{System, Phase, Standing, Configuration, StandsAt, guard_of, waited_condition, notes_of}
 use Rattle.mon_events.specs.Configurations.Phase.{Idle, Waiting, Woken, Inside, Notifying}
 use Rattle.mon_events.specs.Events.{IsEvent, own_signal}
 
@@ -70,7 +70,7 @@ pub record IsSound (system : System) (c : Configuration) : Type 0 where
   pub notes : (client past : ℕ) (notes : List Note) → StandsAt c.standings client past (Notifying notes)
       → IsSuffix notes (notes_of system client past) ⊎ IsSuffix notes (own_signal system client past ∷ [])
   -- who waits or was woken is at its block's condition
-  pub waits : (client past : ℕ) (phase : Phase) (condition : ℕ) → StandsAt c.standings client past phase → condition_named phase ≡ Some condition → condition ≡ condition_of system client past
+  pub waits : (client past : ℕ) (phase : Phase) (condition : ℕ) → StandsAt c.standings client past phase → condition_named phase ≡ Some condition → condition ≡ waited_condition system client past
 
 -- ---- what is kept under a lawful plan
 
@@ -86,7 +86,7 @@ announces phase condition = false
 -- it was woken on the condition, or is inside at a block of the condition, or has a note on it to come
 abbrev pub sees_to : System → ℕ → ℕ → Phase → ℕ → Bool
 sees_to system client past (Woken other) condition = other == condition
-sees_to system client past Inside condition = condition_of system client past == condition
+sees_to system client past Inside condition = waited_condition system client past == condition
 sees_to system client past (Notifying notes) condition = has_note notes condition
 sees_to system client past phase condition = false
 
@@ -94,11 +94,11 @@ sees_to system client past phase condition = false
 pub record IsPending (system : System) (state : List Value) (standings : List Standing) : Type 0 where
   -- on a condition of kind broadcast: one that holds the lock has a broadcast on it to come
   pub broadcasts : (client past condition : ℕ) → StandsAt standings client past (Waiting condition)
-      → kind_at system.plan condition ≡ Some kinds.Broadcast → guard_of system state client past ≡ true
+      → condition_kind system.plan condition ≡ Some kinds.Broadcast → guard_of system state client past ≡ true
       → SomeStands standings (λ other others_past phase. announces phase condition)
   -- on a condition of kind signal: one sees to it
   pub signals : (client past condition : ℕ) → StandsAt standings client past (Waiting condition)
-      → kind_at system.plan condition ≡ Some kinds.Signal → condition_truth system.monitor state condition ≡ true
+      → condition_kind system.plan condition ≡ Some kinds.Signal → condition_truth system.monitor state condition ≡ true
       → SomeStands standings (λ other others_past phase. sees_to system other others_past phase condition)
 
 pub record IsCovered (system : System) (c : Configuration) : Type 0 where

@@ -28,7 +28,8 @@ pub enum Event {
     Wait { client: u32 },
     /// A client whose guard is true runs its block.
     Run { client: u32 },
-    /// A client makes its first note to come. A signal that fires names the waiting client that it wakes.
+    /// A client makes its first note to come. A signal that fires, where some client waits on its condition, names
+    /// one of these, which it wakes. Every other note names none.
     Notify { client: u32, target: Option<u32> },
     /// A client with no note to come gives the lock back.
     Unlock { client: u32 },

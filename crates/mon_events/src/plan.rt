@@ -10,10 +10,13 @@ use mon_monitor::{Block, Candidate, Condition, Monitor};
 use std::alloc::{AllocError, Global};
 use std::marker::Model;
 
-/// Whether the notes on a condition wake one client that waits there, or each.
+/// The kind of a condition. No event looks at it: it says by which rule a lawful plan places its notes on the
+/// condition (`specs/Plans`, `IsLawful`).
 #[derive(Clone, Copy, Debug, PartialEq, Eq)]
 pub enum CondKind {
+    /// Each block of the condition leaves its guard false, or has a note on it.
     Signal,
+    /// Each note on the condition is a broadcast.
     Broadcast,
 }
 

@@ -3,3 +3,13 @@ pub mod MakingEvents
 pub mod MakingNotes
 pub mod MakingWakes
 pub mod Opening
+pub mod Starting
+pub mod Came
+pub mod Sectioned
+pub mod Noting
+pub mod Waiters
+pub mod Logging
+pub mod Lining
+pub mod Rounds
+pub mod Pigeonhole
+pub mod Crossing

@@ -16,11 +16,11 @@ use Rattle.mon_explicit.specs.declared.position.Doing.TheVariants as doings
 use Rattle.mon_explicit.specs.declared.position.Position.{Position}
 use Rattle.mon_events.specs.Configurations.{Phase, Standing, Configuration, StandsAt, put}
 use Rattle.mon_events.specs.Configurations.Phase.{Idle, Entering, Woken}
-use Rattle.mon_events.specs.Events.{IsEvent, IsReady}
+use Rattle.mon_events.specs.Events.{IsEvent, WantsLock}
 use Rattle.mon_events.specs.Laws.{HasLawfulPlan}
 use Rattle.mon_events.proofs.Ending.{wake_is_pending, stuck_ends}
 use Rattle.mon_explicit.specs.Machines.{Machine, IsMachine, KeepsWakeUps, NotAllowed}
-use Rattle.mon_explicit.specs.inner.Positions.{phase_of, standing_of, machine_of, made_of, done_in, calls_left, PositionAt, IsReadyAt}
+use Rattle.mon_explicit.specs.inner.Positions.{phase_of, standing_of, machine_of, made_of, done_in, calls_left, PositionAt, WantsLockAt}
 use Rattle.mon_events.proofs.Sound.{event_keeps_sound}
 use Rattle.mon_events.proofs.Notified.{event_keeps_covered}
 
@@ -108,7 +108,7 @@ entering_doing plan (doings.Notifying block from) is = absurd (cc is)
 entering_doing plan (doings.Signalling condition) is = absurd (cc is)
 entering_doing plan doings.Signalled is = absurd (cc is)
 
-woken_doing : (plan : Plan) (doing : Doing) (condition : ℕ) → phase_of plan doing ≡ Woken condition → doing ≡ doings.Woken condition
+pub woken_doing : (plan : Plan) (doing : Doing) (condition : ℕ) → phase_of plan doing ≡ Woken condition → doing ≡ doings.Woken condition
 woken_doing plan doings.Idle condition is = absurd (cc is)
 woken_doing plan doings.Entering condition is = absurd (cc is)
 woken_doing plan (doings.Waiting other) condition is = absurd (cc is)
@@ -118,7 +118,7 @@ woken_doing plan (doings.Notifying block from) condition is = absurd (cc is)
 woken_doing plan (doings.Signalling other) condition is = absurd (cc is)
 woken_doing plan doings.Signalled condition is = absurd (cc is)
 
-pub ready_made : (plan : Plan) (positions : List Position) (client past : ℕ) → IsReady (map (standing_of plan) positions) client past → IsReadyAt positions client past
+pub ready_made : (plan : Plan) (positions : List Position) (client past : ℕ) → WantsLock (map (standing_of plan) positions) client past → WantsLockAt positions client past
 ready_made plan positions client past (inl at) =
     let found = standing_position plan positions client past Entering at in
     inl (subst (λ (doing : Doing). PositionAt positions client past doing) (entering_doing plan found.0 found.2) found.1)
@@ -126,28 +126,28 @@ ready_made plan positions client past (inr (condition, at)) =
     let found = standing_position plan positions client past (Woken condition) at in
     inr (condition, subst (λ (doing : Doing). PositionAt positions client past doing) (woken_doing plan found.0 condition found.2) found.1)
 
-pub made_ready : (plan : Plan) (positions : List Position) (client past : ℕ) → IsReadyAt positions client past → IsReady (map (standing_of plan) positions) client past
+pub made_ready : (plan : Plan) (positions : List Position) (client past : ℕ) → WantsLockAt positions client past → WantsLock (map (standing_of plan) positions) client past
 made_ready plan positions client past (inl at) = inl (position_stands plan positions client past doings.Entering at)
 made_ready plan positions client past (inr (condition, at)) = inr (condition, position_stands plan positions client past (doings.Woken condition) at)
 
 pub locks : (monitor : MonitorParts) (plan : Plan) (clients : List Client) (state : List Value) (owner : Option ℕ) (commits : List Commit) (positions : List Position) (client past : ℕ)
-    → owner ≡ None → IsReadyAt positions client past
+    → owner ≡ None → WantsLockAt positions client past
     → IsEvent (record { monitor = monitor; plan = plan; clients = clients }) (events.Lock client) (machine_of monitor plan clients state owner commits positions).now
     (machine_of monitor plan clients state (Some client) commits (set positions client (record { past = past; doing = doings.Inside }))).now
 locks monitor plan clients state owner commits positions client past free ready = (
   past,
   record {
     free = free;
-    ready = made_ready plan positions client past ready;
+    wants = made_ready plan positions client past ready;
     becomes = ap (λ (standings : List Standing). record { state = state; owner = Some client; commits = commits; standings = standings }) (map_put plan positions client past doings.Inside);
   },
 )
 
 pub locks_not : (monitor : MonitorParts) (plan : Plan) (clients : List Client) (state : List Value) (owner : Option ℕ) (commits : List Commit) (positions : List Position) (client : ℕ)
-    → (owner ≡ None → (past : ℕ) → IsReadyAt positions client past → ⊥)
+    → (owner ≡ None → (past : ℕ) → WantsLockAt positions client past → ⊥)
     → NotAllowed (machine_of monitor plan clients state owner commits positions) (events.Lock client)
 locks_not monitor plan clients state owner commits positions client never next happens =
-    never happens.1.free happens.0 (ready_made plan positions client happens.0 happens.1.ready)
+    never happens.1.free happens.0 (ready_made plan positions client happens.0 happens.1.wants)
 
 pub one_past_made : (positions : List Position) (client past other : ℕ) (doing others_doing : Doing) → PositionAt positions client past doing → PositionAt positions client other others_doing → past ≡ other
 one_past_made positions client past other doing others_doing at also =
@@ -156,7 +156,7 @@ one_past_made positions client past other doing others_doing at also =
 pub position_within : (positions : List Position) (client past : ℕ) (doing : Doing) → PositionAt positions client past doing → client < length positions
 position_within positions client past doing at = slice_get_within positions client (record { past = past; doing = doing }) at
 
-pub ready_within : (positions : List Position) (client past : ℕ) → IsReadyAt positions client past → client < length positions
+pub ready_within : (positions : List Position) (client past : ℕ) → WantsLockAt positions client past → client < length positions
 ready_within positions client past (inl at) = position_within positions client past doings.Entering at
 ready_within positions client past (inr (condition, at)) = position_within positions client past (doings.Woken condition) at
 
@@ -165,7 +165,7 @@ pub room_kept : (clients : List Client) (positions : List Position) (client past
     → calls_left clients (set positions client (record { past = new_past; doing = new_doing })) ≡ calls_left clients positions
 room_kept clients positions client past new_past doing new_doing at same = left_kept clients positions client (record { past = past; doing = doing }) (record { past = new_past; doing = new_doing }) at same
 
-pub room_ready : (clients : List Client) (positions : List Position) (client past : ℕ) → IsReadyAt positions client past
+pub room_ready : (clients : List Client) (positions : List Position) (client past : ℕ) → WantsLockAt positions client past
     → calls_left clients (set positions client (record { past = past; doing = doings.Inside })) ≡ calls_left clients positions
 room_ready clients positions client past (inl at) = room_kept clients positions client past past doings.Entering doings.Inside at refl
 room_ready clients positions client past (inr (condition, at)) = room_kept clients positions client past past (doings.Woken condition) doings.Inside at refl

@@ -22,7 +22,7 @@ use Rattle.mon_explicit.specs.declared.position.Doing.{Doing}
 use Rattle.mon_explicit.specs.declared.position.Doing.TheVariants as doings
 use Rattle.mon_explicit.specs.declared.position.Position.{Position}
 use Rattle.mon_events.specs.Plans.{notes_at}
-use Rattle.mon_events.specs.Configurations.{System, Phase, Standing, StandsAt, put, call_at, guard_of, block_condition, condition_of, notes_of}
+use Rattle.mon_events.specs.Configurations.{System, Phase, Standing, StandsAt, put, call_at, guard_of, block_condition, waited_condition, notes_of}
 use Rattle.mon_events.specs.Configurations.Phase.{Waiting, Inside, Notifying}
 use Rattle.mon_events.specs.Events.{IsEvent, notes_after}
 use Rattle.mon_events.specs.Pending.{IsSystem, is_idle}
@@ -83,7 +83,7 @@ call_fits system client past call is at = all_at (FitsCall system.monitor) (call
 guard_at : (system : System) (state : List Value) (client past : ℕ) (call : Call) → call_at system client past ≡ Some call → guard_of system state client past ≡ guard_truth system.monitor state call.method call.inputs
 guard_at system state client past call is = ap (λ (one : Option Call). option_map_or (λ call. guard_truth system.monitor state call.method call.inputs) one false) is
 
-condition_at : (system : System) (client past : ℕ) (call : Call) → call_at system client past ≡ Some call → condition_of system client past ≡ block_condition system.monitor call.method
+condition_at : (system : System) (client past : ℕ) (call : Call) → call_at system client past ≡ Some call → waited_condition system client past ≡ block_condition system.monitor call.method
 condition_at system client past call is = ap (λ (one : Option Call). option_map_or (λ call. block_condition system.monitor call.method) one 0) is
 
 notes_at_call : (system : System) (client past : ℕ) (call : Call) → call_at system client past ≡ Some call → notes_of system client past ≡ notes_at system.plan call.method

@@ -39,7 +39,7 @@ pub fn holds(monitor: &Monitor, state: &State, call: &Call) -> bool
 }
 
 /// The condition of a call's block.
-pub fn condition_of(monitor: &Monitor, call: &Call) -> u32
+pub fn waited_condition(monitor: &Monitor, call: &Call) -> u32
     requires { call.now.method < length monitor.now.methods }
     ensures { result ≡ block_condition monitor.now call.now.method }
 {

@@ -1,19 +1,25 @@
 //! The event machine.
 
-ghost use Rattle.std.specs.Prelude.{◌≡◌, ◌<◌, IfOk, IsSomeAnd, None, Some, length, map};
+ghost use Rattle.std.specs.Prelude.{◌≡◌, ◌<◌, ◌↔◌, IfErr, IfOk, IsSomeAnd, IsTrue, MatchOption, None, Some};
+ghost use Rattle.std.specs.Prelude.{length, map};
 ghost use Rattle.std.specs.Prelude.{slice_get};
 ghost use Rattle.mon_implicit.specs.Scripted.{FitsScripts};
 ghost use Rattle.mon_events.specs.Plans.{FitsPlan};
 ghost use Rattle.mon_explicit.specs.Machines.{IsMachine, KeepsWakeUps, Steps, opened, stage_of};
 ghost use Rattle.mon_explicit.specs.inner.Positions.{idle_position};
+ghost use Rattle.mon_explicit.specs.Sections.{IsWaiting, can_start};
+ghost use Rattle.mon_explicit.specs.inner.Waiting.{AreBits, CannotRun, CountsNotes, EachRests};
+ghost use Rattle.mon_explicit.specs.inner.Waiting.{HasCommit, IsWoken, LastReplies};
+ghost use Rattle.mon_explicit.specs.inner.Waiting.{IsFired, IsNotFired, WaitsOn};
 
-use super::calls::{all_calls, calls, condition_of, first_block, holds};
-use super::notes::{doing_after, finished, fires, next_note};
+use super::calls::{all_calls, calls, first_block, holds, waited_condition};
+use super::notes::{count_notes, doing_after, finished, fires, next_note};
 use super::position::{
     Doing, Position, idle, inside, ready, some_waits, waiting, waiting_on, wake_all,
 };
-use mon_events::{Event, Plan, Stage};
-use mon_implicit::{Client, Commit, Scripts, State, run_block, start};
+use super::waiting::{all_rest, flags, starts};
+use mon_events::{Event, Note, Plan, Stage};
+use mon_implicit::{Client, Commit, Reply, Scripts, State, run_block, start};
 use mon_monitor::Monitor;
 use std::alloc::{AllocError, Global};
 use std::marker::Model;
@@ -176,8 +182,110 @@ impl Config {
         &self.state
     }
 
+    /// The monitor that it runs.
+    pub(crate) fn monitor(&self) -> &Monitor
+        ensures { result.now ≡ self.now.system.monitor }
+    {
+        &self.monitor
+    }
+
+    /// The plan under which it runs.
+    pub(crate) fn plan(&self) -> &Plan
+        ensures { result.now ≡ self.now.system.plan }
+    {
+        &self.plan
+    }
+
+    /// What its clients call.
+    pub(crate) fn scripts(&self) -> &Scripts
+        ensures { result.now ≡ self.now.system.clients }
+    {
+        &self.scripts
+    }
+
+    /// How many calls a client is past.
+    pub(crate) fn past(&self, client: u32) -> u32
+        requires { client < length self.now.system.clients }
+        ensures past { IsSomeAnd (slice_get self.now.now.standings client)
+            (λ standing. result ≡ standing.past) }
+        ensures rule { IsMachine self.now }
+    {
+        self.positions[client as usize].past
+    }
+
+    /// A bit for each client that waits.
+    pub(crate) fn waiting(&self) -> u32
+        ensures { AreBits (IsWaiting self.now.now.standings) result }
+    {
+        flags(&self.positions, false)
+    }
+
+    /// A bit for each client that was woken.
+    pub(crate) fn woken(&self) -> u32
+        ensures { AreBits (IsWoken self.now.now.standings) result }
+    {
+        flags(&self.positions, true)
+    }
+
+    /// Whether a client is idle with a call left, or was woken.
+    pub(crate) fn starts(&self, client: u32) -> bool
+        requires { client < length self.now.system.clients }
+        ensures { IsSomeAnd (slice_get self.now.now.standings client)
+            (λ standing. result ≡ can_start self.now.system client standing.past standing.phase) }
+    {
+        starts(&self.scripts, client, self.positions[client as usize])
+    }
+
+    /// Whether each client waits, or is idle with no call left.
+    pub(crate) fn all_rest(&self) -> bool
+        ensures { IsTrue result ↔ EachRests self.now }
+    {
+        all_rest(&self.scripts, &self.positions)
+    }
+
+    /// The reply of the last commit.
+    pub(crate) fn last_reply(&self) -> Reply
+        requires { HasCommit self.now.now.commits }
+        ensures { LastReplies self.now.now.commits result }
+    {
+        self.commits[self.commits.len() - 1].reply
+    }
+
+    /// How many notes of a client are to come.
+    pub(crate) fn notes_left(&self, client: u32) -> usize
+        ensures { CountsNotes self.now.now.standings client result }
+    {
+        count_notes(&self.plan, &self.positions, client)
+    }
+
+    /// The first note to come of a client, where it fires.
+    pub(crate) fn fired(&self, client: u32) -> Option<Note>
+        ensures { MatchOption result (IsNotFired self.now client)
+            (λ note. IsFired self.now client note) }
+    {
+        let Some(next) = next_note(&self.plan, &self.positions, client) else {
+            return None;
+        };
+        if !fires(&self.monitor, &self.state, next.note) {
+            return None;
+        }
+        Some(next.note)
+    }
+
+    /// The condition on which a client waits.
+    pub(crate) fn condition(&self, client: u32) -> u32
+        requires { IsWaiting self.now.now.standings client }
+        ensures waits { WaitsOn self.now client result }
+        ensures rule { IsMachine self.now }
+    {
+        let Some((_past, condition)) = waiting(&self.positions, client) else {
+            unreachable!()
+        };
+        condition
+    }
+
     /// An idle client with a call left enters.
-    fn begin(&mut self, client: u32) -> Result<(), NotEnabled>
+    pub(crate) fn begin(&mut self, client: u32) -> Result<(), NotEnabled>
         ensures { Steps (Event.Begin client) self.old self.new result }
     {
         let Some(past) = idle(&self.positions, client) else {
@@ -194,7 +302,7 @@ impl Config {
     }
 
     /// A client that enters, or was woken, takes the free lock.
-    fn lock(&mut self, client: u32) -> Result<(), NotEnabled>
+    pub(crate) fn lock(&mut self, client: u32) -> Result<(), NotEnabled>
         ensures { Steps (Event.Lock client) self.old self.new result }
     {
         if self.owner.is_some() {
@@ -212,7 +320,7 @@ impl Config {
     }
 
     /// A client inside whose guard is false gives the lock back and waits.
-    fn wait(&mut self, client: u32) -> Result<(), NotEnabled>
+    pub(crate) fn wait(&mut self, client: u32) -> Result<(), NotEnabled>
         ensures { Steps (Event.Wait client) self.old self.new result }
     {
         let Some(past) = inside(&self.positions, client) else {
@@ -222,7 +330,7 @@ impl Config {
         if holds(&self.monitor, &self.state, call) {
             return Err(NotEnabled);
         }
-        let condition = condition_of(&self.monitor, call);
+        let condition = waited_condition(&self.monitor, call);
         self.owner = None;
         self.positions[client as usize] = Position {
             past,
@@ -232,8 +340,9 @@ impl Config {
     }
 
     /// A client inside whose guard is true makes its step.
-    fn run(&mut self, client: u32) -> Result<(), NotEnabled>
-        ensures { Steps (Event.Run client) self.old self.new result }
+    pub(crate) fn run(&mut self, client: u32) -> Result<(), NotEnabled>
+        ensures steps { Steps (Event.Run client) self.old self.new result }
+        ensures guard { IfErr result (λ _. CannotRun self.old client) }
     {
         let Some(past) = inside(&self.positions, client) else {
             return Err(NotEnabled);
@@ -243,7 +352,7 @@ impl Config {
             return Err(NotEnabled);
         }
         let block = first_block(&self.monitor, call);
-        let condition = condition_of(&self.monitor, call);
+        let condition = waited_condition(&self.monitor, call);
         let reply = run_block(&self.monitor, &mut self.state, block, call.inputs.items());
         self.commits.push_reserved(Commit {
             client,
@@ -317,7 +426,7 @@ impl Config {
     }
 
     /// A client with no note to come gives the lock back, and is past its call.
-    fn unlock(&mut self, client: u32) -> Result<(), NotEnabled>
+    pub(crate) fn unlock(&mut self, client: u32) -> Result<(), NotEnabled>
         ensures { Steps (Event.Unlock client) self.old self.new result }
     {
         let Some(past) = finished(&self.plan, &self.positions, client) else {
@@ -332,7 +441,7 @@ impl Config {
     }
 
     /// A client that waits is woken by nothing.
-    fn spurious(&mut self, client: u32) -> Result<(), NotEnabled>
+    pub(crate) fn spurious(&mut self, client: u32) -> Result<(), NotEnabled>
         ensures { Steps (Event.Spurious client) self.old self.new result }
     {
         let Some((past, condition)) = waiting(&self.positions, client) else {

@@ -1,14 +1,24 @@
 //! The event machine: a monitor whose clients wait on conditions and are woken by notes.
 //!
 //! A [`Config`] is a configuration of the explicit machine with what it runs. [`Config::step`] makes one event, or
-//! refuses it where it isn't allowed. Definitions: those of `mon_events` (plans, configurations, events, what every
-//! configuration keeps), and `specs/Machines`.
+//! refuses it where it isn't allowed. A [`FreeMonitor`] runs by whole sections and keeps a log of them.
+//! Definitions: those of `mon_events` (plans, configurations, events, what every configuration keeps, legal logs),
+//! `specs/Machines`, and `specs/Sections`.
 #![tactic(auto)]
 
 mod calls;
 mod config;
+mod free;
 mod notes;
 mod position;
+mod rings;
+mod section;
+mod sectioning;
+#[cfg(test)]
+mod tests;
+mod waiting;
 
 pub use config::{Config, NotEnabled};
+pub use free::FreeMonitor;
 pub use mon_events::{CondKind, Entry, Event, Note, NoteList, Outcome, Plan, Stage};
+pub use section::{NotReady, Section, SpuriousFault};

@@ -3,7 +3,8 @@
 ghost use Rattle.std.specs.Prelude.{◌≡◌, ◌≤◌, ℕ, true, MatchOption, length};
 ghost use Rattle.mon_implicit.specs.Steps.{FitsState};
 ghost use Rattle.mon_events.specs.Plans.{notes_at};
-ghost use Rattle.mon_explicit.specs.inner.Positions.{HasFinished, HasNoNext, IsNext, IsNoteOf};
+ghost use Rattle.mon_explicit.specs.inner.Positions.{HasFinished, HasNoNext, HasNotes};
+ghost use Rattle.mon_explicit.specs.inner.Positions.{IsNext, IsNoteOf};
 ghost use Rattle.mon_explicit.specs.inner.Positions.{CanTest, doing_after, fires_in};
 
 use super::position::{Doing, Position};
@@ -43,7 +44,8 @@ pub fn doing_after(block: u32, condition: u32, reply: Reply) -> Doing
 
 /// How many calls a client is past that has made all its notes.
 pub fn finished(plan: &Plan, positions: &[Position], client: u32) -> Option<u32>
-    ensures { MatchOption result ((past : ℕ) → HasFinished plan.now positions.now client past → ⊥)
+    ensures { MatchOption result
+        ((past : ℕ) → HasFinished plan.now positions.now client past → ⊥)
         (λ past. HasFinished plan.now positions.now client past) }
 {
     match positions.get(client as usize) {
@@ -59,6 +61,20 @@ pub fn finished(plan: &Plan, positions: &[Position], client: u32) -> Option<u32>
             _ => None,
         },
         None => None,
+    }
+}
+
+/// How many notes of a client are to come.
+pub fn count_notes(plan: &Plan, positions: &[Position], client: u32) -> usize
+    ensures { HasNotes plan.now positions.now client result }
+{
+    match positions.get(client as usize) {
+        Some(one) => match one.doing {
+            Doing::Notifying { block, from } => notes(plan, block).len().saturating_sub(from),
+            Doing::Signalling { condition: _ } => 1,
+            _ => 0,
+        },
+        None => 0,
     }
 }
 

@@ -2,7 +2,7 @@
 
 ghost use Rattle.std.specs.Prelude.{◌≡◌, ℕ, MatchOption, map};
 ghost use Rattle.std.specs.List.{list_any};
-ghost use Rattle.mon_explicit.specs.inner.Positions.{PositionAt, IsReadyAt};
+ghost use Rattle.mon_explicit.specs.inner.Positions.{PositionAt, WantsLockAt};
 ghost use Rattle.mon_explicit.specs.inner.Positions.{position_waits, waking_position};
 
 /// What a client does with its call. The notes to come are those of a block from one on, or a signal after an
@@ -44,8 +44,8 @@ pub fn idle(positions: &[Position], client: u32) -> Option<u32>
 
 /// How many calls a client is past that enters or was woken.
 pub fn ready(positions: &[Position], client: u32) -> Option<u32>
-    ensures { MatchOption result ((past : ℕ) → IsReadyAt positions.now client past → ⊥)
-        (λ past. IsReadyAt positions.now client past) }
+    ensures { MatchOption result ((past : ℕ) → WantsLockAt positions.now client past → ⊥)
+        (λ past. WantsLockAt positions.now client past) }
 {
     match positions.get(client as usize) {
         Some(one) => match one.doing {
@@ -100,7 +100,7 @@ pub fn waiting_on(positions: &[Position], client: u32, condition: u32) -> Option
 }
 
 /// Whether a client waits on a condition.
-fn waits_on(one: Position, condition: u32) -> bool
+pub fn waits_on(one: Position, condition: u32) -> bool
     ensures { result ≡ position_waits condition one }
 {
     match one.doing {

@@ -45,8 +45,8 @@ idle_position client = record { past = 0; doing = doings.Idle }
 abbrev pub PositionAt : List Position → ℕ → ℕ → Doing → Type 0
 PositionAt positions client past doing = slice_get positions client ≡ Some (record { past = past; doing = doing })
 
-abbrev pub IsReadyAt : List Position → ℕ → ℕ → Type 0
-IsReadyAt positions client past = PositionAt positions client past doings.Entering ⊎ ((condition : ℕ) × PositionAt positions client past (doings.Woken condition))
+abbrev pub WantsLockAt : List Position → ℕ → ℕ → Type 0
+WantsLockAt positions client past = PositionAt positions client past doings.Entering ⊎ ((condition : ℕ) × PositionAt positions client past (doings.Woken condition))
 
 -- ---- room for the commits of the calls that are left
 
@@ -86,6 +86,11 @@ CanTest monitor note = (1 ≤ note.condition) × IsAlone (slice_get monitor.cond
 abbrev pub HasNoNext : Plan → List Position → ℕ → Type 0
 HasNoNext plan positions client = (past : ℕ) (doing : Doing) (note : Note) (more : List Note)
     → PositionAt positions client past doing → phase_of plan doing ≡ Notifying (note ∷ more) → ⊥
+
+-- so many notes of the client are to come
+abbrev pub HasNotes : Plan → List Position → ℕ → ℕ → Type 0
+HasNotes plan positions client count = (past : ℕ) (doing : Doing) (notes : List Note)
+    → PositionAt positions client past doing → phase_of plan doing ≡ Notifying notes → length notes ≡ count
 
 -- the client has made its notes
 pub record HasFinished (plan : Plan) (positions : List Position) (client past : ℕ) : Type 0 where

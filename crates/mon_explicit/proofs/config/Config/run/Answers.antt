@@ -4,14 +4,29 @@ use Rattle.mon_explicit.specs.declared.position.Doing.TheVariants as doings
 use Rattle.mon_explicit.specs.Machines.{Machine}
 use Rattle.mon_explicit.specs.inner.Positions.{machine_of, doing_after}
 use Rattle.mon_explicit.proofs.Making.{position_within, event_keeps_machine}
-use Rattle.mon_explicit.proofs.MakingEvents.{runs, runs_not, left_here, call_here, fits_here, guard_here, not_both_here, left_falls, doing_made}
+use Rattle.mon_explicit.proofs.MakingEvents.{runs, runs_not, left_here, call_here, fits_here, guard_here, not_both_here, left_falls, doing_made, inside_made}
 use Rattle.mon_explicit.proofs.config.Config.run.Goals as goal
 
-pub returns-in_default : goal.returns-in_default
-returns-in_default c =
+pub returns-in_default-clause-steps : goal.returns-in_default-clause-steps
+returns-in_default-clause-steps c =
     let i = c.self.inside in
     let none = rw c.deref.ensures.value at c.in_default.ensures in
     (refl, rw (← c.self.view_is) (runs_not i.monitor i.plan i.scripts i.state i.owner i.commits.items i.positions.items c.args.client (λ past at guard. none past at)))
+
+pub returns-in_default-clause-guard : goal.returns-in_default-clause-guard
+returns-in_default-clause-guard c =
+    let i = c.self.inside in
+    let none = rw c.deref.ensures.value at c.in_default.ensures in
+    rw (← c.self.view_is) (λ past at. absurd (none past (inside_made i.plan i.positions.items c.args.client past at)))
+
+pub returns-then-not-holds-clause-guard : goal.returns-then-not-holds-clause-guard
+returns-then-not-holds-clause-guard c =
+    let i = c.self.inside in
+    let here = rw c.deref.ensures.value at c.in-Some.ensures in
+    let at_call = call_here i.monitor i.plan i.scripts i.state i.owner i.commits.items i.positions.items c.args.client c.in-Some.past c.calls.result.now c.index-calls-past.result c.self.invariant.0 here c.calls.ensures.calls c.index-calls-past.is in
+    rw (← c.self.view_is) (λ past at.
+    guard_here (record { monitor = i.monitor; plan = i.plan; clients = i.scripts }) i.state c.args.client c.in-Some.past past i.positions.items c.index-calls-past.result here (inside_made i.plan i.positions.items c.args.client past at) at_call
+    ∙ sym c.if-not-holds.ensures)
 
 pub bounds-calls-past : goal.bounds-calls-past
 bounds-calls-past c =
@@ -25,8 +40,8 @@ holds-requires-clause-call c =
     let here = rw c.deref.ensures.value at c.in-Some.ensures in
     fits_here i.monitor i.plan i.scripts i.state i.owner i.commits.items i.positions.items c.args.client c.in-Some.past c.calls.result.now c.index-calls-past.result c.self.invariant.0 here c.calls.ensures.calls c.index-calls-past.is
 
-pub returns-then-not-holds : goal.returns-then-not-holds
-returns-then-not-holds c =
+pub returns-then-not-holds-clause-steps : goal.returns-then-not-holds-clause-steps
+returns-then-not-holds-clause-steps c =
     let i = c.self.inside in
     let here = rw c.deref.ensures.value at c.in-Some.ensures in
     let at_call = call_here i.monitor i.plan i.scripts i.state i.owner i.commits.items i.positions.items c.args.client c.in-Some.past c.calls.result.now c.index-calls-past.result c.self.invariant.0 here c.calls.ensures.calls c.index-calls-past.is in (
@@ -41,8 +56,8 @@ first_block-block-requires c =
     let here = rw c.deref.ensures.value at c.in-Some.ensures in
     (fits_here i.monitor i.plan i.scripts i.state i.owner i.commits.items i.positions.items c.args.client c.in-Some.past c.calls.result.now c.index-calls-past.result c.self.invariant.0 here c.calls.ensures.calls c.index-calls-past.is).method
 
-pub condition_of-condition-requires : goal.condition_of-condition-requires
-condition_of-condition-requires c =
+pub waited_condition-condition-requires : goal.waited_condition-condition-requires
+waited_condition-condition-requires c =
     let i = c.self.inside in
     let here = rw c.deref.ensures.value at c.in-Some.ensures in
     (fits_here i.monitor i.plan i.scripts i.state i.owner i.commits.items i.positions.items c.args.client c.in-Some.past c.calls.result.now c.index-calls-past.result c.self.invariant.0 here c.calls.ensures.calls c.index-calls-past.is).method
@@ -81,23 +96,23 @@ invariant_of-self c =
     let at_call = call_here i.monitor i.plan i.scripts i.state i.owner i.commits.items i.positions.items c.args.client c.in-Some.past c.calls.result.now c.index-calls-past.result c.self.invariant.0 here c.calls.ensures.calls c.index-calls-past.is in
     let step = rw (c.first_block-block.ensures.block, c.items.ensures) at c.run_block-reply.ensures.step in
     let falls = left_falls i.scripts i.positions.items c.args.client (record { past = c.in-Some.past; doing = doings.Inside })
-    (record { past = c.in-Some.past; doing = doing_after c.first_block-block.result c.condition_of-condition.result c.run_block-reply.result }) here
-    (omega (arith, left, ap length c.calls.ensures.calls)) (omega (arith, doing_made c.first_block-block.result c.condition_of-condition.result c.run_block-reply.result)) in
+    (record { past = c.in-Some.past; doing = doing_after c.first_block-block.result c.waited_condition-condition.result c.run_block-reply.result }) here
+    (omega (arith, left, ap length c.calls.ensures.calls)) (omega (arith, doing_made c.first_block-block.result c.waited_condition-condition.result c.run_block-reply.result)) in
     rw (c.push_reserved.ensures.items, c.push_reserved.ensures.len, c.push_reserved.ensures.capacity, c.doing_after.ensures) (
       event_keeps_machine (events.Run c.args.client) before _ c.self.invariant.0
-          (runs i.monitor i.plan i.scripts i.state i.owner i.commits.items i.positions.items c.args.client c.in-Some.past c.first_block-block.result c.condition_of-condition.result c.index-calls-past.result
-          c.run_block-reply.result c.run_block-reply.new.state here at_call step c.first_block-block.ensures.block c.condition_of-condition.ensures),
+          (runs i.monitor i.plan i.scripts i.state i.owner i.commits.items i.positions.items c.args.client c.in-Some.past c.first_block-block.result c.waited_condition-condition.result c.index-calls-past.result
+          c.run_block-reply.result c.run_block-reply.new.state here at_call step c.first_block-block.ensures.block c.waited_condition-condition.ensures),
       omega (arith, falls, c.self.invariant.1),
     )
 
-pub returns : goal.returns
-returns c =
+pub returns-clause-steps : goal.returns-clause-steps
+returns-clause-steps c =
     let i = c.self.inside in
     let here = rw c.deref.ensures.value at c.in-Some.ensures in
     let at_call = call_here i.monitor i.plan i.scripts i.state i.owner i.commits.items i.positions.items c.args.client c.in-Some.past c.calls.result.now c.index-calls-past.result c.self.invariant.0 here c.calls.ensures.calls c.index-calls-past.is in
     let step = rw (c.first_block-block.ensures.block, c.items.ensures) at c.run_block-reply.ensures.step in (
       ap (λ (m : Machine). m.system) c.self.view_is,
       rw (← c.self.view_is, c.push_reserved.ensures.items, c.doing_after.ensures)
-          (runs i.monitor i.plan i.scripts i.state i.owner i.commits.items i.positions.items c.args.client c.in-Some.past c.first_block-block.result c.condition_of-condition.result c.index-calls-past.result
-          c.run_block-reply.result c.run_block-reply.new.state here at_call step c.first_block-block.ensures.block c.condition_of-condition.ensures),
+          (runs i.monitor i.plan i.scripts i.state i.owner i.commits.items i.positions.items c.args.client c.in-Some.past c.first_block-block.result c.waited_condition-condition.result c.index-calls-past.result
+          c.run_block-reply.result c.run_block-reply.new.state here at_call step c.first_block-block.ensures.block c.waited_condition-condition.ensures),
     )

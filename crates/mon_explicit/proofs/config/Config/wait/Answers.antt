@@ -35,8 +35,8 @@ returns-then-holds c =
           (λ past at guard. not_both_here _ (sym c.if-holds.ensures) (sym (guard_here (record { monitor = i.monitor; plan = i.plan; clients = i.scripts }) i.state c.args.client c.in-Some.past past i.positions.items c.index-calls-past.result here at at_call) ∙ guard))),
     )
 
-pub condition_of-condition-requires : goal.condition_of-condition-requires
-condition_of-condition-requires c =
+pub waited_condition-condition-requires : goal.waited_condition-condition-requires
+waited_condition-condition-requires c =
     let i = c.self.inside in
     let here = rw c.deref.ensures.value at c.in-Some.ensures in
     (fits_here i.monitor i.plan i.scripts i.state i.owner i.commits.items i.positions.items c.args.client c.in-Some.past c.calls.result.now c.index-calls-past.result c.self.invariant.0 here c.calls.ensures.calls c.index-calls-past.is).method
@@ -51,8 +51,8 @@ invariant_of-self c =
     let before = machine_of i.monitor i.plan i.scripts i.state i.owner i.commits.items i.positions.items in
     let at_call = call_here i.monitor i.plan i.scripts i.state i.owner i.commits.items i.positions.items c.args.client c.in-Some.past c.calls.result.now c.index-calls-past.result c.self.invariant.0 here c.calls.ensures.calls c.index-calls-past.is in (
       event_keeps_machine (events.Wait c.args.client) before _ c.self.invariant.0
-          (waits i.monitor i.plan i.scripts i.state i.owner i.commits.items i.positions.items c.args.client c.in-Some.past c.condition_of-condition.result c.index-calls-past.result here at_call (sym c.if-holds.ensures) c.condition_of-condition.ensures),
-      rw (room_kept i.scripts i.positions.items c.args.client c.in-Some.past c.in-Some.past doings.Inside (doings.Waiting c.condition_of-condition.result) here refl) c.self.invariant.1,
+          (waits i.monitor i.plan i.scripts i.state i.owner i.commits.items i.positions.items c.args.client c.in-Some.past c.waited_condition-condition.result c.index-calls-past.result here at_call (sym c.if-holds.ensures) c.waited_condition-condition.ensures),
+      rw (room_kept i.scripts i.positions.items c.args.client c.in-Some.past c.in-Some.past doings.Inside (doings.Waiting c.waited_condition-condition.result) here refl) c.self.invariant.1,
     )
 
 pub returns : goal.returns
@@ -62,5 +62,5 @@ returns c =
     let at_call = call_here i.monitor i.plan i.scripts i.state i.owner i.commits.items i.positions.items c.args.client c.in-Some.past c.calls.result.now c.index-calls-past.result c.self.invariant.0 here c.calls.ensures.calls c.index-calls-past.is in (
       ap (λ (m : Machine). m.system) c.self.view_is,
       rw (← c.self.view_is)
-          (waits i.monitor i.plan i.scripts i.state i.owner i.commits.items i.positions.items c.args.client c.in-Some.past c.condition_of-condition.result c.index-calls-past.result here at_call (sym c.if-holds.ensures) c.condition_of-condition.ensures),
+          (waits i.monitor i.plan i.scripts i.state i.owner i.commits.items i.positions.items c.args.client c.in-Some.past c.waited_condition-condition.result c.index-calls-past.result here at_call (sym c.if-holds.ensures) c.waited_condition-condition.ensures),
     )

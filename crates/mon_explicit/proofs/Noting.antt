@@ -1,0 +1,313 @@
+-- The notes of a client, one by one.
+use Rattle.std.proofs.Common.{◌≡◌, ◌⊎◌, ℕ, zero, suc, ◌+◌, ◌-◌, ◌<◌, ◌≤◌, Bool, true, false, List, [], ◌∷◌, length, get_or, set, Option, Some, None, refl, sym, ap, subst, ◌∙◌, arith, inl, inr}
+use Rattle.std.specs.Prelude.{slice_get, Contains}
+use Rattle.std.proofs.lemmas.Option.{none-some, same_Some}
+use Rattle.std.proofs.lemmas.Bool.{true≢false}
+use Rattle.mon_events.specs.declared.plan.Note.{Note}
+use Rattle.mon_events.specs.declared.event.Event.TheVariants as events
+use Rattle.mon_events.specs.declared.log.Entry.{Entry}
+use Rattle.mon_events.specs.Configurations.{System, Phase, Standing, Configuration, StandsAt, put}
+use Rattle.mon_events.specs.Configurations.Phase.{Waiting, Woken, Notifying}
+use Rattle.mon_events.specs.Events.{Wakes, NoneWaits, IsEvent, fires, wake_all}
+use Rattle.mon_events.specs.Logs.{IsChosen}
+use Rattle.mon_events.specs.Logs.IsNotified.{all_made, one_made}
+use Rattle.mon_events.proofs.Standings.{put_same, put_length, woken_length, one_past, one_phase, stands_within}
+use Rattle.mon_explicit.specs.Machines.{Machine, NotAllowed, Happened}
+use Rattle.mon_explicit.specs.inner.Waiting.{KeepsWaits, HasNote, IsNotifying, IsFirst, IsFired, IsNotFired, IsTarget, Targets, NamesNobody, IsChosenBy, MadeNote, MadeNoteOf, MadeNotesOf, MadeSome, AreMaking, CountsNotes}
+use Rattle.mon_explicit.specs.inner.Rings.{line_of, without, IsLine, AreLines, HaveLines}
+use Rattle.mon_explicit.proofs.Lining.{WaitsAfter, Anyone, ButOne, ButOn, notifying_is_quiet, nobody_left, one_left, each_left, quiet_put, lines_kept, lines_cleared, lines_left}
+
+-- ---- a note can be made
+
+nobody_is_woken : (machine : Machine) (note : Note) (fired all : Bool) → fires machine.system machine.now.state note ≡ fired → note.all ≡ all → NamesNobody machine note
+    → (woken : List Standing) × Wakes machine.system machine.now note None woken
+nobody_is_woken machine note false all fires_not is nobody = (machine.now.standings, inr (record { nobody = inl fires_not; becomes = refl }))
+nobody_is_woken machine note true true fired is nobody = (wake_all note.condition machine.now.standings, inl (record { fired = fired; each = is; becomes = refl }))
+nobody_is_woken machine note true false fired is (inl fires_not) = absurd (true≢false (sym fired ∙ fires_not))
+nobody_is_woken machine note true false fired is (inr (inl all)) = absurd (true≢false (sym all ∙ is))
+nobody_is_woken machine note true false fired is (inr (inr none)) = (machine.now.standings, inr (record { nobody = inr (is, none); becomes = refl }))
+
+some_wakes : (since : List ℕ) (machine : Machine) (note : Note) (target : Option ℕ) → IsTarget since machine note target → (woken : List Standing) × Wakes machine.system machine.now note target woken
+some_wakes since machine note None nobody = nobody_is_woken machine note (fires machine.system machine.now.state note) note.all refl refl nobody
+some_wakes since machine note (Some target) names = (
+  put machine.now.standings target names.first.past (Woken note.condition),
+  (names.first.past, record { fired = names.fired; one = names.one; waits = names.first.waits; becomes = refl }),
+)
+
+pub can_notify : (since : List ℕ) (machine : Machine) (client : ℕ) (target : Option ℕ) → HasNote machine client → Targets since machine client target → NotAllowed machine (events.Notify client target) → ⊥
+can_notify since machine client target has targets never =
+    let wakes = some_wakes since machine has.1 target (targets has.0 has.1 has.2 has.3) in
+    never _ (has.0, record { note = has.1; more = has.2; woken = wakes.0; notifying = has.3; wakes = wakes.1; becomes = refl })
+
+chosen_of : (since : List ℕ) (machine : Machine) (note : Note) (target : Option ℕ) → IsTarget since machine note target → IsChosenBy since machine target
+chosen_of since machine note None is = tt
+chosen_of since machine note (Some target) names = (note.condition, names.first)
+
+-- ---- who is chosen by what is kept has waited longest
+
+condition_in : Phase → ℕ
+condition_in (Waiting condition) = condition
+condition_in phase = 0
+
+same_waiting : (condition another : ℕ) → Waiting condition ≡ Waiting another → condition ≡ another
+unfolding condition_in
+same_waiting condition another is = ap condition_in is
+
+pub is_chosen : (since : List ℕ) (machine : Machine) (log : List Entry) (target : Option ℕ) → KeepsWaits log machine.system.clients since → IsChosenBy since machine target → IsChosen log machine.now target
+is_chosen since machine log None keeps chosen = tt
+is_chosen since machine log (Some target) keeps (condition, first) = λ past on at.
+    let same = same_waiting on condition (one_phase machine.now.standings target past first.past (Waiting on) (Waiting condition) at first.waits) in
+    let place = get_or since target 0 - 1 in (
+      place,
+      keeps.each target place first.within (omega (arith, first.numbered)),
+      λ other others_past waits.
+          let least = first.first other others_past (subst (λ (one : ℕ). StandsAt machine.now.standings other others_past (Waiting one)) same waits) in
+          let later = get_or since other 0 - 1 in
+          (later, keeps.each other later least.0 (omega (arith, least.1, first.numbered)), omega (arith, least.1)),
+    )
+
+-- ---- one note after the other
+
+pub none_made : (since : List ℕ) (client : ℕ) (machine : Machine) → MadeSome since client machine machine
+none_made since client machine = record { system = refl; so_far = λ log last keeps notified. notified }
+
+pub one_more : (since : List ℕ) (client : ℕ) (before now next : Machine) → MadeSome since client before now → MadeNote since client now next → MadeSome since client before next
+one_more since client before now next some made = record {
+  system = made.2.0 ∙ some.system;
+  so_far = λ log last keeps notified.
+      let keeps_now : KeepsWaits log now.system.clients since = subst (λ (system : System). KeepsWaits log system.clients since) (sym some.system) keeps in
+      let event : IsEvent before.system (events.Notify client made.0) now.now next.now = subst (λ (system : System). IsEvent system (events.Notify client made.0) now.now next.now) some.system made.2.1 in
+      some.so_far log last keeps (one_made now.now next.now last made.0 (is_chosen since now log made.0 keeps_now made.1) event notified);
+}
+
+wakes_length : (system : System) (c : Configuration) (note : Note) (target : Option ℕ) (woken : List Standing) → Wakes system c note target woken → length woken ≡ length c.standings
+wakes_length system c note None woken (inl each) = ap length each.becomes ∙ woken_length c.standings note.condition
+wakes_length system c note None woken (inr nobody) = ap length nobody.becomes
+wakes_length system c note (Some target) woken (past, one) = ap length one.becomes ∙ put_length c.standings target past (Woken note.condition)
+
+notes_in : Phase → List Note
+notes_in (Notifying notes) = notes
+notes_in phase = []
+
+same_notes : (notes others : List Note) → Notifying notes ≡ Notifying others → notes ≡ others
+unfolding notes_in
+same_notes notes others is = ap notes_in is
+
+-- one note is taken off
+pub one_taken : (since : List ℕ) (client : ℕ) (now next : Machine) (past : ℕ) (notes : List Note) → MadeNote since client now next → StandsAt now.now.standings client past (Notifying notes)
+    → (more : List Note) × StandsAt next.now.standings client past (Notifying more) × (length more + 1 ≡ length notes)
+one_taken since client now next past notes made at =
+    let own_past = made.2.1.0 in
+    let notifies = made.2.1.1 in
+    let within : client < length notifies.woken = omega (arith, wakes_length now.system now.now notifies.note made.0 notifies.woken notifies.wakes, stands_within now.now.standings client past (Notifying notes) at) in
+    let stands : StandsAt next.now.standings client own_past (Notifying notifies.more) = subst (λ (c : Configuration). StandsAt c.standings client own_past (Notifying notifies.more)) (sym notifies.becomes)
+    (put_same notifies.woken client own_past (Notifying notifies.more) within) in
+    let same = one_past now.now.standings client past own_past (Notifying notes) (Notifying (notifies.note ∷ notifies.more)) at notifies.notifying in
+    let whole = same_notes notes (notifies.note ∷ notifies.more) (one_phase now.now.standings client past own_past (Notifying notes) (Notifying (notifies.note ∷ notifies.more)) at notifies.notifying) in
+    (notifies.more, subst (λ (one : ℕ). StandsAt next.now.standings client one (Notifying notifies.more)) (sym same) stands, omega (arith, ap length whole))
+
+pub has_note : (machine : Machine) (client past : ℕ) (notes : List Note) → StandsAt machine.now.standings client past (Notifying notes) → 0 < length notes → HasNote machine client
+has_note machine client past [] at some = absurd (omega (arith, some))
+has_note machine client past (note ∷ more) at some = (past, note, more, at)
+
+-- ---- who waits after a note
+
+note_in : Note → Phase → Note
+note_in other (Notifying (note ∷ more)) = note
+note_in other (Notifying []) = other
+note_in other phase = other
+
+same_first : (note other : Note) (more others : List Note) → Notifying (note ∷ more) ≡ Notifying (other ∷ others) → note ≡ other
+unfolding note_in
+same_first note other more others is = ap (note_in other) is
+
+-- what an event of the note to come says of this note
+record WokeFor (machine next : Machine) (client : ℕ) (note : Note) (target : Option ℕ) : Type 0 where
+  past : ℕ
+  more : List Note
+  woken : List Standing
+  stood : StandsAt machine.now.standings client past (Notifying (note ∷ more))
+  wakes : Wakes machine.system machine.now note target woken
+  is : next.now.standings ≡ put woken client past (Notifying more)
+  lengths : length next.now.standings ≡ length machine.now.standings
+
+woke_for : (machine next : Machine) (client past : ℕ) (note : Note) (more : List Note) (target : Option ℕ) → StandsAt machine.now.standings client past (Notifying (note ∷ more)) → Happened (events.Notify client target) machine next
+    → WokeFor machine next client note target
+woke_for machine next client past note more target at happened =
+    let own_past = happened.1.0 in
+    let notifies = happened.1.1 in
+    let same = same_first notifies.note note notifies.more more (one_phase machine.now.standings client own_past past (Notifying (notifies.note ∷ notifies.more)) (Notifying (note ∷ more)) notifies.notifying at) in
+    let is : next.now.standings ≡ put notifies.woken client own_past (Notifying notifies.more) = ap (λ (c : Configuration). c.standings) notifies.becomes in
+    record {
+      past = own_past;
+      more = notifies.more;
+      woken = notifies.woken;
+      stood = subst (λ (one : Note). StandsAt machine.now.standings client own_past (Notifying (one ∷ notifies.more))) same notifies.notifying;
+      wakes = subst (λ (one : Note). Wakes machine.system machine.now one target notifies.woken) same notifies.wakes;
+      is = is;
+      lengths = ap length is ∙ put_length notifies.woken client own_past (Notifying notifies.more) ∙ wakes_length machine.system machine.now notifies.note target notifies.woken notifies.wakes;
+    }
+
+after_note : (P : ℕ → ℕ → Type 0) (machine next : Machine) (client : ℕ) (note : Note) (target : Option ℕ) (woke : WokeFor machine next client note target) → WaitsAfter P machine.now.standings woke.woken
+    → WaitsAfter P machine.now.standings next.now.standings
+after_note P machine next client note target woke after =
+    quiet_put P client woke.past woke.past (Notifying woke.more) (Notifying (note ∷ woke.more)) machine.now.standings woke.woken next.now.standings woke.is woke.stood (notifying_is_quiet (note ∷ woke.more)) (notifying_is_quiet woke.more) after
+
+none_woken : (system : System) (c : Configuration) (note : Note) (woken : List Standing) → (fires system c.state note ≡ false) ⊎ (note.all ≡ false) → Wakes system c note None woken → woken ≡ c.standings
+none_woken system c note woken (inl not_fired) (inl each) = absurd (true≢false (sym each.fired ∙ not_fired))
+none_woken system c note woken (inr one) (inl each) = absurd (true≢false (sym each.each ∙ one))
+none_woken system c note woken why (inr nobody) = nobody.becomes
+
+each_woken : (system : System) (c : Configuration) (note : Note) (woken : List Standing) → fires system c.state note ≡ true → note.all ≡ true → Wakes system c note None woken → woken ≡ wake_all note.condition c.standings
+each_woken system c note woken fired all (inl each) = each.becomes
+each_woken system c note woken fired all (inr nobody) = elim nobody.nobody [
+  | inl not_fired ↦ absurd (true≢false (sym fired ∙ not_fired))
+  | inr none ↦ absurd (true≢false (sym all ∙ none.0))
+]
+
+made_note : (since : List ℕ) (client : ℕ) (before next : Machine) (note : Note) (target : Option ℕ) → IsTarget since before note target → Happened (events.Notify client target) before next → MadeNote since client before next
+made_note since client before next note target names happened = (target, chosen_of since before note target names, happened)
+
+-- the first note does not fire
+pub unfired_made : (client : ℕ) (before next : Machine) (rings : List (List ℕ)) → HasNote before client → IsNotFired before client → Happened (events.Notify client None) before next → MadeNoteOf client before rings next rings
+unfired_made client before next rings has not_fired happened = λ since are.
+    let is_not = not_fired has.0 has.1 has.2 has.3 in
+    let woke = woke_for before next client has.0 has.1 has.2 None has.3 happened in (
+      made_note since client before next has.1 None (inl is_not) happened,
+      lines_kept since before.system next.system before.now.standings next.now.standings rings happened.0 woke.lengths
+          (after_note Anyone before next client has.1 None woke (nobody_left before.now.standings woke.woken (none_woken before.system before.now has.1 woke.woken (inl is_not) woke.wakes))) are,
+    )
+
+pub unfired_names : (since : List ℕ) (client : ℕ) (machine : Machine) → IsNotFired machine client → Targets since machine client None
+unfired_names since client machine not_fired past note more at = inl (not_fired past note more at)
+
+fired_names : (since : List ℕ) (client : ℕ) (machine : Machine) (note : Note) (target : Option ℕ) → IsFired machine client note → IsTarget since machine note target → Targets since machine client target
+fired_names since client machine note target fired names past other more at =
+    subst (λ (one : Note). IsTarget since machine one target)
+    (same_first note other fired.1 more (one_phase machine.now.standings client fired.0 past (Notifying (note ∷ fired.1)) (Notifying (other ∷ more)) fired.2 at)) names
+
+-- a broadcast that fires
+pub broadcast_names : (since : List ℕ) (client : ℕ) (machine : Machine) (note : Note) → IsFired machine client note → note.all ≡ true → Targets since machine client None
+broadcast_names since client machine note fired all = fired_names since client machine note None fired (inr (inl all))
+
+pub broadcast_made : (client : ℕ) (before next : Machine) (rings : List (List ℕ)) (note : Note) → IsFired before client note → note.all ≡ true → Happened (events.Notify client None) before next
+    → MadeNoteOf client before rings next (set rings note.condition [])
+broadcast_made client before next rings note fired all happened = λ since are.
+    let woke = woke_for before next client fired.0 note fired.1 None fired.2 happened in (
+      made_note since client before next note None (inr (inl all)) happened,
+      lines_cleared since before.system next.system before.now.standings next.now.standings rings note.condition happened.0 woke.lengths
+          (after_note (ButOn note.condition) before next client note None woke
+          (each_left note.condition before.now.standings woke.woken (each_woken before.system before.now note woke.woken fired.3 all woke.wakes))) are,
+    )
+
+-- a signal that fires where no one waits
+none_in : (since : List ℕ) (standings : List Standing) (condition : ℕ) (line : List ℕ) → IsLine since standings condition line → slice_get line 0 ≡ None → NoneWaits standings condition
+none_in since standings condition [] is none client past at = absurd (omega (arith, (is.all client past at).1))
+none_in since standings condition (first ∷ line) is none client past at = none-some first (sym none)
+
+empty_names : (since : List ℕ) (machine : Machine) (rings : List (List ℕ)) (note : Note) → AreLines since machine.system machine.now.standings rings → slice_get (line_of rings note.condition) 0 ≡ None → IsTarget since machine note None
+empty_names since machine rings note are none = inr (inr (none_in since machine.now.standings note.condition (line_of rings note.condition) (are.each note.condition) none))
+
+pub nobody_names : (since : List ℕ) (client : ℕ) (machine : Machine) (rings : List (List ℕ)) (note : Note) → AreLines since machine.system machine.now.standings rings → IsFired machine client note
+    → slice_get (line_of rings note.condition) 0 ≡ None → Targets since machine client None
+nobody_names since client machine rings note are fired none = fired_names since client machine note None fired (empty_names since machine rings note are none)
+
+pub nobody_made : (client : ℕ) (before next : Machine) (rings : List (List ℕ)) (note : Note) → IsFired before client note → note.all ≡ false → slice_get (line_of rings note.condition) 0 ≡ None → Happened (events.Notify client None) before next
+    → MadeNoteOf client before rings next rings
+nobody_made client before next rings note fired one none happened = λ since are.
+    let woke = woke_for before next client fired.0 note fired.1 None fired.2 happened in (
+      made_note since client before next note None (empty_names since before rings note are none) happened,
+      lines_kept since before.system next.system before.now.standings next.now.standings rings happened.0 woke.lengths
+          (after_note Anyone before next client note None woke (nobody_left before.now.standings woke.woken (none_woken before.system before.now note woke.woken (inr one) woke.wakes))) are,
+    )
+
+-- a signal that fires wakes the first of the ring, who is the first waiter
+first_is_first : (since : List ℕ) (standings : List Standing) (condition target : ℕ) (line : List ℕ) → length since ≡ length standings → IsLine since standings condition line → slice_get line 0 ≡ Some target
+    → IsFirst since standings condition target
+first_is_first since standings condition target [] one_each is first = absurd (none-some target first)
+first_is_first since standings condition target (head ∷ line) one_each is first =
+    let same : head ≡ target = same_Some head target first in
+    let stood = is.only target (0, omega arith, same) in
+    record {
+      past = stood.0;
+      waits = stood.1;
+      within = omega (arith, one_each, stands_within standings target stood.0 (Waiting condition) stood.1);
+      numbered = is.numbered target (0, omega arith, same);
+      first = λ other others_past at. (omega (arith, one_each, stands_within standings other others_past (Waiting condition) at), least other (is.all other others_past at) same);
+    }
+  where
+    least : (other : ℕ) → Contains (head ∷ line) other → head ≡ target → get_or since target 0 ≤ get_or since other 0
+    least other (zero, within, at) same = omega (arith, ap (λ (who : ℕ). get_or since who 0) (sym same ∙ at))
+    least other (suc k, within, at) same = omega (arith, is.rising 0 (suc k) other (omega arith) within, ap (λ (who : ℕ). get_or since who 0) same, ap (λ (who : ℕ). get_or since who 0) at)
+
+first_named : (since : List ℕ) (machine : Machine) (rings : List (List ℕ)) (note : Note) (target : ℕ) → AreLines since machine.system machine.now.standings rings → fires machine.system machine.now.state note ≡ true → note.all ≡ false
+    → slice_get (line_of rings note.condition) 0 ≡ Some target → IsTarget since machine note (Some target)
+first_named since machine rings note target are fired one first = record {
+  fired = fired;
+  one = one;
+  first = first_is_first since machine.now.standings note.condition target (line_of rings note.condition) are.one_each (are.each note.condition) first;
+}
+
+pub signal_names : (since : List ℕ) (client : ℕ) (machine : Machine) (rings : List (List ℕ)) (note : Note) (target : ℕ) → AreLines since machine.system machine.now.standings rings → IsFired machine client note → note.all ≡ false
+    → slice_get (line_of rings note.condition) 0 ≡ Some target → Targets since machine client (Some target)
+signal_names since client machine rings note target are fired one first = fired_names since client machine note (Some target) fired (first_named since machine rings note target are fired.3 one first)
+
+pub signal_made : (client : ℕ) (before next : Machine) (rings : List (List ℕ)) (note : Note) (target : ℕ) → IsFired before client note → note.all ≡ false → slice_get (line_of rings note.condition) 0 ≡ Some target
+    → Happened (events.Notify client (Some target)) before next → MadeNoteOf client before rings next (set rings note.condition (without target (line_of rings note.condition)))
+signal_made client before next rings note target fired one first happened = λ since are.
+    let woke = woke_for before next client fired.0 note fired.1 (Some target) fired.2 happened in (
+      made_note since client before next note (Some target) (first_named since before rings note target are fired.3 one first) happened,
+      lines_left since before.system next.system before.now.standings next.now.standings rings target woke.wakes.0 note.condition happened.0 woke.lengths woke.wakes.1.waits
+          (after_note (ButOne target) before next client note (Some target) woke
+          (one_left target woke.wakes.0 note.condition before.now.standings woke.woken woke.wakes.1.waits woke.wakes.1.becomes)) are,
+    )
+
+-- ---- all of them
+
+pub making_starts : (client : ℕ) (machine : Machine) (rings : List (List ℕ)) (end : ℕ) → CountsNotes machine.now.standings client end → AreMaking client machine rings machine rings 0 end
+making_starts client machine rings end counts = record {
+  some = λ since are. (none_made since client machine, are);
+  left = λ past notes at. (notes, at, omega (arith, counts past notes at));
+}
+
+pub making_lines : (client : ℕ) (before : Machine) (rings : List (List ℕ)) (now : Machine) (rings_now : List (List ℕ)) (count end : ℕ) → AreMaking client before rings now rings_now count end
+    → HaveLines before.system before.now.standings rings → HaveLines now.system now.now.standings rings_now
+making_lines client before rings now rings_now count end making lines = (lines.0, (making.some lines.0 lines.1).1)
+
+pub making_goes_on : (client : ℕ) (before : Machine) (rings : List (List ℕ)) (now : Machine) (rings_now : List (List ℕ)) (next : Machine) (rings_next : List (List ℕ)) (count end : ℕ) → AreMaking client before rings now rings_now count end
+    → HaveLines now.system now.now.standings rings_now → MadeNoteOf client now rings_now next rings_next → AreMaking client before rings next rings_next (count + 1) end
+making_goes_on client before rings now rings_now next rings_next count end making lines made = record {
+  some = λ since are.
+      let some = making.some since are in
+      let one = made since some.1 in
+      (one_more since client before now next some.0 one.0, one.1);
+  left = λ past notes at.
+      let rest = making.left past notes at in
+      let taken = one_taken lines.0 client now next past rest.0 (made lines.0 lines.1).0 rest.1 in
+      (taken.0, taken.1, omega (arith, taken.2, rest.2));
+}
+
+pub making_has_note : (client : ℕ) (before : Machine) (rings : List (List ℕ)) (now : Machine) (rings_now : List (List ℕ)) (count end : ℕ) → AreMaking client before rings now rings_now count end → IsNotifying before client → count < end
+    → HasNote now client
+making_has_note client before rings now rings_now count end making notifying below =
+    let rest = making.left notifying.0 notifying.1 notifying.2 in
+    has_note now client notifying.0 rest.0 rest.1 (omega (arith, rest.2, below))
+
+no_notes : (standings : List Standing) (client past : ℕ) (notes : List Note) → StandsAt standings client past (Notifying notes) → length notes ≡ 0 → StandsAt standings client past (Notifying [])
+no_notes standings client past [] at none = at
+no_notes standings client past (note ∷ notes) at none = absurd (omega (arith, none))
+
+pub making_ends : (client : ℕ) (before : Machine) (rings : List (List ℕ)) (last : Machine) (rings_last : List (List ℕ)) (count end : ℕ) → AreMaking client before rings last rings_last count end → IsNotifying before client → end ≤ count
+    → MadeNotesOf client before rings last rings_last
+making_ends client before rings last rings_last count end making notifying over = λ since are.
+    let some = making.some since are in
+    let done = λ (past : ℕ) (notes : List Note) (at : StandsAt before.now.standings client past (Notifying notes)).
+    let rest = making.left past notes at in
+    no_notes last.now.standings client past rest.0 rest.1 (omega (arith, rest.2, over)) in (
+      record {
+        system = some.0.system;
+        done = done;
+        notified = λ log keeps. some.0.so_far log last.now keeps (all_made last.now notifying.0 (done notifying.0 notifying.1 notifying.2));
+      },
+      some.1,
+    )

@@ -1,0 +1,101 @@
+-- The start of a section, by two steps of the machine.
+use Rattle.std.proofs.Common.{◌≡◌, ℕ, ◌<◌, length, None, Result, Ok, Err, MatchResult, refl, sym, ap, subst, ◌∙◌, inl, inr}
+use Rattle.mon_events.specs.declared.event.Event.{Event}
+use Rattle.mon_events.specs.declared.event.Event.TheVariants as events
+use Rattle.mon_events.specs.Configurations.{System, Configuration, StandsAt}
+use Rattle.mon_events.specs.Configurations.Phase.{Idle, Entering, Woken, Inside}
+use Rattle.mon_events.specs.Events.{Begins, Locks, WantsLock, IsEvent}
+use Rattle.std.specs.Prelude.{is_err, true, false, IfErr}
+use Rattle.std.proofs.lemmas.Bool.{true≢false}
+use Rattle.mon_explicit.specs.Machines.{Machine, Happened, Refused, Steps, NotAllowed}
+use Rattle.mon_explicit.specs.inner.Waiting.{NoneEnters, Started, NotStarted, IsInside, CannotRun, CanWait, CanUnlock}
+use Rattle.mon_events.proofs.Standings.{put_same, stands_within, one_past}
+
+-- a client that began enters, and the lock is as before
+begun_enters : (system : System) (client past : ℕ) (before begun : Configuration) → Begins system client past before begun → StandsAt begun.standings client past Entering
+begun_enters system client past before begun begins =
+    subst (λ (c : Configuration). StandsAt c.standings client past Entering) (sym begins.becomes)
+    (put_same before.standings client past Entering (stands_within before.standings client past Idle begins.idle))
+
+locked_past : (client past other : ℕ) (begun last : Configuration) → StandsAt begun.standings client past Entering → Locks client other begun last → past ≡ other
+locked_past client past other begun last at locks = elim locks.wants [
+  | inl entering ↦ one_past begun.standings client past other Entering Entering at entering
+  | inr woken ↦ one_past begun.standings client past other Entering (Woken woken.0) at woken.1
+]
+
+pub began : {E : Type 0} (before begun last : Machine) (client : ℕ) (result : Result (Unit {0}) E) → before.now.owner ≡ None → Happened (events.Begin client) before begun
+    → MatchResult result (λ _. Happened (events.Lock client) begun last) (λ _. Refused (events.Lock client) begun last)
+    → MatchResult result (λ _. Started before client last) (λ _. NotStarted before client last)
+began before begun last client (Ok done) free happened told =
+    let begins = happened.1.1 in
+    let enters = begun_enters before.system client happened.1.0 before.now begun.now begins in
+    let same = locked_past client happened.1.0 told.1.0 begun.now last.now enters told.1.1 in
+    (told.0 ∙ happened.0, (happened.1.0, begun.now, inl begins, subst (λ (past : ℕ). Locks client past begun.now last.now) (sym same) told.1.1))
+began before begun last client (Err error) free happened told =
+    let begins = happened.1.1 in
+    absurd (told.1 _ (
+      happened.1.0,
+      record {
+        free = ap (λ (c : Configuration). c.owner) begins.becomes ∙ free;
+        wants = inl (begun_enters before.system client happened.1.0 before.now begun.now begins);
+        becomes = refl;
+      },
+    ))
+
+pub went_on : {E : Type 0} (before same last : Machine) (client : ℕ) (result : Result (Unit {0}) E) → before.now.owner ≡ None → NoneEnters before.now.standings → Refused (events.Begin client) before same
+    → MatchResult result (λ _. Happened (events.Lock client) same last) (λ _. Refused (events.Lock client) same last)
+    → MatchResult result (λ _. Started before client last) (λ _. NotStarted before client last)
+went_on before same last client (Ok done) free settled refused told =
+    let locks : Locks client told.1.0 before.now last.now = subst (λ (m : Machine). Locks client told.1.0 m.now last.now) refused.0 told.1.1 in
+    elim locks.wants [
+      | inl entering ↦ absurd (settled client told.1.0 entering)
+      | inr woken ↦ (told.0 ∙ ap (λ (m : Machine). m.system) refused.0, (told.1.0, before.now, inr (woken, refl), locks))
+    ]
+went_on before same last client (Err error) free settled refused told =
+    let never = subst (λ (m : Machine). (next : Configuration) → IsEvent m.system (events.Lock client) m.now next → ⊥) refused.0 told.1 in (
+      told.0 ∙ refused.0,
+      λ can. elim can [
+        | inl idle ↦ refused.1 _ (idle.0, record { idle = idle.1; left = idle.2; becomes = refl })
+        | inr woken ↦ never _ (woken.0, record { free = free; wants = inr (woken.1, woken.2); becomes = refl })
+      ],
+    )
+
+-- a client that started is inside
+pub started_inside : (before next : Machine) (client : ℕ) → Started before client next → IsInside next client
+started_inside before next client started =
+    let past = started.1.0 in
+    let begun = started.1.1 in
+    let locks = started.1.3 in
+    (past, subst (λ (c : Configuration). StandsAt c.standings client past Inside) (sym locks.becomes) (put_same begun.standings client past Inside (ready_within begun past locks.wants)))
+  where
+    ready_within : (begun : Configuration) (past : ℕ) → WantsLock begun.standings client past → client < length begun.standings
+    ready_within begun past (inl at) = stands_within begun.standings client past Entering at
+    ready_within begun past (inr woken) = stands_within begun.standings client past (Woken woken.0) woken.1
+
+-- ---- outcomes
+
+pub refused_when : {E : Type 0} (event : Event) (before next : Machine) (result : Result (Unit {0}) E) → is_err result ≡ true → Steps event before next result → NotAllowed before event
+refused_when event before next (Ok done) fails steps = absurd (true≢false (sym fails))
+refused_when event before next (Err error) fails steps = steps.1
+
+pub happened_when : {E : Type 0} (event : Event) (before next : Machine) (result : Result (Unit {0}) E) → is_err result ≡ false → Steps event before next result → Happened event before next
+happened_when event before next (Ok done) works steps = steps
+happened_when event before next (Err error) works steps = absurd (true≢false works)
+
+pub guard_when : {E : Type 0} (before : Machine) (client : ℕ) (result : Result (Unit {0}) E) → is_err result ≡ true → IfErr result (λ _. CannotRun before client) → CannotRun before client
+guard_when before client (Ok done) fails guard = absurd (true≢false (sym fails))
+guard_when before client (Err error) fails guard = guard
+
+pub started_when : {E : Type 0} (before next : Machine) (client : ℕ) (result : Result (Unit {0}) E) → is_err result ≡ false → MatchResult result (λ _. Started before client next) (λ _. NotStarted before client next) → Started before client next
+started_when before next client (Ok done) works told = told
+started_when before next client (Err error) works told = absurd (true≢false works)
+
+pub can_wait : (machine : Machine) (client : ℕ) → CanWait machine client → NotAllowed machine (events.Wait client) → ⊥
+can_wait machine client can never = never _ (can.0.0, record { inside = can.0.1; guard = can.1 can.0.0 can.0.1; becomes = refl })
+
+pub can_unlock : (machine : Machine) (client : ℕ) → CanUnlock machine client → NotAllowed machine (events.Unlock client) → ⊥
+can_unlock machine client can never = never _ (can.0, record { notifying = can.1; becomes = refl })
+
+pub refused_same : {E : Type 0} (event : Event) (before next : Machine) (result : Result (Unit {0}) E) → is_err result ≡ true → Steps event before next result → next ≡ before
+refused_same event before next (Ok done) fails steps = absurd (true≢false (sym fails))
+refused_same event before next (Err error) fails steps = steps.0

@@ -1,0 +1,273 @@
+-- How the code makes a section, and what it keeps of the log.
+use Rattle.std.specs.Prelude.{◌≡◌, ◌⊎◌, ◌↔◌, ℕ, ◌<◌, ◌≤◌, Bool, true, false, not, nat_le, nat_lt, List, [], ◌∷◌, ◌++◌, length, get_or, Option, Some, None, slice_get, slice_set as set, IsBitSet, if◌then◌else◌, ◌+◌}
+use Rattle.mon_base.specs.declared.value.Value.{Value}
+use Rattle.mon_implicit.specs.declared.commit.Commit.{Commit}
+use Rattle.mon_implicit.specs.declared.commit.Reply.{Reply}
+use Rattle.mon_implicit.specs.declared.script.Client.{Client}
+use Rattle.mon_implicit.specs.Scripted.{calls_of}
+use Rattle.mon_events.specs.declared.plan.Note.{Note}
+use Rattle.mon_events.specs.declared.event.Event.TheVariants as events
+use Rattle.mon_events.specs.declared.event.Stage.{Stage}
+use Rattle.mon_events.specs.declared.event.Stage.TheVariants as stages
+use Rattle.mon_events.specs.declared.log.Entry.{Entry}
+use Rattle.mon_events.specs.declared.log.Outcome.{Outcome}
+use Rattle.mon_events.specs.declared.log.Outcome.TheVariants as outcomes
+use Rattle.mon_events.specs.Configurations.{Phase, Standing, Configuration, StandsAt, guard_of}
+use Rattle.mon_events.specs.Configurations.Phase.{Idle, Entering, Waiting, Woken, Inside, Notifying}
+use Rattle.mon_events.specs.Events.{Locks, Runs, Unlocks, NoneWaits, fires}
+use Rattle.mon_events.specs.Logs.{IsNotified, IsBegun, IsSection, WaitsSince, rests, says_waits}
+use Rattle.mon_explicit.specs.Machines.{Machine, Happened}
+use Rattle.mon_explicit.specs.Sections.{FreeMachine, HoldsAlways, room_of, spurious_in}
+use Rattle.mon_explicit.specs.declared.position.Doing.{Doing}
+use Rattle.mon_explicit.specs.declared.position.Doing.TheVariants as doings
+use Rattle.mon_explicit.specs.declared.position.Position.{Position}
+use Rattle.mon_explicit.specs.inner.Rings.{AreLines, LinesAfter}
+
+-- ---- the start of a section
+
+abbrev pub NoneEnters : List Standing → Type 0
+NoneEnters standings = (client past : ℕ) → StandsAt standings client past Entering → ⊥
+
+-- no one owns the lock, and no one enters
+pub record IsSettled (c : Configuration) : Type 0 where
+  pub free : c.owner ≡ None
+  pub none_enters : NoneEnters c.standings
+
+abbrev pub CanStart : Machine → ℕ → Type 0
+CanStart machine client =
+    ((past : ℕ) × StandsAt machine.now.standings client past Idle × (past < length (calls_of machine.system.clients client)))
+    ⊎ ((past : ℕ) × (condition : ℕ) × StandsAt machine.now.standings client past (Woken condition))
+
+-- it begins, or goes on, and takes the lock
+abbrev pub Started : Machine → ℕ → Machine → Type 0
+Started before client next = (next.system ≡ before.system)
+    × ((past : ℕ) × (begun : Configuration) × IsBegun before.system client past before.now begun × Locks client past begun next.now)
+
+abbrev pub NotStarted : Machine → ℕ → Machine → Type 0
+NotStarted before client next = (next ≡ before) × (CanStart before client → ⊥)
+
+abbrev pub IsInside : Machine → ℕ → Type 0
+IsInside machine client = (past : ℕ) × StandsAt machine.now.standings client past Inside
+
+-- where it is inside, its guard is false
+abbrev pub CannotRun : Machine → ℕ → Type 0
+CannotRun machine client = (past : ℕ) → StandsAt machine.now.standings client past Inside → guard_of machine.system machine.now.state client past ≡ false
+
+abbrev pub CanWait : Machine → ℕ → Type 0
+CanWait machine client = IsInside machine client × CannotRun machine client
+
+-- ---- who waits
+
+-- for each client 0, or one more than the place of its last `waits` entry
+pub record KeepsWaits (log : List Entry) (clients : List Client) (since : List ℕ) : Type 0 where
+  pub one_each : length since ≡ length clients
+  pub each : (client place : ℕ) → client < length since → get_or since client 0 ≡ place + 1 → WaitsSince log client place
+
+-- of the clients that wait on the condition this is one, and none has waited longer by what is kept
+pub record IsFirst (since : List ℕ) (standings : List Standing) (condition target : ℕ) : Type 0 where
+  pub past : ℕ
+  pub waits : StandsAt standings target past (Waiting condition)
+  pub within : target < length since
+  pub numbered : 0 < get_or since target 0
+  pub first : (other others_past : ℕ) → StandsAt standings other others_past (Waiting condition) → (other < length since) × (get_or since target 0 ≤ get_or since other 0)
+
+abbrev pub IsWoken : List Standing → ℕ → Type 0
+IsWoken standings client = (past : ℕ) × (condition : ℕ) × StandsAt standings client past (Woken condition)
+
+-- each client rests
+abbrev pub EachRests : Machine → Type 0
+EachRests machine = (client past : ℕ) (phase : Phase) → StandsAt machine.now.standings client past phase → rests machine.system client past phase ≡ true
+
+-- the bits of the clients of whom this is true
+abbrev pub AreBits : (ℕ → Type 0) → ℕ → Type 0
+AreBits P bits = (client : ℕ) → IsBitSet bits client ↔ P client
+
+-- ---- notes
+
+-- a note of the client is to come
+abbrev pub HasNote : Machine → ℕ → Type 0
+HasNote machine client = (past : ℕ) × (note : Note) × (more : List Note) × StandsAt machine.now.standings client past (Notifying (note ∷ more))
+
+abbrev pub IsNotifying : Machine → ℕ → Type 0
+IsNotifying machine client = (past : ℕ) × (notes : List Note) × StandsAt machine.now.standings client past (Notifying notes)
+
+abbrev pub CanUnlock : Machine → ℕ → Type 0
+CanUnlock machine client = (past : ℕ) × StandsAt machine.now.standings client past (Notifying [])
+
+-- as many as are to come
+abbrev pub CountsNotes : List Standing → ℕ → ℕ → Type 0
+CountsNotes standings client count = (past : ℕ) (notes : List Note) → StandsAt standings client past (Notifying notes) → length notes ≡ count
+
+-- the first note to come of the client is this, and it fires
+abbrev pub IsFired : Machine → ℕ → Note → Type 0
+IsFired machine client note = (past : ℕ) × (more : List Note) × StandsAt machine.now.standings client past (Notifying (note ∷ more)) × (fires machine.system machine.now.state note ≡ true)
+
+-- the first note to come of the client, if there is one, does not fire
+abbrev pub IsNotFired : Machine → ℕ → Type 0
+IsNotFired machine client = (past : ℕ) (note : Note) (more : List Note) → StandsAt machine.now.standings client past (Notifying (note ∷ more)) → fires machine.system machine.now.state note ≡ false
+
+-- it names nobody: it doesn't fire, or is a broadcast, or no one waits
+abbrev pub NamesNobody : Machine → Note → Type 0
+NamesNobody machine note = (fires machine.system machine.now.state note ≡ false) ⊎ ((note.all ≡ true) ⊎ NoneWaits machine.now.standings note.condition)
+
+-- a signal that fires, and the first that waits
+pub record Names (machine : Machine) (since : List ℕ) (note : Note) (target : ℕ) : Type 0 where
+  pub fired : fires machine.system machine.now.state note ≡ true
+  pub one : note.all ≡ false
+  pub first : IsFirst since machine.now.standings note.condition target
+
+abbrev pub IsTarget : List ℕ → Machine → Note → Option ℕ → Type 0
+IsTarget since machine note None = NamesNobody machine note
+IsTarget since machine note (Some target) = Names machine since note target
+
+-- the client that the first note to come names
+abbrev pub Targets : List ℕ → Machine → ℕ → Option ℕ → Type 0
+Targets since machine client target = (past : ℕ) (note : Note) (more : List Note)
+    → StandsAt machine.now.standings client past (Notifying (note ∷ more)) → IsTarget since machine note target
+
+-- a client that is named is the first that waits on its condition
+abbrev pub IsChosenBy : List ℕ → Machine → Option ℕ → Type 0
+IsChosenBy since machine None = Unit {0}
+IsChosenBy since machine (Some target) = (condition : ℕ) × IsFirst since machine.now.standings condition target
+
+-- a note of the client was made
+abbrev pub MadeNote : List ℕ → ℕ → Machine → Machine → Type 0
+MadeNote since client before next = (target : Option ℕ) × IsChosenBy since before target × Happened (events.Notify client target) before next
+
+-- all notes of the client were made
+pub record MadeNotes (since : List ℕ) (client : ℕ) (before next : Machine) : Type 0 where
+  pub system : next.system ≡ before.system
+  pub done : (past : ℕ) (notes : List Note) → StandsAt before.now.standings client past (Notifying notes) → StandsAt next.now.standings client past (Notifying [])
+  pub notified : (log : List Entry) → KeepsWaits log before.system.clients since → IsNotified before.system log client before.now next.now
+
+-- so far notes of the client were made: what follows from now on, follows from before
+pub record MadeSome (since : List ℕ) (client : ℕ) (before now : Machine) : Type 0 where
+  pub system : now.system ≡ before.system
+  pub so_far : (log : List Entry) (last : Configuration) → KeepsWaits log before.system.clients since → IsNotified before.system log client now.now last → IsNotified before.system log client before.now last
+
+-- a note was made, and the rings tell who waits after it
+abbrev pub MadeNoteOf : ℕ → Machine → List (List ℕ) → Machine → List (List ℕ) → Type 0
+MadeNoteOf client before rings next next_rings = (since : List ℕ) → AreLines since before.system before.now.standings rings
+    → MadeNote since client before next × AreLines since next.system next.now.standings next_rings
+
+-- all notes were made, and the rings tell who waits after them
+abbrev pub MadeNotesOf : ℕ → Machine → List (List ℕ) → Machine → List (List ℕ) → Type 0
+MadeNotesOf client before rings next next_rings = (since : List ℕ) → AreLines since before.system before.now.standings rings
+    → MadeNotes since client before next × AreLines since next.system next.now.standings next_rings
+
+-- so many of its notes were made, of as many as there are to the end
+pub record AreMaking (client : ℕ) (before : Machine) (rings : List (List ℕ)) (now : Machine) (rings_now : List (List ℕ)) (count end : ℕ) : Type 0 where
+  pub some : (since : List ℕ) → AreLines since before.system before.now.standings rings → MadeSome since client before now × AreLines since now.system now.now.standings rings_now
+  pub left : (past : ℕ) (notes : List Note) → StandsAt before.now.standings client past (Notifying notes)
+      → (rest : List Note) × StandsAt now.now.standings client past (Notifying rest) × (length rest + count ≡ end)
+
+-- ---- a section
+
+abbrev pub HasCommit : List Commit → Type 0
+HasCommit commits = (before : List Commit) × (commit : Commit) × (commits ≡ before ++ commit ∷ [])
+
+abbrev pub LastReplies : List Commit → Reply → Type 0
+LastReplies commits reply = (before : List Commit) (commit : Commit) → commits ≡ before ++ commit ∷ [] → reply ≡ commit.reply
+
+-- a client inside waited
+abbrev pub HasWaited : ℕ → Machine → Machine → Type 0
+HasWaited client before next = Happened (events.Wait client) before next
+
+-- a client inside ran, made its notes, and gave the lock back
+pub record HasReplied (since : List ℕ) (client : ℕ) (before next : Machine) (reply : Reply) : Type 0 where
+  pub system : next.system ≡ before.system
+  pub past : ℕ
+  pub state : List Value
+  pub ran : Configuration
+  pub notified : Configuration
+  pub runs : Runs before.system client past reply state before.now ran
+  pub notes : (log : List Entry) → KeepsWaits log before.system.clients since → IsNotified before.system log client ran notified
+  pub unlocks : Unlocks client past notified next.now
+
+-- what came of a client inside; the bits of the woken are those of the first bits of clients that are woken now
+abbrev pub WentOn : List ℕ → ℕ → ℕ → Machine → Machine → Outcome → Type 0
+WentOn since client first before next outcomes.Waits = HasWaited client before next
+WentOn since client first before next (outcomes.Replies reply woken) = HasReplied since client before next reply
+    × AreBits (λ other. IsBitSet first other × IsWoken next.now.standings other) woken
+WentOn since client first before next outcomes.Spurious = ⊥
+
+pub record MakesSection (since : List ℕ) (client : ℕ) (before next : Machine) (entry : Entry) : Type 0 where
+  pub system : next.system ≡ before.system
+  pub who : entry.client ≡ client
+  pub made : (log : List Entry) → KeepsWaits log before.system.clients since → IsSection before.system log before.now entry next.now
+
+-- the section was made, and the rings tell who waits after its entry
+abbrev pub MakesSectionOf : ℕ → Machine → List (List ℕ) → Machine → List (List ℕ) → Entry → Type 0
+MakesSectionOf client before rings next next_rings entry = (since : List ℕ) → AreLines since before.system before.now.standings rings
+    → MakesSection since client before next entry × LinesAfter since next.system next.now.standings client entry.outcome next_rings
+
+-- what came of a client inside, and the rings tell who waits after it
+abbrev pub WentOnOf : ℕ → ℕ → Machine → List (List ℕ) → Machine → List (List ℕ) → Outcome → Type 0
+WentOnOf client first before rings next next_rings outcome = (since : List ℕ) → AreLines since before.system before.now.standings rings
+    → WentOn since client first before next outcome × LinesAfter since next.system next.now.standings client outcome next_rings
+
+-- the client waits on this condition, which is one of the monitor's
+abbrev pub WaitsOn : Machine → ℕ → ℕ → Type 0
+WaitsOn machine client condition = ((past : ℕ) × StandsAt machine.now.standings client past (Waiting condition)) × (condition < length machine.system.monitor.conditions + 1)
+
+-- ---- the same of positions, of the first so many clients
+
+-- it was woken, or else it waits
+abbrev pub doing_flag : Bool → Doing → Bool
+doing_flag woken (doings.Waiting condition) = not woken
+doing_flag woken (doings.Woken condition) = woken
+doing_flag woken doing = false
+
+abbrev pub flag_of : Bool → Position → Bool
+flag_of woken position = doing_flag woken position.doing
+
+abbrev pub IsFlagged : Bool → List Position → ℕ → ℕ → Type 0
+IsFlagged woken positions count client = (client < count) × ((one : Position) × (slice_get positions client ≡ Some one) × (flag_of woken one ≡ true))
+
+abbrev pub AreFlags : Bool → List Position → ℕ → ℕ → Type 0
+AreFlags woken positions count bits = AreBits (IsFlagged woken positions count) bits
+
+abbrev pub doing_rests : List Client → ℕ → ℕ → Doing → Bool
+doing_rests clients client past (doings.Waiting condition) = true
+doing_rests clients client past doings.Idle = nat_le (length (calls_of clients client)) past
+doing_rests clients client past doing = false
+
+abbrev pub position_rests : List Client → ℕ → Position → Bool
+position_rests clients client one = doing_rests clients client one.past one.doing
+
+abbrev pub AllRest : List Client → List Position → ℕ → Type 0
+AllRest clients positions count = (client : ℕ) (one : Position) → client < count → slice_get positions client ≡ Some one → position_rests clients client one ≡ true
+
+-- ---- the monitor
+
+-- the condition on which a client at this stage waits
+abbrev pub stage_condition : Stage → Option ℕ
+stage_condition (stages.Waiting condition) = Some condition
+stage_condition stage = None
+
+-- what is kept of who waits, after an entry at this place
+abbrev pub since_after : List ℕ → Entry → ℕ → List ℕ
+since_after since entry place = if says_waits entry.outcome then set since entry.client (place + 1) else since
+
+-- whether a client at this position can make a section
+abbrev pub doing_starts : List Client → ℕ → ℕ → Doing → Bool
+doing_starts clients client past doings.Idle = nat_lt past (length (calls_of clients client))
+doing_starts clients client past (doings.Woken condition) = true
+doing_starts clients client past doing = false
+
+abbrev pub position_starts : List Client → ℕ → Position → Bool
+position_starts clients client one = doing_starts clients client one.past one.doing
+
+-- as contracts see it
+abbrev pub free_of : Machine → List Entry → ℕ → FreeMachine
+free_of machine log extra = record { system = machine.system; now = machine.now; log = log; extra = extra }
+
+-- What the code keeps of the log: room for the whole, for each condition the line of the clients that wait on it, by rising place of their last `waits` entries, and how many entries are spurious.
+pub record IsKept (machine : FreeMachine) (capacity : ℕ) (rings : List (List ℕ)) (spurious : ℕ) : Type 0 where
+  pub always : HoldsAlways machine
+  pub settled : NoneEnters machine.now.standings
+  pub room : room_of machine ≤ capacity
+  pub since : List ℕ
+  pub waits : KeepsWaits machine.log machine.system.clients since
+  pub lines : AreLines since machine.system machine.now.standings rings
+  pub counted : spurious ≡ spurious_in machine.log

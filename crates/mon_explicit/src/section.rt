@@ -1,0 +1,25 @@
+//! What a monitor that runs by sections answers.
+
+use mon_events::Entry;
+
+/// A section that was made: its entry, and the entry's place in the log, from 0.
+#[derive(Clone, Copy, Debug, PartialEq, Eq)]
+pub struct Section {
+    pub place: u64,
+    pub entry: Entry,
+}
+
+/// The client waits, or has no call left. The log has so many entries.
+#[derive(Clone, Copy, Debug, PartialEq, Eq)]
+pub struct NotReady {
+    pub entries: u64,
+}
+
+/// Why a client isn't woken by nothing.
+#[derive(Clone, Copy, Debug, PartialEq, Eq)]
+pub enum SpuriousFault {
+    /// The client doesn't wait. The log has so many entries.
+    NotReady { entries: u64 },
+    /// The client waits, and the log has all the spurious entries that it may have.
+    Spent,
+}

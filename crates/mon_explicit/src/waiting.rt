@@ -1,0 +1,69 @@
+//! Who waits, and who was woken.
+
+ghost use Rattle.std.specs.Prelude.{◌≡◌, ◌≤◌, ◌↔◌, IsTrue, length};
+ghost use Rattle.mon_explicit.specs.inner.Waiting.{AreFlags, AllRest, flag_of};
+ghost use Rattle.mon_explicit.specs.inner.Waiting.{position_rests, position_starts};
+
+use super::calls::calls;
+use super::position::{Doing, Position};
+use mon_implicit::Scripts;
+
+/// Whether a client was woken, or else whether it waits.
+fn is_flagged(one: Position, woken: bool) -> bool
+    ensures { result ≡ flag_of woken one }
+{
+    match one.doing {
+        Doing::Waiting(_) => !woken,
+        Doing::Woken(_) => woken,
+        _ => false,
+    }
+}
+
+/// A bit for each client that was woken, or else that waits.
+pub fn flags(positions: &[Position], woken: bool) -> u32
+    requires few { length positions.now ≤ 32 }
+    ensures { AreFlags woken positions.now (length positions.now) result }
+{
+    let mut bits = 0;
+    for i in 0..positions.len() {
+        if is_flagged(positions[i], woken) {
+            bits |= 1 << i;
+        }
+    }
+    bits
+}
+
+/// Whether each client waits, or is idle with no call left.
+pub fn all_rest(scripts: &Scripts, positions: &[Position]) -> bool
+    requires few { length positions.now ≤ 32 }
+    ensures { IsTrue result ↔ AllRest scripts.now positions.now (length positions.now) }
+{
+    for client in 0..positions.len() {
+        if !rests(scripts, client as u32, positions[client]) {
+            return false;
+        }
+    }
+    true
+}
+
+/// Whether a client is idle with a call left, or was woken.
+pub fn starts(scripts: &Scripts, client: u32, one: Position) -> bool
+    ensures { result ≡ position_starts scripts.now client one }
+{
+    match one.doing {
+        Doing::Woken(_) => true,
+        Doing::Idle => (one.past as usize) < calls(scripts, client).len(),
+        _ => false,
+    }
+}
+
+/// Whether a client waits, or is idle with no call left.
+fn rests(scripts: &Scripts, client: u32, one: Position) -> bool
+    ensures { result ≡ position_rests scripts.now client one }
+{
+    match one.doing {
+        Doing::Waiting(_) => true,
+        Doing::Idle => one.past as usize >= calls(scripts, client).len(),
+        _ => false,
+    }
+}
