@@ -1,1 +1,15 @@
 pub mod TurnsRows
+pub mod PlanRows
+pub mod LogRows
+pub mod Cuts
+pub mod Numerals
+pub mod Lines
+pub mod Names
+pub mod ExpressionLines
+pub mod CandidateBounds
+pub mod PlanLines
+pub mod NamedPlans
+pub mod Wakes
+pub mod LogLines
+pub mod NamedLogs
+pub mod LegalEntries

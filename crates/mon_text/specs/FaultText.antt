@@ -1,18 +1,15 @@
 -- The lines that are printed of faults of files, by their parts.
-use Rattle.std.specs.Prelude.{ℕ, ◌+◌, ◌==◌, Bool, true, false, if◌then◌else◌, List, ◌++◌, take, reverse, count_by, codes, decimal}
+use Rattle.std.specs.Prelude.{ℕ, ◌+◌, ◌==◌, List, ◌++◌, take, reverse, count_by, codes, decimal}
 use Rattle.std.specs.List.{prefix_len}
-use Rattle.mon_text.specs.declared.refusal.Counted.{Counted}
-use Rattle.mon_text.specs.declared.refusal.Counted.TheVariants as counted
+pub use Rattle.mon_base.specs.Lines.{is_in_line}
+use Rattle.mon_base.specs.declared.counted.Counted.{Counted}
+use Rattle.mon_base.specs.declared.counted.Counted.TheVariants as counted
 use Rattle.mon_text.specs.declared.refusal.Refusal.{Refusal}
 use Rattle.mon_text.specs.declared.refusal.Refusal.TheVariants as refusals
 
 -- the line of an offset: 1, and 1 more for each line feed before it
 abbrev pub line_at : List ℕ → ℕ → ℕ
 line_at bytes at = 1 + count_by (λ byte. byte == 10) (take at bytes)
-
--- the byte ends no line
-abbrev pub is_in_line : ℕ → Bool
-is_in_line byte = if byte == 10 then false else true
 
 -- the column of an offset: 1, and 1 more for each byte between it and the last line feed before it, or the start
 abbrev pub column_at : List ℕ → ℕ → ℕ

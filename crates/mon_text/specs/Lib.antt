@@ -1,3 +1,6 @@
 pub mod TurnsText
+pub mod LogText
+pub mod Laws
 pub mod FaultText
 pub mod Faults
+pub mod inner

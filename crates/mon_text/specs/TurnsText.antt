@@ -6,7 +6,7 @@ use Rattle.mon_printer.specs.Canonical.{joined, truth_text}
 use Rattle.mon_base.specs.declared.value.Value.{Value}
 use Rattle.mon_base.specs.declared.value.Value.TheVariants as values
 use Rattle.mon_monitor.specs.declared.monitor.Field.{Field}
-use Rattle.mon_monitor.specs.declared.monitor.Method.{Method}
+pub use Rattle.mon_events.specs.PlanText.{method_name}
 use Rattle.mon_monitor.specs.MonitorParts.{MonitorParts}
 use Rattle.mon_implicit.specs.declared.commit.Reply.{Reply}
 use Rattle.mon_implicit.specs.declared.commit.Reply.TheVariants as replies
@@ -29,14 +29,10 @@ reply_text (replies.Int number) = signed_decimal number
 reply_text (replies.Bool truth) = truth_text truth
 reply_text replies.Overflow = codes "overflow"
 
--- Names, and none where there is no such client, method or call. A commit of a run always has them.
+-- The name of a client, and none where there is no such client. A commit of a run always has one.
 abbrev pub client_name : Option Client → List ℕ
 client_name None = []
 client_name (Some client) = client.name
-
-abbrev pub method_name : Option Method → List ℕ
-method_name None = []
-method_name (Some method) = method.name
 
 -- `put(3, true)`: a method's name and the inputs of the call
 abbrev pub called_text : MonitorParts → Option Call → List ℕ

@@ -6,8 +6,9 @@ ghost use Rattle.mon_text.specs.FaultText.{counted_text, place_text, refusal_tex
 ghost use Rattle.mon_text.specs.Faults.{fault_text};
 
 use crate::position::{column_at, line_at};
-use crate::refusal::{Counted, Refusal};
+use crate::refusal::Refusal;
 use itoa::Buffer;
+use mon_base::Counted;
 use mon_io::{Sink, SinkFailed, write_pieces};
 
 /// Why a file isn't accepted. `file` is the word that names it.

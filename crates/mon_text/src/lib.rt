@@ -1,11 +1,16 @@
 //! The texts that the program prints of runs and of faults, written piece by piece to a sink.
 //!
-//! [`write_turns`] writes a run by rounds (`specs/TurnsText`) and [`write_fault`] the line of a file's
-//! fault, with its line and column (`specs/FaultText`). No writer takes memory. Where the sink fails, a
-//! proper front of the text was written, and the count of its faults rose.
+//! [`write_turns`] writes a run by rounds (`specs/TurnsText`), [`write_plan`] a plan (`mon_events`,
+//! `specs/PlanText`), [`write_log`] the log of a monitor that ran by sections (`specs/LogText`), and
+//! [`write_fault`] the line of a file's fault, with its line and column (`specs/FaultText`). No writer
+//! takes memory. Where the sink fails, a proper front of the text was written, and the count of its
+//! faults rose. The bytes of a plan and of the log after it name both ([`text_names_log`], `specs/Laws`).
 #![tactic(auto)]
 
 mod fault;
+mod laws;
+mod log;
+mod plan;
 mod position;
 mod refusal;
 #[cfg(test)]
@@ -14,5 +19,9 @@ mod turns;
 mod values;
 
 pub use fault::{Fault, write_fault};
-pub use refusal::{Counted, Refusal};
+pub use laws::text_names_log;
+pub use log::{are_done, write_log};
+pub use mon_base::Counted;
+pub use plan::write_plan;
+pub use refusal::Refusal;
 pub use turns::write_turns;

@@ -3,6 +3,8 @@
 ghost use Rattle.std.specs.Prelude.{◌≡◌, take};
 ghost use Rattle.mon_text.specs.FaultText.{column_at, line_at};
 
+use mon_base::is_in_line;
+
 /// The line of an offset, from 1.
 pub(crate) fn line_at(bytes: &[u8], at: u32) -> usize
     ensures { result ≡ line_at bytes.now at }
@@ -21,7 +23,7 @@ pub(crate) fn column_at(bytes: &[u8], at: u32) -> usize
     let in_line = before(bytes, at)
         .iter()
         .rev()
-        .take_while(|byte| **byte != b'\n')
+        .take_while(|byte| is_in_line(**byte))
         .count();
     1 + in_line
 }

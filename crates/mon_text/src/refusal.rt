@@ -1,14 +1,6 @@
 //! What is wrong at a place of a file.
 
-/// What a monitor has too many of.
-#[derive(Clone, Copy, Debug, PartialEq, Eq)]
-pub enum Counted {
-    Constants,
-    Fields,
-    Methods,
-    Parameters,
-    Statements,
-}
+use mon_base::Counted;
 
 /// What is wrong at a place of a monitor file or a client file.
 #[derive(Clone, Copy, Debug, PartialEq, Eq)]

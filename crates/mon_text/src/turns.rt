@@ -16,6 +16,14 @@ use mon_implicit::{Call, Client, Commit, Scripts, Turns};
 use mon_io::{Sink, SinkFailed, write_piece, write_pieces};
 use mon_monitor::{Field, Monitor};
 
+/// What the lines of a run speak of.
+#[derive(Clone, Copy)]
+struct Run<'a> {
+    monitor: &'a Monitor,
+    clients: &'a [Client],
+    history: &'a [Commit],
+}
+
 /// Writes a run: a line for each commit, then how it ended, then the last state. It takes no memory.
 ///
 /// After `SinkFailed` some of the first bytes of the text were taken, and not all.
@@ -28,44 +36,37 @@ pub fn write_turns<S: Sink>(
     ensures { Wrote (S.seen out.old) (S.seen out.new) result
         (turns_text monitor.now scripts.now turns.now) }
 {
-    let clients = scripts.clients();
-    let history = turns.history.items();
-    write_commits(monitor, clients, history, out)?;
-    write_end(monitor, clients, history, turns.finished, out)?;
+    let run = Run {
+        monitor,
+        clients: scripts.clients(),
+        history: turns.history.items(),
+    };
+    write_commits(&run, out)?;
+    write_end(&run, turns.finished, out)?;
     write_piece(b"state", out)?;
     write_fields(monitor.fields(), turns.state.values(), out)?;
     write_piece(b"\n", out)
 }
 
 // A line for each commit.
-fn write_commits<S: Sink>(
-    monitor: &Monitor,
-    clients: &[Client],
-    history: &[Commit],
-    out: &mut S,
-) -> Result<(), SinkFailed>
+fn write_commits<S: Sink>(run: &Run<'_>, out: &mut S) -> Result<(), SinkFailed>
     ensures { Wrote (S.seen out.old) (S.seen out.new) result
-        (flat_map (commit_text monitor.now clients.now) history.now) }
+        (flat_map (commit_text run.now.monitor.now run.now.clients.now) run.now.history.now) }
 {
-    for commit in history {
-        write_commit(monitor, clients, commit, out)?;
+    for commit in run.history {
+        write_commit(run, commit, out)?;
     }
     Ok(())
 }
 
 // `A.1 put(3, true) = -` and a line feed.
-fn write_commit<S: Sink>(
-    monitor: &Monitor,
-    clients: &[Client],
-    commit: &Commit,
-    out: &mut S,
-) -> Result<(), SinkFailed>
+fn write_commit<S: Sink>(run: &Run<'_>, commit: &Commit, out: &mut S) -> Result<(), SinkFailed>
     ensures { Wrote (S.seen out.old) (S.seen out.new) result
-        (commit_text monitor.now clients.now commit.now) }
+        (commit_text run.now.monitor.now run.now.clients.now commit.now) }
 {
     write_call(
-        monitor,
-        clients,
+        run.monitor,
+        run.clients,
         commit.client as usize,
         commit.call as usize,
         out,
@@ -78,7 +79,7 @@ fn write_commit<S: Sink>(
 }
 
 // `A.1 put(3, true)`: a client and its call, by its number from 1.
-fn write_call<S: Sink>(
+pub(crate) fn write_call<S: Sink>(
     monitor: &Monitor,
     clients: &[Client],
     client: usize,
@@ -140,56 +141,40 @@ fn write_more_inputs<S: Sink>(inputs: &[Value], out: &mut S) -> Result<(), SinkF
 }
 
 // `done`, or `stalled` and who is blocked.
-fn write_end<S: Sink>(
-    monitor: &Monitor,
-    clients: &[Client],
-    history: &[Commit],
-    finished: bool,
-    out: &mut S,
-) -> Result<(), SinkFailed>
+fn write_end<S: Sink>(run: &Run<'_>, finished: bool, out: &mut S) -> Result<(), SinkFailed>
     ensures { Wrote (S.seen out.old) (S.seen out.new) result
-        (end_text monitor.now clients.now history.now finished) }
+        (end_text run.now.monitor.now run.now.clients.now run.now.history.now finished) }
 {
     if finished {
         return write_piece(b"done\n", out);
     }
     write_piece(b"stalled\n", out)?;
-    write_blocked(monitor, clients, history, out)
+    write_blocked(run, out)
 }
 
 // A line for each client that has a call left, in file order.
-fn write_blocked<S: Sink>(
-    monitor: &Monitor,
-    clients: &[Client],
-    history: &[Commit],
-    out: &mut S,
-) -> Result<(), SinkFailed>
+fn write_blocked<S: Sink>(run: &Run<'_>, out: &mut S) -> Result<(), SinkFailed>
     ensures { Wrote (S.seen out.old) (S.seen out.new) result
-        (blocked_from monitor.now clients.now history.now 0 clients.now) }
+        (blocked_from run.now.monitor.now run.now.clients.now run.now.history.now 0
+        run.now.clients.now) }
 {
-    for client in 0..clients.len() {
-        write_if_blocked(monitor, clients, history, client, out)?;
+    for client in 0..run.clients.len() {
+        write_if_blocked(run, client, out)?;
     }
     Ok(())
 }
 
 // `A.1 put(3, true) blocked` and a line feed, where the client has a call left.
-fn write_if_blocked<S: Sink>(
-    monitor: &Monitor,
-    clients: &[Client],
-    history: &[Commit],
-    client: usize,
-    out: &mut S,
-) -> Result<(), SinkFailed>
+fn write_if_blocked<S: Sink>(run: &Run<'_>, client: usize, out: &mut S) -> Result<(), SinkFailed>
     ensures { Wrote (S.seen out.old) (S.seen out.new) result
-        (blocked_text monitor.now clients.now history.now client
-        (next_call clients.now history.now client)) }
+        (blocked_text run.now.monitor.now run.now.clients.now run.now.history.now client
+        (next_call run.now.clients.now run.now.history.now client)) }
 {
-    let done = done(history, client);
-    if calls(clients, client).len() <= done {
+    let done = done(run.history, client);
+    if calls(run.clients, client).len() <= done {
         return Ok(());
     }
-    write_call(monitor, clients, client, done + 1, out)?;
+    write_call(run.monitor, run.clients, client, done + 1, out)?;
     write_piece(b" blocked\n", out)
 }
 
@@ -204,7 +189,7 @@ fn done(history: &[Commit], client: usize) -> usize
 }
 
 // The name of a client, or nothing where there is none.
-fn name_of(clients: &[Client], client: usize) -> &[u8]
+pub(crate) fn name_of(clients: &[Client], client: usize) -> &[u8]
     ensures { result.now ≡ client_name (slice_get clients.now client) }
 {
     match clients.get(client) {
@@ -214,7 +199,7 @@ fn name_of(clients: &[Client], client: usize) -> &[u8]
 }
 
 // The calls of a client, or none where there is no such client.
-fn calls(clients: &[Client], client: usize) -> &[Call]
+pub(crate) fn calls(clients: &[Client], client: usize) -> &[Call]
     ensures { result.now ≡ calls_of clients.now client }
 {
     match clients.get(client) {
@@ -231,7 +216,7 @@ fn called(clients: &[Client], client: usize, number: usize) -> Option<&Call>
 }
 
 // The name of a method, or nothing where there is none.
-fn method_bytes(monitor: &Monitor, method: u32) -> &[u8]
+pub(crate) fn method_bytes(monitor: &Monitor, method: u32) -> &[u8]
     ensures { result.now ≡ method_name (slice_get monitor.now.methods method) }
 {
     match monitor.methods().get(method as usize) {
@@ -241,7 +226,11 @@ fn method_bytes(monitor: &Monitor, method: u32) -> &[u8]
 }
 
 // ` name=value` for each field, as far as there are values.
-fn write_fields<S: Sink>(fields: &[Field], values: &[Value], out: &mut S) -> Result<(), SinkFailed>
+pub(crate) fn write_fields<S: Sink>(
+    fields: &[Field],
+    values: &[Value],
+    out: &mut S,
+) -> Result<(), SinkFailed>
     ensures { Wrote (S.seen out.old) (S.seen out.new) result (fields_text fields.now values.now) }
 {
     for (field, value) in fields.iter().zip(values) {

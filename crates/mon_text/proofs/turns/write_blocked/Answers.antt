@@ -4,8 +4,8 @@ use Rattle.mon_text.proofs.turns.write_blocked.Goals as goal
 
 pub loop-client-preserved : goal.loop-client-preserved
 loop-client-preserved g c =
-    wrote_same _ (blocked_from-next c.args.monitor.now c.args.clients.now c.args.history.now c.args.clients.now c.loop-client.client c.loop-client-test.true) (wrote_both c.loop-client.invariant c.in_ok-write_if_blocked.ensures)
+    wrote_same _ (blocked_from-next c.args.run.now.monitor.now c.args.run.now.clients.now c.args.run.now.history.now c.args.run.now.clients.now c.loop-client.client c.loop-client-test.true) (wrote_both c.loop-client.invariant c.in_ok-write_if_blocked.ensures)
 
 pub returns-in_err-write_if_blocked : goal.returns-in_err-write_if_blocked
 returns-in_err-write_if_blocked g c =
-    wrote_until _ _ _ (blocked_from-parts c.args.monitor.now c.args.clients.now c.args.history.now c.args.clients.now c.loop-client.client c.loop-client-test.true) c.from_residual.ensures.0 c.loop-client.invariant c.in_err-write_if_blocked.ensures
+    wrote_until _ _ _ (blocked_from-parts c.args.run.now.monitor.now c.args.run.now.clients.now c.args.run.now.history.now c.args.run.now.clients.now c.loop-client.client c.loop-client-test.true) c.from_residual.ensures.0 c.loop-client.invariant c.in_err-write_if_blocked.ensures

@@ -8,14 +8,14 @@ use Rattle.mon_text.proofs.turns.write_if_blocked.Goals as goal
 
 pub returns-in_err-write_call : goal.returns-in_err-write_call
 returns-in_err-write_call g c =
-    let calls : length c.calls.result.now ≡ length (calls_of c.args.clients.now c.args.client) = ap length c.calls.ensures in
-    let left : done c.args.history.now c.args.client < length (calls_of c.args.clients.now c.args.client) = omega arith in
-    let text = ap (λ n. call_text c.args.monitor.now c.args.clients.now c.args.client (n + 1) ++ codes " blocked\n") c.done-done.ensures ∙ blocked_text-left c.args.monitor.now c.args.clients.now c.args.history.now c.args.client left in
+    let calls : length c.calls.result.now ≡ length (calls_of c.args.run.now.clients.now c.args.client) = ap length c.calls.ensures in
+    let left : done c.args.run.now.history.now c.args.client < length (calls_of c.args.run.now.clients.now c.args.client) = omega arith in
+    let text = ap (λ n. call_text c.args.run.now.monitor.now c.args.run.now.clients.now c.args.client (n + 1) ++ codes " blocked\n") c.done-done.ensures ∙ blocked_text-left c.args.run.now.monitor.now c.args.run.now.clients.now c.args.run.now.history.now c.args.client left in
     wrote_same _ text (wrote_fails _ c.from_residual.ensures.0 (wrote_longer (codes " blocked\n") c.in_err-write_call.ensures))
 
 pub returns : goal.returns
 returns g c =
-    let calls : length c.calls.result.now ≡ length (calls_of c.args.clients.now c.args.client) = ap length c.calls.ensures in
-    let left : done c.args.history.now c.args.client < length (calls_of c.args.clients.now c.args.client) = omega arith in
-    let text = ap (λ n. call_text c.args.monitor.now c.args.clients.now c.args.client (n + 1) ++ codes " blocked\n") c.done-done.ensures ∙ blocked_text-left c.args.monitor.now c.args.clients.now c.args.history.now c.args.client left in
+    let calls : length c.calls.result.now ≡ length (calls_of c.args.run.now.clients.now c.args.client) = ap length c.calls.ensures in
+    let left : done c.args.run.now.history.now c.args.client < length (calls_of c.args.run.now.clients.now c.args.client) = omega arith in
+    let text = ap (λ n. call_text c.args.run.now.monitor.now c.args.run.now.clients.now c.args.client (n + 1) ++ codes " blocked\n") c.done-done.ensures ∙ blocked_text-left c.args.run.now.monitor.now c.args.run.now.clients.now c.args.run.now.history.now c.args.client left in
     wrote_same _ text (wrote_both c.in_ok-write_call.ensures c.write_piece.ensures)

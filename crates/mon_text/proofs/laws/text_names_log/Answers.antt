@@ -1,0 +1,14 @@
+use Rattle.mon_text.specs.Laws.{system_under}
+use Rattle.mon_text.proofs.NamedPlans.{plan_text_names}
+use Rattle.mon_text.proofs.NamedLogs.{plan_and_log_named}
+use Rattle.mon_text.proofs.LegalEntries.{legal_entries}
+use Rattle.mon_text.proofs.laws.text_names_log.Goals as goal
+
+pub returns-clause-plan : goal.returns-clause-plan
+returns-clause-plan c = plan_text_names
+
+pub returns-clause-log : goal.returns-clause-log
+returns-clause-log c monitor clients plan other log others last end first second same =
+    plan_and_log_named monitor clients plan other log others last.state end.state first.is.rule first.is.clients first.is.plan second.is.plan
+    (legal_entries (system_under monitor clients plan) first.is log last first.legal)
+    (legal_entries (system_under monitor clients other) second.is others end second.legal) same

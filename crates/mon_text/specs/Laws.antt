@@ -1,0 +1,37 @@
+-- What the law says: the printed bytes name the plan and the log.
+use Rattle.std.specs.Prelude.{◌≡◌, ℕ, List, ◌++◌}
+use Rattle.mon_monitor.specs.MonitorParts.{MonitorParts, IsMonitor}
+use Rattle.mon_implicit.specs.declared.script.Client.{Client}
+use Rattle.mon_events.specs.declared.log.Entry.{Entry}
+use Rattle.mon_events.specs.declared.plan.Plan.{Plan}
+use Rattle.mon_events.specs.Plans.{FitsPlan}
+use Rattle.mon_events.specs.PlanText.{plan_text}
+use Rattle.mon_events.specs.Configurations.{System, Configuration}
+use Rattle.mon_events.specs.Logs.{IsLegal}
+use Rattle.mon_events.specs.Pending.{IsSystem}
+use Rattle.mon_text.specs.LogText.{log_text}
+
+-- plans that fit one monitor and have the same text are equal
+abbrev pub PlanTextNamesPlan : Type 0
+PlanTextNamesPlan = (monitor : MonitorParts) (plan other : Plan) → IsMonitor monitor → FitsPlan monitor plan → FitsPlan monitor other
+    → plan_text monitor plan ≡ plan_text monitor other → plan ≡ other
+
+-- a monitor and its clients, under a plan
+abbrev pub system_under : MonitorParts → List Client → Plan → System
+system_under monitor clients plan = record { monitor = monitor; plan = plan; clients = clients }
+
+-- the clients' calls and the plan fit the monitor, and the log is legal
+pub record HasLegalLog (system : System) (log : List Entry) (last : Configuration) : Type 0 where
+  pub is : IsSystem system
+  pub legal : IsLegal system log last
+
+-- the text of the plan, then that of the log, which ended in a configuration
+abbrev pub plan_and_log_text : System → List Entry → Configuration → List ℕ
+plan_and_log_text system log last = plan_text system.monitor system.plan ++ log_text system log last
+
+-- For one monitor and its clients: where one log is legal under a plan and another under another, and what is printed of both is the same, the plans are equal, and so are the logs.
+abbrev pub TextNamesPlanAndLog : Type 0
+TextNamesPlanAndLog = (monitor : MonitorParts) (clients : List Client) (plan other : Plan) (log others : List Entry) (last end : Configuration)
+    → HasLegalLog (system_under monitor clients plan) log last → HasLegalLog (system_under monitor clients other) others end
+    → plan_and_log_text (system_under monitor clients plan) log last ≡ plan_and_log_text (system_under monitor clients other) others end
+    → (plan ≡ other) × (log ≡ others)

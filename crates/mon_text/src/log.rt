@@ -1,0 +1,265 @@
+//! The text of a log.
+
+ghost use Rattle.std.specs.Prelude.{◌≡◌, ◌<◌, ◌≤◌, count_by, length};
+ghost use Rattle.std.specs.List.{flat_map};
+ghost use Rattle.mon_base.specs.Limits.{CLIENTS as MOST_CLIENTS};
+ghost use Rattle.mon_io.specs.Writing.{Wrote};
+ghost use Rattle.mon_implicit.specs.Runs.{done, next_call};
+ghost use Rattle.mon_events.specs.Logs.{IsClosed, commits_of};
+ghost use Rattle.mon_text.specs.TurnsText.{blocked_from, blocked_text, end_text};
+ghost use Rattle.mon_text.specs.LogText.{are_done, ended_log_text, entry_text, is_woken};
+ghost use Rattle.mon_text.specs.LogText.{log_text};
+ghost use Rattle.mon_text.specs.LogText.{replied_text, wakes_text, woken_name, woken_names};
+ghost use Rattle.mon_text.specs.inner.Replies.{is_reply_of, says_replies};
+
+use crate::turns::{calls, name_of, write_call, write_fields};
+use crate::values::reply_bytes;
+use itoa::Buffer;
+use mon_events::{Entry, Outcome};
+use mon_explicit::FreeMonitor;
+use mon_implicit::{Client, Reply, Scripts, State};
+use mon_io::{Sink, SinkFailed, write_piece, write_pieces};
+use mon_monitor::Monitor;
+
+/// Writes the log of a monitor that ran by sections and is closed: a line for each entry, then how the log ended,
+/// then the state. It takes no memory.
+///
+/// After `SinkFailed` some of the first bytes of the text were taken, and not all.
+pub fn write_log<S: Sink>(free: &FreeMonitor, out: &mut S) -> Result<(), SinkFailed>
+    requires { IsClosed free.now.system free.now.now }
+    ensures { Wrote (S.seen out.old) (S.seen out.new) result
+        (log_text free.now.system free.now.log free.now.now) }
+{
+    write_ended_log(
+        free.monitor(),
+        free.scripts(),
+        free.log(),
+        free.state(),
+        out,
+    )
+}
+
+// A line for each entry of a log, then how it ended, then this state.
+fn write_ended_log<S: Sink>(
+    monitor: &Monitor,
+    scripts: &Scripts,
+    log: &[Entry],
+    state: &State,
+    out: &mut S,
+) -> Result<(), SinkFailed>
+    ensures { Wrote (S.seen out.old) (S.seen out.new) result
+        (ended_log_text monitor.now scripts.now log.now state.now) }
+{
+    let clients = scripts.clients();
+    write_entries(monitor, clients, log, out)?;
+    write_end(monitor, clients, log, out)?;
+    write_piece(b"state", out)?;
+    write_fields(monitor.fields(), state.values(), out)?;
+    write_piece(b"\n", out)
+}
+
+// ---- entries
+
+// A line for each entry.
+fn write_entries<S: Sink>(
+    monitor: &Monitor,
+    clients: &[Client],
+    log: &[Entry],
+    out: &mut S,
+) -> Result<(), SinkFailed>
+    requires { length clients.now ≤ MOST_CLIENTS }
+    ensures { Wrote (S.seen out.old) (S.seen out.new) result
+        (flat_map (entry_text monitor.now clients.now) log.now) }
+{
+    for entry in log {
+        write_entry(monitor, clients, *entry, out)?;
+    }
+    Ok(())
+}
+
+// `A.1 put(3) waits`, `A.1 put(3) = - wakes B` or `spurious A`, and a line feed.
+fn write_entry<S: Sink>(
+    monitor: &Monitor,
+    clients: &[Client],
+    entry: Entry,
+    out: &mut S,
+) -> Result<(), SinkFailed>
+    requires { length clients.now ≤ MOST_CLIENTS }
+    ensures { Wrote (S.seen out.old) (S.seen out.new) result
+        (entry_text monitor.now clients.now entry) }
+{
+    let (client, call) = (entry.client as usize, entry.call as usize);
+    match entry.outcome {
+        Outcome::Waits => {
+            write_call(monitor, clients, client, call, out)?;
+            write_piece(b" waits\n", out)
+        }
+        Outcome::Replies { reply, woken } => {
+            write_call(monitor, clients, client, call, out)?;
+            write_reply(clients, reply, woken, out)
+        }
+        Outcome::Spurious => write_pieces(&[b"spurious ", name_of(clients, client), b"\n"], out),
+    }
+}
+
+// ` = - wakes B` and a line feed.
+fn write_reply<S: Sink>(
+    clients: &[Client],
+    reply: Reply,
+    woken: u32,
+    out: &mut S,
+) -> Result<(), SinkFailed>
+    requires { length clients.now ≤ MOST_CLIENTS }
+    ensures { Wrote (S.seen out.old) (S.seen out.new) result
+        (replied_text clients.now reply woken) }
+{
+    let mut digits = Buffer::new();
+    write_pieces(&[b" = ", reply_bytes(reply, &mut digits)], out)?;
+    write_wakes(clients, woken, out)?;
+    write_piece(b"\n", out)
+}
+
+// ---- who was woken
+
+// ` wakes B C`, or nothing where no client was woken.
+fn write_wakes<S: Sink>(clients: &[Client], woken: u32, out: &mut S) -> Result<(), SinkFailed>
+    requires { length clients.now ≤ MOST_CLIENTS }
+    ensures { Wrote (S.seen out.old) (S.seen out.new) result (wakes_text clients.now woken) }
+{
+    if woken == 0 {
+        return Ok(());
+    }
+    write_piece(b" wakes", out)?;
+    write_woken(clients, woken, out)
+}
+
+// A blank and a name for each client that was woken, in file order.
+fn write_woken<S: Sink>(clients: &[Client], woken: u32, out: &mut S) -> Result<(), SinkFailed>
+    requires { length clients.now ≤ MOST_CLIENTS }
+    ensures { Wrote (S.seen out.old) (S.seen out.new) result (woken_names woken clients.now) }
+{
+    for (number, client) in clients.iter().enumerate() {
+        write_if_woken(woken, number as u32, client, out)?;
+    }
+    Ok(())
+}
+
+// A blank and the client's name, where it was woken.
+fn write_if_woken<S: Sink>(
+    woken: u32,
+    number: u32,
+    client: &Client,
+    out: &mut S,
+) -> Result<(), SinkFailed>
+    requires { number < MOST_CLIENTS }
+    ensures { Wrote (S.seen out.old) (S.seen out.new) result
+        (woken_name woken number client.now) }
+{
+    if !is_woken(woken, number) {
+        return Ok(());
+    }
+    write_pieces(&[b" ", client.name.bytes()], out)
+}
+
+// Whether the client's bit is set.
+fn is_woken(woken: u32, client: u32) -> bool
+    requires { client < MOST_CLIENTS }
+    ensures { result ≡ is_woken woken client }
+{
+    woken & (1 << client) != 0
+}
+
+// ---- how the log ended
+
+// `done`, or `stalled` and who is blocked.
+fn write_end<S: Sink>(
+    monitor: &Monitor,
+    clients: &[Client],
+    log: &[Entry],
+    out: &mut S,
+) -> Result<(), SinkFailed>
+    ensures { Wrote (S.seen out.old) (S.seen out.new) result
+        (let history = commits_of log.now in
+        end_text monitor.now clients.now history (are_done clients.now history)) }
+{
+    if are_done(clients, log) {
+        return write_piece(b"done\n", out);
+    }
+    write_piece(b"stalled\n", out)?;
+    write_blocked(monitor, clients, log, out)
+}
+
+/// Whether each client's calls are done after a log: whether it ends by `done` where it is closed.
+pub fn are_done(clients: &[Client], log: &[Entry]) -> bool
+    ensures { result ≡ are_done clients.now (commits_of log.now) }
+{
+    for (number, client) in clients.iter().enumerate() {
+        if done(log, number) < client.calls.items().len() {
+            return false;
+        }
+    }
+    true
+}
+
+// A line for each client that has a call left, in file order.
+fn write_blocked<S: Sink>(
+    monitor: &Monitor,
+    clients: &[Client],
+    log: &[Entry],
+    out: &mut S,
+) -> Result<(), SinkFailed>
+    ensures { Wrote (S.seen out.old) (S.seen out.new) result
+        (blocked_from monitor.now clients.now (commits_of log.now) 0 clients.now) }
+{
+    for client in 0..clients.len() {
+        write_if_blocked(monitor, clients, log, client, out)?;
+    }
+    Ok(())
+}
+
+// `A.1 put(3) blocked` and a line feed, where the client has a call left.
+fn write_if_blocked<S: Sink>(
+    monitor: &Monitor,
+    clients: &[Client],
+    log: &[Entry],
+    client: usize,
+    out: &mut S,
+) -> Result<(), SinkFailed>
+    ensures { Wrote (S.seen out.old) (S.seen out.new) result
+        (let history = commits_of log.now in
+        blocked_text monitor.now clients.now history client
+        (next_call clients.now history client)) }
+{
+    let done = done(log, client);
+    if calls(clients, client).len() <= done {
+        return Ok(());
+    }
+    write_call(monitor, clients, client, done + 1, out)?;
+    write_piece(b" blocked\n", out)
+}
+
+// How many calls of a client are done.
+fn done(log: &[Entry], client: usize) -> usize
+    ensures { result ≡ done (commits_of log.now) client }
+{
+    replies(log, client)
+}
+
+// How many entries are replies to calls of a client.
+fn replies(log: &[Entry], client: usize) -> usize
+    ensures { result ≡ count_by (is_reply_of client) log.now }
+{
+    log.iter()
+        .filter(|entry| replied(entry.outcome) && entry.client as usize == client)
+        .count()
+}
+
+// Whether a call replied.
+fn replied(outcome: Outcome) -> bool
+    ensures { result ≡ says_replies outcome }
+{
+    match outcome {
+        Outcome::Replies { .. } => true,
+        Outcome::Waits | Outcome::Spurious => false,
+    }
+}

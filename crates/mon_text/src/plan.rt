@@ -1,0 +1,232 @@
+//! The text of a plan.
+
+ghost use Rattle.std.specs.Prelude.{◌≡◌, ◌≤◌, ◌++◌, codes, length, slice_get};
+ghost use Rattle.std.specs.List.{flat_map};
+ghost use Rattle.mon_base.specs.Limits.{CONDITIONS as MOST_CONDITIONS};
+ghost use Rattle.mon_io.specs.Writing.{Wrote};
+ghost use Rattle.mon_events.specs.PlanText.{block_text, blocks_text, condition_text, conditions_text};
+ghost use Rattle.mon_events.specs.PlanText.{field_name, flag_mark, kept_text, kind_text, note_kind};
+ghost use Rattle.mon_events.specs.PlanText.{note_text, notes_text, plan_text, tested_text};
+
+use crate::turns::method_bytes;
+use itoa::Buffer;
+use mon_events::{CondKind, Note, NoteList, Plan};
+use mon_io::{Sink, SinkFailed, write_piece, write_pieces};
+use mon_monitor::{Block, Candidate, Condition, Field, Monitor};
+use mon_printer::write_around;
+
+/// Writes a plan of a monitor: its name, then a line for each kept candidate, condition and block. It takes no memory.
+///
+/// After `SinkFailed` some of the first bytes of the text were taken, and not all.
+pub fn write_plan<S: Sink>(monitor: &Monitor, plan: &Plan, out: &mut S) -> Result<(), SinkFailed>
+    ensures { Wrote (S.seen out.old) (S.seen out.new) result (plan_text monitor.now plan.now) }
+{
+    write_pieces(&[b"plan ", monitor.name().bytes(), b"\n"], out)?;
+    write_kept(monitor.fields(), plan.kept.items(), out)?;
+    write_conditions(monitor.conditions(), plan.kinds.items(), out)?;
+    write_blocks(monitor, plan.notes.items(), out)
+}
+
+// ---- kept candidates
+
+// A line for each candidate.
+fn write_kept<S: Sink>(fields: &[Field], kept: &[Candidate], out: &mut S) -> Result<(), SinkFailed>
+    ensures { Wrote (S.seen out.old) (S.seen out.new) result
+        (flat_map (kept_text fields.now) kept.now) }
+{
+    for candidate in kept {
+        write_candidate(fields, *candidate, out)?;
+    }
+    Ok(())
+}
+
+// `keep x <= 4` and a line feed.
+fn write_candidate<S: Sink>(
+    fields: &[Field],
+    candidate: Candidate,
+    out: &mut S,
+) -> Result<(), SinkFailed>
+    ensures { Wrote (S.seen out.old) (S.seen out.new) result (kept_text fields.now candidate) }
+{
+    let mut digits = Buffer::new();
+    match candidate {
+        Candidate::AtMost { field, bound } => {
+            let bound = digits.format(bound).as_bytes();
+            write_keep(field_bytes(fields, field), b" <= ", bound, out)
+        }
+        Candidate::AtLeast { field, bound } => {
+            let bound = digits.format(bound).as_bytes();
+            write_keep(field_bytes(fields, field), b" >= ", bound, out)
+        }
+        Candidate::Flag { field, is } => {
+            write_keep(flag_bytes(is), field_bytes(fields, field), b"", out)
+        }
+        Candidate::Below { left, right } => write_keep(
+            field_bytes(fields, left),
+            b" <= ",
+            field_bytes(fields, right),
+            out,
+        ),
+    }
+}
+
+// `keep ` with these three, and a line feed.
+fn write_keep<'a, S: Sink>(
+    left: &'a [u8],
+    sign: &'a [u8],
+    right: &'a [u8],
+    out: &mut S,
+) -> Result<(), SinkFailed>
+    ensures { Wrote (S.seen out.old) (S.seen out.new) result
+        (codes "keep " ++ (left.now ++ sign.now ++ right.now) ++ codes "\n") }
+{
+    write_pieces(&[b"keep ", left, sign, right, b"\n"], out)
+}
+
+// The name of a field, or nothing where there is none.
+fn field_bytes(fields: &[Field], field: u32) -> &[u8]
+    ensures { result.now ≡ field_name (slice_get fields.now field) }
+{
+    match fields.get(field as usize) {
+        Some(field) => field.name.bytes(),
+        None => b"",
+    }
+}
+
+fn flag_bytes(is: bool) -> &'static [u8]
+    ensures { result.now ≡ flag_mark is }
+{
+    if is { b"" } else { b"!" }
+}
+
+// ---- conditions
+
+// A line for each condition, with its kind. They are numbered from 1.
+fn write_conditions<S: Sink>(
+    conditions: &[Condition],
+    kinds: &[CondKind],
+    out: &mut S,
+) -> Result<(), SinkFailed>
+    requires { length conditions.now ≤ MOST_CONDITIONS }
+    ensures { Wrote (S.seen out.old) (S.seen out.new) result
+        (conditions_text conditions.now kinds.now) }
+{
+    let mut number = 1;
+    for (condition, kind) in conditions.iter().zip(kinds) {
+        write_condition(number, condition, *kind, out)?;
+        number += 1;
+    }
+    Ok(())
+}
+
+// `condition 1 signal: x < 4` and a line feed.
+fn write_condition<S: Sink>(
+    number: u32,
+    condition: &Condition,
+    kind: CondKind,
+    out: &mut S,
+) -> Result<(), SinkFailed>
+    ensures { Wrote (S.seen out.old) (S.seen out.new) result
+        (condition_text number condition.now kind) }
+{
+    let mut digits = Buffer::new();
+    let number = digits.format(number).as_bytes();
+    let before = [b"condition ", number, b" ", kind_bytes(kind), b": "];
+    write_around(&before, &condition.shown, b"\n", out)
+}
+
+fn kind_bytes(kind: CondKind) -> &'static [u8]
+    ensures { result.now ≡ kind_text kind }
+{
+    match kind {
+        CondKind::Signal => b"signal",
+        CondKind::Broadcast => b"broadcast",
+    }
+}
+
+// ---- notes
+
+// A line for each block, with its notes.
+fn write_blocks<S: Sink>(
+    monitor: &Monitor,
+    lists: &[NoteList],
+    out: &mut S,
+) -> Result<(), SinkFailed>
+    ensures { Wrote (S.seen out.old) (S.seen out.new) result (blocks_text monitor.now lists.now) }
+{
+    for (block, list) in monitor.blocks().iter().zip(lists) {
+        write_block(monitor, block, list.notes(), out)?;
+    }
+    Ok(())
+}
+
+// `block put: 2 signal` and a line feed.
+fn write_block<S: Sink>(
+    monitor: &Monitor,
+    block: &Block,
+    notes: &[Note],
+    out: &mut S,
+) -> Result<(), SinkFailed>
+    ensures { Wrote (S.seen out.old) (S.seen out.new) result
+        (block_text monitor.now block.now notes.now) }
+{
+    let method = method_bytes(monitor, block.method);
+    write_pieces(&[b"block ", method, b": "], out)?;
+    write_notes(notes, out)?;
+    write_piece(b"\n", out)
+}
+
+// `1 broadcast, 3 signal tested`, or `none`.
+fn write_notes<S: Sink>(notes: &[Note], out: &mut S) -> Result<(), SinkFailed>
+    ensures { Wrote (S.seen out.old) (S.seen out.new) result (notes_text notes.now) }
+{
+    let [first, rest @ ..] = notes else {
+        return write_piece(b"none", out);
+    };
+    write_note(b"", *first, out)?;
+    for note in rest {
+        write_note(b", ", *note, out)?;
+    }
+    Ok(())
+}
+
+// `3 signal tested` after what separates it from the note before.
+fn write_note<S: Sink>(sign: &[u8], note: Note, out: &mut S) -> Result<(), SinkFailed>
+    ensures { Wrote (S.seen out.old) (S.seen out.new) result (sign.now ++ note_text note) }
+{
+    let mut digits = Buffer::new();
+    let condition = digits.format(note.condition).as_bytes();
+    let kind = kind_bytes(kind_of(note.all));
+    write_note_parts(sign, condition, kind, tested_bytes(note.tested), out)
+}
+
+// What a note consists of, after what separates it from the note before.
+fn write_note_parts<'a, S: Sink>(
+    sign: &'a [u8],
+    condition: &'a [u8],
+    kind: &'a [u8],
+    tested: &'a [u8],
+    out: &mut S,
+) -> Result<(), SinkFailed>
+    ensures { Wrote (S.seen out.old) (S.seen out.new) result
+        (sign.now ++ (condition.now ++ codes " " ++ kind.now ++ tested.now)) }
+{
+    write_pieces(&[sign, condition, b" ", kind, tested], out)
+}
+
+// Of which kind a note is.
+fn kind_of(all: bool) -> CondKind
+    ensures { result ≡ note_kind all }
+{
+    if all {
+        CondKind::Broadcast
+    } else {
+        CondKind::Signal
+    }
+}
+
+fn tested_bytes(tested: bool) -> &'static [u8]
+    ensures { result.now ≡ tested_text tested }
+{
+    if tested { b" tested" } else { b"" }
+}
