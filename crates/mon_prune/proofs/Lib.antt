@@ -1,0 +1,7 @@
+mod Decisions
+mod ListSteps
+mod PoolNumbers
+mod Pruned
+mod RoundSteps
+pub mod SomeOf
+mod StartTruths

@@ -1,0 +1,88 @@
+-- What is left after rounds, and that it is an invariant, with few limits the greatest.
+use Rattle.std.proofs.Common.{◌≡◌, ℕ, ◌<◌, Bool, true, false, List, map, length, get_or, sym, subst, arith, ap, refl, ◌∙◌}
+use Rattle.std.specs.List.{All, Contains, filter}
+use Rattle.std.proofs.lemmas.Bool.{true_from_ne_false}
+use Rattle.std.proofs.lemmas.List.Elements.{All-contains, All-get_or, Contains-get_or, filter_passes}
+use Rattle.mon_monitor.specs.declared.candidate.Candidate.{Candidate}
+use Rattle.mon_monitor.specs.declared.claim.Claim.TheVariants as claims
+use Rattle.mon_monitor.specs.Candidates.{AllHold, AreSomeOf, candidate_truth, candidates_of}
+use Rattle.mon_monitor.specs.MonitorParts.{MonitorParts, start_of}
+use Rattle.mon_monitor.specs.Queries.{query_of}
+use Rattle.mon_monitor.specs.Triples.{IsInductive, Keeps}
+use Rattle.mon_wp.specs.Hardness.{IsSmall, is_easy}
+use Rattle.mon_wp.proofs.FewerKept.{fewer_no_harder, more_keep_valid, some_contained}
+use Rattle.mon_prune.specs.declared.kept.Kept.{Kept}
+use Rattle.mon_prune.specs.Invariants.{AreProofs, ContainsEasy, IsGreatest, IsInSome, IsInvariant, NoneIsHard}
+use Rattle.mon_prune.specs.inner.Asking.{AllKeep, IsEasyAt, MustStay}
+use Rattle.mon_prune.specs.inner.Pruning.{IsLeft, IsRoundOf}
+use Rattle.mon_prune.proofs.SomeOf.{filter_contains, some_filter, some_hold, some_same, some_trans}
+
+-- ---- at the start
+
+pub left_first : (monitor : MonitorParts) → IsLeft monitor (filter (candidate_truth (start_of monitor)) (candidates_of monitor))
+left_first monitor = record {
+  candidates = some_filter (candidate_truth (start_of monitor)) (candidates_of monitor);
+  starts = filter_passes (candidate_truth (start_of monitor)) (candidates_of monitor);
+  easy = λ other invariant none k d low.
+      filter_contains (candidate_truth (start_of monitor)) (candidates_of monitor) (get_or other k d)
+      (some_contained other (candidates_of monitor) invariant.candidates k d low) (invariant.inductive.starts k d low);
+}
+
+-- ---- after a round
+
+-- a candidate of an invariant that is contained in what was left, and none of whose claims is hard, has to stay
+stays : (monitor : MonitorParts) (kept other : List Candidate) (one : Candidate)
+    → AreSomeOf kept (candidates_of monitor) → IsInvariant monitor other → NoneIsHard monitor other → All (Contains kept) other → Contains other one
+    → MustStay monitor kept one
+stays monitor kept other one some invariant none within is = record {
+  keep = λ block low.
+      more_keep_valid monitor (claims.Keeps one block) other kept within
+      (All-contains (λ candidate. Keeps monitor other candidate block) other one (invariant.inductive.keeps block low) is);
+  easy = λ block low.
+      fewer_no_harder monitor (claims.Keeps one block) kept (candidates_of monitor) some
+      (true_from_ne_false (is_easy monitor (query_of monitor (candidates_of monitor) (claims.Keeps one block))) (none one block is low));
+}
+
+pub left_after : (monitor : MonitorParts) (kept next : List Candidate) (proofs : List Kept)
+    → IsLeft monitor kept → IsRoundOf monitor kept kept next proofs → IsLeft monitor next
+left_after monitor kept next proofs left round = record {
+  candidates = some_trans next kept (candidates_of monitor) round.candidates left.candidates;
+  starts = some_hold (λ candidate. candidate_truth (start_of monitor) candidate ≡ true) next kept round.candidates left.starts;
+  easy = λ other invariant none k d low.
+      let within = left.easy other invariant none in
+      All-contains (λ candidate. MustStay monitor kept candidate → Contains next candidate) kept (get_or other k d) round.stay (within k d low)
+      (stays monitor kept other (get_or other k d) left.candidates invariant none within (Contains-get_or other k d low));
+}
+
+-- a round that drops none
+pub none_dropped : (monitor : MonitorParts) (kept next : List Candidate) (proofs : List Kept)
+    → IsRoundOf monitor kept kept next proofs → length next ≡ length kept → IsRoundOf monitor next next next proofs
+none_dropped monitor kept next proofs round same =
+    subst (λ (before : List Candidate). IsRoundOf monitor before before next proofs) (sym (some_same next kept round.candidates same)) round
+
+-- ---- at the end
+
+pub invariant_left : (monitor : MonitorParts) (kept : List Candidate) (proofs : List Kept)
+    → IsLeft monitor kept → IsRoundOf monitor kept kept kept proofs → IsInvariant monitor kept
+invariant_left monitor kept proofs left round = record {
+  candidates = left.candidates;
+  inductive = record {
+    starts = left.starts;
+    keeps = λ block low k d within. round.keep k d within block low;
+  };
+}
+
+pub greatest_left : (monitor : MonitorParts) (kept : List Candidate)
+    → IsInvariant monitor kept → ContainsEasy monitor kept → IsSmall monitor → IsGreatest monitor kept
+greatest_left monitor kept invariant easy small = record {
+  invariant = invariant;
+  exactly = λ candidate. (
+    (λ is. record { kept = kept; invariant = invariant; contains = is }),
+    (λ some. All-contains (Contains kept) some.kept candidate (easy some.kept some.invariant (none_hard some.kept some.invariant)) some.contains),
+  );
+}
+  where
+    none_hard : (other : List Candidate) → IsInvariant monitor other → NoneIsHard monitor other
+    none_hard other known = λ candidate block is low.
+        small.easy (claims.Keeps candidate block)
+        (All-contains (Contains (candidates_of monitor)) other candidate (some_contained other (candidates_of monitor) known.candidates) is, low)

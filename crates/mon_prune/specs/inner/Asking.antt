@@ -1,0 +1,65 @@
+-- What is asked of blocks, and what is found.
+use Rattle.std.specs.Prelude.{◌≡◌, ℕ, ◌<◌, true, List, [], ◌∷◌, map, length, All, Option, Some, None}
+use Rattle.std.specs.List.{list_all, range_with_len}
+use Rattle.mon_monitor.specs.declared.candidate.Candidate.{Candidate}
+use Rattle.mon_monitor.specs.declared.claim.Claim.TheVariants as claims
+use Rattle.mon_monitor.specs.MonitorParts.{MonitorParts}
+use Rattle.mon_monitor.specs.Queries.{keeps_query}
+use Rattle.mon_monitor.specs.Triples.{Keeps}
+use Rattle.mon_wp.specs.Expressible.{is_expressible}
+use Rattle.mon_wp.specs.Hardness.{is_easy}
+use Rattle.mon_wp.specs.QueryPlaces.{is_of_fields}
+use Rattle.mon_prune.specs.declared.kept.Kept.{Kept}
+use Rattle.mon_prune.specs.Invariants.{AreProofs, Proves, claim_of}
+
+-- ---- what may be asked
+
+-- a candidate with a formula over fields
+pub record IsAskable (candidate : Candidate) : Type 0 where
+  pub expressible : is_expressible candidate ≡ true
+  pub fields : is_of_fields candidate ≡ true
+
+pub record AreAskable (hyps : List Candidate) : Type 0 where
+  pub expressible : list_all is_expressible hyps ≡ true
+  pub fields : list_all is_of_fields hyps ≡ true
+
+-- ---- of one block
+
+abbrev pub IsEasyAt : MonitorParts → List Candidate → Candidate → ℕ → Type 0
+IsEasyAt monitor hyps candidate block = is_easy monitor (keeps_query monitor hyps candidate block) ≡ true
+
+-- the proof that the block keeps the candidate under the others
+pub record IsProofAt (monitor : MonitorParts) (hyps : List Candidate) (candidate : Candidate) (block : ℕ) (proof : Kept) : Type 0 where
+  pub claim : claim_of proof ≡ claims.Keeps candidate block
+  pub proves : Proves monitor hyps proof
+  pub keeps : Keeps monitor hyps candidate block
+
+-- there is none only where the query is not easy, or the block does not keep the candidate
+abbrev pub IsFoundAt : MonitorParts → List Candidate → Candidate → ℕ → Option Kept → Type 0
+IsFoundAt monitor hyps candidate block (Some proof) = IsProofAt monitor hyps candidate block proof
+IsFoundAt monitor hyps candidate block None =
+    IsEasyAt monitor hyps candidate block → Keeps monitor hyps candidate block → ⊥
+
+-- ---- of each block
+
+-- the proofs of the first blocks
+pub record AreProofsBelow (monitor : MonitorParts) (hyps : List Candidate) (candidate : Candidate) (count : ℕ) (proofs : List Kept) : Type 0 where
+  pub claims : map claim_of proofs ≡ map (claims.Keeps candidate) (range_with_len 0 count)
+  pub each : All (Proves monitor hyps) proofs
+  pub keep : (block : ℕ) → block < count → Keeps monitor hyps candidate block
+
+-- each block keeps the candidate
+abbrev pub AllKeep : MonitorParts → List Candidate → Candidate → Type 0
+AllKeep monitor hyps candidate =
+    (block : ℕ) → block < length monitor.blocks → Keeps monitor hyps candidate block
+
+-- each block keeps the candidate, and its query is easy
+pub record MustStay (monitor : MonitorParts) (hyps : List Candidate) (candidate : Candidate) : Type 0 where
+  pub keep : AllKeep monitor hyps candidate
+  pub easy : (block : ℕ) → block < length monitor.blocks → IsEasyAt monitor hyps candidate block
+
+-- the proofs that each block keeps the candidate; there are none only where it need not stay
+abbrev pub AreFound : MonitorParts → List Candidate → Candidate → Option (List Kept) → Type 0
+AreFound monitor hyps candidate (Some proofs) =
+    AreProofsBelow monitor hyps candidate (length monitor.blocks) proofs
+AreFound monitor hyps candidate None = MustStay monitor hyps candidate → ⊥

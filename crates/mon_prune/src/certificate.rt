@@ -1,0 +1,41 @@
+//! Certificates of queries.
+
+ghost use Rattle.std.specs.Prelude.{◌<◌, IfOk, IfSome, IsTrue, length};
+ghost use Rattle.mon_linear.specs.Negation.{can_negate};
+ghost use Rattle.mon_monitor.specs.Triples.{IsValidQuery};
+ghost use Rattle.mon_wp.specs.QueryPlaces.{IsPlaced};
+ghost use Rattle.mon_prune.specs.Invariants.{IsDecision};
+
+use mon_cert::{Cert, refuted_formula_is_false};
+use mon_monitor::{Monitor, Query};
+use mon_solve::refute;
+use mon_wp::{
+    negated, placed_queries_have_few_places, refuted_query_is_valid, satisfied_query_is_invalid,
+};
+use std::alloc::{AllocError, Global};
+
+/// A certificate that refutes the negation of a query, which is then valid. There is none only where the query is not
+/// valid, or is not negated within the limits of [`negated`], to a formula of difference rows with at most 1,024 cubes.
+/// The hypotheses and the post formula are over places of fields and inputs, as those of each claim's query are. It
+/// fails only for want of memory.
+pub fn certificate_of(
+    alloc: Global,
+    monitor: &Monitor,
+    query: &Query,
+) -> Result<Option<Cert>, AllocError>
+    requires block { query.now.block < length monitor.now.blocks }
+    requires post { IsTrue (can_negate query.now.post) }
+    requires placed { IsPlaced query.now }
+    ensures decided { IfOk result (IsDecision monitor.now query.now) }
+    ensures valid { IfOk result (λ it. IfSome it (λ cert. IsValidQuery monitor.now query.now)) }
+{
+    refuted_formula_is_false();
+    refuted_query_is_valid();
+    satisfied_query_is_invalid();
+    placed_queries_have_few_places();
+    monitor.blocks();
+    match negated(alloc, monitor, query)? {
+        None => Ok(None),
+        Some(formula) => Ok(refute(alloc, &formula)?),
+    }
+}

@@ -1,0 +1,61 @@
+//! Candidates pruned to an invariant.
+
+ghost use Rattle.std.specs.Prelude.{◌≡◌, true, IfOk};
+ghost use Rattle.std.specs.List.{list_all};
+ghost use Rattle.mon_monitor.specs.Candidates.{candidates_of};
+ghost use Rattle.mon_wp.specs.Expressible.{is_expressible};
+ghost use Rattle.mon_wp.specs.Hardness.{IsSmall};
+ghost use Rattle.mon_wp.specs.QueryPlaces.{is_of_fields};
+ghost use Rattle.mon_prune.specs.Invariants.{AreProofs, ContainsEasy, IsGreatest, IsInvariant};
+ghost use Rattle.mon_prune.specs.inner.Asking.{AreAskable};
+ghost use Rattle.mon_prune.specs.inner.Pruning.{IsLeft, IsPruned};
+
+use super::kept::Invariant;
+use super::rounds::{Round, next_round};
+use super::starts::{read_starts, true_at_start};
+use mon_list::Seq;
+use mon_monitor::{Candidate, Monitor};
+use mon_wp::{candidates_are_expressible, candidates_are_of_fields};
+use std::alloc::{AllocError, Global};
+
+/// What is left of the candidates after the last round, which drops none.
+fn pruned(alloc: Global, monitor: &Monitor, first: Vec<Candidate>) -> Result<Round, AllocError>
+    requires askable { AreAskable (candidates_of monitor.now) }
+    requires first { IsLeft monitor.now first.items }
+    ensures { IfOk result (IsPruned monitor.now) }
+{
+    let mut kept = first;
+    loop {
+        let round = next_round(alloc, monitor, &kept)?;
+        if round.kept.len() == kept.len() {
+            return Ok(round);
+        }
+        kept = round.kept;
+    }
+}
+
+/// The candidates that are true at the start and that each block keeps under all of them, with a proof for each of them
+/// and each block. It contains every invariant of the monitor's candidates of which the prover can decide each query,
+/// and so for a small monitor it is the greatest invariant of its candidates. It fails only for want of memory.
+///
+/// The candidates that are false at the start are dropped, and then in rounds those that some block is not found to
+/// keep under all that are left, until a round drops none. A round asks one query for each candidate that is left and
+/// each block, until one isn't refuted; there are at most as many rounds as candidates, and one more.
+pub fn invariant(alloc: Global, monitor: &Monitor) -> Result<Invariant, AllocError>
+    ensures invariant { IfOk result (λ made. IsInvariant monitor.now made.kept) }
+    ensures expressible { IfOk result (λ made. list_all is_expressible made.kept ≡ true) }
+    ensures of_fields { IfOk result (λ made. list_all is_of_fields made.kept ≡ true) }
+    ensures proofs { IfOk result (λ it. AreProofs monitor.now it.kept it.kept it.proofs) }
+    ensures easy { IfOk result (λ made. ContainsEasy monitor.now made.kept) }
+    ensures small { IfOk result (λ made. IsSmall monitor.now → IsGreatest monitor.now made.kept) }
+{
+    candidates_are_expressible();
+    candidates_are_of_fields();
+    read_starts(monitor.fields());
+    let first = true_at_start(alloc, monitor)?;
+    let round = pruned(alloc, monitor, first)?;
+    Ok(Invariant {
+        kept: Seq::of(round.kept),
+        proofs: Seq::of(round.proofs),
+    })
+}
