@@ -1,0 +1,5 @@
+pub mod Lists
+pub mod AskedQueries
+pub mod Backed
+pub mod Answered
+pub mod Placing

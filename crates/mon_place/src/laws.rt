@@ -1,0 +1,27 @@
+//! What follows from the prover's answers.
+
+ghost use Rattle.mon_events.specs.declared.plan.Plan.{Plan};
+ghost use Rattle.mon_events.specs.Plans.{FitsPlan, IsLawful};
+ghost use Rattle.mon_monitor.specs.MonitorParts.{MonitorParts, IsMonitor};
+ghost use Rattle.mon_wp.specs.Hardness.{IsSmall};
+ghost use Rattle.mon_place.specs.Exact.{IsExact, IsLicensed};
+ghost use Rattle.mon_place.specs.inner.Answers.{IsAnswered};
+
+use mon_cert::refuted_formula_is_false;
+use mon_wp::{fewer_kept_are_no_harder, refuted_query_is_valid};
+
+/// A plan that the prover's answers make fits, is lawful and licensed, and exact where the monitor is small.
+pub(crate) fn answered_plans_are_placed()
+    ensures fits { (monitor : MonitorParts) (plan : Plan) → IsMonitor monitor
+        → IsAnswered monitor plan → FitsPlan monitor plan }
+    ensures lawful { (monitor : MonitorParts) (plan : Plan) → IsMonitor monitor
+        → IsAnswered monitor plan → IsLawful monitor plan }
+    ensures licensed { (monitor : MonitorParts) (plan : Plan) → IsMonitor monitor
+        → IsAnswered monitor plan → IsLicensed monitor plan }
+    ensures exact { (monitor : MonitorParts) (plan : Plan) → IsMonitor monitor
+        → IsAnswered monitor plan → IsSmall monitor → IsExact monitor plan }
+{
+    refuted_formula_is_false();
+    refuted_query_is_valid();
+    fewer_kept_are_no_harder();
+}
