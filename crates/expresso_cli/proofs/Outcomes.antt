@@ -5,14 +5,16 @@ use Rattle.mon_tree.specs.declared.tree.MonitorTree.{MonitorTree}
 use Rattle.mon_monitor.specs.MonitorParts.{MonitorParts}
 use Rattle.mon_implicit.specs.declared.commit.Turns.{Turns}
 use Rattle.mon_implicit.specs.declared.script.Client.{Client}
+use Rattle.mon_events.specs.declared.plan.Plan.{Plan}
+use Rattle.mon_events.specs.PlanText.{plan_text}
 use Rattle.mon_printer.specs.Canonical.{tree_text}
 use Rattle.mon_text.specs.FaultText.{unread_text}
 use Rattle.mon_text.specs.TurnsText.{turns_text}
 use Rattle.expresso_cli.specs.declared.status.Status.{Status}
-use Rattle.expresso_cli.specs.declared.monitor_file.MonitorFault.{MonitorFault}
-use Rattle.expresso_cli.specs.declared.monitor_file.MonitorFault.TheVariants as faults
-use Rattle.expresso_cli.specs.MonitorFiles.{monitor_fault_text}
-use Rattle.expresso_cli.specs.Texts.{usage_text, other_form_text}
+use Rattle.expresso_cli.specs.declared.source_fault.SourceFault.{SourceFault}
+use Rattle.expresso_cli.specs.declared.source_fault.SourceFault.TheVariants as faults
+use Rattle.expresso_cli.specs.SourceFaults.{source_fault_text}
+use Rattle.expresso_cli.specs.Texts.{usage_text}
 use Rattle.expresso_cli.specs.inner.Ending.{IsWritten}
 
 -- nothing was written between the first view of the sink and the second
@@ -33,16 +35,16 @@ some_usage = positive _
 pub some_unread : (file : List ℕ) → 0 < length (unread_text file)
 some_unread file = positive _
 
-pub some_other_form : (file : List ℕ) → 0 < length (other_form_text file)
-some_other_form file = positive _
-
 pub some_tree : (tree : MonitorTree) → 0 < length (tree_text tree)
 some_tree tree = positive _
 
 pub some_turns : (monitor : MonitorParts) (clients : List Client) (turns : Turns) → 0 < length (turns_text monitor clients turns)
 some_turns monitor clients turns = some_end _ 10
 
-pub some_fault : (file bytes : List ℕ) (fault : MonitorFault) → fault ≢ faults.OutOfMemory → 0 < length (monitor_fault_text file bytes fault)
+pub some_plan : (monitor : MonitorParts) (plan : Plan) → 0 < length (plan_text monitor plan)
+some_plan monitor plan = positive _
+
+pub some_fault : (file bytes : List ℕ) (fault : SourceFault) → fault ≢ faults.OutOfMemory → 0 < length (source_fault_text file bytes fault)
 some_fault file bytes faults.TooLong other = positive _
 some_fault file bytes (faults.At at what) other = positive _
 some_fault file bytes faults.OutOfMemory other = absurd (other refl)

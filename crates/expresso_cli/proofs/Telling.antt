@@ -8,11 +8,12 @@ use Rattle.mon_monitor.specs.MonitorParts.{MonitorParts}
 use Rattle.mon_implicit.specs.declared.script.Client.{Client}
 use Rattle.mon_text.specs.declared.refusal.Refusal.{Refusal}
 use Rattle.mon_text.specs.declared.refusal.Refusal.TheVariants as refusals
-use Rattle.expresso_cli.specs.declared.monitor_file.MonitorFault.{MonitorFault}
-use Rattle.expresso_cli.specs.declared.monitor_file.MonitorFault.TheVariants as faults
-use Rattle.expresso_cli.specs.MonitorFiles.{IsAccepted, IsFirstFault, monitor_fault_text}
+use Rattle.expresso_cli.specs.declared.source_fault.SourceFault.{SourceFault}
+use Rattle.expresso_cli.specs.declared.source_fault.SourceFault.TheVariants as faults
+use Rattle.expresso_cli.specs.SourceFaults.{source_fault_text}
+use Rattle.expresso_cli.specs.MonitorFiles.{IsAccepted, IsFirstFault}
 use Rattle.expresso_cli.specs.Answers.{Holds, IsMonitorRefusal}
-use Rattle.expresso_cli.specs.ClientFiles.{AreAccepted, AreNoScripts}
+use Rattle.expresso_cli.specs.ClientFiles.{AreAccepted, IsFirstOfClients}
 
 -- the bytes that are held, where they are told, or else those that were read
 pub told : Option (List ℕ) → List ℕ → List ℕ
@@ -47,9 +48,6 @@ accepted_told o bytes tree monitor read accepted = subst (λ (b : List ℕ). IsA
 pub scripts_told : (o : Option (List ℕ)) (bytes : List ℕ) (monitor : MonitorParts) (clients : List Client) → IsRead o 65536 bytes → AreAccepted bytes monitor clients → AreAccepted (told o bytes) monitor clients
 scripts_told o bytes monitor clients read accepted = subst (λ (b : List ℕ). AreAccepted b monitor clients) (read_short o bytes read accepted.short) accepted
 
-pub no_scripts_told : (o : Option (List ℕ)) (bytes : List ℕ) (monitor : MonitorParts) → IsRead o 65536 bytes → AreNoScripts bytes monitor → AreNoScripts (told o bytes) monitor
-no_scripts_told o bytes monitor read none clients accepted = none clients (subst (λ (b : List ℕ). AreAccepted b monitor clients) (sym (held_short o bytes read accepted.short)) accepted)
-
 -- ---- the first fault
 
 -- a fault at a place is one of a short file
@@ -58,18 +56,18 @@ placed_short bytes at refusals.Lex first = first.short
 placed_short bytes at refusals.Syntax first = first.short
 placed_short bytes at what first = first.short
 
-pub fault_told : (o : Option (List ℕ)) (bytes : List ℕ) (fault : MonitorFault) → IsRead o 65536 bytes → IsFirstFault bytes fault → IsFirstFault (told o bytes) fault
+pub fault_told : (o : Option (List ℕ)) (bytes : List ℕ) (fault : SourceFault) → IsRead o 65536 bytes → IsFirstFault bytes fault → IsFirstFault (told o bytes) fault
 fault_told o bytes faults.TooLong read first = held_long o bytes read first
 fault_told o bytes (faults.At at what) read first = subst (λ (b : List ℕ). IsFirstFault b (faults.At at what)) (read_short o bytes read (placed_short bytes at what first)) first
 fault_told o bytes faults.OutOfMemory read first = first
 
-fault_text_told : (o : Option (List ℕ)) (file bytes : List ℕ) (fault : MonitorFault) → IsRead o 65536 bytes → IsFirstFault bytes fault → monitor_fault_text file bytes fault ≡ monitor_fault_text file (told o bytes) fault
+fault_text_told : (o : Option (List ℕ)) (file bytes : List ℕ) (fault : SourceFault) → IsRead o 65536 bytes → IsFirstFault bytes fault → source_fault_text file bytes fault ≡ source_fault_text file (told o bytes) fault
 fault_text_told o file bytes faults.TooLong read first = refl
-fault_text_told o file bytes (faults.At at what) read first = ap (λ (b : List ℕ). monitor_fault_text file b (faults.At at what)) (read_short o bytes read (placed_short bytes at what first))
+fault_text_told o file bytes (faults.At at what) read first = ap (λ (b : List ℕ). source_fault_text file b (faults.At at what)) (read_short o bytes read (placed_short bytes at what first))
 fault_text_told o file bytes faults.OutOfMemory read first = refl
 
 -- the line of the fault of what was read is that of what is held
-pub refusal_told : (held : List ℕ → Option (List ℕ)) (file bytes : List ℕ) (fault : MonitorFault) → IsRead (held file) 65536 bytes → IsFirstFault bytes fault → IsMonitorRefusal held file (monitor_fault_text file bytes fault)
+pub refusal_told : (held : List ℕ → Option (List ℕ)) (file bytes : List ℕ) (fault : SourceFault) → IsRead (held file) 65536 bytes → IsFirstFault bytes fault → IsMonitorRefusal held file (source_fault_text file bytes fault)
 refusal_told held file bytes fault read first = record {
   bytes = told (held file) bytes;
   fault = fault;
@@ -77,6 +75,25 @@ refusal_told held file bytes fault read first = record {
   first = fault_told (held file) bytes fault read first;
   printed = fault_text_told (held file) file bytes fault read first;
 }
+
+-- ---- the first fault of the clients
+
+placed_clients : (bytes : List ℕ) (monitor : MonitorParts) (at : ℕ) (what : Refusal) → IsFirstOfClients bytes monitor (faults.At at what) → length bytes ≤ 65536
+placed_clients bytes monitor at refusals.Lex first = first.short
+placed_clients bytes monitor at refusals.Syntax first = first.short
+placed_clients bytes monitor at what first = first.short
+
+pub clients_fault_told : (o : Option (List ℕ)) (bytes : List ℕ) (monitor : MonitorParts) (fault : SourceFault) → IsRead o 65536 bytes → IsFirstOfClients bytes monitor fault → IsFirstOfClients (told o bytes) monitor fault
+clients_fault_told o bytes monitor faults.TooLong read first = held_long o bytes read first
+clients_fault_told o bytes monitor (faults.At at what) read first =
+    subst (λ (b : List ℕ). IsFirstOfClients b monitor (faults.At at what)) (read_short o bytes read (placed_clients bytes monitor at what first)) first
+clients_fault_told o bytes monitor faults.OutOfMemory read first = first
+
+pub clients_text_told : (o : Option (List ℕ)) (file bytes : List ℕ) (monitor : MonitorParts) (fault : SourceFault) → IsRead o 65536 bytes → IsFirstOfClients bytes monitor fault
+    → source_fault_text file bytes fault ≡ source_fault_text file (told o bytes) fault
+clients_text_told o file bytes monitor faults.TooLong read first = refl
+clients_text_told o file bytes monitor (faults.At at what) read first = ap (λ (b : List ℕ). source_fault_text file b (faults.At at what)) (read_short o bytes read (placed_clients bytes monitor at what first))
+clients_text_told o file bytes monitor faults.OutOfMemory read first = refl
 
 -- ---- bytes that are told
 

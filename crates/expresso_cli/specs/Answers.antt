@@ -9,65 +9,106 @@ use Rattle.mon_implicit.specs.declared.commit.Turns.{Turns}
 use Rattle.mon_implicit.specs.declared.script.Client.{Client}
 use Rattle.mon_implicit.specs.Runs.{IsFinished}
 use Rattle.mon_implicit.specs.Rounds.{AreTurnsByRounds}
+use Rattle.mon_events.specs.declared.log.Entry.{Entry}
+use Rattle.mon_events.specs.declared.plan.Plan.{Plan}
+use Rattle.mon_events.specs.Configurations.{Configuration}
+use Rattle.mon_events.specs.Logs.{commits_of}
+use Rattle.mon_events.specs.PlanText.{plan_text}
 use Rattle.mon_text.specs.TurnsText.{turns_text}
 use Rattle.mon_text.specs.FaultText.{unread_text}
 use Rattle.expresso_cli.specs.declared.status.Status.{Status}
 use Rattle.expresso_cli.specs.declared.status.Status.TheVariants.{Done, Refused, Usage, ReadFault, WriteFault, OutOfMemory, Stalled}
-use Rattle.expresso_cli.specs.declared.monitor_file.MonitorFault.{MonitorFault}
-use Rattle.expresso_cli.specs.CommandLine.{Command, check, turns, Takes, TakesNone, files_of}
-use Rattle.expresso_cli.specs.MonitorFiles.{IsAccepted, IsFirstFault, monitor_fault_text}
-use Rattle.expresso_cli.specs.ClientFiles.{AreAccepted}
-use Rattle.expresso_cli.specs.Texts.{usage_text, other_form_text}
+use Rattle.expresso_cli.specs.declared.source_fault.SourceFault.{SourceFault}
+use Rattle.expresso_cli.specs.declared.schedule.Schedule.{Schedule}
+use Rattle.expresso_cli.specs.CommandLine.{Command, check, turns, compile, simulate, Takes, TakesNone, files_of}
+use Rattle.expresso_cli.specs.Placements.{IsPlacement}
+use Rattle.expresso_cli.specs.Simulations.{IsSimulation, simulated, simulation_text}
+use Rattle.expresso_cli.specs.SourceFaults.{source_fault_text}
+use Rattle.expresso_cli.specs.MonitorFiles.{IsAccepted, IsFirstFault}
+use Rattle.expresso_cli.specs.ClientFiles.{AreAccepted, IsFirstOfClients}
+use Rattle.expresso_cli.specs.Texts.{usage_text}
 
 -- the bytes are those held by a name, where they are told
 abbrev pub Holds : (List ℕ → Option (List ℕ)) → List ℕ → List ℕ → Type 0
 Holds held name bytes = IfSome (held name) (λ all. all ≡ bytes)
 
--- ---- the text of each command
-
--- the canonical form of the tree that the file has
-pub record IsCheckText (held : List ℕ → Option (List ℕ)) (file text : List ℕ) : Type 0 where
+-- the file holds the monitor, and its tree, where it is told
+pub record HoldsMonitor (held : List ℕ → Option (List ℕ)) (file : List ℕ) (tree : MonitorTree) (monitor : MonitorParts) : Type 0 where
   pub bytes : List ℕ
-  pub tree : MonitorTree
-  pub monitor : MonitorParts
   pub told : Holds held file bytes
   pub accepted : IsAccepted bytes tree monitor
-  pub printed : text ≡ tree_text tree
 
--- the text of the run by rounds of the monitor and the clients that the two files stand for
-pub record IsTurnsText (held : List ℕ → Option (List ℕ)) (monitor_file clients_file : List ℕ) (clients : List Client) (run : Turns) (text : List ℕ) : Type 0 where
+-- the two files hold the monitor and the clients, where they are told
+pub record HoldRun (held : List ℕ → Option (List ℕ)) (monitor_file clients_file : List ℕ) (monitor : MonitorParts) (clients : List Client) : Type 0 where
   pub monitor_bytes : List ℕ
   pub clients_bytes : List ℕ
   pub tree : MonitorTree
-  pub monitor : MonitorParts
   pub monitor_told : Holds held monitor_file monitor_bytes
   pub clients_told : Holds held clients_file clients_bytes
   pub monitor_accepted : IsAccepted monitor_bytes tree monitor
   pub clients_accepted : AreAccepted clients_bytes monitor clients
+
+-- ---- the text of each command
+
+-- the canonical form of the tree that the file has
+pub record IsCheckText (held : List ℕ → Option (List ℕ)) (file text : List ℕ) : Type 0 where
+  pub tree : MonitorTree
+  pub monitor : MonitorParts
+  pub holds : HoldsMonitor held file tree monitor
+  pub printed : text ≡ tree_text tree
+
+-- the text of the run by rounds of the monitor and the clients that the two files stand for
+pub record IsTurnsText (held : List ℕ → Option (List ℕ)) (monitor_file clients_file : List ℕ) (clients : List Client) (run : Turns) (text : List ℕ) : Type 0 where
+  pub monitor : MonitorParts
+  pub files : HoldRun held monitor_file clients_file monitor clients
   pub rounds : AreTurnsByRounds monitor clients run
   pub printed : text ≡ turns_text monitor clients run
 
--- the text of a command whose work is done; of `turns`, that no client has a call left
+-- the text of a plan that the monitor of the file is compiled to
+pub record IsCompileText (held : List ℕ → Option (List ℕ)) (file text : List ℕ) : Type 0 where
+  pub tree : MonitorTree
+  pub monitor : MonitorParts
+  pub plan : Plan
+  pub holds : HoldsMonitor held file tree monitor
+  pub placement : IsPlacement monitor plan
+  pub printed : text ≡ plan_text monitor plan
+
+-- the text of a plan that the monitor is compiled to, and of the log of a simulation under it
+pub record IsSimulateText (held : List ℕ → Option (List ℕ)) (monitor_file clients_file : List ℕ) (schedule : Schedule) (clients : List Client) (log : List Entry) (text : List ℕ) : Type 0 where
+  pub monitor : MonitorParts
+  pub plan : Plan
+  pub last : Configuration
+  pub files : HoldRun held monitor_file clients_file monitor clients
+  pub simulation : IsSimulation (simulated monitor plan clients) schedule log last
+  pub printed : text ≡ simulation_text (simulated monitor plan clients) log last
+
+-- the text of a command whose work is done; of `turns` and `simulate`, that no client has a call left
 abbrev pub IsDoneText : (List ℕ → Option (List ℕ)) → Command → List ℕ → Type 0
 IsDoneText held (check file) text = IsCheckText held file text
 IsDoneText held (turns monitor clients) text = (scripts : List Client) × (run : Turns) × IsTurnsText held monitor clients scripts run text × IsFinished scripts run.history
+IsDoneText held (compile file) text = IsCompileText held file text
+IsDoneText held (simulate monitor clients schedule) text =
+    (scripts : List Client) × (log : List Entry) × IsSimulateText held monitor clients schedule scripts log text × IsFinished scripts (commits_of log)
 
 -- some client has a call left
 abbrev pub IsStalledText : (List ℕ → Option (List ℕ)) → Command → List ℕ → Type 0
 IsStalledText held (check file) text = ⊥
 IsStalledText held (turns monitor clients) text = (scripts : List Client) × (run : Turns) × IsTurnsText held monitor clients scripts run text × (IsFinished scripts run.history → ⊥)
+IsStalledText held (compile file) text = ⊥
+IsStalledText held (simulate monitor clients schedule) text =
+    (scripts : List Client) × (log : List Entry) × IsSimulateText held monitor clients schedule scripts log text × (IsFinished scripts (commits_of log) → ⊥)
 
 -- ---- refusals
 
 -- the line of the first fault of the monitor file
 pub record IsMonitorRefusal (held : List ℕ → Option (List ℕ)) (file text : List ℕ) : Type 0 where
   pub bytes : List ℕ
-  pub fault : MonitorFault
+  pub fault : SourceFault
   pub told : Holds held file bytes
   pub first : IsFirstFault bytes fault
-  pub printed : text ≡ monitor_fault_text file bytes fault
+  pub printed : text ≡ source_fault_text file bytes fault
 
--- the monitor file is accepted, and the client file is not of the first form
+-- the monitor file is accepted, and the line is that of the first fault of the client file
 pub record IsClientsRefusal (held : List ℕ → Option (List ℕ)) (monitor_file clients_file text : List ℕ) : Type 0 where
   pub monitor_bytes : List ℕ
   pub clients_bytes : List ℕ
@@ -76,12 +117,19 @@ pub record IsClientsRefusal (held : List ℕ → Option (List ℕ)) (monitor_fil
   pub monitor_told : Holds held monitor_file monitor_bytes
   pub clients_told : Holds held clients_file clients_bytes
   pub monitor_accepted : IsAccepted monitor_bytes tree monitor
-  pub none : (clients : List Client) → AreAccepted clients_bytes monitor clients → ⊥
-  pub printed : text ≡ other_form_text clients_file
+  pub fault : SourceFault
+  pub first : IsFirstOfClients clients_bytes monitor fault
+  pub printed : text ≡ source_fault_text clients_file clients_bytes fault
+
+-- the line of the first of both files that is not accepted
+abbrev pub IsRunRefusal : (List ℕ → Option (List ℕ)) → List ℕ → List ℕ → List ℕ → Type 0
+IsRunRefusal held monitor clients text = IsMonitorRefusal held monitor text ⊎ IsClientsRefusal held monitor clients text
 
 abbrev pub IsRefusedText : (List ℕ → Option (List ℕ)) → Command → List ℕ → Type 0
 IsRefusedText held (check file) text = IsMonitorRefusal held file text
-IsRefusedText held (turns monitor clients) text = IsMonitorRefusal held monitor text ⊎ IsClientsRefusal held monitor clients text
+IsRefusedText held (turns monitor clients) text = IsRunRefusal held monitor clients text
+IsRefusedText held (compile file) text = IsMonitorRefusal held file text
+IsRefusedText held (simulate monitor clients schedule) text = IsRunRefusal held monitor clients text
 
 -- a read fault's line that names one of the command's files; which of them, no clause says
 abbrev pub IsUnreadText : Command → List ℕ → Type 0
@@ -108,20 +156,40 @@ Answers words files files_now status out out_now = (text : List ℕ) × IsText w
 
 -- ---- completeness: what the status must be where nothing fails
 
--- the files of the command tell their bytes, which are accepted
-abbrev pub AcceptsFiles : (List ℕ → Option (List ℕ)) → Command → Type 0
-AcceptsFiles held (check file) = (bytes : List ℕ) × (tree : MonitorTree) × (monitor : MonitorParts) × (held file ≡ Some bytes) × IsAccepted bytes tree monitor
-AcceptsFiles held (turns monitor_file clients_file) =
+-- the file tells its bytes, which are accepted
+abbrev pub AcceptsMonitor : (List ℕ → Option (List ℕ)) → List ℕ → Type 0
+AcceptsMonitor held file = (bytes : List ℕ) × (tree : MonitorTree) × (monitor : MonitorParts) × (held file ≡ Some bytes) × IsAccepted bytes tree monitor
+
+-- it tells its bytes, which are not accepted
+abbrev pub RejectsMonitor : (List ℕ → Option (List ℕ)) → List ℕ → Type 0
+RejectsMonitor held file = (bytes : List ℕ) × (held file ≡ Some bytes) × ((tree : MonitorTree) (monitor : MonitorParts) → IsAccepted bytes tree monitor → ⊥)
+
+-- the two files tell their bytes, which are accepted
+abbrev pub AcceptsRun : (List ℕ → Option (List ℕ)) → List ℕ → List ℕ → Type 0
+AcceptsRun held monitor_file clients_file =
     (monitor_bytes : List ℕ) × (clients_bytes : List ℕ) × (tree : MonitorTree) × (monitor : MonitorParts) × (clients : List Client)
     × (held monitor_file ≡ Some monitor_bytes) × (held clients_file ≡ Some clients_bytes)
     × IsAccepted monitor_bytes tree monitor × AreAccepted clients_bytes monitor clients
 
 -- they tell their bytes, and one of them is not accepted
-abbrev pub RejectsFiles : (List ℕ → Option (List ℕ)) → Command → Type 0
-RejectsFiles held (check file) = (bytes : List ℕ) × (held file ≡ Some bytes) × ((tree : MonitorTree) (monitor : MonitorParts) → IsAccepted bytes tree monitor → ⊥)
-RejectsFiles held (turns monitor_file clients_file) =
+abbrev pub RejectsRun : (List ℕ → Option (List ℕ)) → List ℕ → List ℕ → Type 0
+RejectsRun held monitor_file clients_file =
     (monitor_bytes : List ℕ) × (clients_bytes : List ℕ) × (held monitor_file ≡ Some monitor_bytes) × (held clients_file ≡ Some clients_bytes)
     × ((tree : MonitorTree) (monitor : MonitorParts) (clients : List Client) → IsAccepted monitor_bytes tree monitor → AreAccepted clients_bytes monitor clients → ⊥)
+
+-- the files of the command tell their bytes, which are accepted
+abbrev pub AcceptsFiles : (List ℕ → Option (List ℕ)) → Command → Type 0
+AcceptsFiles held (check file) = AcceptsMonitor held file
+AcceptsFiles held (turns monitor clients) = AcceptsRun held monitor clients
+AcceptsFiles held (compile file) = AcceptsMonitor held file
+AcceptsFiles held (simulate monitor clients schedule) = AcceptsRun held monitor clients
+
+-- they tell their bytes, and one of them is not accepted
+abbrev pub RejectsFiles : (List ℕ → Option (List ℕ)) → Command → Type 0
+RejectsFiles held (check file) = RejectsMonitor held file
+RejectsFiles held (turns monitor clients) = RejectsRun held monitor clients
+RejectsFiles held (compile file) = RejectsMonitor held file
+RejectsFiles held (simulate monitor clients schedule) = RejectsRun held monitor clients
 
 -- the words are a command's whose files are accepted; or are not
 abbrev pub Accepts : (List ℕ → Option (List ℕ)) → List (List ℕ) → Type 0

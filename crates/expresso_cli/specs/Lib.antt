@@ -1,9 +1,10 @@
 pub mod CommandLine
 pub mod Commands
+pub mod Placements
+pub mod Simulations
+pub mod SourceFaults
 pub mod MonitorFiles
 pub mod ClientFiles
-pub mod Scripts
-pub mod ScriptChecks
 pub mod Texts
 pub mod Answers
 pub mod Exit

@@ -1,2 +1,3 @@
 pub mod Ending
-pub mod Turning
+pub mod Input
+pub mod Words

@@ -1,6 +1,6 @@
 //! The top call.
 
-ghost use Rattle.std.specs.Prelude.{◌≡◌, ◌<◌, ◌≤◌, ◌↔◌, ℕ, List, map};
+ghost use Rattle.std.specs.Prelude.{◌≡◌, ◌≢◌, ◌<◌, ◌≤◌, ◌↔◌, ℕ, List, map};
 ghost use Rattle.std.specs.String.{string_bytes};
 ghost use Rattle.mon_io.specs.Outside.{Rises};
 ghost use Rattle.expresso_cli.specs.CommandLine.{MayReadFiles, TakesNone};
@@ -8,6 +8,8 @@ ghost use Rattle.expresso_cli.specs.Answers.{Answers, IsSound, Accepts, Rejects,
 
 use crate::check::check_file;
 use crate::command::{Command, command_of};
+use crate::compile::compile_file;
+use crate::simulate::simulate_files;
 use crate::status::Status;
 use crate::text::show_usage;
 use crate::turns::take_turns;
@@ -16,12 +18,13 @@ use std::alloc::Global;
 
 /// The program: `check FILE` checks a monitor file and writes its canonical form; `turns FILE CLIENTS` runs
 /// the clients of a file on the monitor of another by rounds of the implicit machine, and writes the run and
-/// its last state.
+/// its last state; `compile FILE` compiles a monitor file and writes the plan; `simulate FILE CLIENTS [--seed N]
+/// [--spurious K]` runs the clients by sections, under such a plan, by rounds or by the words that a seed draws, and
+/// writes the plan, the log and the last state.
 ///
 /// The words begin with the program's name. First the files are read, the monitor first, then all work is
-/// done and all memory taken, and then the text is written, which takes no memory. Of a monitor file that isn't
-/// accepted the line of its first fault is written, and of a client file the line that it is not of the first
-/// form.
+/// done and all memory taken, and then the text is written, which takes no memory. Of a file that isn't accepted
+/// the line of its first fault is written, the monitor's first.
 pub fn expresso<F: Files, S: Sink>(
     alloc: Global,
     words: &Vec<String>,
@@ -52,6 +55,9 @@ pub fn expresso<F: Files, S: Sink>(
     // Where a read failed this must come.
     ensures unread { (F.seen files.old).faults < (F.seen files.new).faults
         → IsSound (S.seen out.old).faults (S.seen out.new).faults → IsUnreadOrMemory result }
+    // Where the sink failed this must come, of what was only kept for it too.
+    ensures handed_on { result ≢ Status.WriteFault
+        → (S.seen out.new).faults ≡ (S.seen out.old).faults }
     // Neither count falls, and no call changes what files hold and which may be read.
     ensures reads { (F.seen files.old).faults ≤ (F.seen files.new).faults }
     ensures writes { (S.seen out.old).faults ≤ (S.seen out.new).faults }
@@ -63,6 +69,14 @@ pub fn expresso<F: Files, S: Sink>(
         Some(Command::Turns { monitor, clients }) => take_turns(
             alloc, monitor, clients, files, out,
         ),
+        Some(Command::Compile { file }) => compile_file(alloc, file, files, out),
+        Some(
+            Command::Simulate {
+                monitor,
+                clients,
+                schedule,
+            },
+        ) => simulate_files(alloc, monitor, clients, schedule, files, out),
         None => show_usage(out),
     }
 }

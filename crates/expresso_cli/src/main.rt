@@ -1,18 +1,25 @@
 //! `expresso`: monitors with implicit signals.
 //!
 //! `expresso check FILE` checks a monitor and prints its canonical form. `expresso turns FILE CLIENTS` runs
-//! clients on a monitor by rounds of the implicit machine, and prints the run. The top call is
+//! clients on a monitor by rounds of the implicit machine, and prints the run. `expresso compile FILE` compiles a
+//! monitor and prints the plan: whom each block wakes. `expresso simulate FILE CLIENTS [--seed N] [--spurious K]` runs
+//! clients by sections under that plan, and prints the plan and the log. The top call is
 //! [`expresso`](expresso::expresso); `main` hands it the words, the files of the system and standard output.
 #![tactic(auto)]
 
 mod check;
 mod client_file;
 mod command;
+mod compile;
 mod expresso;
+mod input;
 mod monitor_file;
+mod numbers;
+mod placement;
 mod reading;
-mod script_fault;
-mod scripts;
+mod schedule;
+mod simulate;
+mod source_fault;
 mod status;
 #[cfg(test)]
 mod tests;

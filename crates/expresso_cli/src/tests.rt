@@ -2,14 +2,22 @@
 
 mod checker;
 mod checks;
+mod clients;
+mod compile;
 mod events;
 mod forms;
+mod log_texts;
 mod machine;
 mod outside;
+mod plan_texts;
+mod queries;
 mod readme;
 mod rules;
 mod runs;
+mod schedules;
 mod scripts;
+mod sections;
+mod simulate;
 mod texts;
 
 use super::expresso::expresso;
@@ -117,6 +125,8 @@ fn answer(
 }
 
 const CHECK: [&str; 3] = ["expresso", "check", "m.mon"];
+
+const COMPILE: [&str; 3] = ["expresso", "compile", "m.mon"];
 
 const TURNS: [&str; 4] = ["expresso", "turns", "m.mon", "c.cl"];
 

@@ -4,21 +4,27 @@
 ghost use Rattle.std.specs.Prelude.{◌≡◌, ◌≢◌, ◌<◌, ◌≤◌, ℕ, List, length};
 ghost use Rattle.mon_io.specs.Outside.{SinkSeen};
 ghost use Rattle.mon_io.specs.Writing.{Wrote};
+ghost use Rattle.mon_events.specs.Logs.{IsClosed, commits_of};
+ghost use Rattle.mon_events.specs.PlanText.{plan_text};
 ghost use Rattle.mon_printer.specs.Canonical.{tree_text};
 ghost use Rattle.mon_text.specs.FaultText.{unread_text};
 ghost use Rattle.mon_text.specs.Faults.{fault_text};
+ghost use Rattle.mon_text.specs.LogText.{are_done};
 ghost use Rattle.mon_text.specs.TurnsText.{turns_text};
-ghost use Rattle.expresso_cli.specs.MonitorFiles.{monitor_fault_text};
-ghost use Rattle.expresso_cli.specs.Texts.{other_form_text, usage_text};
+ghost use Rattle.expresso_cli.specs.Simulations.{simulation_text};
+ghost use Rattle.expresso_cli.specs.SourceFaults.{source_fault_text};
+ghost use Rattle.expresso_cli.specs.Texts.{usage_text};
 ghost use Rattle.expresso_cli.specs.inner.Ending.{IsWritten, ended};
 
-use crate::monitor_file::MonitorFault;
+use crate::source_fault::SourceFault;
 use crate::status::Status;
+use mon_events::Plan;
+use mon_explicit::FreeMonitor;
 use mon_implicit::{Scripts, Turns};
-use mon_io::{Sink, SinkFailed, write_piece, write_pieces};
+use mon_io::{Sink, SinkFailed, write_piece};
 use mon_monitor::Monitor;
 use mon_printer::print_monitor;
-use mon_text::{Fault, write_fault, write_turns};
+use mon_text::{Fault, are_done, write_fault, write_log, write_plan, write_turns};
 use mon_tree::MonitorTree;
 
 /// Hands on what was written of a text, and gives the status that the text comes to.
@@ -27,6 +33,9 @@ fn finish<S: Sink>(status: Status, outcome: Result<(), SinkFailed>, out: &mut S)
         → Wrote before (S.seen out.old) outcome text
         → IsWritten status text result before (S.seen out.new) }
     ensures later { (S.seen out.old).faults ≤ (S.seen out.new).faults }
+    ensures handed_on { (before : SinkSeen) (text : List ℕ)
+        → Wrote before (S.seen out.old) outcome text
+        → result ≢ Status.WriteFault → (S.seen out.new).faults ≡ before.faults }
 {
     match outcome {
         Ok(()) => match out.flush() {
@@ -41,9 +50,11 @@ fn finish<S: Sink>(status: Status, outcome: Result<(), SinkFailed>, out: &mut S)
 pub(crate) fn show_usage<S: Sink>(out: &mut S) -> Status
     ensures written { IsWritten Status.Usage usage_text result (S.seen out.old) (S.seen out.new) }
     ensures later { (S.seen out.old).faults ≤ (S.seen out.new).faults }
+    ensures handed_on { result ≢ Status.WriteFault
+        → (S.seen out.new).faults ≡ (S.seen out.old).faults }
 {
     let outcome = write_piece(
-        b"usage:\nexpresso check FILE\nexpresso turns FILE CLIENTS\n",
+        b"usage:\nexpresso check FILE\nexpresso turns FILE CLIENTS\nexpresso compile FILE\nexpresso simulate FILE CLIENTS [--seed N] [--spurious K]\n",
         out,
     );
     finish(Status::Usage, outcome, out)
@@ -54,55 +65,46 @@ pub(crate) fn show_unread<S: Sink>(file: &str, out: &mut S) -> Status
     ensures written { IsWritten Status.ReadFault (unread_text file.now) result
         (S.seen out.old) (S.seen out.new) }
     ensures later { (S.seen out.old).faults ≤ (S.seen out.new).faults }
+    ensures handed_on { result ≢ Status.WriteFault
+        → (S.seen out.new).faults ≡ (S.seen out.old).faults }
 {
     let outcome = write_fault(&Fault::Unread { file }, out);
     finish(Status::ReadFault, outcome, out)
 }
 
-/// A monitor file's fault as one that is printed.
-fn shown_fault<'a>(file: &'a str, bytes: &'a [u8], fault: MonitorFault) -> Fault<'a>
-    requires { fault ≢ MonitorFault.OutOfMemory }
-    ensures { fault_text result ≡ monitor_fault_text file.now bytes.now fault }
+/// The fault of a file as one that is printed.
+fn shown_fault<'a>(file: &'a str, bytes: &'a [u8], fault: SourceFault) -> Fault<'a>
+    requires { fault ≢ SourceFault.OutOfMemory }
+    ensures { fault_text result ≡ source_fault_text file.now bytes.now fault }
 {
     match fault {
-        MonitorFault::TooLong => Fault::TooLong { file },
-        MonitorFault::At { at, what } => Fault::Place {
+        SourceFault::TooLong => Fault::TooLong { file },
+        SourceFault::At { at, what } => Fault::Place {
             file,
             bytes,
             at,
             what,
         },
-        MonitorFault::OutOfMemory => unreachable!(),
+        SourceFault::OutOfMemory => unreachable!(),
     }
 }
 
-/// Writes the line of a monitor file's fault.
-pub(crate) fn show_monitor_fault<S: Sink>(
+/// Writes the line of a file's fault.
+pub(crate) fn show_fault<S: Sink>(
     file: &str,
     bytes: &[u8],
-    fault: MonitorFault,
+    fault: SourceFault,
     out: &mut S,
 ) -> Status
-    requires { fault ≢ MonitorFault.OutOfMemory }
-    ensures written { IsWritten Status.Refused (monitor_fault_text file.now bytes.now fault) result
+    requires { fault ≢ SourceFault.OutOfMemory }
+    ensures written { IsWritten Status.Refused (source_fault_text file.now bytes.now fault) result
         (S.seen out.old) (S.seen out.new) }
     ensures later { (S.seen out.old).faults ≤ (S.seen out.new).faults }
+    ensures handed_on { result ≢ Status.WriteFault
+        → (S.seen out.new).faults ≡ (S.seen out.old).faults }
 {
     let shown = shown_fault(file, bytes, fault);
     let outcome = write_fault(&shown, out);
-    finish(Status::Refused, outcome, out)
-}
-
-/// Writes the line of a client file that isn't of the first form.
-pub(crate) fn show_clients_refusal<S: Sink>(file: &str, out: &mut S) -> Status
-    ensures written { IsWritten Status.Refused (other_form_text file.now) result
-        (S.seen out.old) (S.seen out.new) }
-    ensures later { (S.seen out.old).faults ≤ (S.seen out.new).faults }
-{
-    let outcome = write_pieces(
-        &[b"refused: ", file.as_bytes(), b": not of the first form\n"],
-        out,
-    );
     finish(Status::Refused, outcome, out)
 }
 
@@ -111,8 +113,22 @@ pub(crate) fn show_tree<S: Sink>(tree: &MonitorTree, out: &mut S) -> Status
     ensures written { IsWritten Status.Done (tree_text tree.now) result
         (S.seen out.old) (S.seen out.new) }
     ensures later { (S.seen out.old).faults ≤ (S.seen out.new).faults }
+    ensures handed_on { result ≢ Status.WriteFault
+        → (S.seen out.new).faults ≡ (S.seen out.old).faults }
 {
     let outcome = print_monitor(tree, out);
+    finish(Status::Done, outcome, out)
+}
+
+/// Writes a plan of a monitor.
+pub(crate) fn show_plan<S: Sink>(monitor: &Monitor, plan: &Plan, out: &mut S) -> Status
+    ensures written { IsWritten Status.Done (plan_text monitor.now plan.now) result
+        (S.seen out.old) (S.seen out.new) }
+    ensures later { (S.seen out.old).faults ≤ (S.seen out.new).faults }
+    ensures handed_on { result ≢ Status.WriteFault
+        → (S.seen out.new).faults ≡ (S.seen out.old).faults }
+{
+    let outcome = write_plan(monitor, plan, out);
     finish(Status::Done, outcome, out)
 }
 
@@ -137,7 +153,35 @@ pub(crate) fn show_turns<S: Sink>(
     ensures written { IsWritten (ended turns.now.finished)
         (turns_text monitor.now scripts.now turns.now) result (S.seen out.old) (S.seen out.new) }
     ensures later { (S.seen out.old).faults ≤ (S.seen out.new).faults }
+    ensures handed_on { result ≢ Status.WriteFault
+        → (S.seen out.new).faults ≡ (S.seen out.old).faults }
 {
     let outcome = write_turns(monitor, scripts, turns, out);
     finish(run_status(turns.finished), outcome, out)
+}
+
+/// Writes the plan and the log of a simulation. Where a client has calls left it is stalled.
+pub(crate) fn show_simulation<S: Sink>(free: &FreeMonitor, out: &mut S) -> Status
+    requires { IsClosed free.now.system free.now.now }
+    ensures written { IsWritten
+        (ended (are_done free.now.system.clients (commits_of free.now.log)))
+        (simulation_text free.now.system free.now.log free.now.now)
+        result (S.seen out.old) (S.seen out.new) }
+    ensures handed_on { result ≢ Status.WriteFault
+        → (S.seen out.new).faults ≡ (S.seen out.old).faults }
+    ensures later { (S.seen out.old).faults ≤ (S.seen out.new).faults }
+{
+    let finished = are_done(free.scripts().clients(), free.log());
+    let outcome = write_simulation(free, out);
+    finish(run_status(finished), outcome, out)
+}
+
+/// Writes the plan, and then the log.
+fn write_simulation<S: Sink>(free: &FreeMonitor, out: &mut S) -> Result<(), SinkFailed>
+    requires { IsClosed free.now.system free.now.now }
+    ensures { Wrote (S.seen out.old) (S.seen out.new) result
+        (simulation_text free.now.system free.now.log free.now.now) }
+{
+    write_plan(free.monitor(), free.plan(), out)?;
+    write_log(free, out)
 }

@@ -20,7 +20,7 @@ const BUFFER: &[u8] = b"monitor Buffer {
 }
 ";
 
-const LOCK: &[u8] = b"monitor Lock {
+pub const LOCK: &[u8] = b"monitor Lock {
   bool held = false;
   method acquire() waituntil (!held) {
     held = true;
@@ -31,7 +31,7 @@ const LOCK: &[u8] = b"monitor Lock {
 }
 ";
 
-const READERS_AND_WRITERS: &[u8] = b"monitor RW {
+pub const READERS_AND_WRITERS: &[u8] = b"monitor RW {
   int readers = 0;
   bool writing = false;
   method startRead() waituntil (!writing) {
@@ -70,7 +70,7 @@ const GATE: &[u8] = b"monitor Gate {
 }
 ";
 
-const LEVEL: &[u8] = b"monitor Level {
+pub const LEVEL: &[u8] = b"monitor Level {
   int count = 0;
   method reach(int n) waituntil (n <= count) {
   }
@@ -80,7 +80,7 @@ const LEVEL: &[u8] = b"monitor Level {
 }
 ";
 
-const SUM: &[u8] = b"monitor Sum {
+pub const SUM: &[u8] = b"monitor Sum {
   int x = 0;
   int y = 0;
   method step() waituntil (x + y <= 4) {
@@ -89,7 +89,7 @@ const SUM: &[u8] = b"monitor Sum {
 }
 ";
 
-const ACCUMULATOR: &[u8] = b"monitor Acc {
+pub const ACCUMULATOR: &[u8] = b"monitor Acc {
   int sum = 0;
   method add(int n) waituntil (true) {
     sum = sum + n;

@@ -1,18 +1,20 @@
 //! The event machine on monitors and clients that are read from texts, by plans that were worked out by hand.
 
 ghost use Rattle.std.specs.Prelude.{◌≡◌, IfOk, length, []};
+ghost use Rattle.mon_implicit.specs.Scripted.{FitsScripts};
 
 use super::super::client_file::read_clients;
 use super::checker::checked;
 use mon_base::Value;
 use mon_events::{CondKind, Event, Note, NoteList, Plan, Stage, plan_fits};
 use mon_explicit::Config;
-use mon_implicit::{Commit, Reply};
+use mon_implicit::{Commit, Reply, Scripts};
 use mon_list::Seq;
+use mon_monitor::Monitor;
 use std::alloc::{AllocError, Global};
 use std::test::Fail;
 
-const LOCK: &[u8] = b"monitor Lock {
+pub const LOCK: &[u8] = b"monitor Lock {
   bool held = false;
   method acquire() waituntil (!held) {
     held = true;
@@ -23,13 +25,14 @@ const LOCK: &[u8] = b"monitor Lock {
 }
 ";
 
-const TWO_LOCKS: &[u8] = b"client A { acquire(); release(); } client B { acquire(); release(); }";
+pub const TWO_LOCKS: &[u8] =
+    b"client A { acquire(); release(); } client B { acquire(); release(); }";
 
 const WAITS_TO_ACQUIRE: &[u8] = b"client A { acquire(); release(); } client B { acquire(); }";
 
 const WAITS_TO_RELEASE: &[u8] = b"client A { acquire(); release(); } client B { release(); }";
 
-const GATE: &[u8] = b"monitor Gate {
+pub const GATE: &[u8] = b"monitor Gate {
   bool go = false;
   int x = 9223372036854775807;
   method take() waituntil (go) {
@@ -42,7 +45,7 @@ const GATE: &[u8] = b"monitor Gate {
 }
 ";
 
-const TWO_TAKE: &[u8] = b"client A { take(); } client B { take(); } client C { fire(); }";
+pub const TWO_TAKE: &[u8] = b"client A { take(); } client B { take(); } client C { fire(); }";
 
 const SIGNALS: [CondKind; 2] = [CondKind::Signal, CondKind::Signal];
 
@@ -54,7 +57,7 @@ const B: u32 = 1;
 const C: u32 = 2;
 
 /// A signal on a condition.
-fn signal(condition: u32, tested: bool) -> Option<Note> {
+pub fn signal(condition: u32, tested: bool) -> Option<Note> {
     Some(Note {
         condition,
         all: false,
@@ -137,7 +140,11 @@ fn note_list(alloc: Global, note: Option<Note>) -> Result<NoteList, AllocError> 
 }
 
 /// The plan of these kinds, with one note or none for each block. It keeps no candidate: no event looks at those.
-fn plan_of(alloc: Global, kinds: &[CondKind], notes: &[Option<Note>]) -> Result<Plan, AllocError>
+pub fn plan_of(
+    alloc: Global,
+    kinds: &[CondKind],
+    notes: &[Option<Note>],
+) -> Result<Plan, AllocError>
     ensures { IfOk result (λ plan. plan.kept ≡ []) }
 {
     let mut lists = Vec::new(alloc);
@@ -151,12 +158,22 @@ fn plan_of(alloc: Global, kinds: &[CondKind], notes: &[Option<Note>]) -> Result<
     })
 }
 
+/// The scripts of a client file that is accepted.
+pub fn scripts_read(alloc: Global, clients: &[u8], monitor: &Monitor) -> Result<Scripts, Fail>
+    ensures { IfOk result (λ scripts. FitsScripts monitor.now scripts) }
+{
+    match read_clients(alloc, clients, monitor) {
+        Ok(scripts) => Ok(scripts),
+        Err(_) => Err("clients".into()),
+    }
+}
+
 /// The machine at the start of a monitor and its clients, with a plan that fits.
 fn opened(alloc: Global, monitor: &[u8], clients: &[u8], plan: Plan) -> Result<Machine, Fail>
     requires { plan.kept ≡ [] }
 {
     let monitor = checked(alloc, monitor).ok_or("a monitor")?;
-    let scripts = read_clients(alloc, clients, &monitor)?.ok_or("clients")?;
+    let scripts = scripts_read(alloc, clients, &monitor)?;
     if !plan_fits(&monitor, &plan) {
         return Err("a plan that fits".into());
     }

@@ -1,6 +1,9 @@
 use super::super::expresso::expresso;
 use super::super::status::Status;
-use super::{BUFFER, CHECK, Devices, SOUND, TURNS, TWO, TWO_RUN, answer, texts_of, two_files};
+use super::simulate::ROUNDS;
+use super::{
+    BUFFER, CHECK, COMPILE, Devices, SOUND, TURNS, TWO, TWO_RUN, answer, texts_of, two_files,
+};
 use mon_io::StdSink;
 use std::fmt::Display;
 use std::io;
@@ -10,10 +13,11 @@ use std::test::Fail;
 #[test]
 fn other_words_get_the_usage(rt: HostRuntime) -> Result<(), Fail> {
     let none: [&str; 0] = [];
-    let table: [&[&str]; 8] = [
+    let table: [&[&str]; 9] = [
         &["expresso", "turns", "m.mon"],
         &["expresso", "check"],
         &["expresso", "check", "m.mon", "c.cl"],
+        &["expresso", "compile", "m.mon", "c.cl"],
         &["expresso", "frob", "x"],
         &["expresso", "Check", "m.mon"],
         &["expresso"],
@@ -25,7 +29,13 @@ fn other_words_get_the_usage(rt: HostRuntime) -> Result<(), Fail> {
         assert_eq!(rt; outcome.status, Status::Usage);
         assert_eq!(rt;
             outcome.text.as_slice(),
-            b"usage:\nexpresso check FILE\nexpresso turns FILE CLIENTS\n".as_slice()
+            b"usage:
+expresso check FILE
+expresso turns FILE CLIENTS
+expresso compile FILE
+expresso simulate FILE CLIENTS [--seed N] [--spurious K]
+"
+                .as_slice()
         );
     }
     Ok(())
@@ -33,10 +43,13 @@ fn other_words_get_the_usage(rt: HostRuntime) -> Result<(), Fail> {
 
 #[test]
 fn a_read_that_fails_names_its_file(rt: HostRuntime) -> Result<(), Fail> {
-    let table: [(&[&str], u64, &[u8]); 3] = [
+    let table: [(&[&str], u64, &[u8]); 6] = [
         (TURNS.as_slice(), 1, b"read fault: m.mon\n"),
         (TURNS.as_slice(), 2, b"read fault: c.cl\n"),
         (CHECK.as_slice(), 1, b"read fault: m.mon\n"),
+        (COMPILE.as_slice(), 1, b"read fault: m.mon\n"),
+        (ROUNDS.as_slice(), 1, b"read fault: m.mon\n"),
+        (ROUNDS.as_slice(), 2, b"read fault: c.cl\n"),
     ];
     for (words, call, line) in table {
         let devices = Devices {
@@ -83,6 +96,9 @@ fn a_sink_of_ten_bytes_takes_a_front_of_the_text(rt: HostRuntime) -> Result<(), 
     let outcome = answer(rt.alloc(), CHECK.as_slice(), b"@", b"", &devices)?;
     assert_eq!(rt; outcome.status, Status::WriteFault);
     assert_eq!(rt; outcome.text.as_slice(), b"refused: m".as_slice());
+    let outcome = answer(rt.alloc(), COMPILE.as_slice(), BUFFER, b"", &devices)?;
+    assert_eq!(rt; outcome.status, Status::WriteFault);
+    assert_eq!(rt; outcome.text.as_slice(), b"plan Buffe".as_slice());
     Ok(())
 }
 

@@ -4,7 +4,7 @@ use super::super::status::Status;
 use super::{BUFFER, check, turns};
 use std::test::Fail;
 
-const READERS_WRITERS: &[u8] = b"monitor ReadersWriters {
+pub const READERS_WRITERS: &[u8] = b"monitor ReadersWriters {
   int readers = 0;
   int queued = 0;
   bool writing = false;
@@ -27,7 +27,7 @@ const READERS_WRITERS: &[u8] = b"monitor ReadersWriters {
 }
 ";
 
-const BARRIER: &[u8] = b"monitor Barrier {
+pub const BARRIER: &[u8] = b"monitor Barrier {
   const PARTIES = 3;
   int waiting = 0;
   bool open = false;

@@ -22,7 +22,7 @@ const UP: &[u8] = b"monitor Up {
 }
 ";
 
-const LEVEL: &[u8] = b"monitor Level {
+pub(super) const LEVEL: &[u8] = b"monitor Level {
   int count = 0;
   method reach(int n) waituntil (n <= count) {
   }
@@ -33,7 +33,7 @@ const LEVEL: &[u8] = b"monitor Level {
 ";
 
 /// Whether `turns` prints exactly this, with this status.
-fn prints(
+pub(super) fn prints(
     alloc: Global,
     monitor: &[u8],
     clients: &[u8],
@@ -128,27 +128,6 @@ state x=1 y=3
 }
 
 #[test]
-fn client_files_are_of_the_first_form(rt: HostRuntime) -> Result<(), Fail> {
-    let line = b"refused: c.cl: not of the first form\n";
-    let table: [(&str, &[u8]); 6] = [
-        ("an unknown method", b"client A { pull(); }"),
-        ("a method with an input", b"client A { reach(); }"),
-        ("an argument", b"client A { reach(1); }"),
-        ("a client used twice", b"client A { } client A { add(); }"),
-        ("no client", b"add();"),
-        ("no token", b"client A { @ }"),
-    ];
-    for (name, clients) in table {
-        let refused = prints(rt.alloc(), LEVEL, clients, Status::Refused, line)?;
-        assert!(rt; refused, "{name}");
-    }
-    let run = b"A.1 add() = -\nA.2 add() = -\ndone\nstate count=2\n";
-    let clients = b"client A { add(); add(); } // a comment";
-    assert!(rt; prints(rt.alloc(), LEVEL, clients, Status::Done, run)?);
-    Ok(())
-}
-
-#[test]
 fn the_monitor_is_refused_before_its_clients(rt: HostRuntime) -> Result<(), Fail> {
     let monitor = b"monitor M { method m() waituntil (y) { } }";
     let line = b"refused: m.mon:1:35: unknown name\n";
@@ -164,7 +143,7 @@ fn both_files_have_at_most_65536_bytes(rt: HostRuntime) -> Result<(), Fail> {
     clients.resize(65_536, b' ')?;
     assert!(rt; prints(rt.alloc(), &monitor, &clients, Status::Done, TWO_RUN)?);
     clients.push(b' ')?;
-    let line = b"refused: c.cl: not of the first form\n";
+    let line = b"refused: c.cl: more than 65536 bytes\n";
     assert!(rt; prints(rt.alloc(), &monitor, &clients, Status::Refused, line)?);
     monitor.push(b' ')?;
     let line = b"refused: m.mon: more than 65536 bytes\n";
@@ -200,10 +179,13 @@ fn thirty_two_clients_make_sixteen_thousand_calls(rt: HostRuntime) -> Result<(),
             .text
             .ends_with(b"c31.500 p() = -\ndone\nstate x=16000\n")
     );
-    let more = many_clients(rt.alloc(), 33, 1)?;
-    assert_eq!(rt;
-        turns(rt.alloc(), monitor, more.as_slice())?.status,
-        Status::Refused
-    );
+    Ok(())
+}
+
+#[test]
+fn the_33rd_client_is_one_too_many(rt: HostRuntime) -> Result<(), Fail> {
+    let clients = many_clients(rt.alloc(), 33, 0)?;
+    let line = b"refused: c.cl:1:392: too many clients\n";
+    assert!(rt; prints(rt.alloc(), LEVEL, &clients, Status::Refused, line)?);
     Ok(())
 }

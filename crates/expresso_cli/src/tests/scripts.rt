@@ -1,5 +1,6 @@
-use super::super::client_file::read_clients;
-use super::super::monitor_file::{MonitorFault, MonitorFile, read_monitor};
+use super::super::monitor_file::{MonitorFile, read_monitor};
+use super::super::source_fault::SourceFault;
+use super::events::scripts_read;
 use super::{BUFFER, TWO};
 use mon_base::Name;
 use mon_implicit::{Call, Client, Reply, Scripts, are_clients, fit};
@@ -17,9 +18,7 @@ fn a_checked_monitor_and_its_scripts_take_turns(rt: HostRuntime) -> Result<(), F
     let file = accepted(rt.alloc(), BUFFER).ok_or("a monitor")?;
     let monitor = file.monitor;
     assert_eq!(rt; monitor.name().bytes(), b"Buffer".as_slice());
-    let Some(scripts) = read_clients(rt.alloc(), TWO, &monitor)? else {
-        return Err("scripts".into());
-    };
+    let scripts = scripts_read(rt.alloc(), TWO, &monitor)?;
     let run = mon_implicit::turns(rt.alloc(), &monitor, &scripts)?;
     assert!(rt; run.finished);
     assert_eq!(rt; run.history.items().len(), 4);
@@ -33,11 +32,11 @@ fn a_checked_monitor_and_its_scripts_take_turns(rt: HostRuntime) -> Result<(), F
 fn a_fault_is_one_of_size_or_place(rt: HostRuntime) -> Result<(), Fail> {
     let mut long = Vec::new(rt.alloc());
     long.resize(65_537, b' ')?;
-    assert!(rt; matches!(read_monitor(rt.alloc(), &long), Err(MonitorFault::TooLong)));
+    assert!(rt; matches!(read_monitor(rt.alloc(), &long), Err(SourceFault::TooLong)));
     assert!(rt;
         matches!(
             read_monitor(rt.alloc(), b"@"),
-            Err(MonitorFault::At { at: 0, .. })
+            Err(SourceFault::At { at: 0, .. })
         )
     );
     Ok(())

@@ -63,7 +63,7 @@ const CELL: &[u8] = b"monitor Cell {
 
 /// A call by its method's number, with its inputs.
 #[derive(Clone, Copy)]
-struct Called<'a>(u32, &'a [Value]);
+pub struct Called<'a>(pub u32, pub &'a [Value]);
 
 /// What was written of a run, and whether it was all.
 #[derive(Debug, PartialEq, Drop)]
@@ -94,7 +94,7 @@ fn client(alloc: Global, name: &str, called: &[Called]) -> Result<Client, AllocE
 }
 
 /// These clients as scripts, where they are scripts of calls of the monitor.
-fn scripts_of(monitor: &Monitor, clients: Vec<Client>) -> Option<Scripts>
+pub fn scripts_of(monitor: &Monitor, clients: Vec<Client>) -> Option<Scripts>
     ensures { IfSome result (FitsScripts monitor.now) }
 {
     if are_clients(clients.as_slice()) && fit(monitor, clients.as_slice()) {
@@ -104,7 +104,7 @@ fn scripts_of(monitor: &Monitor, clients: Vec<Client>) -> Option<Scripts>
     }
 }
 
-fn clients_of(alloc: Global, clients: &[(&str, &[Called])]) -> Result<Vec<Client>, AllocError> {
+pub fn clients_of(alloc: Global, clients: &[(&str, &[Called])]) -> Result<Vec<Client>, AllocError> {
     let mut made = Vec::new(alloc);
     for (name, called) in clients {
         made.push(client(alloc, name, called)?)?;

@@ -1,11 +1,25 @@
-use Rattle.expresso_cli.proofs.Refusing.{no_tokens_no_scripts, no_tree_no_scripts, broken_no_scripts}
+use Rattle.std.proofs.Common.{List, arith, subst, sym}
+use Rattle.std.proofs.lemmas.Result.{err_from_is_err_and}
+use Rattle.mon_tokens.specs.declared.token.Token.{Token}
+use Rattle.mon_tokens.specs.Spelling.{Spells}
+use Rattle.expresso_cli.proofs.ClientFaults.{parser_cause, rule_cause}
 use Rattle.expresso_cli.proofs.client_file.read_clients.Goals as goal
 
-pub returns-in-Err-At-clause-scripts : goal.returns-in-Err-At-clause-scripts
-returns-in-Err-At-clause-scripts c = no_tokens_no_scripts c.args.bytes.now c.in-Err-At.field-0 c.in-Err-At.field-0-0 c.in-Err-At.field-0-is c.in-Err-At.ensures.complete c.args.monitor.now
+pub clients-requires : goal.clients-requires
+clients-requires c = record {
+  named =
+      c.names_are_identifiers.ensures.clients c.args.bytes.now c.deref.result.now c.in_ok-tree.tree
+      (subst (λ (t : List Token). Spells c.args.bytes.now t) (sym c.deref.ensures.value) c.in_ok-tokens.ensures.spelled) c.in_ok-tree.ensures.derived;
+}
 
-pub returns-in-Err-At-parse_clients-clause-scripts : goal.returns-in-Err-At-parse_clients-clause-scripts
-returns-in-Err-At-parse_clients-clause-scripts c = no_tree_no_scripts c.args.bytes.now c.in-Ok.tokens.items c.as_slice.result.now c.in-Err-At-parse_clients.field-0 c.in-Err-At-parse_clients.field-0-0 c.in-Ok.ensures.complete c.as_slice.ensures.value c.in-Err-At-parse_clients.field-0-is c.in-Err-At-parse_clients.ensures.complete c.args.monitor.now
+pub returns-in_err-tree-clause-fault : goal.returns-in_err-tree-clause-fault
+returns-in_err-tree-clause-fault c =
+    let returned = err_from_is_err_and c.from_residual-in_err-tree.result c.from_residual-in_err-tree.ensures.1 in
+    rw (returned.1) (parser_cause c.args.monitor.now c.args.bytes.now c.in_ok-tokens.tokens.items c.deref.result.now c.in_err-tree.field-0.0 returned.0 returned.2 (omega arith)
+    c.in_ok-tokens.ensures.spelled c.deref.ensures.value c.in_err-tree.ensures.complete c.in_err-tree.ensures.place)
 
-pub returns-clause-scripts : goal.returns-clause-scripts
-returns-clause-scripts c = broken_no_scripts c.args.bytes.now c.in-Ok.tokens.items c.as_slice.result.now c.in-Ok-parse_clients.tree c.args.monitor.now c.in-Err.fault c.in-Ok.ensures.complete c.as_slice.ensures.value c.in-Ok-parse_clients.ensures.complete c.in_ok-broken_rule-in-Err.ensures c.in-Err.ensures.fault
+pub returns-in_err-scripts-clause-fault : goal.returns-in_err-scripts-clause-fault
+returns-in_err-scripts-clause-fault c =
+    let returned = err_from_is_err_and c.from_residual-in_err-scripts.result c.from_residual-in_err-scripts.ensures.1 in
+    rw (returned.1) (rule_cause c.args.monitor.now c.args.bytes.now c.in_ok-tokens.tokens.items c.deref.result.now c.in_ok-tree.tree c.in_err-scripts.field-0.0 returned.0 returned.2 (omega arith)
+    c.in_ok-tokens.ensures.spelled c.deref.ensures.value c.in_ok-tree.ensures.derived c.in_err-scripts.ensures.fault)

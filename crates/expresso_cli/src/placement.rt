@@ -1,0 +1,17 @@
+//! The plan that a monitor is compiled to.
+
+ghost use Rattle.std.specs.Prelude.{IfOk};
+ghost use Rattle.expresso_cli.specs.Placements.{IsPlacement};
+
+use mon_events::Plan;
+use mon_monitor::Monitor;
+use mon_place::place;
+use std::alloc::{AllocError, Global};
+
+/// A plan that the monitor is compiled to. It fails only for want of memory.
+pub(crate) fn plan_of(alloc: Global, monitor: &Monitor) -> Result<Plan, AllocError>
+    ensures { IfOk result (IsPlacement monitor.now) }
+{
+    let placed = place(alloc, monitor)?;
+    Ok(placed.plan)
+}

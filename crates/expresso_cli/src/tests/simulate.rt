@@ -1,0 +1,231 @@
+//! Simulations: the plan and the log that are printed, worked out by hand.
+
+use super::super::status::Status;
+use super::checker::LEVEL;
+use super::events::{GATE, LOCK, TWO_LOCKS, TWO_TAKE};
+use super::{BUFFER, Outcome, SOUND, answer};
+use std::alloc::{AllocError, Global};
+use std::test::Fail;
+
+/// `expresso` on these words, over sound devices.
+fn simulate(
+    alloc: Global,
+    words: &[&str],
+    monitor: &[u8],
+    clients: &[u8],
+) -> Result<Outcome, AllocError> {
+    answer(alloc, words, monitor, clients, &SOUND)
+}
+
+/// Two clients with a lock, on these words.
+fn locks(alloc: Global, words: &[&str]) -> Result<Outcome, AllocError> {
+    simulate(alloc, words, LOCK, TWO_LOCKS)
+}
+
+pub const ROUNDS: [&str; 4] = ["expresso", "simulate", "m.mon", "c.cl"];
+
+/// The words of a simulation with a seed and a number of spurious wake-ups.
+fn drawn<'a>(seed: &'a str, spurious: &'a str) -> [&'a str; 8] {
+    [
+        "expresso",
+        "simulate",
+        "m.mon",
+        "c.cl",
+        "--seed",
+        seed,
+        "--spurious",
+        spurious,
+    ]
+}
+
+#[test]
+fn a_lock_is_handed_over(rt: HostRuntime) -> Result<(), Fail> {
+    let outcome = locks(rt.alloc(), ROUNDS.as_slice())?;
+    assert_eq!(rt; outcome.status, Status::Done);
+    assert_eq!(rt;
+        outcome.text.as_slice(),
+        b"plan Lock
+condition 1 signal: !held
+condition 2 signal: held
+block acquire: 2 signal
+block release: 1 signal
+A.1 acquire() = -
+B.1 acquire() waits
+A.2 release() = - wakes B
+B.1 acquire() = -
+B.2 release() = -
+done
+state held=false
+"
+            .as_slice()
+    );
+    Ok(())
+}
+
+#[test]
+fn a_get_of_an_empty_buffer_stalls(rt: HostRuntime) -> Result<(), Fail> {
+    let outcome = simulate(
+        rt.alloc(),
+        ROUNDS.as_slice(),
+        BUFFER,
+        b"client A { get(); }",
+    )?;
+    assert_eq!(rt; outcome.status, Status::Stalled);
+    assert_eq!(rt;
+        outcome.text.as_slice(),
+        b"plan Buffer
+keep count >= 0
+keep count >= -1
+keep count <= 1
+keep count <= 2
+condition 1 signal: count < CAP
+condition 2 signal: count > 0
+block put: 2 signal
+block get: 1 signal
+A.1 get() waits
+stalled
+A.1 get() blocked
+state count=0
+"
+            .as_slice()
+    );
+    Ok(())
+}
+
+#[test]
+fn an_overflow_wakes_the_next_waiter(rt: HostRuntime) -> Result<(), Fail> {
+    let outcome = simulate(rt.alloc(), ROUNDS.as_slice(), GATE, TWO_TAKE)?;
+    assert_eq!(rt; outcome.status, Status::Done);
+    assert_eq!(rt;
+        outcome.text.as_slice(),
+        b"plan Gate
+keep x >= 0
+keep x >= 9223372036854775807
+condition 1 signal: go
+condition 2 broadcast: true
+block take: none
+block fire: 1 signal
+A.1 take() waits
+B.1 take() waits
+C.1 fire() = - wakes A
+A.1 take() = overflow wakes B
+B.1 take() = overflow
+done
+state go=true x=9223372036854775807
+"
+            .as_slice()
+    );
+    Ok(())
+}
+
+const LEVELS: &[u8] = b"client A { reach(1); } client B { reach(2); } client C { add(); add(); }";
+
+#[test]
+fn a_broadcast_wakes_clients_of_all_inputs(rt: HostRuntime) -> Result<(), Fail> {
+    let outcome = simulate(rt.alloc(), ROUNDS.as_slice(), LEVEL, LEVELS)?;
+    assert_eq!(rt; outcome.status, Status::Done);
+    assert_eq!(rt;
+        outcome.text.as_slice(),
+        b"plan Level
+keep count >= 0
+condition 1 broadcast: n <= count
+condition 2 broadcast: true
+block reach: none
+block add: 1 broadcast
+A.1 reach(1) waits
+B.1 reach(2) waits
+C.1 add() = - wakes A B
+A.1 reach(1) = -
+B.1 reach(2) waits
+C.2 add() = - wakes B
+B.1 reach(2) = -
+done
+state count=2
+"
+            .as_slice()
+    );
+    Ok(())
+}
+
+#[test]
+fn a_seed_draws_the_same_log_twice(rt: HostRuntime) -> Result<(), Fail> {
+    let once = locks(rt.alloc(), drawn("7", "3").as_slice())?;
+    assert_eq!(rt; once.status, Status::Done);
+    assert!(rt;
+        once.text.ends_with(
+            b"release: 1 signal
+A.1 acquire() = -
+B.1 acquire() waits
+spurious B
+B.1 acquire() waits
+A.2 release() = - wakes B
+B.1 acquire() = -
+B.2 release() = -
+done
+state held=false
+",
+        )
+    );
+    let twice = locks(rt.alloc(), drawn("7", "3").as_slice())?;
+    assert_eq!(rt; twice, once);
+    Ok(())
+}
+
+#[test]
+fn the_greatest_seed_and_most_spurious_wakes_are_taken(rt: HostRuntime) -> Result<(), Fail> {
+    for seed in ["1", "18446744073709551615"] {
+        let outcome = locks(rt.alloc(), drawn(seed, "16384").as_slice())?;
+        assert_eq!(rt; outcome.status, Status::Done, "{seed}");
+        assert!(rt;
+            outcome.text.ends_with(b"done\nstate held=false\n"),
+            "{seed}"
+        );
+    }
+    Ok(())
+}
+
+#[test]
+fn other_numbers_are_no_options(rt: HostRuntime) -> Result<(), Fail> {
+    let numbers = [
+        ("x", "0"),
+        ("", "0"),
+        ("+1", "0"),
+        ("18446744073709551616", "0"),
+        ("000000000000000000001", "0"),
+        ("1", "16385"),
+    ];
+    for (seed, spurious) in numbers {
+        let outcome = locks(rt.alloc(), drawn(seed, spurious).as_slice())?;
+        assert_eq!(rt; outcome.status, Status::Usage, "{seed} {spurious}");
+    }
+    Ok(())
+}
+
+#[test]
+fn spurious_wakes_want_a_seed_before_them(rt: HostRuntime) -> Result<(), Fail> {
+    let alone = ["expresso", "simulate", "m.mon", "c.cl", "--spurious", "2"];
+    assert_eq!(rt; locks(rt.alloc(), alone.as_slice())?.status, Status::Usage);
+    let before = [
+        "expresso",
+        "simulate",
+        "m.mon",
+        "c.cl",
+        "--spurious",
+        "2",
+        "--seed",
+        "1",
+    ];
+    assert_eq!(rt; locks(rt.alloc(), before.as_slice())?.status, Status::Usage);
+    Ok(())
+}
+
+#[test]
+fn a_refused_client_file_is_not_simulated(rt: HostRuntime) -> Result<(), Fail> {
+    let outcome = simulate(rt.alloc(), ROUNDS.as_slice(), LOCK, b"client A { take(); }")?;
+    assert_eq!(rt; outcome.status, Status::Refused);
+    assert_eq!(rt;
+        outcome.text.as_slice(),
+        b"refused: c.cl:1:12: unknown method\n".as_slice()
+    );
+    Ok(())
+}
