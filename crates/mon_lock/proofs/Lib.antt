@@ -1,0 +1,10 @@
+pub mod Growing
+pub mod Receipts
+pub mod Merging
+pub mod Views
+pub mod Knowing
+pub mod Stepping
+pub mod Seating
+pub mod Calling
+pub mod Gathering
+pub mod Readiness

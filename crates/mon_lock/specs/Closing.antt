@@ -1,0 +1,32 @@
+-- What stands in the log once all passes are back.
+use Rattle.std.specs.Prelude.{◌≡◌, ◌==◌, ◌<◌, ◌≤◌, ◌⊎◌, ◌↔◌, ℕ, List, length, count_by}
+use Rattle.std.specs.List.{All, Contains, flat_map}
+use Rattle.mon_events.specs.declared.log.Entry.{Entry}
+use Rattle.mon_explicit.specs.Sections.{FreeMachine}
+use Rattle.mon_lock.specs.declared.receipt.Receipt.{Receipt}
+use Rattle.mon_lock.specs.declared.view.Knowledge.{Knowledge}
+use Rattle.mon_lock.specs.Growth.{Follows}
+use Rattle.mon_lock.specs.Passes.{PassView, StandsIn}
+
+-- The front has grown to this monitor, it has all that was seen, and each receipt stands in its log.
+pub record Covers (top : FreeMachine) (known : Knowledge) : Type 0 where
+  pub front : Follows known.front top
+  pub seen : known.seen ≤ length top.log
+  pub stand : All (StandsIn top.log) known.receipts
+
+-- the receipts of all passes
+abbrev pub receipts_of : List PassView → List Receipt
+receipts_of passes = flat_map (λ pass. pass.known.receipts) passes
+
+-- how many of the receipts are of this place
+abbrev pub times : ℕ → List Receipt → ℕ
+times place receipts = count_by (λ receipt. receipt.place == place) receipts
+
+-- Each entry after those of the start has just one receipt, and no other place has one.
+pub record HaveOneEach (first : ℕ) (log : List Entry) (receipts : List Receipt) : Type 0 where
+  pub once : (place : ℕ) → first ≤ place → place < length log → times place receipts ≡ 1
+  pub no_other : (place : ℕ) → (place < first) ⊎ (length log ≤ place) → times place receipts ≡ 0
+
+-- First come, first served: of two receipts the one with the earlier ticket is of the earlier place.
+abbrev pub AreInOrder : List Receipt → Type 0
+AreInOrder receipts = (one other : Receipt) → Contains receipts one → Contains receipts other → (one.ticket < other.ticket) ↔ (one.place < other.place)

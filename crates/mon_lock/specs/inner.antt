@@ -1,0 +1,6 @@
+pub mod Queueing
+pub mod Steps
+pub mod Seats
+pub mod Turns
+pub mod Ends
+pub mod Gathered

@@ -1,0 +1,70 @@
+//! How a lock begins and ends.
+
+ghost use Rattle.std.specs.Prelude.{◌≡◌, ◌<◌, [], IfOk};
+ghost use Rattle.std.specs.List.{All};
+ghost use Rattle.mon_lock.specs.declared.view.Stage.TheVariants.{Idle};
+ghost use Rattle.mon_lock.specs.Passes.{newly_known};
+ghost use Rattle.mon_lock.specs.inner.Queueing.{IsIdle, view};
+ghost use Rattle.mon_lock.specs.inner.Ends.{EndsWith};
+ghost use Rattle.mon_lock.specs.inner.Gathered.{Gathered};
+
+use super::lock::Lock;
+use super::pass::Pass;
+use super::rule::{MACHINE, Place};
+use super::view::Terms;
+use atomic_table::Table;
+use mon_explicit::FreeMonitor;
+use std::alloc::{AllocError, Global};
+use std::snapshot::Snapshot;
+
+impl Lock {
+    /// A lock with the monitor at home, and a seat that has all parts of the right to close.
+    pub fn open(alloc: Global, free: FreeMonitor, passes: u32) -> Result<(Lock, Place), AllocError>
+        requires some { 0 < passes }
+        ensures start { IfOk result (λ made. made.0.board.shared.key.start.value ≡ free) }
+        ensures passes { IfOk result (λ made. made.0.board.shared.key.passes ≡ passes) }
+        ensures own { IfOk result (λ made. made.1.table_id ≡ made.0.board.shared.table_id) }
+        ensures whole { IfOk result (λ made.
+            made.1.me ≡ (view Idle passes (newly_known free), [])) }
+    {
+        let terms = Terms {
+            start: Snapshot::of(&free),
+            passes: u64::from(passes),
+        };
+        let count = free.log().len() as u64;
+        let mut slots = Vec::with_capacity(alloc, 1)?;
+        slots.push_reserved(free);
+        match Table::new(alloc, &[0, 0, count], slots, &terms) {
+            Ok((board, place)) => Ok((Lock { board }, place)),
+            Err(_refused) => Err(AllocError),
+        }
+    }
+
+    /// A seat takes in all that these passes have and know.
+    pub fn gather(&self, place: &mut Place, passes: Vec<Pass>)
+        requires own { place.old.table_id ≡ self.now.board.shared.table_id }
+        requires its { All (λ pass. pass.lock ≡ self.now.board.shared.table_id) passes.items }
+        requires idle { IsIdle place.old.me }
+        requires live { 0 < place.old.me.0.parts }
+        ensures own { place.new.table_id ≡ place.old.table_id }
+        ensures gathered { Gathered place.old.me place.new.me passes.items }
+    {
+        for pass in passes {
+            self.take_in(place, pass.into_place());
+        }
+    }
+
+    /// The monitor, for a seat that has all parts.
+    pub fn close(self, place: Place) -> FreeMonitor
+        requires own { place.table_id ≡ self.board.shared.table_id }
+        requires idle { IsIdle place.me }
+        requires all { place.me.0.parts ≡ self.board.shared.key.passes }
+        ensures { EndsWith self.board.shared.key.start.value place.me.0.known result }
+    {
+        let Lock { board } = self;
+        let mut closed = board.close_with(place);
+        let free = closed.take(MACHINE);
+        closed.free();
+        free
+    }
+}
