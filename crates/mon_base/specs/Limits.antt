@@ -1,4 +1,4 @@
--- The limits of the language, under the names that the code gives them.
+-- The limits of the language and of its runs, under the names that the code gives them.
 use Rattle.std.specs.Prelude.{ℕ, ◌^◌}
 
 -- the most bytes of a file
@@ -52,7 +52,7 @@ FIRST_INPUT = 16
 abbrev pub GREATEST_NUMBER : ℕ
 GREATEST_NUMBER = 9223372036854775807
 
--- the most times that a name counts in a flattened form, and less than none as many times at most
+-- the greatest magnitude of the number of times that a name counts in a flattened form
 abbrev pub MOST_TIMES : ℕ
 MOST_TIMES = 2 ^ 31
 
@@ -63,3 +63,7 @@ GREATEST_CONSTANT = 2 ^ 63
 -- the most spurious wake-ups that a run by sections may be given
 abbrev pub MOST_EXTRA : ℕ
 MOST_EXTRA = 16384
+
+-- the most workers of a run; the fewest is 1
+abbrev pub WORKERS : ℕ
+WORKERS = 16

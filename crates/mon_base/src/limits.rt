@@ -1,4 +1,4 @@
-//! The limits of the language. Definitions give them the same names and numbers (`specs/Limits`).
+//! The limits of the language and of its runs. Definitions give them the same names and numbers (`specs/Limits`).
 
 /// The most bytes of a file.
 pub const FILE_BYTES: usize = 65_536;
@@ -50,3 +50,6 @@ pub const GREATEST_CONSTANT: i128 = 1 << 63;
 
 /// The most spurious wake-ups that a run by sections may be given.
 pub const MOST_EXTRA: u64 = 16_384;
+
+/// The most workers of a run. The fewest is 1.
+pub const WORKERS: u32 = 16;
