@@ -1,10 +1,9 @@
 -- A plan that the prover's answers make fits, is lawful and licensed, and exact where the monitor is small.
-use Rattle.std.proofs.Common.{◌≡◌, ◌==◌, ◌↔◌, ◌⊎◌, inl, inr, ℕ, ◌+◌, ◌-◌, ◌<◌, ◌≤◌, Bool, true, false, List, [], ◌∷◌, length, get_or, Option, Some, None, refl, sym, ap, subst, ◌∙◌, arith}
+use Rattle.std.proofs.Common.{◌≡◌, ◌==◌, ◌↔◌, inl, ℕ, ◌-◌, ◌<◌, ◌≤◌, Bool, true, false, List, [], ◌∷◌, length, get_or, Option, Some, None, refl, sym, ap, subst, ◌∙◌, arith}
 use Rattle.std.specs.Prelude.{All, slice_get, IsSomeAnd, unwrap_or, ◌||◌}
-use Rattle.std.specs.List.{enumerate_from}
-use Rattle.std.proofs.lemmas.Bool.{true≢false, eqb-true, cases_lt}
+use Rattle.std.proofs.lemmas.Bool.{true≢false, eqb-true}
 use Rattle.std.proofs.lemmas.List.Elements.{All-nil, All-head, All-tail, All-weaker}
-use Rattle.std.proofs.lemmas.Option.{slice_get_past, slice_get_within}
+use Rattle.std.proofs.lemmas.Option.{slice_get_within}
 use Rattle.mon_monitor.specs.declared.candidate.Candidate.{Candidate}
 use Rattle.mon_monitor.specs.declared.claim.Claim.{Claim}
 use Rattle.mon_monitor.specs.declared.claim.Claim.TheVariants as claims
@@ -21,12 +20,12 @@ use Rattle.mon_events.specs.declared.plan.CondKind.TheVariants as kinds
 use Rattle.mon_events.specs.declared.plan.Note.{Note}
 use Rattle.mon_events.specs.declared.plan.Plan.{Plan}
 use Rattle.mon_events.specs.PlanText.{note_kind}
-use Rattle.mon_events.specs.Plans.{IsCondition as IsThere, AreSomeOf, FitsNote, FitsNotes, FitsPlan, IsLawful, IsUntestedBroadcast, condition_kind, has_note, notes_at}
+use Rattle.mon_events.specs.Plans.{IsCondition as IsThere, FitsNote, FitsNotes, FitsPlan, IsLawful, IsUntestedBroadcast, condition_kind, has_note, notes_at}
 use Rattle.mon_events.proofs.Facing.{at_index, all_at, is_some_and}
 use Rattle.mon_wp.specs.Hardness.{is_easy, IsBlock, IsClaimOf, IsCondition, IsHard, IsSmall, ReadsNone, WaitsAt}
 use Rattle.mon_place.specs.Backing.{HasCertificate}
 use Rattle.mon_place.specs.Exact.{HasHardBlock, HaveTheirKinds, IsExact, IsLicensed, MaySignal, NeedsTest}
-use Rattle.mon_place.specs.inner.Answers.{AreNotes, HasUnproved, IsAnswered, IsKindOf, IsNote, IsUnproved}
+use Rattle.mon_place.specs.inner.Answers.{AreNotes, IsAnswered, IsKindOf, IsNote, IsUnproved}
 use Rattle.mon_place.proofs.Lists.{in_numbered, all_numbers}
 use Rattle.mon_place.proofs.Backed.{Laws, held, unnoted_backed, signals_backed, untested_backed}
 

@@ -1,5 +1,5 @@
 -- The query of a claim: its block, and the places of its variables.
-use Rattle.std.proofs.Common.{◌≡◌, ℕ, ◌<◌, true, List, length}
+use Rattle.std.proofs.Common.{◌≡◌, ℕ, true, List}
 use Rattle.std.specs.List.{list_all}
 use Rattle.mon_monitor.specs.declared.candidate.Candidate.{Candidate}
 use Rattle.mon_monitor.specs.declared.claim.Claim.{Claim}

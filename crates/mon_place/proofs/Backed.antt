@@ -1,6 +1,6 @@
 -- What a backed plan says of each of its claims.
-use Rattle.std.proofs.Common.{◌≡◌, ◌==◌, ℕ, ◌+◌, ◌-◌, ◌<◌, ◌≤◌, Bool, true, false, not, ◌&&◌, List, [], ◌∷◌, ◌++◌, map, length, get_or, Option, Some, None, refl, sym, ap, subst, ◌∙◌, arith}
-use Rattle.std.specs.Prelude.{All, slice_get, IsSomeAnd, unwrap_or}
+use Rattle.std.proofs.Common.{◌≡◌, ◌==◌, ℕ, ◌+◌, ◌-◌, ◌<◌, ◌≤◌, true, false, not, ◌&&◌, List, ◌++◌, length, get_or, Option, Some, None, subst, arith}
+use Rattle.std.specs.Prelude.{All, slice_get, IsSomeAnd}
 use Rattle.std.specs.List.{filter, flat_map, enumerate_from, range_with_len}
 use Rattle.std.specs.Option.{option_map_or}
 use Rattle.std.proofs.lemmas.Bool.{not_from_false, and_from, eq-eqb}
@@ -22,7 +22,7 @@ use Rattle.mon_events.specs.declared.plan.CondKind.{CondKind}
 use Rattle.mon_events.specs.declared.plan.CondKind.TheVariants as kinds
 use Rattle.mon_events.specs.declared.plan.Note.{Note}
 use Rattle.mon_events.specs.declared.plan.Plan.{Plan}
-use Rattle.mon_events.specs.Plans.{AreSomeOf, condition_kind, has_note, notes_at}
+use Rattle.mon_events.specs.Plans.{AreSomeOf, condition_kind, has_note}
 use Rattle.mon_wp.specs.NegatedQueries.{negated_query}
 use Rattle.mon_wp.specs.Hardness.{is_easy, ReadsNone, WaitsAt}
 use Rattle.mon_prune.specs.Invariants.{keeps_claims}

@@ -1,10 +1,10 @@
 -- One condition, note, kind or proof more.
-use Rattle.std.proofs.Common.{◌≡◌, ◌==◌, ◌⊎◌, inl, inr, ℕ, zero, suc, ◌+◌, ◌-◌, ◌<◌, ◌≤◌, Bool, true, false, not, cond, ◌&&◌, ◌||◌, List, [], ◌∷◌, ◌++◌, map, length, get_or, length-append, append_assoc, append-nil, Option, Some, None, refl, sym, ap, subst, ◌∙◌, arith}
-use Rattle.std.specs.Prelude.{All, slice_get, IsSomeAnd, IfSome}
-use Rattle.std.specs.List.{filter, flat_map, enumerate_from, range_with_len, list_all}
+use Rattle.std.proofs.Common.{◌≡◌, ◌==◌, ◌⊎◌, inl, inr, ℕ, ◌+◌, ◌-◌, ◌<◌, ◌≤◌, Bool, true, false, not, cond, ◌&&◌, ◌||◌, List, [], ◌∷◌, ◌++◌, map, length, get_or, length-append, append_assoc, append-nil, Option, Some, None, refl, sym, ap, subst, ◌∙◌, arith}
+use Rattle.std.specs.Prelude.{All, slice_get, IfSome}
+use Rattle.std.specs.List.{filter, flat_map, enumerate_from, range_with_len}
 use Rattle.std.specs.List.Sorted.{IsStrictlyIncreasing}
 use Rattle.std.specs.Option.{option_map_or, option_to_list}
-use Rattle.std.proofs.lemmas.Bool.{true≢false, cases_lt, ne_eqb, eq-eqb, or_from, or_left, or_right, and_from, and_parts, not_from_true, not_from_false}
+use Rattle.std.proofs.lemmas.Bool.{cases_lt, ne_eqb, eq-eqb, or_from, or_left, or_right, not_from_true, not_from_false}
 use Rattle.std.proofs.lemmas.List.{map-append, get_or_append_left, get_or_push}
 use Rattle.std.proofs.lemmas.List.Concat.{flat_map-append}
 use Rattle.std.proofs.lemmas.List.Elements.{All-nil, All-cons, All-head, All-tail, All-append, All-push, All-map, All-weaker, filter-append}
@@ -18,13 +18,10 @@ use Rattle.mon_events.specs.declared.plan.CondKind.{CondKind}
 use Rattle.mon_events.specs.declared.plan.CondKind.TheVariants as kinds
 use Rattle.mon_events.specs.declared.plan.Note.{Note}
 use Rattle.mon_events.specs.declared.plan.Plan.{Plan}
-use Rattle.mon_events.specs.Plans.{AreSomeOf, has_note}
-use Rattle.mon_events.specs.Rising.{AreRising}
+use Rattle.mon_events.specs.Plans.{has_note}
 use Rattle.mon_place.specs.declared.placed.Proof.{Proof}
 use Rattle.mon_place.specs.Backing.{AreProofs, Certifies, backed_claims, kind_claims, reads_none, unnoted_claims, untested_claims, waits_at}
-use Rattle.mon_place.specs.inner.Answers.{Adds, AreAskable, AreNotes, IsAnswerTo, IsNote, proof_of_kept, unnoted_claim, unnoted_up_to}
-use Rattle.mon_wp.specs.Expressible.{is_expressible}
-use Rattle.mon_wp.specs.QueryPlaces.{is_of_fields}
+use Rattle.mon_place.specs.inner.Answers.{Adds, AreNotes, IsAnswerTo, IsNote, proof_of_kept, unnoted_claim, unnoted_up_to}
 use Rattle.mon_prune.specs.declared.kept.Kept.{Kept}
 use Rattle.mon_prune.specs.Invariants.{AreProofs as AreKept, keeps_claims}
 use Rattle.mon_place.proofs.Lists.{numbered_more, range_more, same_filter}
@@ -237,20 +234,6 @@ each_more {X} P first xs ys x last made is all here =
     subst (λ (every : List X). All P (enumerate_from first every)) (sym made) (all_more P first xs x last is all here)
 
 -- ---- the whole plan
-
-some_pass : (test : Candidate → Bool) (kept all : List Candidate) → AreSomeOf kept all → list_all test all ≡ true → list_all test kept ≡ true
-some_pass test [] all some every = refl
-some_pass test (one ∷ kept) [] some every = absurd some
-some_pass test (one ∷ kept) (first ∷ all) (inl some) every =
-    let parts = and_parts (test first) (list_all test all) every in
-    and_from (test one) (list_all test kept) (ap test some.0 ∙ parts.0) (some_pass test kept all some.1 parts.1)
-some_pass test (one ∷ kept) (first ∷ all) (inr some) every = some_pass test (one ∷ kept) all some (and_parts (test first) (list_all test all) every).1
-
-pub askable : (kept all : List Candidate) → AreSomeOf kept all → AreAskable all → AreAskable kept
-askable kept all some are = record {
-  expressible = some_pass is_expressible kept all some are.expressible;
-  of_fields = some_pass is_of_fields kept all some are.of_fields;
-}
 
 claims_of_kept : (proofs : List Kept) → map (λ proof. proof.claim) (map proof_of_kept proofs) ≡ map (λ (proof : Kept). claims.Keeps proof.candidate proof.block) proofs
 claims_of_kept [] = refl

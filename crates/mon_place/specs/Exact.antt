@@ -1,5 +1,5 @@
 -- Exact plans, and licensed plans, which fall short of exact only where a query is hard.
-use Rattle.std.specs.Prelude.{◌≡◌, ◌↔◌, ℕ, ◌-◌, true, Some, All}
+use Rattle.std.specs.Prelude.{◌≡◌, ◌↔◌, ℕ, true, Some, All}
 use Rattle.mon_monitor.specs.declared.claim.Claim.TheVariants as claims
 use Rattle.mon_monitor.specs.MonitorParts.{MonitorParts}
 use Rattle.mon_monitor.specs.Triples.{NoneNeeded, OneEnough, NoTestNeeded}

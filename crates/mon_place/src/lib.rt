@@ -12,7 +12,6 @@ mod laws;
 mod notes;
 mod placed;
 mod placement;
-mod starts;
 
 pub use placed::{Placed, Proof};
 pub use placement::place;

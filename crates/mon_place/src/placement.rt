@@ -11,7 +11,6 @@ use super::kinds::{Kinds, kinds_of_all};
 use super::laws::answered_plans_are_placed;
 use super::notes::{Found, Notes, notes_of_all};
 use super::placed::{Placed, Proof};
-use super::starts::read_candidates;
 use mon_events::Plan;
 use mon_list::Seq;
 use mon_monitor::{Claim, Monitor};
@@ -50,7 +49,6 @@ fn answered(alloc: Global, monitor: &Monitor) -> Result<Placed, AllocError>
     ensures proofs { IfOk result (λ placed. AreProofs monitor.now placed.plan.kept
         (backed_claims monitor.now placed.plan) placed.proofs) }
 {
-    read_candidates(monitor);
     let Invariant { kept, proofs } = invariant(alloc, monitor)?;
     let keeps = proofs_of_kept(alloc, proofs.into_items())?;
     let Kinds {

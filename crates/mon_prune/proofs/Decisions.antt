@@ -1,5 +1,5 @@
 -- What the certificate of a query tells.
-use Rattle.std.proofs.Common.{◌≡◌, ℕ, ◌≤◌, Bool, true, false, ◌&&◌, Option, Some, None, sym, subst, arith, ap, refl, ◌∙◌}
+use Rattle.std.proofs.Common.{◌≡◌, Bool, true, false, Option, Some, None, subst}
 use Rattle.std.specs.Prelude.{IfSome}
 use Rattle.std.proofs.lemmas.Bool.{and_parts, leb-true}
 use Rattle.mon_linear.specs.declared.formula.Formula.{Formula}
@@ -13,8 +13,8 @@ use Rattle.mon_monitor.specs.MonitorParts.{MonitorParts}
 use Rattle.mon_monitor.specs.Triples.{IsValidQuery}
 use Rattle.mon_cert.specs.declared.cert.Cert.{Cert}
 use Rattle.mon_cert.specs.Refutes.{Refutes}
-use Rattle.mon_solve.specs.Refutation.{HoldsSomewhere, IsAnswer, IsDecidable}
-use Rattle.mon_wp.specs.Hardness.{has_few_cubes, is_decidable, is_easy}
+use Rattle.mon_solve.specs.Refutation.{IsAnswer}
+use Rattle.mon_wp.specs.Hardness.{has_few_cubes, is_decidable}
 use Rattle.mon_wp.specs.Limits.{is_query_within, query_within, value_if}
 use Rattle.mon_wp.specs.NegatedQueries.{negated_query}
 use Rattle.mon_prune.specs.Invariants.{IsDecision}

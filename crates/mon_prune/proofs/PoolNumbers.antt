@@ -1,24 +1,23 @@
 -- The numbers with which guards compare a field, and the pool of a field.
-use Rattle.std.proofs.Common.{◌≡◌, ◌⊎◌, inl, inr, ℕ, ◌+◌, ◌<◌, ◌≤◌, ℤ, pos, neg_ℤ, Bool, true, false, not, cond, ◌&&◌, ◌||◌, List, [], ◌∷◌, ◌++◌, map, take, length, get_or, Option, Some, None, sym, subst, arith, ap, refl, ◌∙◌}
+use Rattle.std.proofs.Common.{◌≡◌, ◌⊎◌, inl, inr, ℕ, ◌+◌, ◌<◌, ◌≤◌, ℤ, pos, Bool, true, false, not, cond, ◌&&◌, ◌||◌, List, [], ◌∷◌, ◌++◌, map, take, length, get_or, sym, arith, ap, refl, ◌∙◌}
 use Rattle.std.specs.Prelude.{nat_lt}
 use Rattle.std.specs.List.{filter, flat_map, list_any}
 use Rattle.std.specs.Ordering.{int_eq}
-use Rattle.std.proofs.lemmas.Bool.{cases_Bool, cases_lt}
+use Rattle.std.proofs.lemmas.Bool.{cases_lt}
 use Rattle.std.proofs.lemmas.Int.{ints}
-use Rattle.std.proofs.lemmas.List.{append-nil, append_assoc, length-append, length-take-le, take_all, take_more, take-append-le}
+use Rattle.std.proofs.lemmas.List.{append-nil, length-append, length-take-le, take_all, take_more, take-append-le}
 use Rattle.std.proofs.lemmas.List.Concat.{flat_map-append}
 use Rattle.std.proofs.lemmas.List.Elements.{filter-append}
-use Rattle.mon_linear.specs.declared.form.Term.{Term}
 use Rattle.mon_linear.specs.declared.formula.Formula.{Formula}
 use Rattle.mon_linear.specs.declared.formula.Formula.TheVariants as formulas
-use Rattle.mon_linear.specs.declared.formula.Formula.TheOpen.{Row, Flag, All as Every, Any as Some_of}
+use Rattle.mon_linear.specs.declared.formula.Formula.TheOpen.{All as Every, Any as Some_of}
 use Rattle.mon_linear.specs.declared.formula.Formula.TheFolds.{fold-roll-Formula}
-use Rattle.mon_linear.specs.Linear.{Linear, same_term}
+use Rattle.mon_linear.specs.Linear.{Linear}
 use Rattle.mon_linear.specs.Places.{rows_layer, rows_of}
 use Rattle.mon_monitor.specs.declared.monitor.Block.{Block}
-use Rattle.mon_monitor.specs.Candidates.{around, bound_of, distinct, guard_bounds, once, opposite, pool, pool_limit}
+use Rattle.mon_monitor.specs.Candidates.{around, bound_of, distinct, guard_bounds, pool, pool_limit}
 use Rattle.mon_prune.proofs.ListSteps.{one_more}
-use Rattle.mon_prune.specs.inner.Numbers.{bound_of_term, formula_numbers, row_numbers, with_number}
+use Rattle.mon_prune.specs.inner.Numbers.{formula_numbers, row_numbers, with_number}
 
 -- ---- formulas
 

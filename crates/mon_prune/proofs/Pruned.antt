@@ -1,19 +1,19 @@
 -- What is left after rounds, and that it is an invariant, with few limits the greatest.
-use Rattle.std.proofs.Common.{◌≡◌, ℕ, ◌<◌, Bool, true, false, List, map, length, get_or, sym, subst, arith, ap, refl, ◌∙◌}
+use Rattle.std.proofs.Common.{◌≡◌, true, List, length, get_or, sym, subst}
 use Rattle.std.specs.List.{All, Contains, filter}
 use Rattle.std.proofs.lemmas.Bool.{true_from_ne_false}
-use Rattle.std.proofs.lemmas.List.Elements.{All-contains, All-get_or, Contains-get_or, filter_passes}
+use Rattle.std.proofs.lemmas.List.Elements.{All-contains, Contains-get_or, filter_passes}
 use Rattle.mon_monitor.specs.declared.candidate.Candidate.{Candidate}
 use Rattle.mon_monitor.specs.declared.claim.Claim.TheVariants as claims
-use Rattle.mon_monitor.specs.Candidates.{AllHold, AreSomeOf, candidate_truth, candidates_of}
+use Rattle.mon_monitor.specs.Candidates.{AreSomeOf, candidate_truth, candidates_of}
 use Rattle.mon_monitor.specs.MonitorParts.{MonitorParts, start_of}
 use Rattle.mon_monitor.specs.Queries.{query_of}
-use Rattle.mon_monitor.specs.Triples.{IsInductive, Keeps}
+use Rattle.mon_monitor.specs.Triples.{Keeps}
 use Rattle.mon_wp.specs.Hardness.{IsSmall, is_easy}
 use Rattle.mon_wp.proofs.FewerKept.{fewer_no_harder, more_keep_valid, some_contained}
 use Rattle.mon_prune.specs.declared.kept.Kept.{Kept}
-use Rattle.mon_prune.specs.Invariants.{AreProofs, ContainsEasy, IsGreatest, IsInSome, IsInvariant, NoneIsHard}
-use Rattle.mon_prune.specs.inner.Asking.{AllKeep, IsEasyAt, MustStay}
+use Rattle.mon_prune.specs.Invariants.{ContainsEasy, IsGreatest, IsInvariant, NoneIsHard}
+use Rattle.mon_prune.specs.inner.Asking.{MustStay}
 use Rattle.mon_prune.specs.inner.Pruning.{IsLeft, IsRoundOf}
 use Rattle.mon_prune.proofs.SomeOf.{filter_contains, some_filter, some_hold, some_same, some_trans}
 

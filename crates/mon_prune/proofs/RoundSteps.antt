@@ -1,11 +1,11 @@
 -- Proofs of kept candidates, found one after the other, and rounds.
-use Rattle.std.proofs.Common.{◌≡◌, ◌⊎◌, inl, inr, ℕ, zero, suc, ◌+◌, ◌<◌, ◌≤◌, true, List, [], ◌∷◌, ◌++◌, map, length, get_or, Option, Some, None, sym, subst, arith, ap, refl, ◌∙◌}
-use Rattle.std.specs.List.{All, Contains, flat_map, list_all, range_with_len}
+use Rattle.std.proofs.Common.{◌≡◌, ◌⊎◌, inl, inr, ℕ, zero, suc, ◌+◌, ◌<◌, List, [], ◌∷◌, ◌++◌, map, length, get_or, Option, Some, None, sym, subst, arith, ap, refl, ◌∙◌}
+use Rattle.std.specs.List.{Contains, list_all, range_with_len}
 use Rattle.std.proofs.lemmas.Bool.{cases_order}
-use Rattle.std.proofs.lemmas.List.{append-nil, append_assoc, map-append}
+use Rattle.std.proofs.lemmas.List.{append-nil, map-append}
 use Rattle.std.proofs.lemmas.List.Concat.{flat_map-append}
 use Rattle.std.proofs.lemmas.List.Recursion.{and_at}
-use Rattle.std.proofs.lemmas.List.Elements.{All-nil, All-append, All-push, All-weaker, Contains-append_left, Contains-push}
+use Rattle.std.proofs.lemmas.List.Elements.{All-append, All-push, All-weaker, Contains-append_left, Contains-push}
 use Rattle.mon_monitor.specs.declared.candidate.Candidate.{Candidate}
 use Rattle.mon_monitor.specs.declared.claim.Claim.{Claim}
 use Rattle.mon_monitor.specs.declared.claim.Claim.TheVariants as claims
@@ -16,10 +16,10 @@ use Rattle.mon_monitor.specs.Queries.{keeps_query}
 use Rattle.mon_monitor.specs.Triples.{Keeps}
 use Rattle.mon_prune.specs.declared.kept.Kept.{Kept}
 use Rattle.mon_cert.specs.declared.cert.Cert.{Cert}
-use Rattle.mon_prune.specs.Invariants.{AreProofs, IsDecision, Proves, claim_of, keeps_claims}
+use Rattle.mon_prune.specs.Invariants.{IsDecision, Proves, claim_of, keeps_claims}
 use Rattle.mon_wp.specs.Expressible.{is_expressible}
 use Rattle.mon_wp.specs.QueryPlaces.{is_of_fields}
-use Rattle.mon_prune.specs.inner.Asking.{AllKeep, AreAskable, AreFound, IsAskable, AreProofsBelow, IsFoundAt, IsProofAt, MustStay}
+use Rattle.mon_prune.specs.inner.Asking.{AllKeep, AreAskable, IsAskable, AreProofsBelow, IsFoundAt, IsProofAt, MustStay}
 use Rattle.mon_prune.specs.inner.Pruning.{IsRoundOf}
 use Rattle.mon_prune.proofs.SomeOf.{some_more, some_pass, some_push}
 

@@ -1,9 +1,8 @@
 -- Which candidates are true at the start.
-use Rattle.std.proofs.Common.{◌≡◌, ℕ, ◌<◌, ◌≤◌, ℤ, pos, neg_ℤ, ◌+ℤ◌, ◌*ℤ◌, Bool, true, false, not, cond, List, [], ◌∷◌, map, length, sym, subst, arith, ap, refl, ◌∙◌}
+use Rattle.std.proofs.Common.{◌≡◌, ℕ, ℤ, pos, neg_ℤ, ◌+ℤ◌, ◌*ℤ◌, Bool, true, false, not, cond, List, [], ◌∷◌, sym, arith, ap, refl, ◌∙◌}
 use Rattle.std.specs.Prelude.{int_le, nat_lt}
 use mathlib.Core.Bool.{beq}
 use Rattle.std.proofs.lemmas.Int.{ints}
-use Rattle.mon_linear.specs.declared.formula.Formula.{Formula}
 use Rattle.mon_linear.specs.declared.formula.Formula.TheVariants as formulas
 use Rattle.mon_linear.specs.declared.formula.Formula.TheOpen.{Row, Flag}
 use Rattle.mon_linear.specs.declared.formula.Formula.TheFolds.{fold-roll-Formula}
@@ -13,7 +12,7 @@ use Rattle.mon_base.specs.declared.value.Value.{Value}
 use Rattle.mon_monitor.specs.declared.candidate.Candidate.{Candidate}
 use Rattle.mon_monitor.specs.declared.candidate.Candidate.TheVariants as candidates
 use Rattle.mon_monitor.specs.Bodies.{number_of_value, truth_of_value, valuation, value_at}
-use Rattle.mon_monitor.specs.Candidates.{candidate_truth, difference_terms, once, opposite}
+use Rattle.mon_monitor.specs.Candidates.{candidate_truth, once, opposite}
 
 abbrev number_in : List Value → ℕ → ℤ
 number_in state field = number_of_value (value_at state [] field)

@@ -1,10 +1,9 @@
 //! The numbers with which guards compare a field.
 
-ghost use Rattle.std.specs.Prelude.{◌≡◌, ◌++◌, ◌^◌, ◌∷◌, ℤ, pos, IfOk, IfSome, OnOk, true, []};
+ghost use Rattle.std.specs.Prelude.{◌≡◌, ◌++◌, ◌^◌, ◌∷◌, pos, IfOk, IfSome, OnOk, true};
 ghost use Rattle.std.specs.List.{flat_map};
 ghost use Rattle.std.specs.Option.{option_to_list};
 ghost use Rattle.mon_base.specs.Numbers.{is_within};
-ghost use Rattle.mon_linear.specs.Linear.{IsLinear};
 ghost use Rattle.mon_monitor.specs.Candidates.{around, bound_of, guard_bounds};
 ghost use Rattle.mon_prune.specs.inner.Numbers.{bound_of_term, formula_numbers, row_numbers};
 

@@ -36,7 +36,8 @@ fn pruned(alloc: Global, monitor: &Monitor, first: Vec<Candidate>) -> Result<Rou
 
 /// The candidates that are true at the start and that each block keeps under all of them, with a proof for each of them
 /// and each block. It contains every invariant of the monitor's candidates of which the prover can decide each query,
-/// and so for a small monitor it is the greatest invariant of its candidates. It fails only for want of memory.
+/// and so for a small monitor it is the greatest invariant of its candidates. The makers of queries take what is kept.
+/// It fails only for want of memory.
 ///
 /// The candidates that are false at the start are dropped, and then in rounds those that some block is not found to
 /// keep under all that are left, until a round drops none. A round asks one query for each candidate that is left and

@@ -1,10 +1,6 @@
 //! Rounds, each of which drops the candidates that some block may not keep.
 
-ghost use Rattle.std.specs.Prelude.{◌≡◌, ◌<◌, ◌++◌, ◌∷◌, [], List, IfOk, OnOk, true, length};
-ghost use Rattle.std.specs.List.{list_all};
-ghost use Rattle.mon_monitor.specs.declared.candidate.Candidate.{Candidate};
-ghost use Rattle.mon_wp.specs.Expressible.{is_expressible};
-ghost use Rattle.mon_wp.specs.QueryPlaces.{is_of_fields};
+ghost use Rattle.std.specs.Prelude.{◌≡◌, ◌<◌, ◌++◌, ◌∷◌, [], IfOk, OnOk, length};
 ghost use Rattle.mon_prune.specs.inner.Asking.{AreAskable, AreFound, IsAskable, IsFoundAt};
 ghost use Rattle.mon_prune.specs.inner.Pruning.{IsRound, IsTurn};
 

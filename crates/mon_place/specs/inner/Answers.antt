@@ -1,5 +1,5 @@
 -- What is known of a plan once the prover has answered.
-use Rattle.std.specs.Prelude.{◌≡◌, ◌↔◌, ℕ, ◌-◌, ◌≤◌, true, not, List, ◌∷◌, [], ◌++◌, map, length, Option, Some, None, slice_get, All}
+use Rattle.std.specs.Prelude.{◌≡◌, ℕ, ◌-◌, ◌≤◌, true, not, List, ◌∷◌, [], ◌++◌, map, length, Option, Some, None, slice_get, All}
 use Rattle.std.specs.List.{list_all, filter, enumerate_from, range_with_len}
 use Rattle.mon_monitor.specs.declared.candidate.Candidate.{Candidate}
 use Rattle.mon_monitor.specs.declared.claim.Claim.{Claim}

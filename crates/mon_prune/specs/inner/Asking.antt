@@ -1,5 +1,5 @@
 -- What is asked of blocks, and what is found.
-use Rattle.std.specs.Prelude.{◌≡◌, ℕ, ◌<◌, true, List, [], ◌∷◌, map, length, All, Option, Some, None}
+use Rattle.std.specs.Prelude.{◌≡◌, ℕ, ◌<◌, true, List, map, length, All, Option, Some, None}
 use Rattle.std.specs.List.{list_all, range_with_len}
 use Rattle.mon_monitor.specs.declared.candidate.Candidate.{Candidate}
 use Rattle.mon_monitor.specs.declared.claim.Claim.TheVariants as claims
@@ -10,7 +10,7 @@ use Rattle.mon_wp.specs.Expressible.{is_expressible}
 use Rattle.mon_wp.specs.Hardness.{is_easy}
 use Rattle.mon_wp.specs.QueryPlaces.{is_of_fields}
 use Rattle.mon_prune.specs.declared.kept.Kept.{Kept}
-use Rattle.mon_prune.specs.Invariants.{AreProofs, Proves, claim_of}
+use Rattle.mon_prune.specs.Invariants.{Proves, claim_of}
 
 -- ---- what may be asked
 

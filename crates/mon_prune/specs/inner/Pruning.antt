@@ -1,5 +1,5 @@
 -- Rounds: what stays of the candidates, and what is known of those that are left.
-use Rattle.std.specs.Prelude.{ℕ, List, [], ◌∷◌, ◌++◌, All}
+use Rattle.std.specs.Prelude.{List, [], ◌∷◌, ◌++◌, All}
 use Rattle.std.specs.List.{Contains}
 use Rattle.mon_monitor.specs.declared.candidate.Candidate.{Candidate}
 use Rattle.mon_monitor.specs.Candidates.{AllHold, AreSomeOf, candidates_of}

@@ -1,8 +1,5 @@
-use Rattle.std.proofs.Common.{List, Option, subst}
-use Rattle.std.specs.Prelude.{option_map}
 use Rattle.mon_events.specs.declared.plan.CondKind.TheVariants as kinds
 use Rattle.mon_place.specs.Backing.{kind_claims}
-use Rattle.mon_place.specs.inner.Answers.{AreOfClass}
 use Rattle.mon_place.proofs.Placing.{adds_proofs}
 use Rattle.mon_place.proofs.kinds.kind_of.Goals as goal
 

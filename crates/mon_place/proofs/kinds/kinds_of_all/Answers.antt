@@ -1,4 +1,4 @@
-use Rattle.std.proofs.Common.{ℕ, ◌+◌, length, List, ap, arith}
+use Rattle.std.proofs.Common.{ℕ, ◌+◌, arith}
 use Rattle.std.proofs.lemmas.Grind.{common_steps}
 use Rattle.mon_events.specs.declared.plan.CondKind.{CondKind}
 use Rattle.mon_place.specs.Backing.{kind_claims}

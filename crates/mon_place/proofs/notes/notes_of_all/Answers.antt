@@ -1,4 +1,4 @@
-use Rattle.std.proofs.Common.{ℕ, ◌+◌, length, List, arith}
+use Rattle.std.proofs.Common.{ℕ, length, List, arith}
 use Rattle.std.proofs.lemmas.Grind.{common_steps}
 use Rattle.mon_events.specs.declared.plan.Note.{Note}
 use Rattle.mon_place.specs.Backing.{unnoted_claims, untested_claims}

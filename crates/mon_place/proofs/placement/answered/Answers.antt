@@ -1,22 +1,19 @@
 use Rattle.std.proofs.Common.{◌≡◌, ℕ, List, map, sym, ap, subst, ◌∙◌}
 use Rattle.std.specs.List.{enumerate_from, flat_map}
 use Rattle.mon_monitor.specs.declared.candidate.Candidate.{Candidate}
-use Rattle.mon_monitor.specs.Candidates.{candidates_of}
 use Rattle.mon_events.specs.declared.plan.CondKind.{CondKind}
 use Rattle.mon_events.specs.declared.plan.Note.{Note}
 use Rattle.mon_events.specs.declared.plan.Plan.{Plan}
-use Rattle.mon_prune.specs.declared.kept.Kept.{Kept}
 use Rattle.mon_prune.specs.Invariants.{keeps_claims}
-use Rattle.mon_place.specs.declared.placed.Proof.{Proof}
 use Rattle.mon_place.specs.Backing.{AreProofs, backed_claims, kind_claims, unnoted_claims, untested_claims}
 use Rattle.mon_place.specs.inner.Answers.{AreAskable, AreKinds, AreNotesOfEach, IsAnswered, proof_of_kept}
 use Rattle.mon_place.proofs.Backed.{proofs_back}
-use Rattle.mon_place.proofs.Placing.{askable, kept_proofs, proofs_of_plan}
+use Rattle.mon_place.proofs.Placing.{kept_proofs, proofs_of_plan}
 use Rattle.mon_place.proofs.placement.answered.Goals as goal
 use Rattle.mon_place.proofs.placement.answered.Goals.{In_ok-kept, After-of-3}
 
 may_ask : (c : In_ok-kept) → AreAskable c.in_ok-kept.field-0.kept
-may_ask c = askable c.in_ok-kept.field-0.kept (candidates_of c.args.monitor.now) c.in_ok-kept.ensures.invariant.candidates c.read_candidates.ensures
+may_ask c = record { expressible = c.in_ok-kept.ensures.expressible; of_fields = c.in_ok-kept.ensures.of_fields }
 
 pub kinds_of_all-requires : goal.kinds_of_all-requires
 kinds_of_all-requires c = subst AreAskable (sym c.items.ensures) (may_ask (goal.at.kinds_of_all-requires c).In_ok-kept)

@@ -1,4 +1,3 @@
-use Rattle.std.proofs.Common.{rules}
 use Rattle.mon_monitor.specs.Candidates.{candidates_of}
 use Rattle.mon_wp.specs.Expressible.{is_expressible}
 use Rattle.mon_wp.specs.QueryPlaces.{is_of_fields}

@@ -1,4 +1,4 @@
-use Rattle.std.proofs.Common.{ℕ, ◌<◌, ◌≤◌, ◌≡◌, List, length, rules, arith, subst}
+use Rattle.std.proofs.Common.{◌≡◌, List, length, rules, arith, subst}
 use Rattle.mon_monitor.specs.declared.candidate.Candidate.{Candidate}
 use Rattle.mon_monitor.specs.Candidates.{candidates_of}
 use Rattle.mon_prune.specs.inner.Pruning.{IsRoundOf}
