@@ -8,3 +8,4 @@ pub mod Seating
 pub mod Calling
 pub mod Gathering
 pub mod Readiness
+pub mod Crossing

@@ -8,6 +8,7 @@ ghost use Rattle.mon_lock.specs.inner.Queueing.{IsIdle, view};
 ghost use Rattle.mon_lock.specs.inner.Ends.{EndsWith};
 ghost use Rattle.mon_lock.specs.inner.Gathered.{Gathered};
 
+use super::bell::Bells;
 use super::lock::Lock;
 use super::pass::Pass;
 use super::rule::{MACHINE, Place};
@@ -27,6 +28,7 @@ impl Lock {
         ensures whole { IfOk result (λ made.
             made.1.me ≡ (view Idle passes (newly_known free), [])) }
     {
+        let bells = Bells::open(alloc)?;
         let terms = Terms {
             start: Snapshot::of(&free),
             passes: u64::from(passes),
@@ -35,7 +37,7 @@ impl Lock {
         let mut slots = Vec::with_capacity(alloc, 1)?;
         slots.push_reserved(free);
         match Table::new(alloc, &[0, 0, count], slots, &terms) {
-            Ok((board, place)) => Ok((Lock { board }, place)),
+            Ok((board, place)) => Ok((Lock { board, bells }, place)),
             Err(_refused) => Err(AllocError),
         }
     }
@@ -61,7 +63,7 @@ impl Lock {
         requires all { place.me.0.parts ≡ self.board.shared.key.passes }
         ensures { EndsWith self.board.shared.key.start.value place.me.0.known result }
     {
-        let Lock { board } = self;
+        let Lock { board, bells: _ } = self;
         let mut closed = board.close_with(place);
         let free = closed.take(MACHINE);
         closed.free();

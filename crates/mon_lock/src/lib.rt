@@ -6,6 +6,7 @@
 //! `specs/Closing` (what stands in the log at the end); `specs/inner/Queueing` (the rule between any two steps).
 #![tactic(auto)]
 
+mod bell;
 mod ends;
 mod gate;
 mod lock;
@@ -20,3 +21,6 @@ pub use pass::Pass;
 pub use receipt::Receipt;
 pub use shared::SharedMonitor;
 pub use view::Knowledge;
+
+#[cfg(test)]
+mod tests;

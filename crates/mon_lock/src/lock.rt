@@ -11,6 +11,7 @@ ghost use Rattle.mon_lock.specs.inner.Steps.{told};
 ghost use Rattle.mon_lock.specs.inner.Turns.{HasMonitor, IsHolding, IsMade, IsNotMade};
 ghost use Rattle.mon_lock.specs.inner.Turns.{IsWaiting, MakesShared, TurnComes, TurnIsHere};
 
+use super::bell::Bells;
 use super::receipt::Receipt;
 use super::rule::{
     Board, COUNT, Call, Draw, MACHINE, NEXT, Observe, OnePart, Place, Publish, Release, SERVING,
@@ -19,10 +20,15 @@ use crossbeam_utils::Backoff;
 use mon_explicit::{NotReady, Section};
 use std::sync::Wait;
 
-/// The words, the slot and the rule that they keep.
+/// How often a seat looks whether its ticket is served, with longer and longer pauses, before it sleeps. It never yields in
+/// between: a seat that yields gets its processor back too late for its turn, where there are more threads than processors.
+const LOOKS: u32 = 6;
+
+/// The words, the slot and the rule that they keep; and the bells, which tell nothing and only save a wait its processor.
 #[derive(Drop)]
 pub struct Lock {
     pub board: Board,
+    pub bells: Bells,
     ghost words: { board.shared.table_id.words ≡ 3 },
     ghost slots: { board.shared.table_id.slots ≡ 1 },
     ghost some_pass: { 0 < board.shared.key.passes },
@@ -58,7 +64,25 @@ impl Lock {
         self.board.shared.load::<Call>(place, SERVING) == ticket
     }
 
-    /// Waits until the ticket is served.
+    /// Sleeps until the ticket's bell is rung, unless the ticket is served: then the seat has the turn, and the monitor.
+    fn sleep<R: Wait>(&self, rt: &R, place: &mut Place, ticket: u64) -> bool
+        requires own { place.old.table_id ≡ self.now.board.shared.table_id }
+        requires waits { (t : ℕ) × (ticket ≡ t % 2 ^ 64) × (place.old.me.0.stage ≡ Waiting t) }
+        requires live { 0 < place.old.me.0.parts }
+        ensures own { place.new.table_id ≡ place.old.table_id }
+        ensures turn { TurnComes ticket place.old.me place.new.me result }
+    {
+        let bell = self.bells.of(ticket);
+        let rung = bell.enter();
+        let comes = self.call(place, ticket);
+        if !comes {
+            bell.sleep(rt, rung);
+        }
+        bell.leave();
+        comes
+    }
+
+    /// Waits until the ticket is served. It looks a few times, and then sleeps between looks.
     fn wait<R: Wait>(&self, rt: &R, place: &mut Place, ticket: u64)
         requires own { place.old.table_id ≡ self.now.board.shared.table_id }
         requires waits { (t : ℕ) × (ticket ≡ t % 2 ^ 64) × (place.old.me.0.stage ≡ Waiting t) }
@@ -67,11 +91,17 @@ impl Lock {
         ensures turn { TurnIsHere ticket place.old.me place.new.me }
     {
         let backoff = Backoff::new();
+        let mut looks = 0;
         for _ in rt.forever() {
             if self.call(place, ticket) {
                 return;
             }
-            backoff.snooze();
+            if looks < LOOKS {
+                looks += 1;
+                backoff.spin();
+            } else if self.sleep(rt, place, ticket) {
+                return;
+            }
         }
         unreachable!()
     }
@@ -147,7 +177,7 @@ impl Lock {
         }
     }
 
-    /// Gives the monitor back, and serves the next ticket.
+    /// Gives the monitor back, serves the next ticket, and rings its bell.
     fn unlock(&self, place: &mut Place)
         requires own { place.old.table_id ≡ self.now.board.shared.table_id }
         requires turn { HasMonitor place.old.me }
@@ -156,7 +186,8 @@ impl Lock {
         ensures parts { place.new.me.0.parts ≡ place.old.me.0.parts }
         ensures known { place.new.me.0.known ≡ place.old.me.0.known }
     {
-        self.board.shared.fetch_add::<Release>(place, SERVING, 1);
+        let served = self.board.shared.fetch_add::<Release>(place, SERVING, 1);
+        self.bells.ring(served.wrapping_add(1));
     }
 
     /// A section, from no ticket to no ticket.

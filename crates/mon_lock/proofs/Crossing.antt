@@ -1,0 +1,15 @@
+-- A shared monitor may be used by many threads at once, and a pass may go from one to another.
+use denote.Param.Send.{IsSend, IsSync, sendable}
+use Rattle.std.proofs.Crossing.{crosses, send}
+use Rattle.atomic_table.proofs.shared.Seat.TheSendSync.{the_send as seat_send}
+use Rattle.atomic_table.proofs.shared.Shared.TheSendSync.{the_sync as table_sync}
+use Rattle.atomic_table.proofs.send_lease.SendLease.TheSendSync.{the_sync as lease_sync}
+use Rattle.mon_explicit.proofs.Crossing.{free_send}
+use Rattle.mon_lock.specs.contracts.pass.Pass as pass
+use Rattle.mon_lock.specs.contracts.shared.SharedMonitor as shared
+
+pub shared_sync : IsSync shared.the_field.row
+shared_sync = let a = free_send in search (table_sync, lease_sync, crosses, send, sendable) depth 60 fits 20000
+
+pub pass_send : IsSend pass.the_field.row
+pass_send = let a = free_send in search (seat_send, crosses, sendable) depth 60 fits 20000
