@@ -1,0 +1,3 @@
+pub mod Tickets
+pub mod Hands
+pub mod inner
