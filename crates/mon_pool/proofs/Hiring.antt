@@ -1,0 +1,25 @@
+-- What a worker has of its passes.
+use Rattle.std.proofs.Common.{◌≡◌, List, [], ◌∷◌, ◌++◌, ap}
+use Rattle.std.specs.List.{All}
+use Rattle.std.proofs.lemmas.List.Elements.{All-nil, All-cons, All-head, All-tail}
+use Rattle.mon_queue.specs.Tickets.{PassView, new_pass}
+use Rattle.mon_pool.specs.declared.shop.Shop.{Shop}
+use Rattle.mon_pool.specs.declared.worker.Worker.{Worker}
+use Rattle.mon_pool.specs.inner.Workers.{IsPlace, IsWorker}
+
+pub hired : (shop : Shop) (worker : Worker) → IsPlace shop worker.place → worker.tickets ≡ new_pass shop.queue → IsWorker shop worker
+hired shop worker place new = record {
+  place = place;
+  queue = ap (λ (p : PassView). p.queue) new;
+  idle = ap (λ (p : PassView). p.tickets) new;
+}
+
+pub has_place : (shop : Shop) (worker : Worker) → IsWorker shop worker → worker.place.lock ≡ shop.monitor.lock
+has_place shop worker own = own.place.lock
+
+-- all of a list, and the last
+pub all_parted : {X : Type 0} (P : X → Type 0) (xs : List X) (x : X) → All P (xs ++ x ∷ []) → All P xs × P x
+all_parted P [] x all = (All-nil P, All-head P x [] all)
+all_parted P (y ∷ ys) x all =
+    let more = all_parted P ys x (All-tail P y (ys ++ x ∷ []) all) in
+    (All-cons P y ys (All-head P y (ys ++ x ∷ []) all) more.0, more.1)

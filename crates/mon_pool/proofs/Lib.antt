@@ -1,0 +1,4 @@
+pub mod Systems
+pub mod Following
+pub mod Hiring
+pub mod Crossing

@@ -1,0 +1,90 @@
+//! Who is awake, and who is in whose way. No clause rests on it.
+//!
+//! Sections are made one at a time, so one worker alone runs a monitor fastest; the others are there for when it is held
+//! at its gate. So a worker that comes while another is at the monitor goes away again, and dozes where two others are
+//! awake. Whoever leaves nobody awake, to be held at the gate or at its end, wakes one: what is to be done is never left
+//! to those that doze.
+
+use std::sync::Wait;
+use std::sync::atomic::{AtomicU64, Ordering};
+
+/// The fewest workers that stay awake, where there are so many: one at the monitor, and one that looks whether it is held.
+const FEWEST_AWAKE: u64 = 2;
+
+/// How many workers are awake and not at their gates, how many doze or are about to, their bell, and how many are at the
+/// monitor.
+#[derive(Drop)]
+pub struct Bench {
+    awake: AtomicU64,
+    dozing: AtomicU64,
+    rung: AtomicU64,
+    busy: AtomicU64,
+}
+
+impl Bench {
+    /// So many workers, all awake.
+    pub fn new(workers: u64) -> Bench {
+        Bench {
+            awake: AtomicU64::new(workers),
+            dozing: AtomicU64::new(0),
+            rung: AtomicU64::new(0),
+            busy: AtomicU64::new(0),
+        }
+    }
+
+    /// An awake worker goes to its gate, where it may be held.
+    pub fn go_to_gate(&self) {
+        let others = self.awake.fetch_sub(1, Ordering::SeqCst) > 1;
+        if !others && self.dozing.load(Ordering::SeqCst) > 0 {
+            self.rung.fetch_add(1, Ordering::SeqCst);
+            self.rung.wake_one();
+        }
+    }
+
+    /// A worker is back from its gate.
+    pub fn come_back(&self) {
+        self.awake.fetch_add(1, Ordering::SeqCst);
+    }
+
+    /// A worker comes to the monitor. Whether no other is there.
+    pub fn come_to_monitor(&self) -> bool {
+        self.busy.fetch_add(1, Ordering::SeqCst) == 0
+    }
+
+    /// A worker leaves the monitor.
+    pub fn leave_monitor(&self) {
+        self.busy.fetch_sub(1, Ordering::SeqCst);
+    }
+
+    /// An awake worker dozes until it is wanted, where enough others are awake. Whether it did; it may wake for no reason.
+    ///
+    /// It is counted among those that doze before it is no more among the awake: who leaves nobody awake then sees it.
+    pub fn doze<R: Wait>(&self, rt: &R) -> bool {
+        let rung = self.rung.load(Ordering::SeqCst);
+        self.dozing.fetch_add(1, Ordering::SeqCst);
+        let dozes = self.lies_down();
+        if dozes {
+            self.rung.park(rt, (rung & u64::from(u32::MAX)) as u32);
+            self.awake.fetch_add(1, Ordering::SeqCst);
+        }
+        self.dozing.fetch_sub(1, Ordering::SeqCst);
+        dozes
+    }
+
+    /// One less is awake, where enough others are, and no other worker changed how many just now.
+    fn lies_down(&self) -> bool {
+        let awake = self.awake.load(Ordering::SeqCst);
+        awake > FEWEST_AWAKE
+            && self
+                .awake
+                .compare_exchange(awake, awake - 1, Ordering::SeqCst, Ordering::SeqCst)
+                .is_ok()
+    }
+
+    /// An awake worker ends, since the work is done: the others look for themselves.
+    pub fn end(&self) {
+        self.awake.fetch_sub(1, Ordering::SeqCst);
+        self.rung.fetch_add(1, Ordering::SeqCst);
+        self.rung.wake_all();
+    }
+}

@@ -1,0 +1,96 @@
+//! A monitor is run by workers.
+
+ghost use Rattle.std.specs.Prelude.{◌≡◌, ◌≤◌, ◌<◌, IfOk, length};
+ghost use Rattle.std.specs.List.{All};
+ghost use Rattle.mon_base.specs.Limits.{WORKERS};
+ghost use Rattle.mon_events.specs.Logs.{IsClosed};
+ghost use Rattle.mon_explicit.specs.Sections.{HasEnded, HoldsAlways};
+ghost use Rattle.mon_lock.specs.Growth.{Follows};
+ghost use Rattle.mon_pool.specs.inner.Workers.{IsWorker};
+
+use super::bench::Bench;
+use super::crew::{dismiss, hire};
+use super::hints::Hints;
+use super::shop::Shop;
+use super::worker::{Worker, work};
+use mon_explicit::FreeMonitor;
+use mon_lock::{Gate, SharedMonitor};
+use mon_queue::ReadyQueue;
+use mon_simulate::rounds;
+use std::alloc::{AllocError, Global};
+use std::sync::Wait;
+use std::thread;
+use std::thread::Threads;
+
+/// Runs a monitor by so many workers, from 1 to 16, each in a thread of its own, until it is closed. The gate is called
+/// ahead of each section that a worker tries, with no lock held. The answer is closed for every schedule of the
+/// threads. It takes all memory first, and fails only for want of memory; the monitor is dropped then.
+#[tactic(auto, using(crate::proofs::Following::follows_extended))]
+pub fn run_pool<R: Threads + Wait + Sync, G: Gate>(
+    rt: &R,
+    alloc: Global,
+    free: FreeMonitor,
+    workers: u32,
+    gate: &G,
+) -> Result<FreeMonitor, AllocError>
+    requires some { 1 ≤ workers }
+    requires few { workers ≤ WORKERS }
+    ensures follows { IfOk result (Follows free) }
+    ensures closed { IfOk result (λ last. IsClosed last.system last.now) }
+    ensures ends { IfOk result HasEnded }
+    ensures always { IfOk result HoldsAlways }
+{
+    let mut last = share(rt, alloc, free, workers, gate)?;
+    rounds(&mut last);
+    Ok(last)
+}
+
+/// Shares a monitor among workers, and takes it back when they have ended.
+fn share<R: Threads + Wait + Sync, G: Gate>(
+    rt: &R,
+    alloc: Global,
+    free: FreeMonitor,
+    workers: u32,
+    gate: &G,
+) -> Result<FreeMonitor, AllocError>
+    requires some { 1 ≤ workers }
+    requires few { workers ≤ WORKERS }
+    ensures { IfOk result (Follows free) }
+{
+    let clients = free.scripts().clients().len() as u32;
+    let hints = Hints::open(alloc, clients)?;
+    let (queue, tickets) = ReadyQueue::open(alloc, clients, workers)?;
+    let mut crew = Vec::with_capacity(alloc, workers as usize)?;
+    let mut back = Vec::with_capacity(alloc, workers as usize)?;
+    let (monitor, places) = SharedMonitor::open(alloc, free, workers)?;
+    let shop = Shop {
+        monitor,
+        queue,
+        hints,
+        bench: Bench::new(u64::from(workers)),
+        clients,
+    };
+    hire(&shop, places, tickets, &mut crew);
+    work_all(rt, &shop, gate, crew.as_mut_slice());
+    dismiss(&shop, crew, &mut back);
+    Ok(shop.into_monitor().close(back))
+}
+
+/// Each worker works in a thread of its own.
+fn work_all<R: Threads + Wait + Sync, G: Gate>(rt: &R, shop: &Shop, gate: &G, crew: &mut [Worker])
+    requires some { 0 < length crew.old }
+    requires own { All (IsWorker shop.now) crew.old }
+    ensures len { length crew.new ≡ length crew.old }
+    ensures own { All (IsWorker shop.now) crew.new }
+{
+    let threads = crew.len();
+    thread::for_each_mut(
+        rt,
+        crew,
+        threads,
+        &|_, worker: &mut Worker|
+            requires { IsWorker shop.now worker.now }
+            ensures { IsWorker shop.entry.now worker.exit.now }
+        { work(rt, shop, gate, worker) },
+    );
+}
