@@ -1,0 +1,85 @@
+-- The words of a command.
+use Rattle.std.proofs.Common.{◌≡◌, ℕ, ◌≤◌, List, [], ◌∷◌, Option, Some, None, option_map, ap, sym, subst, ◌∙◌, arith}
+use Rattle.std.specs.Prelude.{Result, Ok, Err, IfOk, ok_or}
+use Rattle.std.proofs.lemmas.Option.{none-some, same_Some}
+use Rattle.clap.specs.Words.{fault_of}
+use Rattle.clap.specs.declared.error.kind.ErrorKind.{ErrorKind}
+use Rattle.mon_base.specs.Limits.{MOST_EXTRA, WORKERS}
+use Rattle.mon_command.specs.declared.schedule.Schedule.TheVariants.{Drawn}
+use Rattle.mon_command.specs.CommandLine.{Command, simulate, run, stress, Given, IsGiven, IsSpurious, IsWorkers, Takes, TakesNone, program}
+use Rattle.mon_command.specs.inner.Asked.{command_if}
+use Rattle.mon_command.proofs.Asking.{command_found, command_asks}
+
+-- the words give one thing for each argument
+given_same : (words : List (List ℕ)) (one other : Given) → IsGiven words one → IsGiven words other → one ≡ other
+given_same words one other is also =
+    let command : one.command ≡ other.command = same_Some one.command other.command (sym is.command_is ∙ also.command_is) in
+    let values : one.values ≡ other.values = sym is.values_are ∙ also.values_are in
+    let seed : one.seed ≡ other.seed = sym is.seed_is ∙ also.seed_is in
+    let spurious : one.spurious ≡ other.spurious = sym is.spurious_is ∙ also.spurious_is in
+    let workers : one.workers ≡ other.workers = sym is.workers_is ∙ also.workers_is in
+    λ i. record { command = command i; values = values i; seed = seed i; spurious = spurious i; workers = workers i }
+
+-- what words take is what is computed of what they give
+taken_found : (words : List (List ℕ)) (given : Given) (command : Command) → IsGiven words given → Takes words command → command_if given ≡ Some command
+taken_found words given command is (other, also, asks) = ap command_if (given_same words given other is also) ∙ command_found other command asks
+
+pub one_taken : (words : List (List ℕ)) (command other : Command) → Takes words command → Takes words other → command ≡ other
+one_taken words command other (given, is, asks) taken =
+    same_Some command other (sym (command_found given command asks) ∙ taken_found words given other is taken)
+
+-- ---- how the reading ends
+
+pub found_taken : {C E : Type 0} (meant : C → Command) (words : List (List ℕ)) (given : Given) (o : Option C) (fault : E) (r : Result C E)
+    → IsGiven words given → option_map meant o ≡ command_if given → r ≡ ok_or o fault → IfOk r (λ c. Takes words (meant c))
+found_taken meant words given None fault r is found ended = subst (λ (r : Result _ _). IfOk r (λ c. Takes words (meant c))) (sym ended) tt
+found_taken meant words given (Some c) fault r is found ended =
+    subst (λ (r : Result _ _). IfOk r (λ c. Takes words (meant c))) (sym ended) (given, is, command_asks given (meant c) (sym found))
+
+ok_not_err : {C E : Type 0} (c : C) (e : E) → Ok c ≡ Err e → ⊥
+ok_not_err c e p = cc
+
+pub none_taken : {C E : Type 0} (meant : C → Command) (words : List (List ℕ)) (given : Given) (o : Option C) (fault usage : E) (r : Result C E)
+    → IsGiven words given → option_map meant o ≡ command_if given → r ≡ ok_or o fault → r ≡ Err usage → TakesNone words
+none_taken meant words given None fault usage r is found ended err command taken = none-some command (found ∙ taken_found words given command is taken)
+none_taken meant words given (Some c) fault usage r is found ended err command taken = absurd (ok_not_err c usage (sym ended ∙ err))
+
+-- words that give nothing for the arguments are no command
+pub nothing_taken : (words : List (List ℕ)) → ((given : Given) → IsGiven words given → ⊥) → TakesNone words
+nothing_taken words none command (given, is, asks) = none given is
+
+-- ---- words that are written out
+
+pub taken_by : (words : List (List ℕ)) (given : Given) (command : Command) → IsGiven words given → command_if given ≡ Some command → Takes words command
+taken_by words given command is found = (given, is, command_asks given command found)
+
+pub untaken_by : (words : List (List ℕ)) (given : Given) → IsGiven words given → command_if given ≡ None → TakesNone words
+untaken_by words given is none command taken = none-some command (sym none ∙ taken_found words given command is taken)
+
+some_fault : (kind : ErrorKind) (faults : List ErrorKind) → faults ≡ kind ∷ [] → faults ≡ [] → ⊥
+some_fault kind faults p q = cc
+
+pub refused : (words : List (List ℕ)) (kind : ErrorKind) → fault_of program words ≡ kind ∷ [] → TakesNone words
+refused words kind fault command (given, is, asks) = some_fault kind (fault_of program words) fault is.taken
+
+-- ---- how much words may ask for
+
+few_asked : (word : Option (List ℕ)) (extra : ℕ) → IsSpurious word extra → extra ≤ MOST_EXTRA
+few_asked None extra is = omega (arith, is)
+few_asked (Some word) extra is = is.within
+
+some_asked : (word : Option (List ℕ)) (workers : ℕ) → IsWorkers word workers → (1 ≤ workers) × (workers ≤ WORKERS)
+some_asked None workers is = (omega (arith, is), omega (arith, is))
+some_asked (Some word) workers (is, some) = (some, is.within)
+
+pub few_spurious : (words : List (List ℕ)) (monitor clients : List ℕ) (seed extra : ℕ) → Takes words (simulate monitor clients (Drawn seed extra)) → extra ≤ MOST_EXTRA
+few_spurious words monitor clients seed extra (given, is, asks) =
+    let (schedule, no_workers) = asks.has_options in
+    let (word, seed_is, number, made) = schedule in
+    few_asked given.spurious extra made
+
+pub some_workers_run : (words : List (List ℕ)) (monitor clients : List ℕ) (workers : ℕ) → Takes words (run monitor clients workers) → (1 ≤ workers) × (workers ≤ WORKERS)
+some_workers_run words monitor clients workers (given, is, asks) = let (none, some) = asks.has_options in some_asked given.workers workers some
+
+pub some_workers_stress : (words : List (List ℕ)) (number workers : ℕ) → Takes words (stress number workers) → (1 ≤ workers) × (workers ≤ WORKERS)
+some_workers_stress words number workers (given, is, asks) = let (none, some) = asks.has_options in some_asked given.workers workers some

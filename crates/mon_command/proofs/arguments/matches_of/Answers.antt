@@ -1,0 +1,10 @@
+use Rattle.std.proofs.Common.{ap, subst, map, ◌≡◌}
+use Rattle.std.specs.String.{string_bytes}
+use Rattle.clap.specs.Words.{App, app_of, fault_of, FailsBy, is_simple_and_free}
+use Rattle.mon_command.specs.CommandLine.{program}
+use Rattle.mon_command.proofs.arguments.matches_of.Goals as goal
+
+pub returns-clause-kinds : goal.returns-clause-kinds
+returns-clause-kinds c =
+    let is : app_of c.in_ok-command.command ≡ program = c.in_ok-command.ensures in
+    subst (λ (a : App). FailsBy (fault_of a (map string_bytes c.args.words.now)) c.try_get_matches_from.result) is (c.try_get_matches_from.ensures.kinds (ap is_simple_and_free is))

@@ -1,0 +1,162 @@
+-- The command line: what its words give, and the command that they ask for.
+use Rattle.std.specs.Prelude.{◌≡◌, ◌<◌, ◌≤◌, ℕ, true, List, [], ◌∷◌, All, Option, Some, None, codes, length, unwrap_or}
+use Rattle.clap.specs.Words.{App, Rule, Text, new_app, new_rule, with_rule, fault_of, matches_of, first_of, all_of}
+use Rattle.clap.specs.Lexer.{usize_max}
+use Rattle.clap.specs.declared.builder.action.ArgAction.TheVariants.{Set, Append}
+use Rattle.mon_base.specs.Identifiers.{is_digit}
+use Rattle.mon_base.specs.Limits.{MOST_EXTRA, WORKERS}
+use Rattle.mon_tokens.specs.Words.{number_of_digits}
+use Rattle.mon_command.specs.declared.schedule.Schedule.{Schedule}
+use Rattle.mon_command.specs.declared.schedule.Schedule.TheVariants.{Rounds, Drawn}
+
+-- a command, with the words that name its files
+pub data Command : Type 0 where
+  -- checks a monitor file
+  check : List ℕ → Command
+  -- runs the clients of the second file on the monitor of the first
+  turns : List ℕ → List ℕ → Command
+  -- compiles a monitor to a plan
+  compile : List ℕ → Command
+  -- runs them by sections, under the plan of the monitor, by this schedule
+  simulate : List ℕ → List ℕ → Schedule → Command
+  -- runs them under that plan in so many workers
+  run : List ℕ → List ℕ → ℕ → Command
+  -- runs the large input of this number in so many workers
+  stress : ℕ → ℕ → Command
+
+-- ---- the arguments
+
+-- the command's name, which must be given
+abbrev pub command_rule : Rule
+command_rule = record (new_rule (codes "command")) { required = true; action = Some Set }
+
+-- any number of values after it
+abbrev pub values_rule : Rule
+values_rule = record (new_rule (codes "values")) {
+  range = Some (record { start_inclusive = 0; end_inclusive = usize_max });
+  action = Some Append;
+}
+
+-- an option with one text, as `--name TEXT`
+abbrev pub option_rule : Text → Rule
+option_rule name = record (new_rule name) { long = Some name; action = Some Set }
+
+-- the command line, as `clap` defines it
+abbrev pub program : App
+program = with_rule (with_rule (with_rule (with_rule (with_rule (new_app (codes "expresso"))
+    command_rule) values_rule)
+    (option_rule (codes "seed"))) (option_rule (codes "spurious"))) (option_rule (codes "workers"))
+
+-- what is given for each argument
+pub record Given : Type 0 where
+  pub command : Text
+  pub values : List Text
+  pub seed : Option Text
+  pub spurious : Option Text
+  pub workers : Option Text
+
+-- `clap` takes the words, the program's name first, and its matches are these
+pub record IsGiven (words : List Text) (given : Given) : Type 0 where
+  pub taken : fault_of program words ≡ []
+  pub command_is : first_of (codes "command") (matches_of program words) ≡ Some given.command
+  pub values_are : unwrap_or (all_of (codes "values") (matches_of program words)) [] ≡ given.values
+  pub seed_is : first_of (codes "seed") (matches_of program words) ≡ given.seed
+  pub spurious_is : first_of (codes "spurious") (matches_of program words) ≡ given.spurious
+  pub workers_is : first_of (codes "workers") (matches_of program words) ≡ given.workers
+
+-- ---- numbers
+
+-- the greatest seed, and the greatest number of a large input: 2^64 - 1
+abbrev pub GREATEST_SEED : ℕ
+GREATEST_SEED = 18446744073709551615
+
+-- the workers of a run where the words give no number of them
+abbrev pub DEFAULT_WORKERS : ℕ
+DEFAULT_WORKERS = 4
+
+-- the word is this number, in 1 to 20 decimal digits, and the number is at most so much
+pub record IsNumber (most : ℕ) (word : List ℕ) (number : ℕ) : Type 0 where
+  pub some : 0 < length word
+  pub short : length word ≤ 20
+  pub digits : All (λ b. is_digit b ≡ true) word
+  pub value : number_of_digits word ≡ number
+  pub within : number ≤ most
+
+-- ---- options
+
+-- no spurious wake-ups are made where none are asked for
+abbrev pub IsSpurious : Option Text → ℕ → Type 0
+IsSpurious None number = number ≡ 0
+IsSpurious (Some word) number = IsNumber MOST_EXTRA word number
+
+-- the schedule that `--seed` and `--spurious` ask for: rounds where neither is given, and no spurious wake-ups without a seed
+abbrev pub IsSchedule : Option Text → Option Text → Schedule → Type 0
+IsSchedule seed spurious Rounds = (seed ≡ None) × (spurious ≡ None)
+IsSchedule seed spurious (Drawn number extra) =
+    (word : Text) × (seed ≡ Some word) × IsNumber GREATEST_SEED word number × IsSpurious spurious extra
+
+-- `--workers` asks for 1 to 16 workers
+abbrev pub IsWorkers : Option Text → ℕ → Type 0
+IsWorkers None number = number ≡ DEFAULT_WORKERS
+IsWorkers (Some word) number = IsNumber WORKERS word number × (1 ≤ number)
+
+-- ---- commands
+
+-- the word that names a command
+abbrev pub name_of : Command → Text
+name_of (check monitor) = codes "check"
+name_of (turns monitor clients) = codes "turns"
+name_of (compile monitor) = codes "compile"
+name_of (simulate monitor clients schedule) = codes "simulate"
+name_of (run monitor clients workers) = codes "run"
+name_of (stress number workers) = codes "stress"
+
+-- the values are those of the command, as many as it has
+abbrev pub HasValues : List Text → Command → Type 0
+HasValues values (check monitor) = values ≡ monitor ∷ []
+HasValues values (turns monitor clients) = values ≡ monitor ∷ clients ∷ []
+HasValues values (compile monitor) = values ≡ monitor ∷ []
+HasValues values (simulate monitor clients schedule) = values ≡ monitor ∷ clients ∷ []
+HasValues values (run monitor clients workers) = values ≡ monitor ∷ clients ∷ []
+HasValues values (stress number workers) = (word : Text) × (values ≡ word ∷ []) × IsNumber GREATEST_SEED word number
+
+abbrev pub HasNoSchedule : Given → Type 0
+HasNoSchedule given = (given.seed ≡ None) × (given.spurious ≡ None)
+
+-- the options are the command's own: a schedule for `simulate`, workers for `run` and `stress`
+abbrev pub HasOptions : Given → Command → Type 0
+HasOptions given (check monitor) = HasNoSchedule given × (given.workers ≡ None)
+HasOptions given (turns monitor clients) = HasNoSchedule given × (given.workers ≡ None)
+HasOptions given (compile monitor) = HasNoSchedule given × (given.workers ≡ None)
+HasOptions given (simulate monitor clients schedule) = IsSchedule given.seed given.spurious schedule × (given.workers ≡ None)
+HasOptions given (run monitor clients workers) = HasNoSchedule given × IsWorkers given.workers workers
+HasOptions given (stress number workers) = HasNoSchedule given × IsWorkers given.workers workers
+
+-- the arguments ask for the command
+pub record Asks (given : Given) (command : Command) : Type 0 where
+  pub name : given.command ≡ name_of command
+  pub has_values : HasValues given.values command
+  pub has_options : HasOptions given command
+
+-- ---- words
+
+-- the words, the program's name first, are those of the command
+abbrev pub Takes : List (List ℕ) → Command → Type 0
+Takes words command = (given : Given) × IsGiven words given × Asks given command
+
+-- the words are no command
+abbrev pub TakesNone : List (List ℕ) → Type 0
+TakesNone words = (command : Command) → Takes words command → ⊥
+
+-- the files that a command reads, in order
+abbrev pub files_of : Command → List (List ℕ)
+files_of (check monitor) = monitor ∷ []
+files_of (turns monitor clients) = monitor ∷ clients ∷ []
+files_of (compile monitor) = monitor ∷ []
+files_of (simulate monitor clients schedule) = monitor ∷ clients ∷ []
+files_of (run monitor clients workers) = monitor ∷ clients ∷ []
+files_of (stress number workers) = []
+
+-- each file that the words name is one that may be read
+abbrev pub MayReadFiles : (List ℕ → Type 0) → List (List ℕ) → Type 0
+MayReadFiles may_read words = (command : Command) → Takes words command → All may_read (files_of command)

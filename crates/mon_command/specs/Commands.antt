@@ -1,0 +1,13 @@
+-- The commands of the code and of the definitions.
+use Rattle.mon_command.specs.declared.command.Command.{Command as Words}
+use Rattle.mon_command.specs.declared.command.Command.TheVariants as read
+use Rattle.mon_command.specs.CommandLine.{Command, check, turns, compile, simulate, run, stress}
+
+-- the command that one of the code stands for
+abbrev pub command_meant : Words → Command
+command_meant (read.Check monitor) = check monitor.now
+command_meant (read.Turns monitor clients) = turns monitor.now clients.now
+command_meant (read.Compile monitor) = compile monitor.now
+command_meant (read.Simulate monitor clients schedule) = simulate monitor.now clients.now schedule
+command_meant (read.Run monitor clients workers) = run monitor.now clients.now workers
+command_meant (read.Stress number workers) = stress number workers

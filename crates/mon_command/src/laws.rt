@@ -1,0 +1,34 @@
+//! What follows from the definitions alone.
+
+ghost use Rattle.std.specs.Prelude.{◌≡◌, ℕ, List, [], ◌∷◌, codes};
+ghost use Rattle.mon_command.specs.CommandLine.{Command, Takes, TakesNone, check, run, DEFAULT_WORKERS};
+
+/// Words are at most one command.
+pub fn one_command()
+    ensures { (words : List (List ℕ)) (command other : Command)
+        → Takes words command → Takes words other → command ≡ other }
+{}
+
+/// What some words are: options stand anywhere and once, after `--` each word is a value, and a rule refuses the rest.
+pub fn words_taken()
+    ensures default_workers { Takes
+        (codes "expresso" ∷ codes "run" ∷ codes "M" ∷ codes "C" ∷ [])
+        (run (codes "M") (codes "C") DEFAULT_WORKERS) }
+    ensures options_first { Takes
+        (codes "expresso" ∷ codes "run" ∷ codes "--workers" ∷ codes "2"
+        ∷ codes "M" ∷ codes "C" ∷ [])
+        (run (codes "M") (codes "C") 2) }
+    ensures one_word { Takes
+        (codes "expresso" ∷ codes "run" ∷ codes "M" ∷ codes "C" ∷ codes "--workers=2" ∷ [])
+        (run (codes "M") (codes "C") 2) }
+    ensures hyphen { Takes
+        (codes "expresso" ∷ codes "check" ∷ codes "--" ∷ codes "-m" ∷ [])
+        (check (codes "-m")) }
+    ensures twice { TakesNone (codes "expresso" ∷ codes "run" ∷ codes "M" ∷ codes "C"
+        ∷ codes "--workers=2" ∷ codes "--workers=2" ∷ []) }
+    ensures help { TakesNone (codes "expresso" ∷ codes "check" ∷ codes "M" ∷ codes "--help" ∷ []) }
+    ensures no_seed { TakesNone (codes "expresso" ∷ codes "simulate" ∷ codes "M" ∷ codes "C"
+        ∷ codes "--spurious" ∷ codes "2" ∷ []) }
+    ensures too_many { TakesNone (codes "expresso" ∷ codes "run" ∷ codes "M" ∷ codes "C"
+        ∷ codes "--workers" ∷ codes "17" ∷ []) }
+{}
