@@ -1,0 +1,6 @@
+pub mod Counting
+pub mod Buffers
+pub mod BufferRules
+pub mod Callers
+pub mod ClientRules
+pub mod LargeRuns

@@ -1,0 +1,2 @@
+pub mod LargeInput
+pub mod Laws
