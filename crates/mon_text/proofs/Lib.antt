@@ -1,6 +1,7 @@
 pub mod TurnsRows
 pub mod PlanRows
 pub mod LogRows
+pub mod SummaryRows
 pub mod Cuts
 pub mod Numerals
 pub mod Lines

@@ -1,5 +1,6 @@
 pub mod TurnsText
 pub mod LogText
+pub mod SummaryText
 pub mod Laws
 pub mod FaultText
 pub mod Faults

@@ -1,10 +1,11 @@
 //! The texts that the program prints of runs and of faults, written piece by piece to a sink.
 //!
 //! [`write_turns`] writes a run by rounds (`specs/TurnsText`), [`write_plan`] a plan (`mon_events`,
-//! `specs/PlanText`), [`write_log`] the log of a monitor that ran by sections (`specs/LogText`), and
-//! [`write_fault`] the line of a file's fault, with its line and column (`specs/FaultText`). No writer
-//! takes memory. Where the sink fails, a proper front of the text was written, and the count of its
-//! faults rose. The bytes of a plan and of the log after it name both ([`text_names_log`], `specs/Laws`).
+//! `specs/PlanText`), [`write_log`] the log of a monitor that ran by sections (`specs/LogText`),
+//! [`write_summary`] what sums up such a log (`specs/SummaryText`), and [`write_fault`] the line of a
+//! file's fault, with its line and column (`specs/FaultText`). No writer takes memory. Where the sink
+//! fails, a proper front of the text was written, and the count of its faults rose. The bytes of a plan
+//! and of the log after it name both ([`text_names_log`], `specs/Laws`).
 #![tactic(auto)]
 
 mod fault;
@@ -13,6 +14,7 @@ mod log;
 mod plan;
 mod position;
 mod refusal;
+mod summary;
 #[cfg(test)]
 mod tests;
 mod turns;
@@ -24,4 +26,5 @@ pub use log::{are_done, write_log};
 pub use mon_base::Counted;
 pub use plan::write_plan;
 pub use refusal::Refusal;
+pub use summary::write_summary;
 pub use turns::write_turns;

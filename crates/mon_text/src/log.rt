@@ -172,7 +172,7 @@ fn is_woken(woken: u32, client: u32) -> bool
 // ---- how the log ended
 
 // `done`, or `stalled` and who is blocked.
-fn write_end<S: Sink>(
+pub(crate) fn write_end<S: Sink>(
     monitor: &Monitor,
     clients: &[Client],
     log: &[Entry],
@@ -255,7 +255,7 @@ fn replies(log: &[Entry], client: usize) -> usize
 }
 
 // Whether a call replied.
-fn replied(outcome: Outcome) -> bool
+pub(crate) fn replied(outcome: Outcome) -> bool
     ensures { result ≡ says_replies outcome }
 {
     match outcome {

@@ -11,3 +11,6 @@ says_replies outcome = false
 -- the entry is a reply to a call of the client
 abbrev pub is_reply_of : ℕ → Entry → Bool
 is_reply_of client entry = says_replies entry.outcome && entry.client == client
+
+abbrev pub is_reply : Entry → Bool
+is_reply entry = says_replies entry.outcome
