@@ -4,7 +4,7 @@ use Rattle.std.specs.Io.KnownBytes.{Appends}
 use Rattle.mon_io.specs.Outside.{FilesSeen, SinkSeen}
 use Rattle.expresso_cli.specs.declared.status.Status.{Status}
 use Rattle.expresso_cli.specs.declared.status.Status.TheVariants as statuses
-use Rattle.expresso_cli.specs.CommandLine.{Command, Takes, TakesNone}
+use Rattle.mon_command.specs.CommandLine.{Command, Takes, TakesNone}
 use Rattle.expresso_cli.specs.Texts.{usage_text}
 use Rattle.expresso_cli.specs.Answers.{IsText, Answers}
 use Rattle.expresso_cli.specs.inner.Ending.{AnswersCommand, IsCommandText, IsWritten}

@@ -5,7 +5,7 @@ use Rattle.mon_io.specs.Outside.{FilesSeen, SinkSeen, Rises}
 use Rattle.mon_text.specs.FaultText.{unread_text}
 use Rattle.expresso_cli.specs.declared.status.Status.{Status}
 use Rattle.expresso_cli.specs.declared.status.Status.TheVariants as statuses
-use Rattle.expresso_cli.specs.CommandLine.{Command}
+use Rattle.mon_command.specs.CommandLine.{Command}
 use Rattle.expresso_cli.specs.Answers.{AcceptsFiles, RejectsFiles, IsRefusedText, IsUnreadText, IsWorkedOrMemory, IsRefusedOrMemory, IsStoppedOrMemory, IsUnreadOrMemory}
 use Rattle.expresso_cli.specs.inner.Ending.{HasEnded, IsCommandText, IsUnread, IsWritten, ended}
 

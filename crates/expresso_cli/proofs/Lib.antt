@@ -1,8 +1,6 @@
-pub mod CommandWords
 pub mod Answering
 pub mod MonitorFaults
 pub mod OneMonitor
-pub mod Options
 pub mod Completeness
 pub mod Telling
 pub mod RunFiles
@@ -13,3 +11,11 @@ pub mod Ending
 pub mod Outcomes
 pub mod OneFile
 pub mod TakenTurns
+pub mod Finishing
+pub mod Placed
+pub mod Worked
+pub mod LargeSummary
+pub mod Stressed
+pub mod Promised
+pub mod Ranges
+pub mod GivenWords

@@ -12,7 +12,7 @@ use Rattle.expresso_cli.specs.declared.status.Status.{Status}
 use Rattle.expresso_cli.specs.declared.status.Status.TheVariants as statuses
 use Rattle.expresso_cli.specs.declared.source_fault.SourceFault.{SourceFault}
 use Rattle.expresso_cli.specs.declared.source_fault.SourceFault.TheVariants as faults
-use Rattle.expresso_cli.specs.CommandLine.{Command, check, compile, files_of}
+use Rattle.mon_command.specs.CommandLine.{Command, check, compile, files_of}
 use Rattle.expresso_cli.specs.Placements.{IsPlacement}
 use Rattle.expresso_cli.specs.SourceFaults.{source_fault_text}
 use Rattle.expresso_cli.specs.MonitorFiles.{HasMonitorCause, IsAccepted, IsFirstFault}

@@ -9,11 +9,11 @@ use Rattle.mon_text.specs.FaultText.{unread_text}
 use Rattle.expresso_cli.specs.declared.status.Status.{Status}
 use Rattle.expresso_cli.specs.declared.status.Status.TheVariants as statuses
 use Rattle.expresso_cli.specs.declared.source_fault.SourceFault.{SourceFault}
-use Rattle.expresso_cli.specs.declared.schedule.Schedule.{Schedule}
+use Rattle.mon_command.specs.declared.schedule.Schedule.{Schedule}
 use Rattle.expresso_cli.specs.declared.input.Input.{Input}
 use Rattle.expresso_cli.specs.declared.input.InputFault.{InputFault}
 use Rattle.expresso_cli.specs.declared.input.InputFault.TheVariants as input_faults
-use Rattle.expresso_cli.specs.CommandLine.{Command, turns, simulate, files_of}
+use Rattle.mon_command.specs.CommandLine.{Command, turns, simulate, run, files_of}
 use Rattle.expresso_cli.specs.MonitorFiles.{IsAccepted, IsFirstFault}
 use Rattle.expresso_cli.specs.SourceFaults.{source_fault_text}
 use Rattle.expresso_cli.specs.Answers.{AcceptsFiles, AcceptsRun, RejectsRun, HoldRun, IsUnreadText}
@@ -33,6 +33,9 @@ turns_runs monitor clients = record { files = refl; refused = λ held text is. i
 
 pub simulate_runs : (monitor clients : List ℕ) (schedule : Schedule) → RunsFiles (simulate monitor clients schedule) monitor clients
 simulate_runs monitor clients schedule = record { files = refl; refused = λ held text is. is; accepted = λ held is. is }
+
+pub run_runs : (monitor clients : List ℕ) (workers : ℕ) → RunsFiles (run monitor clients workers) monitor clients
+run_runs monitor clients workers = record { files = refl; refused = λ held text is. is; accepted = λ held is. is }
 
 -- files that hold a monitor and its clients are not rejected
 pub held_not_rejected : (held : List ℕ → Option (List ℕ)) (monitor_file clients_file : List ℕ) (monitor : MonitorParts) (clients : List Client)

@@ -1,104 +1,43 @@
 -- How `simulate` ends where the clients were run.
-use Rattle.std.proofs.Common.{◌≡◌, ℕ, zero, suc, ◌+◌, ◌≤◌, Bool, true, false, List, [], ◌∷◌, length, Option, Some, None, refl, sym, ap, subst, ◌∙◌, arith}
-use Rattle.std.specs.Prelude.{◌&&◌, nat_le, slice_get}
-use Rattle.std.specs.List.{list_all, enumerate_from}
+use Rattle.std.proofs.Common.{◌≡◌, ℕ, Bool, true, false, List, refl, sym, subst, ◌∙◌}
 use Rattle.std.proofs.lemmas.Bool.{false≢true}
 use Rattle.mon_io.specs.Outside.{FilesSeen, SinkSeen}
 use Rattle.mon_monitor.specs.MonitorParts.{MonitorParts}
-use Rattle.mon_implicit.specs.declared.commit.Commit.{Commit}
 use Rattle.mon_implicit.specs.declared.script.Client.{Client}
-use Rattle.mon_implicit.specs.Scripted.{calls_of}
-use Rattle.mon_implicit.specs.Runs.{IsFinished, done}
 use Rattle.mon_events.specs.declared.log.Entry.{Entry}
 use Rattle.mon_events.specs.declared.plan.Plan.{Plan}
 use Rattle.mon_events.specs.Configurations.{System, Configuration}
 use Rattle.mon_events.specs.Logs.{IsClosed, commits_of}
-use Rattle.mon_text.specs.LogText.{are_done, has_done}
-use Rattle.expresso_cli.specs.declared.schedule.Schedule.{Schedule}
+use Rattle.mon_text.specs.LogText.{are_done}
+use Rattle.mon_text.specs.Laws.{plan_and_log_text, system_under}
+use Rattle.mon_command.specs.declared.schedule.Schedule.{Schedule}
+use Rattle.mon_command.specs.CommandLine.{simulate}
 use Rattle.expresso_cli.specs.declared.status.Status.{Status}
-use Rattle.expresso_cli.specs.CommandLine.{simulate}
-use Rattle.expresso_cli.specs.Simulations.{IsSimulation, simulated, simulation_text}
+use Rattle.expresso_cli.specs.Simulations.{IsSimulation}
 use Rattle.expresso_cli.specs.Answers.{HoldRun, IsSimulateText}
 use Rattle.expresso_cli.specs.inner.Ending.{HasEnded, IsCommandText, IsWritten, ended}
+use Rattle.expresso_cli.proofs.Finishing.{done_finished, finished_done}
 use Rattle.expresso_cli.proofs.RunFiles.{held_not_rejected}
 use Rattle.expresso_cli.proofs.Ending.{work_ended}
 
--- ---- the calls of each client are done
-
--- nothing stands from the end on
-past_end : {X : Type 0} (xs : List X) (i : ℕ) → length xs ≤ i → slice_get xs i ≡ None
-past_end [] i past = refl
-past_end (x ∷ xs) zero past = absurd (omega (arith, past))
-past_end (x ∷ xs) (suc i) past = past_end xs i (omega (arith, past))
-
-none_past : {X : Type 0} (xs : List X) (i : ℕ) → slice_get xs i ≡ None → length xs ≤ i
-none_past [] i none = omega arith
-none_past (x ∷ xs) zero none = absurd (some_none x none)
-  where
-    some_none : {Y : Type 0} (y : Y) → Some y ≡ None → ⊥
-    some_none y e = cc
-none_past (x ∷ xs) (suc i) none = omega (arith, none_past xs i none)
-
-le_true : (m n : ℕ) → nat_le m n ≡ true → m ≤ n
-le_true m n is = grind arith
-
-true_le : (m n : ℕ) → m ≤ n → nat_le m n ≡ true
-true_le m n le = grind arith
-
-both_true : (a b : Bool) → (a && b) ≡ true → (a ≡ true) × (b ≡ true)
-both_true true b is = (refl, is)
-both_true false b is = absurd (false≢true is)
-
-all_true : (a b : Bool) → a ≡ true → b ≡ true → (a && b) ≡ true
-all_true true b p q = q
-all_true false b p q = absurd (false≢true p)
-
--- the calls of each of these clients, whose first has this number, are done
-abbrev AreDoneFrom : List Commit → ℕ → List Client → Type 0
-AreDoneFrom history first clients = (place : ℕ) → slice_get (calls_of clients place) (done history (first + place)) ≡ None
-
-each_done : (history : List Commit) (first : ℕ) (clients : List Client) → list_all (λ one. has_done history one.0 one.1) (enumerate_from first clients) ≡ true → AreDoneFrom history first clients
-each_done history first [] is place = refl
-each_done history first (client ∷ clients) is zero =
-    subst (λ (n : ℕ). slice_get client.calls (done history n) ≡ None) (omega arith)
-    (past_end client.calls (done history first) (le_true _ _ (both_true (has_done history first client) (list_all (λ one. has_done history one.0 one.1) (enumerate_from (first + 1) clients)) is).0))
-each_done history first (client ∷ clients) is (suc place) =
-    subst (λ (n : ℕ). slice_get (calls_of clients place) (done history n) ≡ None) (omega arith)
-    (each_done history (first + 1) clients (both_true (has_done history first client) (list_all (λ one. has_done history one.0 one.1) (enumerate_from (first + 1) clients)) is).1 place)
-
-done_each : (history : List Commit) (first : ℕ) (clients : List Client) → AreDoneFrom history first clients → list_all (λ one. has_done history one.0 one.1) (enumerate_from first clients) ≡ true
-done_each history first [] each = refl
-done_each history first (client ∷ clients) each =
-    all_true (has_done history first client) (list_all (λ one. has_done history one.0 one.1) (enumerate_from (first + 1) clients))
-    (true_le _ _ (none_past client.calls (done history first) (subst (λ (n : ℕ). slice_get client.calls (done history n) ≡ None) (omega arith) (each 0))))
-    (done_each history (first + 1) clients (λ place. subst (λ (n : ℕ). slice_get (calls_of clients place) (done history n) ≡ None) (omega arith) (each (suc place))))
-
-done_finished : (clients : List Client) (history : List Commit) → are_done clients history ≡ true → IsFinished clients history
-done_finished clients history is client = subst (λ (n : ℕ). slice_get (calls_of clients client) (done history n) ≡ None) (omega arith) (each_done history 0 clients is client)
-
-finished_done : (clients : List Client) (history : List Commit) → IsFinished clients history → are_done clients history ≡ true
-finished_done clients history all = done_each history 0 clients (λ place. subst (λ (n : ℕ). slice_get (calls_of clients place) (done history n) ≡ None) (omega arith) (all place))
-
--- ---- the clients were run
-
 module _ (monitor_file clients_file : List ℕ) (schedule : Schedule) (files files_now : FilesSeen) (monitor : MonitorParts) (plan : Plan) (clients : List Client) (log : List Entry) (last : Configuration) (system : System)
-    (held : HoldRun files.held monitor_file clients_file monitor clients) (simulation : IsSimulation (simulated monitor plan clients) schedule log last) (system_is : system ≡ simulated monitor plan clients) where
+    (held : HoldRun files.held monitor_file clients_file monitor clients) (simulation : IsSimulation (system_under monitor clients plan) schedule log last) (system_is : system ≡ system_under monitor clients plan) where
   pub simulation_closed : IsClosed system last
-  simulation_closed = subst (λ (s : System). IsClosed s last) (sym system_is) simulation.closed
+  simulation_closed = subst (λ (s : System). IsClosed s last) (sym system_is) simulation.placed.closed
 
-  simulation_shown : IsSimulateText files.held monitor_file clients_file schedule clients log (simulation_text (simulated monitor plan clients) log last)
+  simulation_shown : IsSimulateText files.held monitor_file clients_file schedule clients log (plan_and_log_text (system_under monitor clients plan) log last)
   simulation_shown = record { monitor = monitor; plan = plan; last = last; files = held; simulation = simulation; printed = refl }
 
   log_shown : (finished : Bool) → are_done clients (commits_of log) ≡ finished
-      → IsCommandText (simulate monitor_file clients_file schedule) files files_now (ended finished) (simulation_text (simulated monitor plan clients) log last)
+      → IsCommandText (simulate monitor_file clients_file schedule) files files_now (ended finished) (plan_and_log_text (system_under monitor clients plan) log last)
   log_shown true end = (clients, log, simulation_shown, done_finished clients (commits_of log) end)
   log_shown false end = (clients, log, simulation_shown, λ all. false≢true (sym end ∙ finished_done clients (commits_of log) all))
 
   pub simulation_ended : (result : Status) (out out_now : SinkSeen) → files_now.faults ≡ files.faults
-      → IsWritten (ended (are_done system.clients (commits_of log))) (simulation_text system log last) result out out_now
+      → IsWritten (ended (are_done system.clients (commits_of log))) (plan_and_log_text system log last) result out out_now
       → HasEnded (simulate monitor_file clients_file schedule) files files_now result out out_now
   simulation_ended result out out_now steady written =
-      work_ended (simulate monitor_file clients_file schedule) files files_now (simulation_text (simulated monitor plan clients) log last) result out out_now
+      work_ended (simulate monitor_file clients_file schedule) files files_now (plan_and_log_text (system_under monitor clients plan) log last) result out out_now
       (are_done clients (commits_of log)) (log_shown (are_done clients (commits_of log)) refl)
       (held_not_rejected files.held monitor_file clients_file monitor clients held) steady
-      (subst (λ (s : System). IsWritten (ended (are_done s.clients (commits_of log))) (simulation_text s log last) result out out_now) system_is written)
+      (subst (λ (s : System). IsWritten (ended (are_done s.clients (commits_of log))) (plan_and_log_text s log last) result out out_now) system_is written)

@@ -10,7 +10,7 @@ use Rattle.mon_implicit.specs.Runs.{IsFinished}
 use Rattle.mon_implicit.specs.Rounds.{AreTurnsByRounds}
 use Rattle.mon_text.specs.TurnsText.{turns_text}
 use Rattle.expresso_cli.specs.declared.status.Status.{Status}
-use Rattle.expresso_cli.specs.CommandLine.{turns}
+use Rattle.mon_command.specs.CommandLine.{turns}
 use Rattle.expresso_cli.specs.Answers.{HoldRun, IsTurnsText}
 use Rattle.expresso_cli.specs.inner.Ending.{HasEnded, IsCommandText, IsWritten, ended}
 use Rattle.expresso_cli.proofs.RunFiles.{held_not_rejected}

@@ -1,5 +1,5 @@
 -- What the program answers.
-use Rattle.std.specs.Prelude.{◌≡◌, ◌⊎◌, ℕ, List, Any, Option, Some, IfSome}
+use Rattle.std.specs.Prelude.{◌≡◌, ◌⊎◌, ℕ, List, Any, Option, Some, IfSome, codes}
 use Rattle.std.specs.Io.KnownBytes.{Appends, Keeps}
 use Rattle.mon_io.specs.Outside.{FilesSeen, SinkSeen, AppendsFront, Rises}
 use Rattle.mon_tree.specs.declared.tree.MonitorTree.{MonitorTree}
@@ -14,15 +14,20 @@ use Rattle.mon_events.specs.declared.plan.Plan.{Plan}
 use Rattle.mon_events.specs.Configurations.{Configuration}
 use Rattle.mon_events.specs.Logs.{commits_of}
 use Rattle.mon_events.specs.PlanText.{plan_text}
+use Rattle.mon_explicit.specs.Sections.{spurious_in}
 use Rattle.mon_text.specs.TurnsText.{turns_text}
 use Rattle.mon_text.specs.FaultText.{unread_text}
 use Rattle.expresso_cli.specs.declared.status.Status.{Status}
 use Rattle.expresso_cli.specs.declared.status.Status.TheVariants.{Done, Refused, Usage, ReadFault, WriteFault, OutOfMemory, Stalled}
 use Rattle.expresso_cli.specs.declared.source_fault.SourceFault.{SourceFault}
-use Rattle.expresso_cli.specs.declared.schedule.Schedule.{Schedule}
-use Rattle.expresso_cli.specs.CommandLine.{Command, check, turns, compile, simulate, Takes, TakesNone, files_of}
+use Rattle.mon_command.specs.declared.schedule.Schedule.{Schedule}
+use Rattle.mon_command.specs.CommandLine.{Command, check, turns, compile, simulate, run, stress, Takes, TakesNone, files_of}
+use Rattle.mon_stress.specs.LargeInput.{buffer_of, capacity_of, producers_and_consumers}
 use Rattle.expresso_cli.specs.Placements.{IsPlacement}
-use Rattle.expresso_cli.specs.Simulations.{IsSimulation, simulated, simulation_text}
+use Rattle.expresso_cli.specs.PlacedRuns.{IsPlacedRun}
+use Rattle.expresso_cli.specs.Simulations.{IsSimulation}
+use Rattle.mon_text.specs.Laws.{plan_and_log_text, system_under}
+use Rattle.mon_text.specs.SummaryText.{summary_text}
 use Rattle.expresso_cli.specs.SourceFaults.{source_fault_text}
 use Rattle.expresso_cli.specs.MonitorFiles.{IsAccepted, IsFirstFault}
 use Rattle.expresso_cli.specs.ClientFiles.{AreAccepted, IsFirstOfClients}
@@ -79,24 +84,49 @@ pub record IsSimulateText (held : List ℕ → Option (List ℕ)) (monitor_file 
   pub plan : Plan
   pub last : Configuration
   pub files : HoldRun held monitor_file clients_file monitor clients
-  pub simulation : IsSimulation (simulated monitor plan clients) schedule log last
-  pub printed : text ≡ simulation_text (simulated monitor plan clients) log last
+  pub simulation : IsSimulation (system_under monitor clients plan) schedule log last
+  pub printed : text ≡ plan_and_log_text (system_under monitor clients plan) log last
 
--- the text of a command whose work is done; of `turns` and `simulate`, that no client has a call left
+-- the text of a plan that the monitor is compiled to, and of the log of a run under it in which no wake-up is spurious
+pub record IsRunText (held : List ℕ → Option (List ℕ)) (monitor_file clients_file : List ℕ) (clients : List Client) (log : List Entry) (text : List ℕ) : Type 0 where
+  pub monitor : MonitorParts
+  pub plan : Plan
+  pub last : Configuration
+  pub files : HoldRun held monitor_file clients_file monitor clients
+  pub placed : IsPlacedRun (system_under monitor clients plan) log last
+  pub unprompted : spurious_in log ≡ 0
+  pub printed : text ≡ plan_and_log_text (system_under monitor clients plan) log last
+
+-- the summary of such a run of the large input that the number stands for; its calls are done and the buffer is empty
+pub record IsStressText (number : ℕ) (text : List ℕ) : Type 0 where
+  pub plan : Plan
+  pub log : List Entry
+  pub last : Configuration
+  pub placed : IsPlacedRun (system_under (buffer_of (capacity_of number)) producers_and_consumers plan) log last
+  pub unprompted : spurious_in log ≡ 0
+  pub finished : IsFinished producers_and_consumers (commits_of log)
+  pub summed : text ≡ summary_text (system_under (buffer_of (capacity_of number)) producers_and_consumers plan) log last
+  pub printed : text ≡ codes "calls 16384\ndone\nstate count=0\n"
+
+-- the text of a command whose work is done; of `turns`, `simulate` and `run`, that no client has a call left
 abbrev pub IsDoneText : (List ℕ → Option (List ℕ)) → Command → List ℕ → Type 0
 IsDoneText held (check file) text = IsCheckText held file text
 IsDoneText held (turns monitor clients) text = (scripts : List Client) × (run : Turns) × IsTurnsText held monitor clients scripts run text × IsFinished scripts run.history
 IsDoneText held (compile file) text = IsCompileText held file text
 IsDoneText held (simulate monitor clients schedule) text =
     (scripts : List Client) × (log : List Entry) × IsSimulateText held monitor clients schedule scripts log text × IsFinished scripts (commits_of log)
+IsDoneText held (run monitor clients workers) text = (scripts : List Client) × (log : List Entry) × IsRunText held monitor clients scripts log text × IsFinished scripts (commits_of log)
+IsDoneText held (stress number workers) text = IsStressText number text
 
--- some client has a call left
+-- the text of `turns`, `simulate` or `run` where some client has a call left; no other command stalls
 abbrev pub IsStalledText : (List ℕ → Option (List ℕ)) → Command → List ℕ → Type 0
 IsStalledText held (check file) text = ⊥
 IsStalledText held (turns monitor clients) text = (scripts : List Client) × (run : Turns) × IsTurnsText held monitor clients scripts run text × (IsFinished scripts run.history → ⊥)
 IsStalledText held (compile file) text = ⊥
 IsStalledText held (simulate monitor clients schedule) text =
     (scripts : List Client) × (log : List Entry) × IsSimulateText held monitor clients schedule scripts log text × (IsFinished scripts (commits_of log) → ⊥)
+IsStalledText held (run monitor clients workers) text = (scripts : List Client) × (log : List Entry) × IsRunText held monitor clients scripts log text × (IsFinished scripts (commits_of log) → ⊥)
+IsStalledText held (stress number workers) text = ⊥
 
 -- ---- refusals
 
@@ -130,6 +160,8 @@ IsRefusedText held (check file) text = IsMonitorRefusal held file text
 IsRefusedText held (turns monitor clients) text = IsRunRefusal held monitor clients text
 IsRefusedText held (compile file) text = IsMonitorRefusal held file text
 IsRefusedText held (simulate monitor clients schedule) text = IsRunRefusal held monitor clients text
+IsRefusedText held (run monitor clients workers) text = IsRunRefusal held monitor clients text
+IsRefusedText held (stress number workers) text = ⊥
 
 -- a read fault's line that names one of the command's files; which of them, no clause says
 abbrev pub IsUnreadText : Command → List ℕ → Type 0
@@ -177,12 +209,14 @@ RejectsRun held monitor_file clients_file =
     (monitor_bytes : List ℕ) × (clients_bytes : List ℕ) × (held monitor_file ≡ Some monitor_bytes) × (held clients_file ≡ Some clients_bytes)
     × ((tree : MonitorTree) (monitor : MonitorParts) (clients : List Client) → IsAccepted monitor_bytes tree monitor → AreAccepted clients_bytes monitor clients → ⊥)
 
--- the files of the command tell their bytes, which are accepted
+-- the files of the command tell their bytes, which are accepted; `stress` has no files
 abbrev pub AcceptsFiles : (List ℕ → Option (List ℕ)) → Command → Type 0
 AcceptsFiles held (check file) = AcceptsMonitor held file
 AcceptsFiles held (turns monitor clients) = AcceptsRun held monitor clients
 AcceptsFiles held (compile file) = AcceptsMonitor held file
 AcceptsFiles held (simulate monitor clients schedule) = AcceptsRun held monitor clients
+AcceptsFiles held (run monitor clients workers) = AcceptsRun held monitor clients
+AcceptsFiles held (stress number workers) = Unit {0}
 
 -- they tell their bytes, and one of them is not accepted
 abbrev pub RejectsFiles : (List ℕ → Option (List ℕ)) → Command → Type 0
@@ -190,8 +224,10 @@ RejectsFiles held (check file) = RejectsMonitor held file
 RejectsFiles held (turns monitor clients) = RejectsRun held monitor clients
 RejectsFiles held (compile file) = RejectsMonitor held file
 RejectsFiles held (simulate monitor clients schedule) = RejectsRun held monitor clients
+RejectsFiles held (run monitor clients workers) = RejectsRun held monitor clients
+RejectsFiles held (stress number workers) = ⊥
 
--- the words are a command's whose files are accepted; or are not
+-- the words are a command's whose files are accepted; or one of them is not
 abbrev pub Accepts : (List ℕ → Option (List ℕ)) → List (List ℕ) → Type 0
 Accepts held words = (command : Command) × Takes words command × AcceptsFiles held command
 
@@ -200,7 +236,7 @@ Rejects held words = (command : Command) × Takes words command × RejectsFiles 
 
 -- ---- which statuses may come
 
--- no fault of a device rose in the call
+-- no fault of a device rose in the call, and its count does not stand at its end
 abbrev pub IsSound : ℕ → ℕ → Type 0
 IsSound before now = Rises before now → ⊥
 

@@ -1,11 +1,11 @@
-pub mod CommandLine
-pub mod Commands
 pub mod Placements
+pub mod PlacedRuns
 pub mod Simulations
 pub mod SourceFaults
 pub mod MonitorFiles
 pub mod ClientFiles
 pub mod Texts
 pub mod Answers
+pub mod Headline
 pub mod Exit
 pub mod inner

@@ -1,5 +1,5 @@
--- Plans that a monitor is compiled to.
-use Rattle.mon_monitor.specs.MonitorParts.{MonitorParts}
+-- Plans that a monitor may be compiled to.
+use Rattle.mon_monitor.specs.MonitorParts.{MonitorParts, IsMonitor}
 use Rattle.mon_events.specs.declared.plan.Plan.{Plan}
 use Rattle.mon_events.specs.Plans.{FitsPlan, IsLawful}
 use Rattle.mon_wp.specs.Hardness.{IsSmall}
@@ -7,8 +7,9 @@ use Rattle.mon_place.specs.Backing.{IsBacked}
 use Rattle.mon_place.specs.Exact.{IsExact, IsLicensed}
 
 pub record IsPlacement (monitor : MonitorParts) (plan : Plan) : Type 0 where
+  pub is : IsMonitor monitor
   pub fits : FitsPlan monitor plan
-  -- under it no wake-up is lost
+  -- so no wake-up of clients whose calls fit is lost under it, by the law `no_wakeup_is_lost`
   pub lawful : IsLawful monitor plan
   -- each claim that it rests on has a certificate
   pub backed : IsBacked monitor plan

@@ -1,23 +1,12 @@
--- Runs of a monitor by sections, under a plan that it is compiled to, and their text.
-use Rattle.std.specs.Prelude.{◌≤◌, ℕ, List, ◌++◌}
-use Rattle.mon_monitor.specs.MonitorParts.{MonitorParts}
-use Rattle.mon_implicit.specs.declared.script.Client.{Client}
-use Rattle.mon_implicit.specs.Runs.{IsRun, Ends}
+-- Simulations: runs of a monitor by sections that a schedule leads to.
+use Rattle.std.specs.Prelude.{◌≤◌, ℕ, List}
 use Rattle.mon_events.specs.declared.log.Entry.{Entry}
-use Rattle.mon_events.specs.declared.plan.Plan.{Plan}
 use Rattle.mon_events.specs.Configurations.{System, Configuration}
-use Rattle.mon_events.specs.Logs.{IsLegal, IsClosed, commits_of}
-use Rattle.mon_events.specs.PlanText.{plan_text}
 use Rattle.mon_explicit.specs.Sections.{FreeMachine, opened_free, spurious_in}
 use Rattle.mon_simulate.specs.Schedules.{IsByRounds, IsDrawn}
-use Rattle.mon_text.specs.LogText.{log_text}
-use Rattle.expresso_cli.specs.declared.schedule.Schedule.{Schedule}
-use Rattle.expresso_cli.specs.declared.schedule.Schedule.TheVariants.{Rounds, Drawn}
-use Rattle.expresso_cli.specs.Placements.{IsPlacement}
-
--- the monitor and its clients, under the plan
-abbrev pub simulated : MonitorParts → Plan → List Client → System
-simulated monitor plan clients = record { monitor = monitor; plan = plan; clients = clients }
+use Rattle.mon_command.specs.declared.schedule.Schedule.{Schedule}
+use Rattle.mon_command.specs.declared.schedule.Schedule.TheVariants.{Rounds, Drawn}
+use Rattle.expresso_cli.specs.PlacedRuns.{IsPlacedRun}
 
 -- the most spurious wake-ups of a schedule
 abbrev pub most_spurious : Schedule → ℕ
@@ -31,20 +20,9 @@ IsScheduled (Drawn seed spurious) before last = IsDrawn seed spurious before las
 
 -- what a log and its last configuration are a simulation of
 pub record IsSimulation (system : System) (schedule : Schedule) (log : List Entry) (last : Configuration) : Type 0 where
-  -- the plan is one that the monitor is compiled to
-  pub placement : IsPlacement system.monitor system.plan
+  pub placed : IsPlacedRun system log last
   -- they are what the schedule leads to from the start
   pub scheduled : IsScheduled schedule (opened_free system.monitor system.plan system.clients (most_spurious schedule))
       (record { system = system; now = last; log = log; extra = most_spurious schedule })
-  -- the log is legal for the plan, and ends closed
-  pub legal : IsLegal system log last
-  pub closed : IsClosed system last
   -- no more wake-ups are spurious than were asked for
   pub spurious : spurious_in log ≤ most_spurious schedule
-  -- the replies and the last state are a run, and no client with a call left has a true guard then
-  pub run : IsRun system.monitor system.clients (commits_of log) last.state
-  pub ends : Ends system.monitor system.clients (commits_of log) last.state
-
--- the text of the plan, and then of the log
-abbrev pub simulation_text : System → List Entry → Configuration → List ℕ
-simulation_text system log last = plan_text system.monitor system.plan ++ log_text system log last

@@ -1,3 +1,3 @@
 pub mod Ending
 pub mod Input
-pub mod Words
+pub mod Ranges

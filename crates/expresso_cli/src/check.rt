@@ -1,7 +1,7 @@
 //! `expresso check FILE`.
 
 ghost use Rattle.std.specs.Prelude.{◌≡◌, ◌≢◌, ◌≤◌, ◌↔◌, ℕ, List};
-ghost use Rattle.expresso_cli.specs.CommandLine.{check};
+ghost use Rattle.mon_command.specs.CommandLine.{check};
 ghost use Rattle.expresso_cli.specs.inner.Ending.{HasEnded};
 
 use crate::input::monitor_of;

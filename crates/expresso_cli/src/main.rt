@@ -1,33 +1,34 @@
 //! `expresso`: monitors with implicit signals.
 //!
-//! `expresso check FILE` checks a monitor and prints its canonical form. `expresso turns FILE CLIENTS` runs
-//! clients on a monitor by rounds of the implicit machine, and prints the run. `expresso compile FILE` compiles a
-//! monitor and prints the plan: whom each block wakes. `expresso simulate FILE CLIENTS [--seed N] [--spurious K]` runs
-//! clients by sections under that plan, and prints the plan and the log. The top call is
-//! [`expresso`](expresso::expresso); `main` hands it the words, the files of the system and standard output.
+//! `expresso run FILE CLIENTS` compiles a monitor to a plan, has workers run clients on it in threads, and prints the plan
+//! and the log. `check` prints a monitor's canonical form, `turns` a run by rounds of the implicit machine, `compile` the
+//! plan alone: whom each block wakes; `simulate` runs the clients by a schedule in place of threads, and `stress` runs a
+//! large input. The top call is [`expresso`](expresso::expresso), whose clause `headline` is `specs/Headline`; `main`
+//! hands it the runtime, the words, the files of the system, standard output and a gate that holds nobody.
 #![tactic(auto)]
 
 mod check;
 mod client_file;
-mod command;
 mod compile;
 mod expresso;
 mod input;
 mod monitor_file;
-mod numbers;
 mod placement;
 mod reading;
-mod schedule;
+mod run;
 mod simulate;
 mod source_fault;
 mod status;
+mod stress;
 #[cfg(test)]
 mod tests;
 mod text;
 mod turns;
+mod work;
 
 pub use expresso::expresso as run_expresso;
 use mon_io::{RealFiles, StdSink};
+use mon_lock::OpenGate;
 pub use status::{Status, number};
 use std::process::ExitCode;
 use std::{env, io};
@@ -44,7 +45,14 @@ fn main(rt: HostRuntime) -> ExitCode {
         Ok(words) => {
             let mut files = RealFiles::new(&rt);
             let mut out = StdSink::new(&rt);
-            let status = expresso::expresso(rt.alloc(), &words, &mut files, &mut out);
+            let status = expresso::expresso(
+                &rt,
+                rt.alloc(),
+                &words,
+                &mut files,
+                &mut out,
+                &OpenGate,
+            );
             ExitCode::from(number(status))
         }
         Err(error) if error.kind() == io::ErrorKind::OutOfMemory => {

@@ -12,6 +12,8 @@ use std::alloc::{AllocError, Global};
 pub(crate) fn plan_of(alloc: Global, monitor: &Monitor) -> Result<Plan, AllocError>
     ensures { IfOk result (IsPlacement monitor.now) }
 {
+    // A reading call says what the rule of the monitor gives.
+    let _blocks = monitor.blocks();
     let placed = place(alloc, monitor)?;
     Ok(placed.plan)
 }

@@ -5,15 +5,16 @@ ghost use Rattle.mon_implicit.specs.Scripted.{FitsScripts};
 ghost use Rattle.mon_events.specs.Logs.{IsClosed};
 ghost use Rattle.mon_explicit.specs.Sections.{MOST_EXTRA, HasEnded as HasEndedRight, HoldsAlways, spurious_in};
 ghost use Rattle.mon_simulate.specs.Schedules.{Extends};
-ghost use Rattle.expresso_cli.specs.CommandLine.{simulate};
-ghost use Rattle.expresso_cli.specs.Simulations.{IsScheduled, IsSimulation, most_spurious, simulated};
+ghost use Rattle.mon_command.specs.CommandLine.{simulate};
+ghost use Rattle.expresso_cli.specs.Simulations.{IsScheduled, IsSimulation, most_spurious};
+ghost use Rattle.mon_text.specs.Laws.{system_under};
 ghost use Rattle.expresso_cli.specs.inner.Ending.{HasEnded};
 
 use crate::input::{Input, input_of};
 use crate::placement::plan_of;
-use crate::schedule::Schedule;
 use crate::status::Status;
-use crate::text::show_simulation;
+use crate::text::show_plan_and_log;
+use mon_command::Schedule;
 use mon_explicit::FreeMonitor;
 use mon_io::{Files, Sink};
 use mon_simulate::{drawn, rounds};
@@ -51,9 +52,9 @@ fn simulation(alloc: Global, input: Input, schedule: Schedule) -> Result<FreeMon
     requires fits { FitsScripts input.monitor input.scripts }
     requires few { most_spurious schedule ≤ MOST_EXTRA }
     ensures system { IfOk result (λ free.
-        free.system ≡ simulated input.monitor free.system.plan input.scripts) }
+        free.system ≡ system_under input.monitor input.scripts free.system.plan) }
     ensures simulation { IfOk result (λ free. IsSimulation
-        (simulated input.monitor free.system.plan input.scripts) schedule free.log free.now) }
+        (system_under input.monitor input.scripts free.system.plan) schedule free.log free.now) }
 {
     let Input { monitor, scripts } = input;
     let plan = plan_of(alloc, &monitor)?;
@@ -89,7 +90,7 @@ pub(crate) fn simulate_files<F: Files, S: Sink>(
         Err(status) => return status,
     };
     match simulation(alloc, input, schedule) {
-        Ok(free) => show_simulation(&free, out),
+        Ok(free) => show_plan_and_log(&free, out),
         Err(AllocError) => Status::OutOfMemory,
     }
 }

@@ -1,45 +1,27 @@
 //! The program over files and sinks in memory. What it prints was worked out by hand.
 
-mod checker;
 mod checks;
 mod clients;
 mod compile;
-mod events;
-mod forms;
-mod log_texts;
-mod machine;
+mod derived;
+mod gates;
+mod large;
 mod outside;
-mod plan_texts;
-mod queries;
 mod readme;
-mod rules;
+mod run;
 mod runs;
-mod schedules;
-mod scripts;
-mod sections;
 mod simulate;
-mod texts;
+mod stress;
 
 use super::expresso::expresso;
 use super::status::Status;
 use mon_base::Name;
 use mon_io::{MemFile, MemFiles, MemSink};
 use mon_list::Seq;
+use mon_lock::OpenGate;
 use std::alloc::{AllocError, Global};
-
-const BUFFER: &[u8] = b"monitor Buffer {
-  const CAP = 1;
-  int count = 0;
-  method put() waituntil (count < CAP) {
-    count = count + 1;
-  }
-  method get() waituntil (count > 0) {
-    count = count - 1;
-  }
-}
-";
-
-const TWO: &[u8] = b"client A { put(); put(); } client B { get(); get(); }";
+use std::sync::Wait;
+use std::thread::Threads;
 
 const TWO_RUN: &[u8] = b"A.1 put() = -
 B.1 get() = -
@@ -108,16 +90,17 @@ fn two_files(
 
 /// `expresso` on these words, with the files `m.mon` and `c.cl` in memory.
 fn answer(
-    alloc: Global,
+    rt: &(impl Threads + Wait + Sync + AllocGlobal),
     words: &[&str],
     monitor: &[u8],
     clients: &[u8],
     devices: &Devices,
 ) -> Result<Outcome, AllocError> {
+    let alloc = rt.alloc();
     let words = texts_of(alloc, words)?;
     let mut files = two_files(alloc, monitor, clients, devices.failing_read)?;
     let mut out = MemSink::open(alloc, devices.room, listed(alloc, devices.failing_write)?)?;
-    let status = expresso(alloc, &words, &mut files, &mut out);
+    let status = expresso(rt, alloc, &words, &mut files, &mut out, &OpenGate);
     Ok(Outcome {
         status,
         text: Vec::from_slice(alloc, out.bytes())?,
@@ -131,11 +114,18 @@ const COMPILE: [&str; 3] = ["expresso", "compile", "m.mon"];
 const TURNS: [&str; 4] = ["expresso", "turns", "m.mon", "c.cl"];
 
 /// `expresso check m.mon` over sound devices.
-fn check(alloc: Global, monitor: &[u8]) -> Result<Outcome, AllocError> {
-    answer(alloc, CHECK.as_slice(), monitor, b"", &SOUND)
+fn check(
+    rt: &(impl Threads + Wait + Sync + AllocGlobal),
+    monitor: &[u8],
+) -> Result<Outcome, AllocError> {
+    answer(rt, CHECK.as_slice(), monitor, b"", &SOUND)
 }
 
 /// `expresso turns m.mon c.cl` over sound devices.
-fn turns(alloc: Global, monitor: &[u8], clients: &[u8]) -> Result<Outcome, AllocError> {
-    answer(alloc, TURNS.as_slice(), monitor, clients, &SOUND)
+fn turns(
+    rt: &(impl Threads + Wait + Sync + AllocGlobal),
+    monitor: &[u8],
+    clients: &[u8],
+) -> Result<Outcome, AllocError> {
+    answer(rt, TURNS.as_slice(), monitor, clients, &SOUND)
 }

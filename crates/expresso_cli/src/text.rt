@@ -11,7 +11,8 @@ ghost use Rattle.mon_text.specs.FaultText.{unread_text};
 ghost use Rattle.mon_text.specs.Faults.{fault_text};
 ghost use Rattle.mon_text.specs.LogText.{are_done};
 ghost use Rattle.mon_text.specs.TurnsText.{turns_text};
-ghost use Rattle.expresso_cli.specs.Simulations.{simulation_text};
+ghost use Rattle.mon_text.specs.Laws.{plan_and_log_text};
+ghost use Rattle.mon_text.specs.SummaryText.{summary_text};
 ghost use Rattle.expresso_cli.specs.SourceFaults.{source_fault_text};
 ghost use Rattle.expresso_cli.specs.Texts.{usage_text};
 ghost use Rattle.expresso_cli.specs.inner.Ending.{IsWritten, ended};
@@ -24,7 +25,7 @@ use mon_implicit::{Scripts, Turns};
 use mon_io::{Sink, SinkFailed, write_piece};
 use mon_monitor::Monitor;
 use mon_printer::print_monitor;
-use mon_text::{Fault, are_done, write_fault, write_log, write_plan, write_turns};
+use mon_text::{Fault, are_done, write_fault, write_log, write_plan, write_summary, write_turns};
 use mon_tree::MonitorTree;
 
 /// Hands on what was written of a text, and gives the status that the text comes to.
@@ -54,7 +55,7 @@ pub(crate) fn show_usage<S: Sink>(out: &mut S) -> Status
         → (S.seen out.new).faults ≡ (S.seen out.old).faults }
 {
     let outcome = write_piece(
-        b"usage:\nexpresso check FILE\nexpresso turns FILE CLIENTS\nexpresso compile FILE\nexpresso simulate FILE CLIENTS [--seed N] [--spurious K]\n",
+        b"usage:\nexpresso check FILE\nexpresso turns FILE CLIENTS\nexpresso compile FILE\nexpresso simulate FILE CLIENTS [--seed N] [--spurious K]\nexpresso run FILE CLIENTS [--workers N]\nexpresso stress N [--workers N]\n",
         out,
     );
     finish(Status::Usage, outcome, out)
@@ -160,28 +161,44 @@ pub(crate) fn show_turns<S: Sink>(
     finish(run_status(turns.finished), outcome, out)
 }
 
-/// Writes the plan and the log of a simulation. Where a client has calls left it is stalled.
-pub(crate) fn show_simulation<S: Sink>(free: &FreeMonitor, out: &mut S) -> Status
+/// Writes the plan and the log of a run by sections. Where a client has calls left it is stalled.
+pub(crate) fn show_plan_and_log<S: Sink>(free: &FreeMonitor, out: &mut S) -> Status
     requires { IsClosed free.now.system free.now.now }
     ensures written { IsWritten
         (ended (are_done free.now.system.clients (commits_of free.now.log)))
-        (simulation_text free.now.system free.now.log free.now.now)
+        (plan_and_log_text free.now.system free.now.log free.now.now)
         result (S.seen out.old) (S.seen out.new) }
     ensures handed_on { result ≢ Status.WriteFault
         → (S.seen out.new).faults ≡ (S.seen out.old).faults }
     ensures later { (S.seen out.old).faults ≤ (S.seen out.new).faults }
 {
     let finished = are_done(free.scripts().clients(), free.log());
-    let outcome = write_simulation(free, out);
+    let outcome = write_plan_and_log(free, out);
     finish(run_status(finished), outcome, out)
 }
 
 /// Writes the plan, and then the log.
-fn write_simulation<S: Sink>(free: &FreeMonitor, out: &mut S) -> Result<(), SinkFailed>
+fn write_plan_and_log<S: Sink>(free: &FreeMonitor, out: &mut S) -> Result<(), SinkFailed>
     requires { IsClosed free.now.system free.now.now }
     ensures { Wrote (S.seen out.old) (S.seen out.new) result
-        (simulation_text free.now.system free.now.log free.now.now) }
+        (plan_and_log_text free.now.system free.now.log free.now.now) }
 {
     write_plan(free.monitor(), free.plan(), out)?;
     write_log(free, out)
+}
+
+/// Writes the summary of a run by sections. Where a client has calls left it is stalled.
+pub(crate) fn show_summary<S: Sink>(free: &FreeMonitor, out: &mut S) -> Status
+    requires { IsClosed free.now.system free.now.now }
+    ensures written { IsWritten
+        (ended (are_done free.now.system.clients (commits_of free.now.log)))
+        (summary_text free.now.system free.now.log free.now.now)
+        result (S.seen out.old) (S.seen out.new) }
+    ensures handed_on { result ≢ Status.WriteFault
+        → (S.seen out.new).faults ≡ (S.seen out.old).faults }
+    ensures later { (S.seen out.old).faults ≤ (S.seen out.new).faults }
+{
+    let finished = are_done(free.scripts().clients(), free.log());
+    let outcome = write_summary(free, out);
+    finish(run_status(finished), outcome, out)
 }

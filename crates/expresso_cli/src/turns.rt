@@ -1,7 +1,7 @@
 //! `expresso turns FILE CLIENTS`.
 
 ghost use Rattle.std.specs.Prelude.{◌≡◌, ◌≢◌, ◌≤◌, ◌↔◌, ℕ, List};
-ghost use Rattle.expresso_cli.specs.CommandLine.{turns};
+ghost use Rattle.mon_command.specs.CommandLine.{turns};
 ghost use Rattle.expresso_cli.specs.inner.Ending.{HasEnded};
 
 use crate::input::input_of;

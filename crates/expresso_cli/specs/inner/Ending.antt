@@ -5,7 +5,7 @@ use Rattle.mon_io.specs.Outside.{FilesSeen, SinkSeen, AppendsFront, Rises}
 use Rattle.mon_text.specs.FaultText.{unread_text}
 use Rattle.expresso_cli.specs.declared.status.Status.{Status}
 use Rattle.expresso_cli.specs.declared.status.Status.TheVariants as statuses
-use Rattle.expresso_cli.specs.CommandLine.{Command}
+use Rattle.mon_command.specs.CommandLine.{Command}
 use Rattle.expresso_cli.specs.Answers.{AcceptsFiles, RejectsFiles, IsDoneText, IsStalledText, IsRefusedText, IsUnreadText, IsWorkedOrMemory, IsRefusedOrMemory, IsStoppedOrMemory, IsUnreadOrMemory}
 
 -- A sink was seen `before` a text was written and is seen `now`: the whole text and its status; or a proper front of it, and a fault.

@@ -9,7 +9,7 @@ use Rattle.expresso_cli.specs.declared.source_fault.SourceFault.TheVariants as s
 use Rattle.expresso_cli.specs.declared.input.Input.{Input}
 use Rattle.expresso_cli.specs.declared.input.InputFault.{InputFault}
 use Rattle.expresso_cli.specs.declared.input.InputFault.TheVariants as faults
-use Rattle.expresso_cli.specs.CommandLine.{Command, files_of}
+use Rattle.mon_command.specs.CommandLine.{Command, files_of}
 use Rattle.expresso_cli.specs.MonitorFiles.{IsAccepted, IsFirstFault}
 use Rattle.expresso_cli.specs.ClientFiles.{AreAccepted, IsFirstOfClients}
 use Rattle.expresso_cli.specs.Answers.{AcceptsFiles, AcceptsMonitor, AcceptsRun, IsMonitorRefusal, IsRefusedText, IsRunRefusal}

@@ -1,16 +1,27 @@
 use super::super::status::Status;
 use super::{Outcome, check};
 use std::alloc::{AllocError, Global};
+use std::sync::Wait;
 use std::test::Fail;
+use std::thread::Threads;
 
 /// Whether `check` prints exactly this, with this status.
-fn prints(alloc: Global, monitor: &[u8], status: Status, text: &[u8]) -> Result<bool, AllocError> {
-    let outcome: Outcome = check(alloc, monitor)?;
+fn prints(
+    rt: &(impl Threads + Wait + Sync + AllocGlobal),
+    monitor: &[u8],
+    status: Status,
+    text: &[u8],
+) -> Result<bool, AllocError> {
+    let outcome: Outcome = check(rt, monitor)?;
     Ok(outcome.status == status && outcome.text.as_slice() == text)
 }
 
-fn is_refused(alloc: Global, monitor: &[u8], line: &[u8]) -> Result<bool, AllocError> {
-    prints(alloc, monitor, Status::Refused, line)
+fn is_refused(
+    rt: &(impl Threads + Wait + Sync + AllocGlobal),
+    monitor: &[u8],
+    line: &[u8],
+) -> Result<bool, AllocError> {
+    prints(rt, monitor, Status::Refused, line)
 }
 
 #[test]
@@ -27,8 +38,8 @@ fn a_monitor_is_printed_in_canonical_form(rt: HostRuntime) -> Result<(), Fail> {
 ";
     let loose =
         b"monitor Lock { bool held = false; method acquire() waituntil (!held) { held = true; } method release() waituntil (held) { held = false; } } ";
-    assert!(rt; prints(rt.alloc(), lock, Status::Done, lock)?);
-    assert!(rt; prints(rt.alloc(), loose, Status::Done, lock)?);
+    assert!(rt; prints(&rt, lock, Status::Done, lock)?);
+    assert!(rt; prints(&rt, loose, Status::Done, lock)?);
     Ok(())
 }
 
@@ -37,7 +48,7 @@ fn every_part_of_the_language_is_printed(rt: HostRuntime) -> Result<(), Fail> {
     let text =
         b"monitor M{const C=04;int x=-1;bool b=true;method m(int n,bool f)waituntil((f&&(n<C))||!b){x=(x+n)*2;if(b==b){}else{return x;}return-x;}}";
     let line = b"refused: m.mon:1:104: wrong type\n";
-    assert!(rt; is_refused(rt.alloc(), text, line)?);
+    assert!(rt; is_refused(&rt, text, line)?);
     let text =
         b"monitor M{const C=04;int x=-1;bool b=true;method m(int n,bool f)waituntil((f&&(n<C))||!b){x=(x+n)*2;if(b){}else{x=- -n;}return-x;}}";
     let form = b"monitor M {
@@ -54,7 +65,7 @@ fn every_part_of_the_language_is_printed(rt: HostRuntime) -> Result<(), Fail> {
   }
 }
 ";
-    assert!(rt; prints(rt.alloc(), text, Status::Done, form)?);
+    assert!(rt; prints(&rt, text, Status::Done, form)?);
     Ok(())
 }
 
@@ -62,7 +73,7 @@ fn every_part_of_the_language_is_printed(rt: HostRuntime) -> Result<(), Fail> {
 fn a_product_of_two_variables_is_refused_at_its_sign(rt: HostRuntime) -> Result<(), Fail> {
     let text = b"monitor M { int x = 0; int y = 0; method m() waituntil (x * y < 4) { } }";
     let line = b"refused: m.mon:1:59: product of two variables\n";
-    assert!(rt; is_refused(rt.alloc(), text, line)?);
+    assert!(rt; is_refused(&rt, text, line)?);
     let text = b"monitor M { int x = 0; int y = 0; method m() waituntil (2 * y < 4) { } }";
     let form = b"monitor M {
   int x = 0;
@@ -71,7 +82,7 @@ fn a_product_of_two_variables_is_refused_at_its_sign(rt: HostRuntime) -> Result<
   }
 }
 ";
-    assert!(rt; prints(rt.alloc(), text, Status::Done, form)?);
+    assert!(rt; prints(&rt, text, Status::Done, form)?);
     Ok(())
 }
 
@@ -79,7 +90,7 @@ fn a_product_of_two_variables_is_refused_at_its_sign(rt: HostRuntime) -> Result<
 fn a_number_has_at_most_63_bits(rt: HostRuntime) -> Result<(), Fail> {
     let text = b"monitor M { int x = 9223372036854775808; method m() waituntil (true) { } }";
     let line = b"refused: m.mon:1:21: number too large\n";
-    assert!(rt; is_refused(rt.alloc(), text, line)?);
+    assert!(rt; is_refused(&rt, text, line)?);
     let text = b"monitor M { int x = 9223372036854775807; method m() waituntil (true) { } }";
     let form = b"monitor M {
   int x = 9223372036854775807;
@@ -87,7 +98,7 @@ fn a_number_has_at_most_63_bits(rt: HostRuntime) -> Result<(), Fail> {
   }
 }
 ";
-    assert!(rt; prints(rt.alloc(), text, Status::Done, form)?);
+    assert!(rt; prints(&rt, text, Status::Done, form)?);
     Ok(())
 }
 
@@ -128,7 +139,7 @@ fn each_rule_has_its_line(rt: HostRuntime) -> Result<(), Fail> {
         ),
     ];
     for (monitor, line) in table {
-        assert!(rt; is_refused(rt.alloc(), monitor, line)?, "{line:?}");
+        assert!(rt; is_refused(&rt, monitor, line)?, "{line:?}");
     }
     Ok(())
 }
@@ -151,7 +162,7 @@ fn the_first_fault_is_printed(rt: HostRuntime) -> Result<(), Fail> {
         (b"", b"refused: m.mon:1:1: syntax\n"),
     ];
     for (monitor, line) in table {
-        assert!(rt; is_refused(rt.alloc(), monitor, line)?, "{line:?}");
+        assert!(rt; is_refused(&rt, monitor, line)?, "{line:?}");
     }
     Ok(())
 }
@@ -174,10 +185,10 @@ fn in_parentheses(alloc: Global, levels: usize) -> Result<Vec<u8>, AllocError> {
 fn at_most_64_parentheses_are_open(rt: HostRuntime) -> Result<(), Fail> {
     let form = b"monitor M {\n  method m() waituntil (true) {\n  }\n}\n";
     let text = in_parentheses(rt.alloc(), 64)?;
-    assert!(rt; prints(rt.alloc(), &text, Status::Done, form)?);
+    assert!(rt; prints(&rt, &text, Status::Done, form)?);
     let text = in_parentheses(rt.alloc(), 65)?;
     let line = b"refused: m.mon:1:99: syntax\n";
-    assert!(rt; is_refused(rt.alloc(), &text, line)?);
+    assert!(rt; is_refused(&rt, &text, line)?);
     Ok(())
 }
 
@@ -186,9 +197,9 @@ fn a_file_has_at_most_65536_bytes(rt: HostRuntime) -> Result<(), Fail> {
     let form = b"monitor M {\n}\n";
     let mut text = Vec::from_slice(rt.alloc(), form)?;
     text.resize(65_536, b' ')?;
-    assert!(rt; prints(rt.alloc(), &text, Status::Done, form)?);
+    assert!(rt; prints(&rt, &text, Status::Done, form)?);
     text.push(b' ')?;
     let line = b"refused: m.mon: more than 65536 bytes\n";
-    assert!(rt; is_refused(rt.alloc(), &text, line)?);
+    assert!(rt; is_refused(&rt, &text, line)?);
     Ok(())
 }

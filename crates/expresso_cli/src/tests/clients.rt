@@ -1,32 +1,13 @@
 //! Client files: their rules, each with its place, and repeats written out.
 
 use super::super::status::Status;
-use super::runs::{LEVEL, prints};
-use super::{BUFFER, turns};
-use mon_io::MemSink;
-use mon_syntax::{parse_clients, print_clients};
-use mon_tokens::tokens;
+use super::runs::prints;
+use super::turns;
+use samples::monitors::{ACCUMULATOR, BUFFER, LEVEL};
 use std::alloc::{AllocError, Global};
+use std::sync::Wait;
 use std::test::Fail;
-
-const ACC: &[u8] = b"monitor Acc {
-  int sum = 0;
-  method add(int n) waituntil (true) {
-    sum = sum + n;
-    return sum;
-  }
-  method big() waituntil (true) {
-    return sum > 5;
-  }
-  method cap(int n) waituntil (true) {
-    if (n > 9) {
-      sum = 9;
-    } else {
-      sum = n;
-    }
-  }
-}
-";
+use std::thread::Threads;
 
 const MIXED: &[u8] = b"monitor Mixed {
   int x = 0;
@@ -39,8 +20,13 @@ const MIXED: &[u8] = b"monitor Mixed {
 ";
 
 /// Whether `turns` refuses these clients of the monitor with this line.
-fn refuses(alloc: Global, monitor: &[u8], clients: &[u8], line: &[u8]) -> Result<bool, AllocError> {
-    prints(alloc, monitor, clients, Status::Refused, line)
+fn refuses(
+    rt: &(impl Threads + Wait + Sync + AllocGlobal),
+    monitor: &[u8],
+    clients: &[u8],
+    line: &[u8],
+) -> Result<bool, AllocError> {
+    prints(rt, monitor, clients, Status::Refused, line)
 }
 
 #[test]
@@ -54,14 +40,14 @@ A.5 big() = true
 done
 state sum=9
 ";
-    assert!(rt; prints(rt.alloc(), ACC, clients, Status::Done, run)?);
+    assert!(rt; prints(&rt, ACCUMULATOR, clients, Status::Done, run)?);
     let clients = b"client A { m(-9223372036854775807, true); p(); }";
     let run = b"A.1 m(-9223372036854775807, true) = -
 A.2 p() = -
 done
 state x=-9223372036854775807
 ";
-    assert!(rt; prints(rt.alloc(), MIXED, clients, Status::Done, run)?);
+    assert!(rt; prints(&rt, MIXED, clients, Status::Done, run)?);
     Ok(())
 }
 
@@ -76,7 +62,7 @@ A.5 add() = -
 done
 state count=3
 ";
-    assert!(rt; prints(rt.alloc(), LEVEL, clients, Status::Done, run)?);
+    assert!(rt; prints(&rt, LEVEL, clients, Status::Done, run)?);
     Ok(())
 }
 
@@ -89,14 +75,14 @@ fn a_repeat_of_nothing_is_nothing(rt: HostRuntime) -> Result<(), Fail> {
         b"client A { repeat 99999999999999999999999999999999 { repeat 99999999999999999999999999999999 { } } }",
     ];
     for clients in table {
-        assert!(rt; prints(rt.alloc(), LEVEL, clients, Status::Done, run)?);
+        assert!(rt; prints(&rt, LEVEL, clients, Status::Done, run)?);
     }
     Ok(())
 }
 
 #[test]
 fn sixteen_thousand_calls_are_made_by_a_repeat(rt: HostRuntime) -> Result<(), Fail> {
-    let outcome = turns(rt.alloc(), LEVEL, b"client A { repeat 16384 { add(); } }")?;
+    let outcome = turns(&rt, LEVEL, b"client A { repeat 16384 { add(); } }")?;
     assert_eq!(rt; outcome.status, Status::Done);
     assert!(rt;
         outcome
@@ -127,7 +113,7 @@ fn more_calls_are_too_many(rt: HostRuntime) -> Result<(), Fail> {
         ),
     ];
     for (clients, line) in table {
-        assert!(rt; refuses(rt.alloc(), LEVEL, clients, line)?);
+        assert!(rt; refuses(&rt, LEVEL, clients, line)?);
     }
     Ok(())
 }
@@ -149,14 +135,14 @@ fn nested(alloc: Global, levels: usize) -> Result<Vec<u8>, AllocError> {
 #[test]
 fn calls_of_64_nested_repeats_are_counted_at_once(rt: HostRuntime) -> Result<(), Fail> {
     let line = b"refused: c.cl:1:12: too many calls\n";
-    assert!(rt; refuses(rt.alloc(), LEVEL, &nested(rt.alloc(), 64)?, line)?);
+    assert!(rt; refuses(&rt, LEVEL, &nested(rt.alloc(), 64)?, line)?);
     Ok(())
 }
 
 #[test]
 fn called_names_are_methods_with_as_many_inputs(rt: HostRuntime) -> Result<(), Fail> {
     let line = b"refused: c.cl:1:12: unknown method\n";
-    assert!(rt; refuses(rt.alloc(), BUFFER, b"client A { pull(); }", line)?);
+    assert!(rt; refuses(&rt, BUFFER, b"client A { pull(); }", line)?);
     let line = b"refused: c.cl:1:12: wrong number of arguments\n";
     let table: [&[u8]; 3] = [
         b"client A { m(1); }",
@@ -164,7 +150,7 @@ fn called_names_are_methods_with_as_many_inputs(rt: HostRuntime) -> Result<(), F
         b"client A { p(true); }",
     ];
     for clients in table {
-        assert!(rt; refuses(rt.alloc(), MIXED, clients, line)?);
+        assert!(rt; refuses(&rt, MIXED, clients, line)?);
     }
     Ok(())
 }
@@ -190,7 +176,7 @@ fn arguments_are_of_the_kinds_of_inputs(rt: HostRuntime) -> Result<(), Fail> {
         ),
     ];
     for (clients, line) in table {
-        assert!(rt; refuses(rt.alloc(), MIXED, clients, line)?);
+        assert!(rt; refuses(&rt, MIXED, clients, line)?);
     }
     Ok(())
 }
@@ -208,7 +194,7 @@ fn numbers_of_arguments_have_64_bits(rt: HostRuntime) -> Result<(), Fail> {
         ),
     ];
     for (clients, line) in table {
-        assert!(rt; refuses(rt.alloc(), MIXED, clients, line)?);
+        assert!(rt; refuses(&rt, MIXED, clients, line)?);
     }
     Ok(())
 }
@@ -217,7 +203,7 @@ fn numbers_of_arguments_have_64_bits(rt: HostRuntime) -> Result<(), Fail> {
 fn clients_have_distinct_names(rt: HostRuntime) -> Result<(), Fail> {
     let clients = b"client A { }\nclient B { }\nclient A { }";
     let line = b"refused: c.cl:3:8: client used twice\n";
-    assert!(rt; refuses(rt.alloc(), LEVEL, clients, line)?);
+    assert!(rt; refuses(&rt, LEVEL, clients, line)?);
     Ok(())
 }
 
@@ -234,7 +220,7 @@ fn the_earlier_place_comes_first(rt: HostRuntime) -> Result<(), Fail> {
         ),
     ];
     for (clients, line) in table {
-        assert!(rt; refuses(rt.alloc(), MIXED, clients, line)?);
+        assert!(rt; refuses(&rt, MIXED, clients, line)?);
     }
     Ok(())
 }
@@ -252,7 +238,7 @@ fn at_one_place_the_rules_have_an_order(rt: HostRuntime) -> Result<(), Fail> {
         ),
     ];
     for (clients, line) in table {
-        assert!(rt; refuses(rt.alloc(), MIXED, clients, line)?);
+        assert!(rt; refuses(&rt, MIXED, clients, line)?);
     }
     Ok(())
 }
@@ -272,44 +258,7 @@ fn tokens_and_grammar_have_their_places(rt: HostRuntime) -> Result<(), Fail> {
         (b"client A { add(); ", b"refused: c.cl:1:19: syntax\n"),
     ];
     for (clients, line) in table {
-        assert!(rt; refuses(rt.alloc(), LEVEL, clients, line)?);
+        assert!(rt; refuses(&rt, LEVEL, clients, line)?);
     }
-    Ok(())
-}
-
-/// What is printed of the tree of a client file.
-fn printed(alloc: Global, text: &[u8]) -> Option<Vec<u8>> {
-    if text.len() > 65_536 {
-        return None;
-    }
-    match tokens(alloc, text) {
-        Ok(read) => match parse_clients(alloc, text, &read) {
-            Ok(tree) => {
-                let mut out = MemSink::open(alloc, 1 << 10, Vec::new(alloc)).ok()?;
-                print_clients(&tree, &mut out).ok()?;
-                Vec::from_slice(alloc, out.bytes()).ok()
-            }
-            Err(_) => None,
-        },
-        Err(_) => None,
-    }
-}
-
-#[test]
-fn a_canonical_text_is_printed_again(rt: HostRuntime) -> Result<(), Fail> {
-    let text = b"client A {
-  put(3, true);
-  repeat 10 {
-    add(-1);
-    repeat 99999999999999999999999999999999 {
-    }
-  }
-}
-client B {
-}
-"
-        .as_slice();
-    let again = printed(rt.alloc(), text).ok_or("a client file")?;
-    assert_eq!(rt; again.as_slice(), text);
     Ok(())
 }

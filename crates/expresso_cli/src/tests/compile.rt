@@ -1,16 +1,30 @@
 //! Plans that monitors are compiled to, worked out by hand from the queries of their blocks and conditions.
 
 use super::super::status::Status;
-use super::checker::{LEVEL, READERS_AND_WRITERS, SUM};
-use super::events::{GATE, LOCK};
 use super::readme::{BARRIER, READERS_WRITERS};
-use super::{BUFFER, COMPILE, Outcome, SOUND, answer};
-use std::alloc::{AllocError, Global};
+use super::{COMPILE, Outcome, SOUND, answer};
+use samples::monitors::{BUFFER, GATE, LEVEL, LOCK, READERS_AND_WRITERS, SUM};
+use std::alloc::AllocError;
+use std::sync::Wait;
 use std::test::Fail;
+use std::thread::Threads;
 
 /// `expresso compile m.mon` over sound devices.
-fn compile(alloc: Global, monitor: &[u8]) -> Result<Outcome, AllocError> {
-    answer(alloc, COMPILE.as_slice(), monitor, b"", &SOUND)
+fn compile(
+    rt: &(impl Threads + Wait + Sync + AllocGlobal),
+    monitor: &[u8],
+) -> Result<Outcome, AllocError> {
+    answer(rt, COMPILE.as_slice(), monitor, b"", &SOUND)
+}
+
+/// Whether `compile` prints exactly this plan of a monitor.
+pub(super) fn compiles_to(
+    rt: &(impl Threads + Wait + Sync + AllocGlobal),
+    monitor: &[u8],
+    plan: &[u8],
+) -> Result<bool, AllocError> {
+    let outcome = compile(rt, monitor)?;
+    Ok(outcome.status == Status::Done && outcome.text.as_slice() == plan)
 }
 
 // ---- small monitors
@@ -96,9 +110,7 @@ fn small_monitors_get_their_exact_plans(rt: HostRuntime) -> Result<(), Fail> {
         (b"monitor Empty { }", b"plan Empty\n"),
     ];
     for (monitor, plan) in table {
-        let outcome = compile(rt.alloc(), monitor)?;
-        assert_eq!(rt; outcome.status, Status::Done);
-        assert_eq!(rt; outcome.text.as_slice(), plan);
+        assert!(rt; compiles_to(&rt, monitor, plan)?, "{plan:?}");
     }
     Ok(())
 }
@@ -163,9 +175,7 @@ fn the_monitors_to_try_get_their_exact_plans(rt: HostRuntime) -> Result<(), Fail
         (READERS_WRITERS, READERS_WRITERS_PLAN),
     ];
     for (monitor, plan) in table {
-        let outcome = compile(rt.alloc(), monitor)?;
-        assert_eq!(rt; outcome.status, Status::Done);
-        assert_eq!(rt; outcome.text.as_slice(), plan);
+        assert!(rt; compiles_to(&rt, monitor, plan)?, "{plan:?}");
     }
     Ok(())
 }
@@ -211,7 +221,7 @@ fn monitors_that_are_not_small_get_plans(rt: HostRuntime) -> Result<(), Fail> {
         (MANY_CUBES, b"plan Cubes\n", b"block m: 1 broadcast tested"),
     ];
     for (monitor, first, line) in table {
-        let outcome = compile(rt.alloc(), monitor)?;
+        let outcome = compile(&rt, monitor)?;
         assert_eq!(rt; outcome.status, Status::Done);
         assert!(rt; outcome.text.starts_with(first));
         assert!(rt; has_line(outcome.text.as_slice(), line));
@@ -221,7 +231,7 @@ fn monitors_that_are_not_small_get_plans(rt: HostRuntime) -> Result<(), Fail> {
 
 #[test]
 fn a_refused_monitor_is_not_compiled(rt: HostRuntime) -> Result<(), Fail> {
-    let outcome = compile(rt.alloc(), b"monitor M { bool b = 1; }")?;
+    let outcome = compile(&rt, b"monitor M { bool b = 1; }")?;
     assert_eq!(rt; outcome.status, Status::Refused);
     assert_eq!(rt;
         outcome.text.as_slice(),

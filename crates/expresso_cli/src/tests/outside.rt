@@ -1,10 +1,12 @@
 use super::super::expresso::expresso;
 use super::super::status::Status;
+use super::run::RUN;
 use super::simulate::ROUNDS;
-use super::{
-    BUFFER, CHECK, COMPILE, Devices, SOUND, TURNS, TWO, TWO_RUN, answer, texts_of, two_files,
-};
+use super::{CHECK, COMPILE, Devices, SOUND, TURNS, TWO_RUN, answer, texts_of, two_files};
 use mon_io::StdSink;
+use mon_lock::OpenGate;
+use samples::clients::TWO;
+use samples::monitors::BUFFER;
 use std::fmt::Display;
 use std::io;
 use std::io::Print;
@@ -13,7 +15,7 @@ use std::test::Fail;
 #[test]
 fn other_words_get_the_usage(rt: HostRuntime) -> Result<(), Fail> {
     let none: [&str; 0] = [];
-    let table: [&[&str]; 9] = [
+    let table: [&[&str]; 19] = [
         &["expresso", "turns", "m.mon"],
         &["expresso", "check"],
         &["expresso", "check", "m.mon", "c.cl"],
@@ -23,9 +25,19 @@ fn other_words_get_the_usage(rt: HostRuntime) -> Result<(), Fail> {
         &["expresso"],
         &none,
         &["expresso", "turns", "m.mon", "c.cl", "more"],
+        &["expresso", "--help"],
+        &["expresso", "simulate", "m.mon", "c.cl", "--spurious", "2"],
+        &["expresso", "run", "m.mon"],
+        &["expresso", "run", "m.mon", "c.cl", "--workers", "17"],
+        &["expresso", "run", "m.mon", "c.cl", "--workers", "0"],
+        &["expresso", "run", "m.mon", "c.cl", "--seed", "1"],
+        &["expresso", "stress"],
+        &["expresso", "stress", "x"],
+        &["expresso", "stress", "3", "--workers", "17"],
+        &["expresso", "stress", "3", "--seed", "1"],
     ];
     for words in table {
-        let outcome = answer(rt.alloc(), words, BUFFER, TWO, &SOUND)?;
+        let outcome = answer(&rt, words, BUFFER, TWO, &SOUND)?;
         assert_eq!(rt; outcome.status, Status::Usage);
         assert_eq!(rt;
             outcome.text.as_slice(),
@@ -34,6 +46,8 @@ expresso check FILE
 expresso turns FILE CLIENTS
 expresso compile FILE
 expresso simulate FILE CLIENTS [--seed N] [--spurious K]
+expresso run FILE CLIENTS [--workers N]
+expresso stress N [--workers N]
 "
                 .as_slice()
         );
@@ -43,20 +57,22 @@ expresso simulate FILE CLIENTS [--seed N] [--spurious K]
 
 #[test]
 fn a_read_that_fails_names_its_file(rt: HostRuntime) -> Result<(), Fail> {
-    let table: [(&[&str], u64, &[u8]); 6] = [
+    let table: [(&[&str], u64, &[u8]); 8] = [
         (TURNS.as_slice(), 1, b"read fault: m.mon\n"),
         (TURNS.as_slice(), 2, b"read fault: c.cl\n"),
         (CHECK.as_slice(), 1, b"read fault: m.mon\n"),
         (COMPILE.as_slice(), 1, b"read fault: m.mon\n"),
         (ROUNDS.as_slice(), 1, b"read fault: m.mon\n"),
         (ROUNDS.as_slice(), 2, b"read fault: c.cl\n"),
+        (RUN.as_slice(), 1, b"read fault: m.mon\n"),
+        (RUN.as_slice(), 2, b"read fault: c.cl\n"),
     ];
     for (words, call, line) in table {
         let devices = Devices {
             failing_read: Some(call),
             ..SOUND
         };
-        let outcome = answer(rt.alloc(), words, BUFFER, TWO, &devices)?;
+        let outcome = answer(&rt, words, BUFFER, TWO, &devices)?;
         assert_eq!(rt; outcome.status, Status::ReadFault);
         assert_eq!(rt; outcome.text.as_slice(), line);
     }
@@ -69,7 +85,7 @@ fn both_files_are_read_before_one_is_refused(rt: HostRuntime) -> Result<(), Fail
         failing_read: Some(2),
         ..SOUND
     };
-    let outcome = answer(rt.alloc(), TURNS.as_slice(), b"monitor", TWO, &devices)?;
+    let outcome = answer(&rt, TURNS.as_slice(), b"monitor", TWO, &devices)?;
     assert_eq!(rt; outcome.status, Status::ReadFault);
     assert_eq!(rt; outcome.text.as_slice(), b"read fault: c.cl\n".as_slice());
     Ok(())
@@ -78,7 +94,7 @@ fn both_files_are_read_before_one_is_refused(rt: HostRuntime) -> Result<(), Fail
 #[test]
 fn a_file_that_is_not_held_is_a_read_fault(rt: HostRuntime) -> Result<(), Fail> {
     let words = ["expresso", "turns", "b.mon", "c.cl"];
-    let outcome = answer(rt.alloc(), words.as_slice(), BUFFER, TWO, &SOUND)?;
+    let outcome = answer(&rt, words.as_slice(), BUFFER, TWO, &SOUND)?;
     assert_eq!(rt; outcome.status, Status::ReadFault);
     assert_eq!(rt; outcome.text.as_slice(), b"read fault: b.mon\n".as_slice());
     Ok(())
@@ -87,16 +103,16 @@ fn a_file_that_is_not_held_is_a_read_fault(rt: HostRuntime) -> Result<(), Fail> 
 #[test]
 fn a_sink_of_ten_bytes_takes_a_front_of_the_text(rt: HostRuntime) -> Result<(), Fail> {
     let devices = Devices { room: 10, ..SOUND };
-    let outcome = answer(rt.alloc(), TURNS.as_slice(), BUFFER, TWO, &devices)?;
+    let outcome = answer(&rt, TURNS.as_slice(), BUFFER, TWO, &devices)?;
     assert_eq!(rt; outcome.status, Status::WriteFault);
     assert_eq!(rt; outcome.text.as_slice(), b"A.1 put() ".as_slice());
-    let outcome = answer(rt.alloc(), CHECK.as_slice(), BUFFER, b"", &devices)?;
+    let outcome = answer(&rt, CHECK.as_slice(), BUFFER, b"", &devices)?;
     assert_eq!(rt; outcome.status, Status::WriteFault);
     assert_eq!(rt; outcome.text.as_slice(), b"monitor Bu".as_slice());
-    let outcome = answer(rt.alloc(), CHECK.as_slice(), b"@", b"", &devices)?;
+    let outcome = answer(&rt, CHECK.as_slice(), b"@", b"", &devices)?;
     assert_eq!(rt; outcome.status, Status::WriteFault);
     assert_eq!(rt; outcome.text.as_slice(), b"refused: m".as_slice());
-    let outcome = answer(rt.alloc(), COMPILE.as_slice(), BUFFER, b"", &devices)?;
+    let outcome = answer(&rt, COMPILE.as_slice(), BUFFER, b"", &devices)?;
     assert_eq!(rt; outcome.status, Status::WriteFault);
     assert_eq!(rt; outcome.text.as_slice(), b"plan Buffe".as_slice());
     Ok(())
@@ -110,7 +126,7 @@ fn a_write_that_fails_leaves_a_front_of_the_text(rt: HostRuntime) -> Result<(), 
             failing_write: Some(call),
             ..SOUND
         };
-        let outcome = answer(rt.alloc(), TURNS.as_slice(), BUFFER, TWO, &devices)?;
+        let outcome = answer(&rt, TURNS.as_slice(), BUFFER, TWO, &devices)?;
         if outcome.status == Status::Done {
             assert_eq!(rt; outcome.text.as_slice(), TWO_RUN);
             sound = call;
@@ -157,7 +173,7 @@ fn a_text_that_is_gathered_and_not_handed_on_is_a_write_fault(rt: HostRuntime) -
         let words = texts_of(rt.alloc(), words)?;
         let mut files = two_files(rt.alloc(), monitor, TWO, None)?;
         let mut out = StdSink::new(&Closed);
-        let status = expresso(rt.alloc(), &words, &mut files, &mut out);
+        let status = expresso(&rt, rt.alloc(), &words, &mut files, &mut out, &OpenGate);
         assert_eq!(rt; status, Status::WriteFault);
         assert_eq!(rt; out.faults(), 1);
     }

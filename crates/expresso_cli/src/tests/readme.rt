@@ -1,7 +1,8 @@
 //! The files of `data/`, with what the README says of them.
 
 use super::super::status::Status;
-use super::{BUFFER, check, turns};
+use super::{check, turns};
+use samples::monitors::BUFFER;
 use std::test::Fail;
 
 pub const READERS_WRITERS: &[u8] = b"monitor ReadersWriters {
@@ -60,13 +61,13 @@ fn an_unknown_name_is_refused_by_its_line_and_column(rt: HostRuntime) -> Result<
   }
 }
 ";
-    let outcome = check(rt.alloc(), monitor)?;
+    let outcome = check(&rt, monitor)?;
     assert_eq!(rt; outcome.status, Status::Refused);
     assert_eq!(rt;
         outcome.text.as_slice(),
         b"refused: m.mon:4:35: unknown name\n".as_slice()
     );
-    let outcome = check(rt.alloc(), BUFFER)?;
+    let outcome = check(&rt, BUFFER)?;
     assert_eq!(rt; outcome.status, Status::Done);
     assert_eq!(rt; outcome.text.as_slice(), BUFFER);
     Ok(())
@@ -78,7 +79,7 @@ fn a_writer_that_asks_is_served_before_new_readers(rt: HostRuntime) -> Result<()
 client B { startRead(); endRead(); }
 client W { ask(); startWrite(); endWrite(); }
 ";
-    let outcome = turns(rt.alloc(), READERS_WRITERS, clients)?;
+    let outcome = turns(&rt, READERS_WRITERS, clients)?;
     assert_eq!(rt; outcome.status, Status::Done);
     assert_eq!(rt;
         outcome.text.as_slice(),
@@ -105,7 +106,7 @@ fn three_clients_meet_at_a_barrier(rt: HostRuntime) -> Result<(), Fail> {
 client B { arrive(); leave(); }
 client C { arrive(); leave(); }
 ";
-    let outcome = turns(rt.alloc(), BARRIER, clients)?;
+    let outcome = turns(&rt, BARRIER, clients)?;
     assert_eq!(rt; outcome.status, Status::Done);
     assert_eq!(rt;
         outcome.text.as_slice(),

@@ -1,87 +1,53 @@
 use super::super::status::Status;
-use super::{BUFFER, TWO, TWO_RUN, turns};
+use super::{TWO_RUN, turns};
+use samples::clients::{TWO, TWO_LOCKS};
+use samples::monitors::{BUFFER, LEVEL, LOCK, UP};
 use std::alloc::{AllocError, Global};
+use std::sync::Wait;
 use std::test::Fail;
-
-const LOCK: &[u8] = b"monitor Lock {
-  bool held = false;
-  method acquire() waituntil (!held) {
-    held = true;
-  }
-  method release() waituntil (held) {
-    held = false;
-  }
-}
-";
-
-const UP: &[u8] = b"monitor Up {
-  int x = 9223372036854775807;
-  method inc() waituntil (x > 0) {
-    x = x + 1;
-  }
-}
-";
-
-pub(super) const LEVEL: &[u8] = b"monitor Level {
-  int count = 0;
-  method reach(int n) waituntil (n <= count) {
-  }
-  method add() waituntil (true) {
-    count = count + 1;
-  }
-}
-";
+use std::thread::Threads;
 
 /// Whether `turns` prints exactly this, with this status.
 pub(super) fn prints(
-    alloc: Global,
+    rt: &(impl Threads + Wait + Sync + AllocGlobal),
     monitor: &[u8],
     clients: &[u8],
     status: Status,
     text: &[u8],
 ) -> Result<bool, AllocError> {
-    let outcome = turns(alloc, monitor, clients)?;
+    let outcome = turns(rt, monitor, clients)?;
     Ok(outcome.status == status && outcome.text.as_slice() == text)
 }
 
 #[test]
 fn a_buffer_of_one_place_takes_turns(rt: HostRuntime) -> Result<(), Fail> {
-    assert!(rt; prints(rt.alloc(), BUFFER, TWO, Status::Done, TWO_RUN)?);
+    assert!(rt; prints(&rt, BUFFER, TWO, Status::Done, TWO_RUN)?);
     Ok(())
 }
 
 #[test]
 fn an_overflow_is_answered_and_the_state_stays(rt: HostRuntime) -> Result<(), Fail> {
     let run = b"A.1 inc() = overflow\ndone\nstate x=9223372036854775807\n";
-    assert!(rt; prints(rt.alloc(), UP, b"client A { inc(); }", Status::Done, run)?);
+    assert!(rt; prints(&rt, UP, b"client A { inc(); }", Status::Done, run)?);
     Ok(())
 }
 
 #[test]
 fn a_client_whose_guard_is_false_is_blocked(rt: HostRuntime) -> Result<(), Fail> {
     let run = b"stalled\nA.1 get() blocked\nstate count=0\n";
-    assert!(rt;
-        prints(
-            rt.alloc(),
-            BUFFER,
-            b"client A { get(); }",
-            Status::Stalled,
-            run
-        )?
-    );
+    assert!(rt; prints(&rt, BUFFER, b"client A { get(); }", Status::Stalled, run)?);
     Ok(())
 }
 
 #[test]
 fn no_clients_are_done_at_once(rt: HostRuntime) -> Result<(), Fail> {
     let run = b"done\nstate count=0\n";
-    assert!(rt; prints(rt.alloc(), BUFFER, b"", Status::Done, run)?);
+    assert!(rt; prints(&rt, BUFFER, b"", Status::Done, run)?);
     Ok(())
 }
 
 #[test]
 fn a_lock_is_held_by_one_client(rt: HostRuntime) -> Result<(), Fail> {
-    let clients = b"client A { acquire(); release(); } client B { acquire(); release(); }";
     let run = b"A.1 acquire() = -
 A.2 release() = -
 B.1 acquire() = -
@@ -89,7 +55,7 @@ B.2 release() = -
 done
 state held=false
 ";
-    assert!(rt; prints(rt.alloc(), LOCK, clients, Status::Done, run)?);
+    assert!(rt; prints(&rt, LOCK, TWO_LOCKS, Status::Done, run)?);
     Ok(())
 }
 
@@ -108,7 +74,7 @@ A.5 sum() = overflow
 done
 state x=-9223372036854775808 low=true
 ";
-    assert!(rt; prints(rt.alloc(), monitor, clients, Status::Done, run)?);
+    assert!(rt; prints(&rt, monitor, clients, Status::Done, run)?);
     Ok(())
 }
 
@@ -123,7 +89,7 @@ stalled
 B.2 m() blocked
 state x=1 y=3
 ";
-    assert!(rt; prints(rt.alloc(), monitor, clients, Status::Stalled, run)?);
+    assert!(rt; prints(&rt, monitor, clients, Status::Stalled, run)?);
     Ok(())
 }
 
@@ -131,7 +97,7 @@ state x=1 y=3
 fn the_monitor_is_refused_before_its_clients(rt: HostRuntime) -> Result<(), Fail> {
     let monitor = b"monitor M { method m() waituntil (y) { } }";
     let line = b"refused: m.mon:1:35: unknown name\n";
-    assert!(rt; prints(rt.alloc(), monitor, b"client", Status::Refused, line)?);
+    assert!(rt; prints(&rt, monitor, b"client", Status::Refused, line)?);
     Ok(())
 }
 
@@ -141,13 +107,13 @@ fn both_files_have_at_most_65536_bytes(rt: HostRuntime) -> Result<(), Fail> {
     monitor.resize(65_536, b' ')?;
     let mut clients = Vec::from_slice(rt.alloc(), TWO)?;
     clients.resize(65_536, b' ')?;
-    assert!(rt; prints(rt.alloc(), &monitor, &clients, Status::Done, TWO_RUN)?);
+    assert!(rt; prints(&rt, &monitor, &clients, Status::Done, TWO_RUN)?);
     clients.push(b' ')?;
     let line = b"refused: c.cl: more than 65536 bytes\n";
-    assert!(rt; prints(rt.alloc(), &monitor, &clients, Status::Refused, line)?);
+    assert!(rt; prints(&rt, &monitor, &clients, Status::Refused, line)?);
     monitor.push(b' ')?;
     let line = b"refused: m.mon: more than 65536 bytes\n";
-    assert!(rt; prints(rt.alloc(), &monitor, &clients, Status::Refused, line)?);
+    assert!(rt; prints(&rt, &monitor, &clients, Status::Refused, line)?);
     Ok(())
 }
 
@@ -172,7 +138,7 @@ fn thirty_two_clients_make_sixteen_thousand_calls(rt: HostRuntime) -> Result<(),
     let monitor =
         b"monitor M { int x = 0; method p() waituntil (x >= 0) { x = x + 1; } }".as_slice();
     let clients = many_clients(rt.alloc(), 32, 500)?;
-    let outcome = turns(rt.alloc(), monitor, clients.as_slice())?;
+    let outcome = turns(&rt, monitor, clients.as_slice())?;
     assert_eq!(rt; outcome.status, Status::Done);
     assert!(rt;
         outcome
@@ -186,6 +152,6 @@ fn thirty_two_clients_make_sixteen_thousand_calls(rt: HostRuntime) -> Result<(),
 fn the_33rd_client_is_one_too_many(rt: HostRuntime) -> Result<(), Fail> {
     let clients = many_clients(rt.alloc(), 33, 0)?;
     let line = b"refused: c.cl:1:392: too many clients\n";
-    assert!(rt; prints(rt.alloc(), LEVEL, &clients, Status::Refused, line)?);
+    assert!(rt; prints(&rt, LEVEL, &clients, Status::Refused, line)?);
     Ok(())
 }

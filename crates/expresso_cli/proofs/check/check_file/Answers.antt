@@ -1,7 +1,7 @@
 use Rattle.std.proofs.Common.{ap}
 use Rattle.mon_printer.specs.Canonical.{tree_text}
 use Rattle.expresso_cli.specs.declared.status.Status.TheVariants.{Done}
-use Rattle.expresso_cli.specs.CommandLine.{check}
+use Rattle.mon_command.specs.CommandLine.{check}
 use Rattle.expresso_cli.proofs.OneFile.{check_done, check_works}
 use Rattle.expresso_cli.proofs.Outcomes.{written_since}
 use Rattle.expresso_cli.proofs.check.check_file.Goals as goal

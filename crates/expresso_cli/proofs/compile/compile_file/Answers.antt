@@ -1,7 +1,7 @@
 use Rattle.std.proofs.Common.{ap}
 use Rattle.mon_events.specs.PlanText.{plan_text}
 use Rattle.expresso_cli.specs.declared.status.Status.TheVariants.{Done}
-use Rattle.expresso_cli.specs.CommandLine.{compile}
+use Rattle.mon_command.specs.CommandLine.{compile}
 use Rattle.expresso_cli.proofs.OneFile.{compile_done, compile_works}
 use Rattle.expresso_cli.proofs.Outcomes.{written_since}
 use Rattle.expresso_cli.proofs.compile.compile_file.Goals as goal

@@ -1,6 +1,6 @@
 use Rattle.std.proofs.Common.{ap}
 use Rattle.mon_text.specs.TurnsText.{turns_text}
-use Rattle.expresso_cli.specs.CommandLine.{turns}
+use Rattle.mon_command.specs.CommandLine.{turns}
 use Rattle.expresso_cli.specs.inner.Ending.{ended}
 use Rattle.expresso_cli.proofs.Outcomes.{written_since}
 use Rattle.expresso_cli.proofs.RunFiles.{turns_runs}

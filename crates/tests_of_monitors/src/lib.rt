@@ -1,0 +1,19 @@
+//! Rows of the crates that read, check and prove monitors: what the checker makes of a text, and which rule it names;
+//! the forms and the formulas of expressions; paths, queries, candidates, invariants and certificates of whole
+//! monitors.
+//!
+//! There are only tests. Every answer was worked out by hand from the rules of the language and of plans.
+#![tactic(auto)]
+
+#[cfg(test)]
+mod certificates;
+#[cfg(test)]
+mod checker;
+#[cfg(test)]
+mod forms;
+#[cfg(test)]
+mod invariants;
+#[cfg(test)]
+mod queries;
+#[cfg(test)]
+mod rules;

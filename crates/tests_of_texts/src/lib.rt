@@ -1,0 +1,13 @@
+//! Rows of the texts that the program prints: runs, logs, plans and client files, byte by byte.
+//!
+//! There are only tests. The bytes were taken by hand from the rules of the texts.
+#![tactic(auto)]
+
+#[cfg(test)]
+mod client_texts;
+#[cfg(test)]
+mod log_texts;
+#[cfg(test)]
+mod plan_texts;
+#[cfg(test)]
+mod texts;

@@ -1,0 +1,194 @@
+//! The bytes of a run, taken by hand from the rules of the text.
+
+ghost use Rattle.std.specs.Prelude.{IfSome};
+ghost use Rattle.mon_implicit.specs.Scripted.{FitsScripts};
+
+use mon_base::{Name, Value};
+use mon_implicit::{Call, Client, Scripts, are_clients, fit, turns};
+use mon_io::MemSink;
+use mon_list::Seq;
+use mon_monitor::Monitor;
+use mon_text::write_turns;
+use samples::checked;
+use samples::monitors::{BUFFER, LEVEL};
+use std::alloc::{AllocError, Global};
+use std::test::Fail;
+
+const CELL: &[u8] = b"monitor Cell {
+  int held = 0;
+  bool full = false;
+  method put(int n, bool f) waituntil (!full) {
+    held = n;
+    full = f;
+  }
+}
+";
+
+/// A call by its method's number, with its inputs.
+#[derive(Clone, Copy)]
+pub(crate) struct Called<'a>(pub(crate) u32, pub(crate) &'a [Value]);
+
+/// What was written of a run, and whether it was all.
+#[derive(Debug, PartialEq, Drop)]
+struct Written {
+    text: Vec<u8>,
+    whole: bool,
+}
+
+fn client(alloc: Global, name: &str, called: &[Called]) -> Result<Client, AllocError> {
+    let mut calls = Vec::new(alloc);
+    for Called(method, inputs) in called {
+        calls.push(Call {
+            method: *method,
+            inputs: Seq::of(Vec::from_slice(alloc, inputs)?),
+        })?;
+    }
+    Ok(Client {
+        name: Name::of(Vec::from_slice(alloc, name.as_bytes())?),
+        calls: Seq::of(calls),
+    })
+}
+
+/// These clients as scripts, where they are scripts of calls of the monitor.
+pub(crate) fn scripts_of(monitor: &Monitor, clients: Vec<Client>) -> Option<Scripts>
+    ensures { IfSome result (FitsScripts monitor.now) }
+{
+    if are_clients(clients.as_slice()) && fit(monitor, clients.as_slice()) {
+        Some(Scripts::of(clients))
+    } else {
+        None
+    }
+}
+
+pub(crate) fn clients_of(
+    alloc: Global,
+    clients: &[(&str, &[Called])],
+) -> Result<Vec<Client>, AllocError> {
+    let mut made = Vec::new(alloc);
+    for (name, called) in clients {
+        made.push(client(alloc, name, called)?)?;
+    }
+    Ok(made)
+}
+
+/// Writes the run by rounds of these scripts to a sink that takes `room` bytes.
+fn write_run(
+    alloc: Global,
+    monitor: &Monitor,
+    scripts: &Scripts,
+    room: u64,
+) -> Result<Written, AllocError>
+    requires { FitsScripts monitor.now scripts.now }
+{
+    let run = turns(alloc, monitor, scripts)?;
+    let mut out = MemSink::open(alloc, room, Vec::new(alloc))?;
+    let whole = write_turns(monitor, scripts, &run, &mut out).is_ok();
+    Ok(Written {
+        text: Vec::from_slice(alloc, out.bytes())?,
+        whole,
+    })
+}
+
+/// What is written of the run by rounds of these clients to a sink that takes `room` bytes.
+fn run_of(
+    alloc: Global,
+    monitor: &[u8],
+    clients: &[(&str, &[Called])],
+    room: u64,
+) -> Result<Written, Fail> {
+    let monitor = checked(alloc, monitor).ok_or("the monitor is accepted")?;
+    let scripts = scripts_of(&monitor, clients_of(alloc, clients)?).ok_or(
+        "the calls fit the monitor",
+    )?;
+    Ok(write_run(alloc, &monitor, &scripts, room)?)
+}
+
+/// All that is written of a run, as text.
+fn text_of(alloc: Global, monitor: &[u8], clients: &[(&str, &[Called])]) -> Result<Vec<u8>, Fail> {
+    let all = run_of(alloc, monitor, clients, 4096)?;
+    if !all.whole {
+        Err("the text is written whole")?;
+    }
+    Ok(all.text)
+}
+
+/// Two puts of one client and two gets of another, in the buffer.
+const TWO: [(&str, &[Called]); 2] = [
+    ("A", &[Called(0, &[]), Called(0, &[])]),
+    ("B", &[Called(1, &[]), Called(1, &[])]),
+];
+
+const TWO_TEXT: &[u8] = b"A.1 put() = -
+B.1 get() = -
+A.2 put() = -
+B.2 get() = -
+done
+state count=0
+";
+
+#[test]
+fn each_client_with_a_call_left_is_blocked(rt: HostRuntime) -> Result<(), Fail> {
+    let clients: [(&str, &[Called]); 4] = [
+        ("A", &[Called(1, &[]), Called(0, &[Value::Int(5)])]),
+        ("B", &[Called(1, &[])]),
+        ("C", &[]),
+        ("D", &[Called(0, &[Value::Int(4)]), Called(1, &[])]),
+    ];
+    let text = text_of(rt.alloc(), LEVEL, &clients)?;
+    assert_eq!(rt;
+        text.as_slice(),
+        b"A.1 add() = -
+B.1 add() = -
+stalled
+A.2 reach(5) blocked
+D.1 reach(4) blocked
+state count=2
+"
+            .as_slice()
+    );
+    Ok(())
+}
+
+#[test]
+fn inputs_and_fields_of_both_kinds_are_printed(rt: HostRuntime) -> Result<(), Fail> {
+    let calls = [
+        Called(0, &[Value::Int(-3), Value::Bool(false)]),
+        Called(0, &[Value::Int(40), Value::Bool(true)]),
+        Called(0, &[Value::Int(0), Value::Bool(false)]),
+    ];
+    let text = text_of(rt.alloc(), CELL, &[("A", &calls)])?;
+    assert_eq!(rt;
+        text.as_slice(),
+        b"A.1 put(-3, false) = -
+A.2 put(40, true) = -
+stalled
+A.3 put(0, false) blocked
+state held=40 full=true
+"
+            .as_slice()
+    );
+    Ok(())
+}
+
+#[test]
+fn no_clients_and_no_fields_leave_the_end(rt: HostRuntime) -> Result<(), Fail> {
+    let text = text_of(rt.alloc(), b"monitor Empty { }", &[])?;
+    assert_eq!(rt; text.as_slice(), b"done\nstate\n".as_slice());
+    Ok(())
+}
+
+#[test]
+fn a_sink_with_little_room_holds_a_front(rt: HostRuntime) -> Result<(), Fail> {
+    let ten = run_of(rt.alloc(), BUFFER, &TWO, 10)?;
+    assert!(rt; !ten.whole);
+    assert_eq!(rt; ten.text.as_slice(), b"A.1 put() ".as_slice());
+    for room in 0..TWO_TEXT.len() {
+        let front = run_of(rt.alloc(), BUFFER, &TWO, room as u64)?;
+        assert!(rt; !front.whole, "room for {room}");
+        assert_eq!(rt; front.text.as_slice(), &TWO_TEXT[..room], "room for {room}");
+    }
+    let all = run_of(rt.alloc(), BUFFER, &TWO, TWO_TEXT.len() as u64)?;
+    assert!(rt; all.whole);
+    assert_eq!(rt; all.text.as_slice(), TWO_TEXT);
+    Ok(())
+}
