@@ -1,0 +1,346 @@
+#!/usr/bin/env bash
+# Compares the running lock (SharedMonitor::section) with lock.rs, the same machine behind a std::sync::Mutex: sections a
+# second from 1, 2, 4 and 16 threads, and the ratio (ours / mutex). `level`: no client waits. `buffer`: they wait for each
+# other, and a thread also tries clients that are not ready. All runs of a row are interleaved.
+#
+# It copies the crates that it needs, with what was kept of their proofs, into a workspace of its own, and adds the
+# program below; so it wants some gigabytes of temporary space, and takes minutes, or hours where nothing was kept.
+#
+#   bench/lock.sh             builds both programs, and measures
+#   LOCK_BENCH=PROGRAM        take this program, an earlier out/lock_bench, and build none
+#   KEEP=FOLDER               leave the program in this folder
+#   ROUNDS=N                  so many rounds in place of eleven
+set -euo pipefail
+here=$(cd "$(dirname "$0")" && pwd)
+root=$(dirname "$here")
+rounds=${ROUNDS:-11}
+work=$(mktemp -d)
+trap 'rm -rf "$work"' EXIT
+
+# How often a run opens the monitor anew.
+openings=3
+
+# The crates of the repository on which these stand, and these.
+stands_on() {
+  for name in "$@"; do
+    echo "$name"
+    sed -n "s/^$name://p" "$root/crates.txt" | tr ' ' '\n' | sed -n '/^mon_/p'
+  done | sort -u
+}
+
+# Writes the program that is measured.
+write_program() {
+  mkdir -p "$1/src" "$1/proofs/run"
+  cat >"$1/src/main.rt" <<'PROGRAM'
+//! How many sections a second threads make on a monitor that they share.
+//!
+//! `lock_bench NAME THREADS ROUNDS`, where NAME is `level` or `buffer`: as `bench/lock.rs`.
+#![tactic(auto)]
+
+ghost use Rattle.std.specs.Prelude.{◌≡◌, ◌<◌, IfSome, length};
+ghost use Rattle.std.specs.List.{All};
+ghost use Rattle.mon_implicit.specs.Scripted.{FitsScripts};
+
+use mon_base::Name;
+use mon_events::Outcome;
+use mon_explicit::FreeMonitor;
+use mon_implicit::{Call, Client, Scripts, are_clients, fit};
+use mon_list::Seq;
+use mon_lock::{Pass, SharedMonitor};
+use mon_monitor::Monitor;
+use mon_place::place;
+use mon_syntax::parse_monitor;
+use mon_tokens::tokens;
+use mon_types::check;
+use std::alloc::{AllocError, Global};
+use std::sync::Wait;
+use std::thread::Threads;
+use std::time::{Clock, Instant};
+use std::{env, io, thread};
+
+const CLIENTS: u32 = 32;
+
+const CALLS_A_CLIENT: u32 = 512;
+
+/// A monitor and its clients.
+#[derive(Clone, Copy)]
+enum Workload {
+    Level,
+    Buffer,
+}
+
+const LEVEL: &[u8] = b"monitor Level {
+  int count = 0;
+  method reach(int n) waituntil (n <= count) {
+  }
+  method add() waituntil (true) {
+    count = count + 1;
+  }
+}
+";
+
+const BUFFER: &[u8] = b"monitor Buffer {
+  const CAP = 1;
+  int count = 0;
+  method put() waituntil (count < CAP) {
+    count = count + 1;
+  }
+  method get() waituntil (count > 0) {
+    count = count - 1;
+  }
+}
+";
+
+/// The monitor of a text.
+fn monitor_of(alloc: Global, text: &[u8]) -> Option<Monitor> {
+    if text.len() > 65_536 {
+        return None;
+    }
+    match tokens(alloc, text) {
+        Ok(read) => match parse_monitor(alloc, text, &read) {
+            Ok(tree) => check(alloc, &tree).ok(),
+            Err(_) => None,
+        },
+        Err(_) => None,
+    }
+}
+
+/// A client that makes all its calls of one method, with no inputs.
+fn client(alloc: Global, number: u32, method: u32) -> Result<Client, AllocError> {
+    let tens = b'0' + (number / 10 % 10) as u8;
+    let ones = b'0' + (number % 10) as u8;
+    let mut calls = Vec::new(alloc);
+    for _ in 0..CALLS_A_CLIENT {
+        calls.push(Call {
+            method,
+            inputs: Seq::of(Vec::new(alloc)),
+        })?;
+    }
+    Ok(Client {
+        name: Name::of(vec![in alloc; b'K', tens, ones]?),
+        calls: Seq::of(calls),
+    })
+}
+
+/// The clients of a monitor: of a level all add, and of a buffer half put and half get.
+fn scripts_of(alloc: Global, workload: Workload, monitor: &Monitor) -> Option<Scripts>
+    ensures { IfSome result (λ scripts. FitsScripts monitor.now scripts) }
+{
+    let mut clients = Vec::new(alloc);
+    for number in 0..CLIENTS {
+        let method = match workload {
+            Workload::Level => 1,
+            Workload::Buffer => number / (CLIENTS / 2),
+        };
+        let one = client(alloc, number, method).ok()?;
+        clients.push(one).ok()?;
+    }
+    if !are_clients(&clients) || !fit(monitor, &clients) {
+        return None;
+    }
+    Some(Scripts::of(clients))
+}
+
+/// A monitor at the start, with its clients, under the plan that it is compiled to.
+fn opened(alloc: Global, workload: Workload) -> Option<FreeMonitor>
+    ensures { IfSome result (λ free. 32 ≡ length free.system.clients) }
+{
+    let text = match workload {
+        Workload::Level => LEVEL,
+        Workload::Buffer => BUFFER,
+    };
+    let monitor = monitor_of(alloc, text)?;
+    let scripts = scripts_of(alloc, workload, &monitor)?;
+    if scripts.clients().len() != 32 {
+        return None;
+    }
+    match place(alloc, &monitor) {
+        Ok(placed) => match FreeMonitor::open(alloc, monitor, placed.plan, scripts, 0) {
+            Ok(free) => Some(free),
+            Err(AllocError) => None,
+        },
+        Err(AllocError) => None,
+    }
+}
+
+/// A thread's pass of a monitor, and how many sections it made.
+#[derive(Drop)]
+struct Worker<'a> {
+    shared: &'a SharedMonitor,
+    pass: Pass,
+    sections: u64,
+    ghost own: { pass.lock ≡ shared.now.lock },
+    ghost clients: { 32 ≡ length pass.known.front.system.clients },
+}
+
+impl<'a> Worker<'a> {
+    /// A worker that has made no section.
+    fn of(shared: &'a SharedMonitor, pass: Pass) -> Worker<'a>
+        requires own { pass.lock ≡ shared.now.lock }
+        requires clients { 32 ≡ length pass.known.front.system.clients }
+    {
+        Worker {
+            shared,
+            pass,
+            sections: 0,
+        }
+    }
+
+    /// A section of a client, and how many calls replied: one or none.
+    fn section<R: Wait>(&mut self, rt: &R, client: u32) -> u32
+        requires { client < 32 }
+    {
+        match self.shared.section(rt, &mut self.pass, client) {
+            Ok(receipt) => {
+                self.sections = self.sections.saturating_add(1);
+                u32::from(matches!(receipt.entry.outcome, Outcome::Replies { .. }))
+            }
+            Err(_) => 0,
+        }
+    }
+
+    /// Tries the clients of this thread in turn until each has made all its calls.
+    fn work<R: Wait>(&mut self, rt: &R, first: u32, threads: u32)
+        requires { 0 < threads }
+    {
+        let mut left = CLIENTS / threads * CALLS_A_CLIENT;
+        let mut client = first;
+        for _ in rt.forever() {
+            if left == 0 {
+                return;
+            }
+            left = left.saturating_sub(self.section(rt, client % CLIENTS));
+            client = client_after(client, first, threads);
+        }
+    }
+}
+
+/// The next client of a thread: the clients of each thread are so many apart, and begin with its first.
+fn client_after(client: u32, first: u32, threads: u32) -> u32 {
+    let next = client.saturating_add(threads);
+    if next < CLIENTS { next } else { first }
+}
+
+/// A worker for each pass.
+fn hire<'a>(
+    shared: &'a SharedMonitor,
+    passes: Vec<Pass>,
+    workers: &mut Vec<Worker<'a>>,
+) -> Result<(), AllocError>
+    requires own { All (λ pass. pass.lock ≡ shared.now.lock) passes.items }
+    requires clients { All (λ pass. 32 ≡ length pass.known.front.system.clients) passes.items }
+{
+    for pass in passes {
+        workers.push(Worker::of(shared, pass))?;
+    }
+    Ok(())
+}
+
+/// How many sections threads made, and in how many nanoseconds.
+fn run<R: Threads + Wait + Sync + Clock>(
+    rt: &R,
+    alloc: Global,
+    free: FreeMonitor,
+    threads: u32,
+) -> io::Result<(u64, u128)>
+    requires clients { 32 ≡ length free.system.clients }
+    requires threads { 0 < threads }
+{
+    let (shared, passes) = SharedMonitor::open(alloc, free, threads)?;
+    let mut workers = Vec::new(alloc);
+    hire(&shared, passes, &mut workers)?;
+    let start = Instant::now(rt)?;
+    thread::for_each_mut(
+        rt,
+        workers.as_mut_slice(),
+        threads as usize,
+        &|number, worker| worker.work(rt, (number % 32) as u32, threads),
+    );
+    let spent = start.elapsed(rt)?;
+    let mut sections: u64 = 0;
+    for worker in &workers {
+        sections = sections.saturating_add(worker.sections);
+    }
+    Ok((sections, spent.as_nanos()))
+}
+
+/// What the words ask for: a workload, so many threads, and so many rounds.
+fn asked(words: &[String]) -> Option<(Workload, u32, u32)>
+    ensures { IfSome result (λ asked. 0 < asked.1) }
+{
+    let workload = match words.get(1)?.as_str() {
+        "level" => Workload::Level,
+        "buffer" => Workload::Buffer,
+        _ => return None,
+    };
+    let threads = words.get(2)?.parse::<u32>().ok()?;
+    let rounds = words.get(3)?.parse::<u32>().ok()?;
+    if threads == 0 || threads > 32 {
+        return None;
+    }
+    Some((workload, threads, rounds))
+}
+
+fn main(rt: HostRuntime) -> io::Result<()> {
+    let words: Vec<String> = env::args(&rt)?.collect(rt.alloc())?;
+    let Some((workload, threads, rounds)) = asked(&words) else {
+        return println!(rt; "usage: lock_bench level|buffer THREADS ROUNDS");
+    };
+    for _ in 0..rounds {
+        let Some(free) = opened(rt.alloc(), workload) else {
+            return println!(rt; "no monitor");
+        };
+        let (sections, nanoseconds) = run(&rt, rt.alloc(), free, threads)?;
+        println!(rt; "sections {sections} nanoseconds {nanoseconds}")?;
+    }
+    Ok(())
+}
+PROGRAM
+  cat >"$1/proofs/run/Answers.antt" <<'ANSWERS'
+use denote.Param.Send.{sendable}
+use Rattle.std.proofs.Crossing.{crosses}
+use Rattle.mon_lock.proofs.Crossing.{pass_send, shared_sync}
+use Rattle.lock_bench.proofs.run.Goals as goal
+
+pub for_each_mut-requires-send-T : goal.for_each_mut-requires-send-T
+for_each_mut-requires-send-T g c κs within =
+    let a = pass_send in
+    let b = shared_sync in
+    search (crosses, sendable) depth 60 fits 20000
+ANSWERS
+}
+
+# Builds the program in a workspace of its own.
+build_program() {
+  local space=$work/space needed
+  needed=$(stands_on mon_lock mon_place mon_types)
+  mkdir -p "$space/crates"
+  cp "$root/HANDLES" "$space"
+  for name in $needed; do
+    cp -a "$root/crates/$name" "$space/crates"
+    grep "^$name:" "$root/crates.txt" >>"$space/crates.txt"
+  done
+  echo "lock_bench:" $needed >>"$space/crates.txt"
+  write_program "$space/crates/lock_bench"
+  (cd "$space/crates/lock_bench" && rt run -- level 1 1 >"$work/build.log" 2>&1) || {
+    tail -n 20 "$work/build.log" >&2
+    exit 1
+  }
+  [ -z "${KEEP:-}" ] || cp "$space/crates/lock_bench/out/lock_bench" "$KEEP"
+  LOCK_BENCH=$space/crates/lock_bench/out/lock_bench
+}
+
+[ -n "${LOCK_BENCH:-}" ] || build_program
+rustc -O --edition 2021 "$here/lock.rs" -o "$work/lock"
+
+echo "sections a second: 32 clients, 16384 calls; medians of $rounds runs, each of $openings openings"
+row='%-8s %7s %12s %12s %7s\n'
+printf "$row" workload threads ours mutex ratio
+for workload in level buffer; do
+  for threads in 1 2 4 16; do
+    given="$workload $threads $openings"
+    figures=$("$here/measure.py" rates "$rounds" "$LOCK_BENCH $given" "$work/lock $given")
+    read -r ours mutex ratio <<<"$figures"
+    printf "$row" "$workload" "$threads" "$ours" "$mutex" "$ratio"
+  done
+done

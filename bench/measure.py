@@ -1,0 +1,134 @@
+#!/usr/bin/env python3
+"""Measures commands: wall time, peak memory, instructions, and rates that a command prints.
+
+  measure.py single ROUNDS COMMAND [--instructions]   prints: milliseconds instructions peak_kib
+  measure.py pair ROUNDS OURS PEER                    prints: ours_ms peer_ms ratio ours_kib peer_kib
+  measure.py rates ROUNDS OURS PEER                   prints: ours_a_second peer_a_second ratio
+
+A command is one word for the shell's quoting, as 'out/expresso_cli check a.mon'. Each number is the median of the
+rounds. The runs of a pair are interleaved (ours, peer, ours, ..), so that what else the machine does hits both alike.
+A command that fails, or two of a `pair` that print different texts, end the program with a message.
+"""
+
+import os
+import re
+import shlex
+import shutil
+import statistics
+import subprocess
+import sys
+import tempfile
+import time
+
+# What a command prints for `rates`.
+RATE = re.compile(r"sections (\d+) nanoseconds (\d+)")
+
+# Rounds for peak memory, which hardly varies.
+MEMORY_ROUNDS = 3
+
+
+def fail(message):
+    """Ends the program, with a message."""
+    sys.exit(f"measure.py: {message}")
+
+
+def run(words):
+    """Runs a command to its end: its milliseconds, its peak memory in KiB as the system tells it, its output."""
+    with tempfile.TemporaryFile() as output:
+        start = time.perf_counter()
+        process = subprocess.Popen(words, stdin=subprocess.DEVNULL, stdout=output)
+        _, status, usage = os.wait4(process.pid, 0)
+        elapsed = time.perf_counter() - start
+        process.returncode = os.waitstatus_to_exitcode(status)
+        if process.returncode != 0:
+            fail(f"{shlex.join(words)} ended with status {process.returncode}")
+        output.seek(0)
+        return elapsed * 1e3, usage.ru_maxrss, output.read().decode()
+
+
+def peak_memory(words):
+    """The median peak memory of a command, in KiB.
+
+    A child's peak begins at its parent's memory, and Python has 10 MB and more. So GNU time, which is small, starts
+    the command where it is installed; else the number is at least Python's own.
+    """
+    gnu_time = shutil.which("time")
+    if gnu_time is None:
+        return statistics.median(run(words)[1] for _ in range(MEMORY_ROUNDS))
+    return statistics.median(peak_by_gnu_time(gnu_time, words) for _ in range(MEMORY_ROUNDS))
+
+
+def peak_by_gnu_time(gnu_time, words):
+    """The peak memory of one run in KiB, as GNU time tells it."""
+    with tempfile.NamedTemporaryFile("r") as told:
+        run([gnu_time, "--format=%M", f"--output={told.name}", *words])
+        return int(told.read())
+
+
+def instructions(words):
+    """How many instructions one run of a command takes, as callgrind counts them."""
+    with tempfile.NamedTemporaryFile("r") as counted:
+        tool = ["valgrind", "--quiet", "--tool=callgrind", f"--callgrind-out-file={counted.name}"]
+        run([*tool, *words])
+        total = re.search(r"^(?:totals|summary): (\d+)", counted.read(), re.M)
+    if total is None:
+        fail(f"callgrind counted nothing of {shlex.join(words)}")
+    return int(total.group(1))
+
+
+def interleaved(rounds, ours, peer):
+    """The runs of two commands, in turn: (ours, peer) for each round, after one of each to warm up."""
+    run(ours), run(peer)
+    return [(run(ours), run(peer)) for _ in range(rounds)]
+
+
+def single(rounds, words, with_instructions):
+    """The row of one command."""
+    run(words)
+    milliseconds = statistics.median(run(words)[0] for _ in range(rounds))
+    counted = f"{instructions(words)}" if with_instructions else "-"
+    return f"{milliseconds:.1f} {counted} {peak_memory(words):.0f}"
+
+
+def pair(rounds, ours, peer):
+    """The row of two commands that print the same."""
+    runs = interleaved(rounds, ours, peer)
+    if any(mine[2] != theirs[2] for mine, theirs in runs):
+        fail(f"{shlex.join(ours)} and {shlex.join(peer)} print different texts")
+    mine = statistics.median(one[0] for one, _ in runs)
+    theirs = statistics.median(one[0] for _, one in runs)
+    memory = f"{peak_memory(ours):.0f} {peak_memory(peer):.0f}"
+    return f"{mine:.1f} {theirs:.1f} {mine / theirs:.2f} {memory}"
+
+
+def rate(output):
+    """Sections a second, over all lines of an output."""
+    counts = [(int(made), int(spent)) for made, spent in RATE.findall(output)]
+    if not counts:
+        fail(f"no line `sections N nanoseconds N` in {output!r}")
+    return sum(made for made, _ in counts) / sum(spent for _, spent in counts) * 1e9
+
+
+def rates(rounds, ours, peer):
+    """The row of two commands that print how many sections they made in how many nanoseconds."""
+    runs = interleaved(rounds, ours, peer)
+    mine = statistics.median(rate(one[2]) for one, _ in runs)
+    theirs = statistics.median(rate(one[2]) for _, one in runs)
+    return f"{mine:.0f} {theirs:.0f} {mine / theirs:.2f}"
+
+
+def main(words):
+    """Prints the row that the words ask for."""
+    match words:
+        case ["single", rounds, command, *flags] if flags in ([], ["--instructions"]):
+            print(single(int(rounds), shlex.split(command), bool(flags)))
+        case ["pair", rounds, ours, peer]:
+            print(pair(int(rounds), shlex.split(ours), shlex.split(peer)))
+        case ["rates", rounds, ours, peer]:
+            print(rates(int(rounds), shlex.split(ours), shlex.split(peer)))
+        case _:
+            sys.exit(__doc__)
+
+
+if __name__ == "__main__":
+    main(sys.argv[1:])
