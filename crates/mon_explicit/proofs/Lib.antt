@@ -12,4 +12,6 @@ pub mod Logging
 pub mod Lining
 pub mod Rounds
 pub mod Pigeonhole
+pub mod Bits
+pub mod Waking
 pub mod Crossing

@@ -1,6 +1,7 @@
 -- Who waits on each condition, in order, from event to event.
-use Rattle.std.proofs.Common.{◌≡◌, ℕ, zero, suc, ◌+◌, ◌<◌, ◌≤◌, Bool, true, false, not, ◌==◌, ◌⊎◌, cond, List, [], ◌∷◌, ◌++◌, length, get_or, set, refl, sym, ap, subst, ◌∙◌, arith, inl, inr}
-use Rattle.std.specs.Prelude.{AllPairs, Contains}
+use Rattle.std.proofs.Common.{◌≡◌, ℕ, zero, suc, ◌+◌, ◌<◌, ◌≤◌, Bool, true, false, not, ◌==◌, ◌⊎◌, cond, List, [], ◌∷◌, ◌++◌, length, get_or, set, drop, Some, refl, sym, ap, subst, ◌∙◌, arith, inl, inr}
+use Rattle.std.specs.Prelude.{AllPairs, Contains, slice_get}
+use Rattle.std.proofs.lemmas.Option.{same_Some}
 use Rattle.std.proofs.lemmas.List.{length_push, length-set, get_or-set_same, get_or-set_other}
 use Rattle.std.proofs.lemmas.List.Elements.{Contains-get_or, Contains-append_left, Contains-push, Contains-push_cases, All-filter, filter_passes}
 use Rattle.std.proofs.lemmas.List.Kept.{AllPairs-filter}
@@ -224,6 +225,27 @@ lines_left since system next_system before next rings target past on same length
     apart condition client differs has is =
         let waits = (are.each condition).only client has in
         differs (same_waiting condition on (one_phase before target waits.0 past (Waiting condition) (Waiting on) (subst (λ (who : ℕ). StandsAt before who waits.0 (Waiting condition)) is waits.1) stood))
+
+-- ---- the first leaves a line
+
+-- no other of the line is the first, as their numbers are above its number
+all_kept : (target : ℕ) (line : List ℕ) → ((client : ℕ) → Contains line client → client ≡ target → ⊥) → without target line ≡ line
+all_kept target [] apart = refl
+all_kept target (x ∷ xs) apart =
+    ap (λ (same : Bool). cond (not same) (x ∷ without target xs) (without target xs)) (ne_eqb x target (apart x (contains_head x xs)))
+    ∙ ap (λ (rest : List ℕ). x ∷ rest) (all_kept target xs (λ client has. apart client (contains_tail x client xs has)))
+
+pub without_first : (since : List ℕ) (standings : List Standing) (condition target : ℕ) (line : List ℕ) → IsLine since standings condition line → slice_get line 0 ≡ Some target → without target line ≡ drop 1 line
+without_first since standings condition target [] is first = refl
+without_first since standings condition target (x ∷ xs) is first =
+    ap (λ (same : Bool). cond (not same) (x ∷ without target xs) (without target xs)) (eq-eqb x target (same_Some x target first))
+    ∙ all_kept target xs (λ client has same. omega (
+      arith,
+      is.rising 0 (suc has.0) client (omega arith) (omega (arith, has.1)),
+      ap (λ (who : ℕ). get_or since who 0) (same_Some x target first),
+      ap (λ (who : ℕ). get_or since who 0) has.2,
+      ap (λ (who : ℕ). get_or since who 0) same,
+    ))
 
 -- ---- a client joins a line
 

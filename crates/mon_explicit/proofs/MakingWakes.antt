@@ -16,12 +16,13 @@ use Rattle.mon_explicit.specs.declared.position.Doing.{Doing}
 use Rattle.mon_explicit.specs.declared.position.Doing.TheVariants as doings
 use Rattle.mon_explicit.specs.declared.position.Position.{Position}
 use Rattle.mon_explicit.specs.declared.notes.Next.{Next}
-use Rattle.mon_events.specs.Configurations.{Phase, Standing, StandsAt, put}
+use Rattle.mon_events.specs.Configurations.{System, Phase, Standing, Configuration, StandsAt, put}
 use Rattle.mon_events.specs.Configurations.Phase.{Waiting, Woken, Notifying}
-use Rattle.mon_events.specs.Events.{waking, wake_all, NoneWaits, IsEvent}
+use Rattle.mon_events.specs.Events.{waking, wake_all, waits_on, fires, Wakes, NoneWaits, IsEvent}
 use Rattle.mon_explicit.specs.Machines.{NotAllowed}
 use Rattle.mon_explicit.specs.inner.Positions.{phase_of, standing_of, machine_of, done_in, calls_left, PositionAt, HasNoNext, IsNext, fires_in, doing_waits, position_waits, waking_position}
-use Rattle.mon_events.proofs.Standings.{one_phase}
+use Rattle.mon_explicit.specs.inner.Waiting.{Passes}
+use Rattle.mon_events.proofs.Standings.{one_phase, waits_is}
 use Rattle.mon_explicit.proofs.Making.{position_stands, standing_position, map_put, position_within, room_kept}
 use Rattle.mon_explicit.proofs.MakingEvents.{waiting_made, notifying_made}
 
@@ -190,6 +191,58 @@ pub room_next : (plan : Plan) (clients : List Client) (positions : List Position
 room_next plan clients positions client next is =
     room_kept clients positions client next.past next.past is.doing next.rest is.at
     (ap (λ (one : ℕ). next.past + one) (notifying_made plan next.rest is.more is.then_more ∙ sym (notifying_made plan is.doing (next.note ∷ is.more) is.first)))
+
+-- where no one waits on the condition, a broadcast wakes no one
+wakes_none : (standings : List Standing) (condition : ℕ) → NoneWaits standings condition → wake_all condition standings ≡ standings
+wakes_none [] condition none = refl
+wakes_none (one ∷ standings) condition none = λ i. same (waits_on condition one.phase) refl i ∷ wakes_none standings condition (λ client past at. none (suc client) past at) i
+  where
+    same : (test : Bool) → test ≡ waits_on condition one.phase → cond test (record { past = one.past; phase = Woken condition }) one ≡ one
+    same true is = absurd (none zero one.past (λ i. Some (record { past = one.past; phase = waits_is condition one.phase (sym is) i })))
+    same false is = refl
+
+pub none_woken : (system : System) (c : Configuration) (note : Note) (woken : List Standing) → (fires system c.state note ≡ false) ⊎ NoneWaits c.standings note.condition → Wakes system c note None woken → woken ≡ c.standings
+none_woken system c note woken (inl not_fired) (inl each) = absurd (true≢false (sym each.fired ∙ not_fired))
+none_woken system c note woken (inr none) (inl each) = each.becomes ∙ wakes_none c.standings note.condition none
+none_woken system c note woken why (inr nobody) = nobody.becomes
+
+wakes_nobody : (system : System) (c : Configuration) (note : Note) (fired all : Bool) → fires system c.state note ≡ fired → note.all ≡ all → (fires system c.state note ≡ false) ⊎ NoneWaits c.standings note.condition
+    → Wakes system c note None c.standings
+wakes_nobody system c note false all fires_not is why = inr (record { nobody = inl fires_not; becomes = refl })
+wakes_nobody system c note true all fired is (inl fires_not) = absurd (true≢false (sym fired ∙ fires_not))
+wakes_nobody system c note true true fired is (inr none) = inl (record { fired = fired; each = is; becomes = sym (wakes_none c.standings note.condition none) })
+wakes_nobody system c note true false fired is (inr none) = inr (record { nobody = inr (is, none); becomes = refl })
+
+pub has_next : (monitor : MonitorParts) (plan : Plan) (clients : List Client) (state : List Value) (owner : Option ℕ) (commits : List Commit) (positions : List Position) (client : ℕ)
+    → Passes (machine_of monitor plan clients state owner commits positions) client → HasNoNext plan positions client → ⊥
+has_next monitor plan clients state owner commits positions client passes never =
+    let found = standing_position plan positions client passes.0 (Notifying (passes.1 ∷ passes.2)) passes.3 in
+    never passes.0 found.0 passes.1 passes.2 found.1 found.2
+
+pub passed : (monitor : MonitorParts) (plan : Plan) (clients : List Client) (state : List Value) (owner : Option ℕ) (commits : List Commit) (positions : List Position) (client : ℕ) (next : Next)
+    → Passes (machine_of monitor plan clients state owner commits positions) client → IsNext plan positions client next
+    → IsEvent (record { monitor = monitor; plan = plan; clients = clients }) (events.Notify client None) (machine_of monitor plan clients state owner commits positions).now
+    (machine_of monitor plan clients state owner commits (set positions client (record { past = next.past; doing = next.rest }))).now
+passed monitor plan clients state owner commits positions client next passes is = (
+  next.past,
+  record {
+    note = next.note;
+    more = is.more;
+    woken = map (standing_of plan) positions;
+    notifying = stands_next plan positions client next is;
+    wakes = wakes_nobody system before next.note (fires system state next.note) next.note.all refl refl
+        (subst (λ (note : Note). (fires system state note ≡ false) ⊎ NoneWaits before.standings note.condition)
+        (same_note (map (standing_of plan) positions) client passes.0 next.past passes.1 next.note passes.2 is.more passes.3 (stands_next plan positions client next is)) passes.4);
+    becomes = ap (λ (standings : List Standing). record { state = state; owner = owner; commits = commits; standings = standings })
+        (map_put plan positions client next.past next.rest ∙ ap (put (map (standing_of plan) positions) client next.past) is.then_more);
+  },
+)
+  where
+    system : System
+    system = record { monitor = monitor; plan = plan; clients = clients }
+
+    before : Configuration
+    before = (machine_of monitor plan clients state owner commits positions).now
 
 -- a signal that fires while a client waits names a target
 pub names_one : (monitor : MonitorParts) (plan : Plan) (clients : List Client) (state : List Value) (owner : Option ℕ) (commits : List Commit) (positions : List Position) (client : ℕ) (next : Next)

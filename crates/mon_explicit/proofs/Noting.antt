@@ -1,6 +1,9 @@
 -- The notes of a client, one by one.
-use Rattle.std.proofs.Common.{◌≡◌, ◌⊎◌, ℕ, zero, suc, ◌+◌, ◌-◌, ◌<◌, ◌≤◌, Bool, true, false, List, [], ◌∷◌, length, get_or, set, Option, Some, None, refl, sym, ap, subst, ◌∙◌, arith, inl, inr}
-use Rattle.std.specs.Prelude.{slice_get, Contains}
+use Rattle.std.proofs.Common.{◌≡◌, ℕ, zero, suc, ◌+◌, ◌-◌, ◌<◌, ◌≤◌, Bool, true, false, List, [], ◌∷◌, length, get_or, set, drop, Option, Some, None, refl, sym, ap, subst, ◌∙◌, arith, inl, inr}
+use Rattle.std.specs.Prelude.{slice_get, All, Contains}
+use Rattle.std.specs.Int.RustNames.{bit_or}
+use Rattle.std.proofs.lemmas.List.Elements.{Contains-get_or}
+use Rattle.mon_base.specs.Limits.{CLIENTS}
 use Rattle.std.proofs.lemmas.Option.{none-some, same_Some}
 use Rattle.std.proofs.lemmas.Bool.{true≢false}
 use Rattle.mon_events.specs.declared.plan.Note.{Note}
@@ -11,11 +14,13 @@ use Rattle.mon_events.specs.Configurations.Phase.{Waiting, Woken, Notifying}
 use Rattle.mon_events.specs.Events.{Wakes, NoneWaits, IsEvent, fires, wake_all}
 use Rattle.mon_events.specs.Logs.{IsChosen}
 use Rattle.mon_events.specs.Logs.IsNotified.{all_made, one_made}
-use Rattle.mon_events.proofs.Standings.{put_same, put_length, woken_length, one_past, one_phase, stands_within}
+use Rattle.mon_events.proofs.Standings.{put_same, put_length, woken_length, one_past, one_phase, stands_within, apart, stays, unwoken_stays}
 use Rattle.mon_explicit.specs.Machines.{Machine, NotAllowed, Happened}
-use Rattle.mon_explicit.specs.inner.Waiting.{KeepsWaits, HasNote, IsNotifying, IsFirst, IsFired, IsNotFired, IsTarget, Targets, NamesNobody, IsChosenBy, MadeNote, MadeNoteOf, MadeNotesOf, MadeSome, AreMaking, CountsNotes}
-use Rattle.mon_explicit.specs.inner.Rings.{line_of, without, IsLine, AreLines, HaveLines}
-use Rattle.mon_explicit.proofs.Lining.{WaitsAfter, Anyone, ButOne, ButOn, notifying_is_quiet, nobody_left, one_left, each_left, quiet_put, lines_kept, lines_cleared, lines_left}
+use Rattle.mon_explicit.specs.inner.Waiting.{KeepsWaits, HasNote, IsNotifying, IsFirst, IsFired, IsNotFired, IsTarget, Targets, NamesNobody, Passes, IsChosenBy, MadeNote, MadeNoteOf, MadeNotesOf, MadeSome, AreMaking, CountsNotes, AreBits, WokeThese}
+use Rattle.mon_explicit.specs.inner.Rings.{line_of, IsLine, AreLines, HaveLines}
+use Rattle.mon_explicit.proofs.MakingWakes.{none_woken}
+use Rattle.mon_explicit.proofs.Lining.{WaitsAfter, Anyone, ButOne, ButOn, notifying_is_quiet, nobody_left, one_left, each_left, quiet_put, lines_kept, lines_cleared, lines_left, without_first}
+use Rattle.mon_explicit.proofs.Waking.{notifying_is_calm, woke_put, woke_nobody, woke_one, woke_each, woke_more}
 
 -- ---- a note can be made
 
@@ -153,11 +158,6 @@ after_note : (P : ℕ → ℕ → Type 0) (machine next : Machine) (client : ℕ
 after_note P machine next client note target woke after =
     quiet_put P client woke.past woke.past (Notifying woke.more) (Notifying (note ∷ woke.more)) machine.now.standings woke.woken next.now.standings woke.is woke.stood (notifying_is_quiet (note ∷ woke.more)) (notifying_is_quiet woke.more) after
 
-none_woken : (system : System) (c : Configuration) (note : Note) (woken : List Standing) → (fires system c.state note ≡ false) ⊎ (note.all ≡ false) → Wakes system c note None woken → woken ≡ c.standings
-none_woken system c note woken (inl not_fired) (inl each) = absurd (true≢false (sym each.fired ∙ not_fired))
-none_woken system c note woken (inr one) (inl each) = absurd (true≢false (sym each.each ∙ one))
-none_woken system c note woken why (inr nobody) = nobody.becomes
-
 each_woken : (system : System) (c : Configuration) (note : Note) (woken : List Standing) → fires system c.state note ≡ true → note.all ≡ true → Wakes system c note None woken → woken ≡ wake_all note.condition c.standings
 each_woken system c note woken fired all (inl each) = each.becomes
 each_woken system c note woken fired all (inr nobody) = elim nobody.nobody [
@@ -165,21 +165,57 @@ each_woken system c note woken fired all (inr nobody) = elim nobody.nobody [
   | inr none ↦ absurd (true≢false (sym all ∙ none.0))
 ]
 
+-- ---- whom a note woke
+
+-- the client itself is notifying before and after
+woke_note : (machine next : Machine) (client bits : ℕ) (note : Note) (target : Option ℕ) (woke : WokeFor machine next client note target) → StandsAt woke.woken client woke.past (Notifying (note ∷ woke.more))
+    → WokeThese machine.now.standings woke.woken bits → WokeThese machine.now.standings next.now.standings bits
+woke_note machine next client bits note target woke stands these =
+    woke_put client woke.past woke.past bits (Notifying woke.more) (Notifying (note ∷ woke.more)) machine.now.standings woke.woken next.now.standings woke.is stands (notifying_is_calm (note ∷ woke.more)) (notifying_is_calm woke.more) these
+
+nobody_woke : (machine next : Machine) (client : ℕ) (note : Note) (target : Option ℕ) (woke : WokeFor machine next client note target) → woke.woken ≡ machine.now.standings → WokeThese machine.now.standings next.now.standings 0
+nobody_woke machine next client note target woke same =
+    woke_note machine next client 0 note target woke (subst (λ (some : List Standing). StandsAt some client woke.past (Notifying (note ∷ woke.more))) (sym same) woke.stood)
+    (woke_nobody machine.now.standings woke.woken same)
+
+broadcast_woke : (since : List ℕ) (machine next : Machine) (client bits : ℕ) (line : List ℕ) (note : Note) (target : Option ℕ) (woke : WokeFor machine next client note target) → woke.woken ≡ wake_all note.condition machine.now.standings
+    → IsLine since machine.now.standings note.condition line → AreBits (λ one. Contains line one) bits → WokeThese machine.now.standings next.now.standings bits
+broadcast_woke since machine next client bits line note target woke each is listed =
+    woke_note machine next client bits note target woke
+    (subst (λ (some : List Standing). StandsAt some client woke.past (Notifying (note ∷ woke.more))) (sym each)
+    (unwoken_stays machine.now.standings note.condition client woke.past (Notifying (note ∷ woke.more)) woke.stood refl))
+    (woke_each note.condition bits line machine.now.standings woke.woken each is.all is.only listed)
+
+notifying_waiting : (notes : List Note) (condition : ℕ) → Notifying notes ≡ Waiting condition → ⊥
+notifying_waiting notes condition is = cc is
+
+signal_woke : (machine next : Machine) (client past on bits who : ℕ) (note : Note) (target : Option ℕ) (woke : WokeFor machine next client note target) → StandsAt machine.now.standings who past (Waiting on)
+    → woke.woken ≡ put machine.now.standings who past (Woken on) → AreBits (λ one. one ≡ who) bits → WokeThese machine.now.standings next.now.standings bits
+signal_woke machine next client past on bits who note target woke waits one its =
+    let notes = note ∷ woke.more in
+    let differs = apart machine.now.standings who past client woke.past (Waiting on) (Notifying notes) waits woke.stood (notifying_waiting notes on) in
+    woke_note machine next client bits note target woke
+    (subst (λ (some : List Standing). StandsAt some client woke.past (Notifying notes)) (sym one) (stays machine.now.standings who past (Woken on) client woke.past (Notifying notes) differs woke.stood))
+    (woke_one who past on bits machine.now.standings woke.woken waits one its)
+
+-- ---- a note was made
+
 made_note : (since : List ℕ) (client : ℕ) (before next : Machine) (note : Note) (target : Option ℕ) → IsTarget since before note target → Happened (events.Notify client target) before next → MadeNote since client before next
 made_note since client before next note target names happened = (target, chosen_of since before note target names, happened)
 
 -- the first note does not fire
-pub unfired_made : (client : ℕ) (before next : Machine) (rings : List (List ℕ)) → HasNote before client → IsNotFired before client → Happened (events.Notify client None) before next → MadeNoteOf client before rings next rings
+pub unfired_made : (client : ℕ) (before next : Machine) (rings : List (List ℕ)) → HasNote before client → IsNotFired before client → Happened (events.Notify client None) before next → MadeNoteOf client before rings next rings 0
 unfired_made client before next rings has not_fired happened = λ since are.
     let is_not = not_fired has.0 has.1 has.2 has.3 in
     let woke = woke_for before next client has.0 has.1 has.2 None has.3 happened in (
       made_note since client before next has.1 None (inl is_not) happened,
       lines_kept since before.system next.system before.now.standings next.now.standings rings happened.0 woke.lengths
           (after_note Anyone before next client has.1 None woke (nobody_left before.now.standings woke.woken (none_woken before.system before.now has.1 woke.woken (inl is_not) woke.wakes))) are,
+      nobody_woke before next client has.1 None woke (none_woken before.system before.now has.1 woke.woken (inl is_not) woke.wakes),
     )
 
-pub unfired_names : (since : List ℕ) (client : ℕ) (machine : Machine) → IsNotFired machine client → Targets since machine client None
-unfired_names since client machine not_fired past note more at = inl (not_fired past note more at)
+pub unfired_passes : (client : ℕ) (machine : Machine) → HasNote machine client → IsNotFired machine client → Passes machine client
+unfired_passes client machine has not_fired = (has.0, has.1, has.2, has.3, inl (not_fired has.0 has.1 has.2 has.3))
 
 fired_names : (since : List ℕ) (client : ℕ) (machine : Machine) (note : Note) (target : Option ℕ) → IsFired machine client note → IsTarget since machine note target → Targets since machine client target
 fired_names since client machine note target fired names past other more at =
@@ -190,35 +226,36 @@ fired_names since client machine note target fired names past other more at =
 pub broadcast_names : (since : List ℕ) (client : ℕ) (machine : Machine) (note : Note) → IsFired machine client note → note.all ≡ true → Targets since machine client None
 broadcast_names since client machine note fired all = fired_names since client machine note None fired (inr (inl all))
 
-pub broadcast_made : (client : ℕ) (before next : Machine) (rings : List (List ℕ)) (note : Note) → IsFired before client note → note.all ≡ true → Happened (events.Notify client None) before next
-    → MadeNoteOf client before rings next (set rings note.condition [])
-broadcast_made client before next rings note fired all happened = λ since are.
+pub broadcast_made : (client bits : ℕ) (before next : Machine) (rings : List (List ℕ)) (note : Note) → IsFired before client note → note.all ≡ true → AreBits (λ one. Contains (line_of rings note.condition) one) bits
+    → Happened (events.Notify client None) before next → MadeNoteOf client before rings next (set rings note.condition []) bits
+broadcast_made client bits before next rings note fired all listed happened = λ since are.
     let woke = woke_for before next client fired.0 note fired.1 None fired.2 happened in (
       made_note since client before next note None (inr (inl all)) happened,
       lines_cleared since before.system next.system before.now.standings next.now.standings rings note.condition happened.0 woke.lengths
           (after_note (ButOn note.condition) before next client note None woke
           (each_left note.condition before.now.standings woke.woken (each_woken before.system before.now note woke.woken fired.3 all woke.wakes))) are,
+      broadcast_woke since before next client bits (line_of rings note.condition) note None woke (each_woken before.system before.now note woke.woken fired.3 all woke.wakes) (are.each note.condition) listed,
     )
 
--- a signal that fires where no one waits
+-- a note that fires where no one waits
 none_in : (since : List ℕ) (standings : List Standing) (condition : ℕ) (line : List ℕ) → IsLine since standings condition line → slice_get line 0 ≡ None → NoneWaits standings condition
 none_in since standings condition [] is none client past at = absurd (omega (arith, (is.all client past at).1))
 none_in since standings condition (first ∷ line) is none client past at = none-some first (sym none)
 
-empty_names : (since : List ℕ) (machine : Machine) (rings : List (List ℕ)) (note : Note) → AreLines since machine.system machine.now.standings rings → slice_get (line_of rings note.condition) 0 ≡ None → IsTarget since machine note None
-empty_names since machine rings note are none = inr (inr (none_in since machine.now.standings note.condition (line_of rings note.condition) (are.each note.condition) none))
+pub empty_passes : (client : ℕ) (machine : Machine) (rings : List (List ℕ)) (note : Note) → HaveLines machine.system machine.now.standings rings → IsFired machine client note → slice_get (line_of rings note.condition) 0 ≡ None
+    → Passes machine client
+empty_passes client machine rings note lines fired none = (fired.0, note, fired.1, fired.2, inr (none_in lines.0 machine.now.standings note.condition (line_of rings note.condition) (lines.1.each note.condition) none))
 
-pub nobody_names : (since : List ℕ) (client : ℕ) (machine : Machine) (rings : List (List ℕ)) (note : Note) → AreLines since machine.system machine.now.standings rings → IsFired machine client note
-    → slice_get (line_of rings note.condition) 0 ≡ None → Targets since machine client None
-nobody_names since client machine rings note are fired none = fired_names since client machine note None fired (empty_names since machine rings note are none)
-
-pub nobody_made : (client : ℕ) (before next : Machine) (rings : List (List ℕ)) (note : Note) → IsFired before client note → note.all ≡ false → slice_get (line_of rings note.condition) 0 ≡ None → Happened (events.Notify client None) before next
-    → MadeNoteOf client before rings next rings
-nobody_made client before next rings note fired one none happened = λ since are.
-    let woke = woke_for before next client fired.0 note fired.1 None fired.2 happened in (
-      made_note since client before next note None (empty_names since before rings note are none) happened,
+pub nobody_made : (client : ℕ) (before next : Machine) (rings : List (List ℕ)) (note : Note) → IsFired before client note → slice_get (line_of rings note.condition) 0 ≡ None → Happened (events.Notify client None) before next
+    → MadeNoteOf client before rings next rings 0
+nobody_made client before next rings note fired none happened = λ since are.
+    let woke = woke_for before next client fired.0 note fired.1 None fired.2 happened in
+    let none_waits = none_in since before.now.standings note.condition (line_of rings note.condition) (are.each note.condition) none in
+    let same = none_woken before.system before.now note woke.woken (inr none_waits) woke.wakes in (
+      made_note since client before next note None (inr (inr none_waits)) happened,
       lines_kept since before.system next.system before.now.standings next.now.standings rings happened.0 woke.lengths
-          (after_note Anyone before next client note None woke (nobody_left before.now.standings woke.woken (none_woken before.system before.now note woke.woken (inr one) woke.wakes))) are,
+          (after_note Anyone before next client note None woke (nobody_left before.now.standings woke.woken same)) are,
+      nobody_woke before next client note None woke same,
     )
 
 -- a signal that fires wakes the first of the ring, who is the first waiter
@@ -252,44 +289,62 @@ pub signal_names : (since : List ℕ) (client : ℕ) (machine : Machine) (rings 
     → slice_get (line_of rings note.condition) 0 ≡ Some target → Targets since machine client (Some target)
 signal_names since client machine rings note target are fired one first = fired_names since client machine note (Some target) fired (first_named since machine rings note target are fired.3 one first)
 
-pub signal_made : (client : ℕ) (before next : Machine) (rings : List (List ℕ)) (note : Note) (target : ℕ) → IsFired before client note → note.all ≡ false → slice_get (line_of rings note.condition) 0 ≡ Some target
-    → Happened (events.Notify client (Some target)) before next → MadeNoteOf client before rings next (set rings note.condition (without target (line_of rings note.condition)))
-signal_made client before next rings note target fired one first happened = λ since are.
+pub signal_made : (client bits : ℕ) (before next : Machine) (rings : List (List ℕ)) (note : Note) (target : ℕ) → IsFired before client note → note.all ≡ false → slice_get (line_of rings note.condition) 0 ≡ Some target
+    → Happened (events.Notify client (Some target)) before next → AreBits (λ other. other ≡ target) bits
+    → MadeNoteOf client before rings next (set rings note.condition (drop 1 (line_of rings note.condition))) bits
+signal_made client bits before next rings note target fired one first happened its = λ since are.
     let woke = woke_for before next client fired.0 note fired.1 (Some target) fired.2 happened in (
       made_note since client before next note (Some target) (first_named since before rings note target are fired.3 one first) happened,
-      lines_left since before.system next.system before.now.standings next.now.standings rings target woke.wakes.0 note.condition happened.0 woke.lengths woke.wakes.1.waits
+      subst (λ (line : List ℕ). AreLines since next.system next.now.standings (set rings note.condition line))
+          (without_first since before.now.standings note.condition target (line_of rings note.condition) (are.each note.condition) first)
+          (lines_left since before.system next.system before.now.standings next.now.standings rings target woke.wakes.0 note.condition happened.0 woke.lengths woke.wakes.1.waits
           (after_note (ButOne target) before next client note (Some target) woke
-          (one_left target woke.wakes.0 note.condition before.now.standings woke.woken woke.wakes.1.waits woke.wakes.1.becomes)) are,
+          (one_left target woke.wakes.0 note.condition before.now.standings woke.woken woke.wakes.1.waits woke.wakes.1.becomes)) are),
+      signal_woke before next client woke.wakes.0 note.condition bits target note (Some target) woke woke.wakes.1.waits woke.wakes.1.becomes its,
     )
+
+-- ---- clients of a line have bits
+
+pub line_few : (condition : ℕ) (machine : Machine) (rings : List (List ℕ)) → HaveLines machine.system machine.now.standings rings → length machine.now.standings ≤ CLIENTS → All (λ one. one < CLIENTS) (line_of rings condition)
+line_few condition machine rings lines few i d within =
+    let who = get_or (line_of rings condition) i d in
+    let stood = (lines.1.each condition).only who (Contains-get_or (line_of rings condition) i d within) in
+    omega (arith, few, stands_within machine.now.standings who stood.0 (Waiting condition) stood.1)
+
+pub first_few : (condition target : ℕ) (machine : Machine) (rings : List (List ℕ)) → HaveLines machine.system machine.now.standings rings → length machine.now.standings ≤ CLIENTS → slice_get (line_of rings condition) 0 ≡ Some target → target < CLIENTS
+first_few condition target machine rings lines few first =
+    let is = first_is_first lines.0 machine.now.standings condition target (line_of rings condition) lines.1.one_each (lines.1.each condition) first in
+    omega (arith, few, stands_within machine.now.standings target is.past (Waiting condition) is.waits)
 
 -- ---- all of them
 
-pub making_starts : (client : ℕ) (machine : Machine) (rings : List (List ℕ)) (end : ℕ) → CountsNotes machine.now.standings client end → AreMaking client machine rings machine rings 0 end
+pub making_starts : (client : ℕ) (machine : Machine) (rings : List (List ℕ)) (end : ℕ) → CountsNotes machine.now.standings client end → AreMaking client machine rings machine rings 0 end 0
 making_starts client machine rings end counts = record {
-  some = λ since are. (none_made since client machine, are);
+  some = λ since are. (none_made since client machine, are, woke_nobody machine.now.standings machine.now.standings refl);
   left = λ past notes at. (notes, at, omega (arith, counts past notes at));
 }
 
-pub making_lines : (client : ℕ) (before : Machine) (rings : List (List ℕ)) (now : Machine) (rings_now : List (List ℕ)) (count end : ℕ) → AreMaking client before rings now rings_now count end
+pub making_lines : (client : ℕ) (before : Machine) (rings : List (List ℕ)) (now : Machine) (rings_now : List (List ℕ)) (count end bits : ℕ) → AreMaking client before rings now rings_now count end bits
     → HaveLines before.system before.now.standings rings → HaveLines now.system now.now.standings rings_now
-making_lines client before rings now rings_now count end making lines = (lines.0, (making.some lines.0 lines.1).1)
+making_lines client before rings now rings_now count end bits making lines = (lines.0, (making.some lines.0 lines.1).1)
 
-pub making_goes_on : (client : ℕ) (before : Machine) (rings : List (List ℕ)) (now : Machine) (rings_now : List (List ℕ)) (next : Machine) (rings_next : List (List ℕ)) (count end : ℕ) → AreMaking client before rings now rings_now count end
-    → HaveLines now.system now.now.standings rings_now → MadeNoteOf client now rings_now next rings_next → AreMaking client before rings next rings_next (count + 1) end
-making_goes_on client before rings now rings_now next rings_next count end making lines made = record {
+pub making_goes_on : (client : ℕ) (before : Machine) (rings : List (List ℕ)) (now : Machine) (rings_now : List (List ℕ)) (next : Machine) (rings_next : List (List ℕ)) (count end bits more : ℕ)
+    → AreMaking client before rings now rings_now count end bits → HaveLines now.system now.now.standings rings_now → MadeNoteOf client now rings_now next rings_next more
+    → AreMaking client before rings next rings_next (count + 1) end (bit_or bits more)
+making_goes_on client before rings now rings_now next rings_next count end bits more making lines made = record {
   some = λ since are.
       let some = making.some since are in
       let one = made since some.1 in
-      (one_more since client before now next some.0 one.0, one.1);
+      (one_more since client before now next some.0 one.0, one.1, woke_more before.now.standings now.now.standings next.now.standings bits more some.2 one.2);
   left = λ past notes at.
       let rest = making.left past notes at in
       let taken = one_taken lines.0 client now next past rest.0 (made lines.0 lines.1).0 rest.1 in
       (taken.0, taken.1, omega (arith, taken.2, rest.2));
 }
 
-pub making_has_note : (client : ℕ) (before : Machine) (rings : List (List ℕ)) (now : Machine) (rings_now : List (List ℕ)) (count end : ℕ) → AreMaking client before rings now rings_now count end → IsNotifying before client → count < end
+pub making_has_note : (client : ℕ) (before : Machine) (rings : List (List ℕ)) (now : Machine) (rings_now : List (List ℕ)) (count end bits : ℕ) → AreMaking client before rings now rings_now count end bits → IsNotifying before client → count < end
     → HasNote now client
-making_has_note client before rings now rings_now count end making notifying below =
+making_has_note client before rings now rings_now count end bits making notifying below =
     let rest = making.left notifying.0 notifying.1 notifying.2 in
     has_note now client notifying.0 rest.0 rest.1 (omega (arith, rest.2, below))
 
@@ -297,9 +352,9 @@ no_notes : (standings : List Standing) (client past : ℕ) (notes : List Note) �
 no_notes standings client past [] at none = at
 no_notes standings client past (note ∷ notes) at none = absurd (omega (arith, none))
 
-pub making_ends : (client : ℕ) (before : Machine) (rings : List (List ℕ)) (last : Machine) (rings_last : List (List ℕ)) (count end : ℕ) → AreMaking client before rings last rings_last count end → IsNotifying before client → end ≤ count
-    → MadeNotesOf client before rings last rings_last
-making_ends client before rings last rings_last count end making notifying over = λ since are.
+pub making_ends : (client : ℕ) (before : Machine) (rings : List (List ℕ)) (last : Machine) (rings_last : List (List ℕ)) (count end bits : ℕ) → AreMaking client before rings last rings_last count end bits → IsNotifying before client → end ≤ count
+    → MadeNotesOf client before rings last rings_last bits
+making_ends client before rings last rings_last count end bits making notifying over = λ since are.
     let some = making.some since are in
     let done = λ (past : ℕ) (notes : List Note) (at : StandsAt before.now.standings client past (Notifying notes)).
     let rest = making.left past notes at in
@@ -310,4 +365,5 @@ making_ends client before rings last rings_last count end making notifying over 
         notified = λ log keeps. some.0.so_far log last.now keeps (all_made last.now notifying.0 (done notifying.0 notifying.1 notifying.2));
       },
       some.1,
+      some.2,
     )

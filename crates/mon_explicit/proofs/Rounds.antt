@@ -54,6 +54,11 @@ ring_set rings condition new line is = map-set line_in rings condition new ∙ a
 pub ring_cleared : (rings : List (Buffer ℕ)) (condition : ℕ) (ring new : Buffer ℕ) → new ≡ buffer [] ring.capacity → map line_in (slice_set rings condition new) ≡ slice_set (map line_in rings) condition []
 ring_cleared rings condition ring new is = ring_set rings condition new [] (ap line_in is)
 
+pub ring_popped : (rings : List (Buffer ℕ)) (condition : ℕ) (ring new : Buffer ℕ) → condition < length rings → ring ≡ slice_index_or rings condition ring → new ≡ buffer (drop 1 ring.items) ring.capacity
+    → map line_in (slice_set rings condition new) ≡ slice_set (map line_in rings) condition (drop 1 (line_of (map line_in rings) condition))
+ring_popped rings condition ring new within at is =
+    ring_set rings condition new (drop 1 (line_of (map line_in rings) condition)) (ap line_in is ∙ ap (drop 1) (sym (line_at rings condition ring within at)))
+
 pub ring_left : (rings : List (Buffer ℕ)) (condition client : ℕ) (ring new : Buffer ℕ) → condition < length rings → ring ≡ slice_index_or rings condition ring → new ≡ buffer (without client ring.items) ring.capacity
     → map line_in (slice_set rings condition new) ≡ slice_set (map line_in rings) condition (without client (line_of (map line_in rings) condition))
 ring_left rings condition client ring new within at is =

@@ -1,6 +1,6 @@
 -- A section, from the events of its client.
 use Rattle.std.proofs.Common.{◌≡◌, ℕ, ◌+◌, ◌<◌, List, [], ◌∷◌, ◌++◌, length, set, Option, IsSomeAnd, refl, sym, ap, subst, ◌∙◌, arith, inl, inr}
-use Rattle.std.specs.Prelude.{slice_get, IsBitSet}
+use Rattle.std.specs.Prelude.{slice_get}
 use Rattle.std.proofs.lemmas.Bool.{cases_eq}
 use Rattle.mon_implicit.specs.declared.commit.Reply.{Reply}
 use Rattle.mon_events.specs.declared.event.Event.TheVariants as events
@@ -10,64 +10,19 @@ use Rattle.mon_events.specs.declared.log.Outcome.TheVariants as outcomes
 use Rattle.mon_events.specs.Configurations.{System, Phase, Standing, Configuration, StandsAt, put, waited_condition}
 use Rattle.mon_events.specs.Configurations.Phase.{Idle, Entering, Waiting, Woken, Inside, Notifying}
 use Rattle.mon_events.specs.Events.{Locks, Waits, Runs, Unlocks, notes_after}
-use Rattle.mon_events.specs.Logs.{IsNotified, IsBegun, IsSection, AreWoken}
+use Rattle.mon_events.specs.Logs.{IsNotified, IsBegun, IsSection}
 use Rattle.mon_events.specs.Logs.IsSection.{waited, replied}
 use Rattle.mon_events.proofs.Standings.{put_same, put_length, one_past, one_phase, stands_within}
 use Rattle.mon_explicit.specs.Machines.{Machine, Happened}
 use Rattle.mon_explicit.specs.Sections.{IsWaiting}
-use Rattle.mon_explicit.specs.inner.Waiting.{IsSettled, NoneEnters, Started, KeepsWaits, IsWoken, AreBits, HasReplied, WentOn, MakesSection, IsNotifying, LastReplies, MadeNotes, MadeNotesOf, MakesSectionOf, WaitsOn, WentOnOf}
+use Rattle.mon_explicit.specs.inner.Waiting.{IsSettled, NoneEnters, Started, KeepsWaits, AreBits, WasWoken, WokeThese, HasReplied, WentOn, MakesSection, IsNotifying, LastReplies, MadeNotes, MadeNotesOf, MakesSectionOf, WaitsOn, WentOnOf}
 use Rattle.mon_explicit.specs.inner.Rings.{line_of, AreLines, HaveLines, LinesAfter}
 use Rattle.mon_explicit.proofs.Came.{CameFrom, came_waited, came_replied}
-use Rattle.mon_explicit.proofs.Lining.{Anyone, IsQuiet, idle_is_quiet, entering_is_quiet, woken_is_quiet, inside_is_quiet, notifying_is_quiet, same_waiting, nobody_left, quiet_put, lines_kept, lines_joined, line_is_short}
+use Rattle.mon_explicit.proofs.Waking.{idle_is_calm, notifying_is_calm, woke_put, woken_since}
+use Rattle.mon_explicit.proofs.Lining.{WaitsAfter, Anyone, IsQuiet, idle_is_quiet, entering_is_quiet, woken_is_quiet, inside_is_quiet, notifying_is_quiet, same_waiting, nobody_left, quiet_put, lines_kept, lines_joined, line_is_short}
 
 abbrev standings_of : Configuration → List Standing
 standings_of c = c.standings
-
--- ---- who was woken
-
-waiting_woken : (condition another : ℕ) → Waiting condition ≡ Woken another → ⊥
-waiting_woken condition another is = cc is
-
-waiting_idle : (condition : ℕ) → Waiting condition ≡ Idle → ⊥
-waiting_idle condition is = cc is
-
-condition_in : Phase → ℕ
-condition_in (Woken condition) = condition
-condition_in phase = 0
-
-same_woken : (condition another : ℕ) → Woken condition ≡ Woken another → condition ≡ another
-unfolding condition_in
-same_woken condition another is = ap condition_in is
-
--- who begins does not wait
-begins_apart : (system : System) (client past : ℕ) (before begun : Configuration) → IsBegun system client past before begun
-    → (other others_past condition : ℕ) → StandsAt before.standings other others_past (Waiting condition) → other ≡ client → ⊥
-begins_apart system client past before begun begins other others_past condition at same = elim begins [
-  | inl idle ↦ waiting_idle condition (one_phase before.standings client others_past past (Waiting condition) Idle (subst (λ (who : ℕ). StandsAt before.standings who others_past (Waiting condition)) same at) idle.idle)
-  | inr woken ↦ waiting_woken condition woken.0.0 (one_phase before.standings client others_past past (Waiting condition) (Woken woken.0.0) (subst (λ (who : ℕ). StandsAt before.standings who others_past (Waiting condition)) same at) woken.0.1)
-]
-
-are_woken : (system : System) (client past first bits : ℕ) (before begun next : Configuration) → IsBegun system client past before begun → CameFrom client before.standings next.standings
-    → AreBits (IsWaiting before.standings) first → AreBits (λ other. IsBitSet first other × IsWoken next.standings other) bits → AreWoken before next bits
-are_woken system client past first bits before begun next begins came were are other = (there, back)
-  where
-    there : IsBitSet bits other → (others_past : ℕ) × (condition : ℕ) × StandsAt before.standings other others_past (Waiting condition) × StandsAt next.standings other others_past (Woken condition)
-    there set =
-        let both = (are other).0 set in
-        let waits = (were other).0 both.0 in
-        let woken = both.1 in
-        elim (came other woken.0 (Woken woken.1) (begins_apart system client past before begun begins other waits.0 waits.1 waits.2) woken.2) [
-          | inl stood ↦ absurd (waiting_woken waits.1 woken.1 (one_phase before.standings other waits.0 woken.0 (Waiting waits.1) (Woken woken.1) waits.2 stood))
-          | inr from ↦ (
-            woken.0,
-            from.0,
-            from.1,
-            subst (λ (condition : ℕ). StandsAt next.standings other woken.0 (Woken condition)) (same_woken woken.1 from.0 from.2) woken.2,
-          )
-        ]
-
-    back : ((others_past : ℕ) × (condition : ℕ) × StandsAt before.standings other others_past (Waiting condition) × StandsAt next.standings other others_past (Woken condition)) → IsBitSet bits other
-    back found = (are other).1 ((were other).1 (found.0, found.1, found.2), (found.0, found.1, found.3))
 
 -- ---- the section
 
@@ -85,10 +40,31 @@ pub past_read : (standings : List Standing) (client past at : ℕ) (phase : Phas
 past_read standings client past at phase stands read =
     sym (subst (λ (o : Option Standing). IsSomeAnd o (λ standing. at ≡ standing.past)) stands read)
 
-pub section_made : (since : List ℕ) (client first at : ℕ) (before locked next : Machine) (outcome : Outcome) → IsSettled before.now → AreBits (IsWaiting before.now.standings) first → Started before client locked
-    → IsSomeAnd (slice_get locked.now.standings client) (λ standing. at ≡ standing.past) → WentOn since client first locked next outcome
+-- who waits stays the same while it begins, and takes the lock
+waits_put : (client past new_past : ℕ) (phase was : Phase) (before next : List Standing) → next ≡ put before client new_past phase → StandsAt before client past was → IsQuiet was → IsQuiet phase → WaitsAfter Anyone before next
+waits_put client past new_past phase was before next is stood quiet_before quiet = quiet_put Anyone client new_past past phase was before before next is stood quiet_before quiet (nobody_left before before refl)
+
+begun_waits : (system : System) (client past : ℕ) (before begun : Configuration) → IsBegun system client past before begun → WaitsAfter Anyone before.standings begun.standings
+begun_waits system client past before begun (inl begins) = waits_put client past past Entering Idle before.standings begun.standings (ap standings_of begins.becomes) begins.idle idle_is_quiet entering_is_quiet
+begun_waits system client past before begun (inr stays) = nobody_left before.standings begun.standings (ap standings_of stays.1)
+
+locked_waits : (client past : ℕ) (begun locked : Configuration) → Locks client past begun locked → WaitsAfter Anyone begun.standings locked.standings
+locked_waits client past begun locked locks = elim locks.wants [
+  | inl entering ↦ waits_put client past past Inside Entering begun.standings locked.standings (ap standings_of locks.becomes) entering entering_is_quiet inside_is_quiet
+  | inr woken ↦ waits_put client past past Inside (Woken woken.0) begun.standings locked.standings (ap standings_of locks.becomes) woken.1 (woken_is_quiet woken.0) inside_is_quiet
+]
+
+ran_waits : (client : ℕ) (before ran : Machine) → Happened (events.Run client) before ran → WaitsAfter Anyone before.now.standings ran.now.standings
+ran_waits client before ran happened =
+    let past = happened.1.0 in
+    let runs = happened.1.3 in
+    let notes = notes_after before.system client past happened.1.1 in
+    waits_put client past past (Notifying notes) Inside before.now.standings ran.now.standings (ap standings_of runs.becomes) runs.inside inside_is_quiet (notifying_is_quiet notes)
+
+pub section_made : (since : List ℕ) (client at : ℕ) (before locked next : Machine) (outcome : Outcome) → IsSettled before.now → Started before client locked
+    → IsSomeAnd (slice_get locked.now.standings client) (λ standing. at ≡ standing.past) → WentOn since client locked next outcome
     → MakesSection since client before next (record { client = client; call = at + 1; outcome = outcome })
-section_made since client first at before locked next outcomes.Waits settled were started read went =
+section_made since client at before locked next outcomes.Waits settled started read went =
     let past = started.1.0 in
     let begun = started.1.1 in
     let locks = started.1.3 in
@@ -105,7 +81,7 @@ section_made since client first at before locked next outcomes.Waits settled wer
           (past_read locked.now.standings client past at Inside inside read)
           (waited client past begun locked.now next.now settled.free started.1.2 locks waits_here);
     }
-section_made since client first at before locked next (outcomes.Replies reply woken) settled were started read (went, bits) =
+section_made since client at before locked next (outcomes.Replies reply woken) settled started read (went, bits) =
     let past = started.1.0 in
     let begun = started.1.1 in
     let locks = started.1.3 in
@@ -120,14 +96,13 @@ section_made since client first at before locked next (outcomes.Replies reply wo
       made = λ log keeps.
           let notes : IsNotified before.system log client went.ran went.notified = subst (λ (system : System). IsNotified system log client went.ran went.notified) started.0
           (went.notes log (subst (λ (system : System). KeepsWaits log system.clients since) (sym started.0) keeps)) in
-          let came = came_replied before.system log client past (past + 1) (notes_after before.system client past reply) before.now begun locked.now went.ran went.notified next.now started.1.2 locks
-          (ap standings_of runs.becomes) notes (ap standings_of unlocks.becomes) in
+          let locked_woken = woken_since begun.standings locked.now.standings next.now.standings woken (locked_waits client past begun locked.now locks) bits in
           subst (λ (one : ℕ). IsSection before.system log before.now (record { client = client; call = one + 1; outcome = outcomes.Replies reply woken }) next.now)
           (past_read locked.now.standings client past at Inside inside read)
           (replied client past woken reply went.state begun locked.now went.ran went.notified next.now settled.free started.1.2 locks runs notes unlocks
-          (are_woken before.system client past first woken before.now begun next.now started.1.2 came were bits));
+          (woken_since before.now.standings begun.standings next.now.standings woken (begun_waits before.system client past before.now begun started.1.2) locked_woken));
     }
-section_made since client first at before locked next outcomes.Spurious settled were started read went = elim went [ ]
+section_made since client at before locked next outcomes.Spurious settled started read went = elim went [ ]
 
 -- ---- what came of a client inside
 
@@ -236,29 +211,37 @@ pub waited_length : (client : ℕ) (before next : Machine) → Happened (events.
 waited_length client before next happened =
     ap (λ (c : Configuration). length c.standings) happened.1.1.becomes ∙ put_length before.now.standings client happened.1.0 (Waiting (waited_condition before.system client happened.1.0))
 
-pub waited_told : (client first condition : ℕ) (before ran next : Machine) (rings next_rings : List (List ℕ)) → ran ≡ before → Happened (events.Wait client) ran next → WaitsOn next client condition
-    → next_rings ≡ set rings condition (line_of rings condition ++ client ∷ []) → WentOnOf client first before rings next next_rings outcomes.Waits
-waited_told client first condition before ran next rings next_rings same happened on is since are =
+pub waited_told : (client condition : ℕ) (before ran next : Machine) (rings next_rings : List (List ℕ)) → ran ≡ before → Happened (events.Wait client) ran next → WaitsOn next client condition
+    → next_rings ≡ set rings condition (line_of rings condition ++ client ∷ []) → WentOnOf client before rings next next_rings outcomes.Waits
+waited_told client condition before ran next rings next_rings same happened on is since are =
     let waits : Happened (events.Wait client) before next = subst (λ (m : Machine). Happened (events.Wait client) m next) same happened in (
       waits,
       subst (λ (some : List (List ℕ)). LinesAfter since next.system next.now.standings client outcomes.Waits some) (sym is) (waited_lines client condition before next rings waits on since are),
     )
 
-pub replied_told : (client first bits : ℕ) (before ran notified next : Machine) (rings notified_rings : List (List ℕ)) (reply : Reply) → Happened (events.Run client) before ran → LastReplies ran.now.commits reply
-    → MadeNotesOf client ran rings notified notified_rings → Happened (events.Unlock client) notified next → AreBits (λ other. IsBitSet first other × IsWoken next.now.standings other) bits
-    → WentOnOf client first before rings next notified_rings (outcomes.Replies reply bits)
-replied_told client first bits before ran notified next rings notified_rings reply happened last makes unlocked woken since are =
-    let made = makes since (ran_lines client before ran rings happened since are) in (
+unlocked_woken : (client bits : ℕ) (before ran notified next : Machine) → Happened (events.Run client) before ran → WokeThese ran.now.standings notified.now.standings bits → Happened (events.Unlock client) notified next
+    → AreBits (λ other. WasWoken before.now.standings next.now.standings other) bits
+unlocked_woken client bits before ran notified next happened woke unlocked =
+    let past = unlocked.1.0 in
+    let unlocks = unlocked.1.1 in
+    let these = woke_put client (past + 1) past bits Idle (Notifying []) ran.now.standings notified.now.standings next.now.standings (ap standings_of unlocks.becomes) unlocks.notifying (notifying_is_calm []) idle_is_calm woke in
+    woken_since before.now.standings ran.now.standings next.now.standings bits (ran_waits client before ran happened) these.woken
+
+pub replied_told : (client bits : ℕ) (before ran notified next : Machine) (rings notified_rings : List (List ℕ)) (reply : Reply) → Happened (events.Run client) before ran → LastReplies ran.now.commits reply
+    → MadeNotesOf client ran rings notified notified_rings bits → Happened (events.Unlock client) notified next → WentOnOf client before rings next notified_rings (outcomes.Replies reply bits)
+replied_told client bits before ran notified next rings notified_rings reply happened last makes unlocked since are =
+    let made = makes since (ran_lines client before ran rings happened since are) in
+    let woken = unlocked_woken client bits before ran notified next happened made.2 unlocked in (
       (replied_of since client before ran notified next reply happened last made.0 unlocked, woken),
       (λ place early. unlocked_lines client notified next notified_rings unlocked since made.1),
     )
 
-pub section_told : (client first at : ℕ) (before locked next : Machine) (rings next_rings : List (List ℕ)) (outcome : Outcome) → IsSettled before.now → AreBits (IsWaiting before.now.standings) first → Started before client locked
-    → IsSomeAnd (slice_get locked.now.standings client) (λ standing. at ≡ standing.past) → WentOnOf client first locked rings next next_rings outcome
+pub section_told : (client at : ℕ) (before locked next : Machine) (rings next_rings : List (List ℕ)) (outcome : Outcome) → IsSettled before.now → Started before client locked
+    → IsSomeAnd (slice_get locked.now.standings client) (λ standing. at ≡ standing.past) → WentOnOf client locked rings next next_rings outcome
     → MakesSectionOf client before rings next next_rings (record { client = client; call = at + 1; outcome = outcome })
-section_told client first at before locked next rings next_rings outcome settled were started read went since are =
+section_told client at before locked next rings next_rings outcome settled started read went since are =
     let made = went since (started_lines client before locked rings started since are) in
-    (section_made since client first at before locked next outcome settled were started read made.0, made.1)
+    (section_made since client at before locked next outcome settled started read made.0, made.1)
 
 -- ---- after a section no one enters
 

@@ -5,19 +5,20 @@ ghost use Rattle.std.specs.Prelude.{length, map};
 ghost use Rattle.std.specs.Prelude.{slice_get};
 ghost use Rattle.mon_implicit.specs.Scripted.{FitsScripts};
 ghost use Rattle.mon_events.specs.Plans.{FitsPlan};
-ghost use Rattle.mon_explicit.specs.Machines.{IsMachine, KeepsWakeUps, Steps, opened, stage_of};
+ghost use Rattle.mon_explicit.specs.Machines.{Happened, IsMachine, KeepsWakeUps, Steps};
+ghost use Rattle.mon_explicit.specs.Machines.{opened, stage_of};
 ghost use Rattle.mon_explicit.specs.inner.Positions.{idle_position};
 ghost use Rattle.mon_explicit.specs.Sections.{IsWaiting, can_start};
-ghost use Rattle.mon_explicit.specs.inner.Waiting.{AreBits, CannotRun, CountsNotes, EachRests};
-ghost use Rattle.mon_explicit.specs.inner.Waiting.{HasCommit, IsWoken, LastReplies};
-ghost use Rattle.mon_explicit.specs.inner.Waiting.{IsFired, IsNotFired, WaitsOn};
+ghost use Rattle.mon_explicit.specs.inner.Waiting.{CannotRun, CountsNotes, EachRests};
+ghost use Rattle.mon_explicit.specs.inner.Waiting.{HasCommit, LastReplies};
+ghost use Rattle.mon_explicit.specs.inner.Waiting.{IsFired, IsNotFired, Passes, WaitsOn};
 
 use super::calls::{all_calls, calls, first_block, holds, waited_condition};
 use super::notes::{count_notes, doing_after, finished, fires, next_note};
 use super::position::{
     Doing, Position, idle, inside, ready, some_waits, waiting, waiting_on, wake_all,
 };
-use super::waiting::{all_rest, flags, starts};
+use super::waiting::{all_rest, starts};
 use mon_events::{Event, Note, Plan, Stage};
 use mon_implicit::{Client, Commit, Reply, Scripts, State, run_block, start};
 use mon_monitor::Monitor;
@@ -213,20 +214,6 @@ impl Config {
         self.positions[client as usize].past
     }
 
-    /// A bit for each client that waits.
-    pub(crate) fn waiting(&self) -> u32
-        ensures { AreBits (IsWaiting self.now.now.standings) result }
-    {
-        flags(&self.positions, false)
-    }
-
-    /// A bit for each client that was woken.
-    pub(crate) fn woken(&self) -> u32
-        ensures { AreBits (IsWoken self.now.now.standings) result }
-    {
-        flags(&self.positions, true)
-    }
-
     /// Whether a client is idle with a call left, or was woken.
     pub(crate) fn starts(&self, client: u32) -> bool
         requires { client < length self.now.system.clients }
@@ -364,6 +351,20 @@ impl Config {
             doing: doing_after(block, condition, reply),
         };
         Ok(())
+    }
+
+    /// A client makes its first note to come, which wakes nobody.
+    pub(crate) fn pass(&mut self, client: u32)
+        requires { Passes self.old client }
+        ensures { Happened (Event.Notify client None) self.old self.new }
+    {
+        let Some(next) = next_note(&self.plan, &self.positions, client) else {
+            unreachable!()
+        };
+        self.positions[client as usize] = Position {
+            past: next.past,
+            doing: next.rest,
+        };
     }
 
     /// A note of a client that names no target: it wakes each client that waits, or nobody.

@@ -1,9 +1,11 @@
 //! Who waits on each condition, in the order in which they began to wait.
 
-ghost use Rattle.std.specs.Prelude.{◌≡◌, ◌<◌, ◌≤◌, ◌∷◌, ◌++◌, [], IfOk, drop, length, replicate, slice_get, slice_set, take};
+ghost use Rattle.std.specs.Prelude.{◌≡◌, ◌<◌, ◌≤◌, ◌∷◌, ◌++◌, [], All, Contains, IfOk, Some, drop, length, replicate};
+ghost use Rattle.std.specs.Prelude.{slice_get, slice_set, take};
 ghost use Rattle.circular_buffer.specs.Buffer.{buffer};
 ghost use Rattle.mon_base.specs.Limits.{CLIENTS};
 ghost use Rattle.mon_explicit.specs.inner.Rings.{line_of, without};
+ghost use Rattle.mon_explicit.specs.inner.Waiting.{AreBits};
 
 use circular_buffer::HeapCircularBuffer;
 use mon_base::limits::CLIENTS;
@@ -50,6 +52,17 @@ impl Rings {
         self.rings[condition as usize].front().copied()
     }
 
+    /// A bit for each client that waits on a condition.
+    pub fn bits(&self, condition: u32) -> u32
+        requires { All (λ client. client < CLIENTS) (line_of self.now condition) }
+        ensures { AreBits (λ client. Contains (line_of self.now condition) client) result }
+    {
+        if condition as usize >= self.rings.len() {
+            return 0;
+        }
+        ring_bits(&self.rings[condition as usize])
+    }
+
     /// A client begins to wait on a condition: it is the last of its ring.
     pub fn push(&mut self, condition: u32, client: u32)
         requires within { condition < length self.old }
@@ -58,6 +71,16 @@ impl Rings {
             (line_of self.old condition ++ client ∷ []) }
     {
         self.rings[condition as usize].push_back(client);
+    }
+
+    /// The client that has waited longest on a condition waits no more.
+    pub fn pop(&mut self, condition: u32)
+        ensures { self.new ≡ slice_set self.old condition (drop 1 (line_of self.old condition)) }
+    {
+        if condition as usize >= self.rings.len() {
+            return;
+        }
+        let _first = self.rings[condition as usize].pop_front();
     }
 
     /// A client waits no more on a condition.
@@ -79,6 +102,38 @@ impl Rings {
             return;
         }
         self.rings[condition as usize].clear();
+    }
+}
+
+/// The bit of a client.
+pub fn bit_of(client: u32) -> u32
+    requires { client < CLIENTS }
+    ensures { AreBits (λ other. other ≡ client) result }
+{
+    1 << client
+}
+
+/// A bit for each client of a ring.
+fn ring_bits(ring: &HeapCircularBuffer<u32>) -> u32
+    requires { All (λ client. client < CLIENTS) ring.now.items }
+    ensures { AreBits (λ client. Contains ring.now.items client) result }
+{
+    let mut bits = 0;
+    for place in 0..ring.len() {
+        bits |= place_bit(ring, place);
+    }
+    bits
+}
+
+/// The bit of the client at a place of a ring.
+fn place_bit(ring: &HeapCircularBuffer<u32>, place: usize) -> u32
+    requires few { All (λ client. client < CLIENTS) ring.now.items }
+    requires within { place < length ring.now.items }
+    ensures { AreBits (λ client. slice_get ring.now.items place ≡ Some client) result }
+{
+    match ring.get(place) {
+        Some(client) => bit_of(*client),
+        None => 0,
     }
 }
 

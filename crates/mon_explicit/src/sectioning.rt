@@ -10,7 +10,7 @@ ghost use Rattle.mon_explicit.specs.inner.Waiting.{MakesSectionOf, NotStarted, S
 ghost use Rattle.mon_explicit.specs.inner.Waiting.{WaitsOn, WentOnOf};
 
 use super::config::{Config, NotEnabled};
-use super::rings::Rings;
+use super::rings::{Rings, bit_of};
 use mon_events::{Entry, Event, Outcome};
 
 /// Makes a section of a client, or changes nothing where it waits, or has no call left. The rings list who waits.
@@ -22,12 +22,11 @@ pub fn make_section(config: &mut Config, rings: &mut Rings, client: u32) -> Opti
         (NotStarted config.old client config.new × (rings.new ≡ rings.old))
         (λ entry. MakesSectionOf client config.old rings.old config.new rings.new entry) }
 {
-    let waiting = config.waiting();
     if start_section(config, client).is_err() {
         return None;
     }
     let call = config.past(client) + 1;
-    let outcome = go_on(config, rings, client, waiting);
+    let outcome = go_on(config, rings, client);
     Some(Entry {
         client,
         call,
@@ -48,11 +47,10 @@ fn start_section(config: &mut Config, client: u32) -> Result<(), NotEnabled>
 }
 
 /// A client inside waits where its guard is false, or runs its block, makes its notes and gives the lock back.
-/// `waiting` has a bit for each client that waited before.
-fn go_on(config: &mut Config, rings: &mut Rings, client: u32, waiting: u32) -> Outcome
+fn go_on(config: &mut Config, rings: &mut Rings, client: u32) -> Outcome
     requires inside { IsInside config.old client }
     requires lines { HaveLines config.old.system config.old.now.standings rings.old }
-    ensures { WentOnOf client waiting config.old rings.old config.new rings.new result }
+    ensures { WentOnOf client config.old rings.old config.new rings.new result }
 {
     if config.run(client).is_err() {
         let condition = wait(config, client);
@@ -60,12 +58,9 @@ fn go_on(config: &mut Config, rings: &mut Rings, client: u32, waiting: u32) -> O
         return Outcome::Waits;
     }
     let reply = config.last_reply();
-    make_notes(config, rings, client);
+    let woken = make_notes(config, rings, client);
     unlock(config, client);
-    Outcome::Replies {
-        reply,
-        woken: waiting & config.woken(),
-    }
+    Outcome::Replies { reply, woken }
 }
 
 /// A client inside whose guard is false waits; on which condition.
@@ -81,38 +76,44 @@ fn wait(config: &mut Config, client: u32) -> u32
     config.condition(client)
 }
 
-/// A client makes its notes, one by one.
-fn make_notes(config: &mut Config, rings: &mut Rings, client: u32)
+/// A client makes its notes, one by one. The answer has a bit for each client that they wake.
+fn make_notes(config: &mut Config, rings: &mut Rings, client: u32) -> u32
     requires lines { HaveLines config.old.system config.old.now.standings rings.old }
     requires notifying { IsNotifying config.old client }
-    ensures { MadeNotesOf client config.old rings.old config.new rings.new }
+    ensures { MadeNotesOf client config.old rings.old config.new rings.new result }
 {
+    let mut woken = 0;
     for _made in 0..config.notes_left(client) {
-        make_note(config, rings, client);
+        woken |= make_note(config, rings, client);
     }
+    woken
 }
 
-/// A client makes its first note to come.
-fn make_note(config: &mut Config, rings: &mut Rings, client: u32)
+/// A client makes its first note to come. The answer has a bit for each client that it wakes.
+fn make_note(config: &mut Config, rings: &mut Rings, client: u32) -> u32
     requires lines { HaveLines config.old.system config.old.now.standings rings.old }
     requires coming { HasNote config.old client }
-    ensures { MadeNoteOf client config.old rings.old config.new rings.new }
+    ensures { MadeNoteOf client config.old rings.old config.new rings.new result }
 {
+    // A reading call says what the rule of the machine gives.
+    let _owner = config.owner();
     let Some(note) = config.fired(client) else {
-        notify(config, client, None);
-        return;
+        config.pass(client);
+        return 0;
+    };
+    let Some(target) = rings.first(note.condition) else {
+        config.pass(client);
+        return 0;
     };
     if note.all {
+        let woken = rings.bits(note.condition);
         notify(config, client, None);
         rings.clear(note.condition);
-        return;
+        return woken;
     }
-    let Some(target) = rings.first(note.condition) else {
-        notify(config, client, None);
-        return;
-    };
     notify(config, client, Some(target));
-    rings.remove(note.condition, target);
+    rings.pop(note.condition);
+    bit_of(target)
 }
 
 /// A client makes its first note to come, which names this client.

@@ -1,37 +1,12 @@
-//! Who waits, and who was woken.
+//! Who rests, and who can start.
 
 ghost use Rattle.std.specs.Prelude.{◌≡◌, ◌≤◌, ◌↔◌, IsTrue, length};
-ghost use Rattle.mon_explicit.specs.inner.Waiting.{AreFlags, AllRest, flag_of};
+ghost use Rattle.mon_explicit.specs.inner.Waiting.{AllRest};
 ghost use Rattle.mon_explicit.specs.inner.Waiting.{position_rests, position_starts};
 
 use super::calls::calls;
 use super::position::{Doing, Position};
 use mon_implicit::Scripts;
-
-/// Whether a client was woken, or else whether it waits.
-fn is_flagged(one: Position, woken: bool) -> bool
-    ensures { result ≡ flag_of woken one }
-{
-    match one.doing {
-        Doing::Waiting(_) => !woken,
-        Doing::Woken(_) => woken,
-        _ => false,
-    }
-}
-
-/// A bit for each client that was woken, or else that waits.
-pub fn flags(positions: &[Position], woken: bool) -> u32
-    requires few { length positions.now ≤ 32 }
-    ensures { AreFlags woken positions.now (length positions.now) result }
-{
-    let mut bits = 0;
-    for i in 0..positions.len() {
-        if is_flagged(positions[i], woken) {
-            bits |= 1 << i;
-        }
-    }
-    bits
-}
 
 /// Whether each client waits, or is idle with no call left.
 pub fn all_rest(scripts: &Scripts, positions: &[Position]) -> bool

@@ -1,5 +1,5 @@
 -- How the code makes a section, and what it keeps of the log.
-use Rattle.std.specs.Prelude.{◌≡◌, ◌⊎◌, ◌↔◌, ℕ, ◌<◌, ◌≤◌, Bool, true, false, not, nat_le, nat_lt, List, [], ◌∷◌, ◌++◌, length, get_or, Option, Some, None, slice_get, slice_set as set, IsBitSet, if◌then◌else◌, ◌+◌}
+use Rattle.std.specs.Prelude.{◌≡◌, ◌⊎◌, ◌↔◌, ℕ, ◌<◌, ◌≤◌, Bool, true, false, nat_le, nat_lt, List, [], ◌∷◌, ◌++◌, length, get_or, Option, Some, None, slice_get, slice_set as set, IsBitSet, if◌then◌else◌, ◌+◌}
 use Rattle.mon_base.specs.declared.value.Value.{Value}
 use Rattle.mon_implicit.specs.declared.commit.Commit.{Commit}
 use Rattle.mon_implicit.specs.declared.commit.Reply.{Reply}
@@ -71,8 +71,9 @@ pub record IsFirst (since : List ℕ) (standings : List Standing) (condition tar
   pub numbered : 0 < get_or since target 0
   pub first : (other others_past : ℕ) → StandsAt standings other others_past (Waiting condition) → (other < length since) × (get_or since target 0 ≤ get_or since other 0)
 
-abbrev pub IsWoken : List Standing → ℕ → Type 0
-IsWoken standings client = (past : ℕ) × (condition : ℕ) × StandsAt standings client past (Woken condition)
+-- the client waited before, and is woken after
+abbrev pub WasWoken : List Standing → List Standing → ℕ → Type 0
+WasWoken before next client = (past : ℕ) × (condition : ℕ) × StandsAt before client past (Waiting condition) × StandsAt next client past (Woken condition)
 
 -- each client rests
 abbrev pub EachRests : Machine → Type 0
@@ -81,6 +82,13 @@ EachRests machine = (client past : ℕ) (phase : Phase) → StandsAt machine.now
 -- the bits of the clients of whom this is true
 abbrev pub AreBits : (ℕ → Type 0) → ℕ → Type 0
 AreBits P bits = (client : ℕ) → IsBitSet bits client ↔ P client
+
+-- the clients of these bits were woken, and no others: each client that waited waits on or is woken, no other waits, and who was woken before still is
+pub record WokeThese (before next : List Standing) (bits : ℕ) : Type 0 where
+  pub waited : (client past condition : ℕ) → StandsAt next client past (Waiting condition) → StandsAt before client past (Waiting condition)
+  pub goes : (client past condition : ℕ) → StandsAt before client past (Waiting condition) → StandsAt next client past (Waiting condition) ⊎ StandsAt next client past (Woken condition)
+  pub stays : (client past condition : ℕ) → StandsAt before client past (Woken condition) → StandsAt next client past (Woken condition)
+  pub woken : AreBits (λ client. WasWoken before next client) bits
 
 -- ---- notes
 
@@ -105,6 +113,11 @@ IsFired machine client note = (past : ℕ) × (more : List Note) × StandsAt mac
 -- the first note to come of the client, if there is one, does not fire
 abbrev pub IsNotFired : Machine → ℕ → Type 0
 IsNotFired machine client = (past : ℕ) (note : Note) (more : List Note) → StandsAt machine.now.standings client past (Notifying (note ∷ more)) → fires machine.system machine.now.state note ≡ false
+
+-- the first note to come of the client wakes nobody: it does not fire, or no one waits on its condition
+abbrev pub Passes : Machine → ℕ → Type 0
+Passes machine client = (past : ℕ) × (note : Note) × (more : List Note) × StandsAt machine.now.standings client past (Notifying (note ∷ more))
+    × ((fires machine.system machine.now.state note ≡ false) ⊎ NoneWaits machine.now.standings note.condition)
 
 -- it names nobody: it doesn't fire, or is a broadcast, or no one waits
 abbrev pub NamesNobody : Machine → Note → Type 0
@@ -145,19 +158,20 @@ pub record MadeSome (since : List ℕ) (client : ℕ) (before now : Machine) : T
   pub system : now.system ≡ before.system
   pub so_far : (log : List Entry) (last : Configuration) → KeepsWaits log before.system.clients since → IsNotified before.system log client now.now last → IsNotified before.system log client before.now last
 
--- a note was made, and the rings tell who waits after it
-abbrev pub MadeNoteOf : ℕ → Machine → List (List ℕ) → Machine → List (List ℕ) → Type 0
-MadeNoteOf client before rings next next_rings = (since : List ℕ) → AreLines since before.system before.now.standings rings
-    → MadeNote since client before next × AreLines since next.system next.now.standings next_rings
+-- a note was made, the rings tell who waits after it, and the bits whom it woke
+abbrev pub MadeNoteOf : ℕ → Machine → List (List ℕ) → Machine → List (List ℕ) → ℕ → Type 0
+MadeNoteOf client before rings next next_rings bits = (since : List ℕ) → AreLines since before.system before.now.standings rings
+    → MadeNote since client before next × AreLines since next.system next.now.standings next_rings × WokeThese before.now.standings next.now.standings bits
 
--- all notes were made, and the rings tell who waits after them
-abbrev pub MadeNotesOf : ℕ → Machine → List (List ℕ) → Machine → List (List ℕ) → Type 0
-MadeNotesOf client before rings next next_rings = (since : List ℕ) → AreLines since before.system before.now.standings rings
-    → MadeNotes since client before next × AreLines since next.system next.now.standings next_rings
+-- all notes were made, the rings tell who waits after them, and the bits whom they woke
+abbrev pub MadeNotesOf : ℕ → Machine → List (List ℕ) → Machine → List (List ℕ) → ℕ → Type 0
+MadeNotesOf client before rings next next_rings bits = (since : List ℕ) → AreLines since before.system before.now.standings rings
+    → MadeNotes since client before next × AreLines since next.system next.now.standings next_rings × WokeThese before.now.standings next.now.standings bits
 
--- so many of its notes were made, of as many as there are to the end
-pub record AreMaking (client : ℕ) (before : Machine) (rings : List (List ℕ)) (now : Machine) (rings_now : List (List ℕ)) (count end : ℕ) : Type 0 where
-  pub some : (since : List ℕ) → AreLines since before.system before.now.standings rings → MadeSome since client before now × AreLines since now.system now.now.standings rings_now
+-- so many of its notes were made, of as many as there are to the end, and they woke the clients of the bits
+pub record AreMaking (client : ℕ) (before : Machine) (rings : List (List ℕ)) (now : Machine) (rings_now : List (List ℕ)) (count end bits : ℕ) : Type 0 where
+  pub some : (since : List ℕ) → AreLines since before.system before.now.standings rings
+      → MadeSome since client before now × AreLines since now.system now.now.standings rings_now × WokeThese before.now.standings now.now.standings bits
   pub left : (past : ℕ) (notes : List Note) → StandsAt before.now.standings client past (Notifying notes)
       → (rest : List Note) × StandsAt now.now.standings client past (Notifying rest) × (length rest + count ≡ end)
 
@@ -184,12 +198,12 @@ pub record HasReplied (since : List ℕ) (client : ℕ) (before next : Machine) 
   pub notes : (log : List Entry) → KeepsWaits log before.system.clients since → IsNotified before.system log client ran notified
   pub unlocks : Unlocks client past notified next.now
 
--- what came of a client inside; the bits of the woken are those of the first bits of clients that are woken now
-abbrev pub WentOn : List ℕ → ℕ → ℕ → Machine → Machine → Outcome → Type 0
-WentOn since client first before next outcomes.Waits = HasWaited client before next
-WentOn since client first before next (outcomes.Replies reply woken) = HasReplied since client before next reply
-    × AreBits (λ other. IsBitSet first other × IsWoken next.now.standings other) woken
-WentOn since client first before next outcomes.Spurious = ⊥
+-- what came of a client inside; the bits are those of the clients that waited before and are woken after
+abbrev pub WentOn : List ℕ → ℕ → Machine → Machine → Outcome → Type 0
+WentOn since client before next outcomes.Waits = HasWaited client before next
+WentOn since client before next (outcomes.Replies reply woken) = HasReplied since client before next reply
+    × AreBits (λ other. WasWoken before.now.standings next.now.standings other) woken
+WentOn since client before next outcomes.Spurious = ⊥
 
 pub record MakesSection (since : List ℕ) (client : ℕ) (before next : Machine) (entry : Entry) : Type 0 where
   pub system : next.system ≡ before.system
@@ -202,30 +216,15 @@ MakesSectionOf client before rings next next_rings entry = (since : List ℕ) �
     → MakesSection since client before next entry × LinesAfter since next.system next.now.standings client entry.outcome next_rings
 
 -- what came of a client inside, and the rings tell who waits after it
-abbrev pub WentOnOf : ℕ → ℕ → Machine → List (List ℕ) → Machine → List (List ℕ) → Outcome → Type 0
-WentOnOf client first before rings next next_rings outcome = (since : List ℕ) → AreLines since before.system before.now.standings rings
-    → WentOn since client first before next outcome × LinesAfter since next.system next.now.standings client outcome next_rings
+abbrev pub WentOnOf : ℕ → Machine → List (List ℕ) → Machine → List (List ℕ) → Outcome → Type 0
+WentOnOf client before rings next next_rings outcome = (since : List ℕ) → AreLines since before.system before.now.standings rings
+    → WentOn since client before next outcome × LinesAfter since next.system next.now.standings client outcome next_rings
 
 -- the client waits on this condition, which is one of the monitor's
 abbrev pub WaitsOn : Machine → ℕ → ℕ → Type 0
 WaitsOn machine client condition = ((past : ℕ) × StandsAt machine.now.standings client past (Waiting condition)) × (condition < length machine.system.monitor.conditions + 1)
 
 -- ---- the same of positions, of the first so many clients
-
--- it was woken, or else it waits
-abbrev pub doing_flag : Bool → Doing → Bool
-doing_flag woken (doings.Waiting condition) = not woken
-doing_flag woken (doings.Woken condition) = woken
-doing_flag woken doing = false
-
-abbrev pub flag_of : Bool → Position → Bool
-flag_of woken position = doing_flag woken position.doing
-
-abbrev pub IsFlagged : Bool → List Position → ℕ → ℕ → Type 0
-IsFlagged woken positions count client = (client < count) × ((one : Position) × (slice_get positions client ≡ Some one) × (flag_of woken one ≡ true))
-
-abbrev pub AreFlags : Bool → List Position → ℕ → ℕ → Type 0
-AreFlags woken positions count bits = AreBits (IsFlagged woken positions count) bits
 
 abbrev pub doing_rests : List Client → ℕ → ℕ → Doing → Bool
 doing_rests clients client past (doings.Waiting condition) = true

@@ -30,5 +30,5 @@ go_on-outcome-requires-clause-lines c =
 pub returns : goal.returns
 returns c =
     let started = started_when c.args.config.now c.start_section.new.config c.args.client c.start_section.result (sym c.is_err.ensures.value ∙ c.if-is_err.false) c.start_section.ensures in
-    section_told c.args.client c.waiting-waiting.result c.past-call.result c.args.config.now c.start_section.new.config c.go_on-outcome.new.config c.args.rings.now c.go_on-outcome.new.rings c.go_on-outcome.result c.requires.settled
-    c.waiting-waiting.ensures started c.past-call.ensures.past c.go_on-outcome.ensures
+    section_told c.args.client c.past-call.result c.args.config.now c.start_section.new.config c.go_on-outcome.new.config c.args.rings.now c.go_on-outcome.new.rings c.go_on-outcome.result c.requires.settled
+    started c.past-call.ensures.past c.go_on-outcome.ensures
