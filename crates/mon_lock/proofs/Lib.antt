@@ -9,3 +9,4 @@ pub mod Calling
 pub mod Gathering
 pub mod Readiness
 pub mod Crossing
+pub mod Systems

@@ -174,7 +174,7 @@ module _ (key : Terms) where
         ap (λ h. get_elem? h 0) free.home,
         takes_turn s r id v t at waits live now free,
         λ t' waits'. subst (Tells m x n) (same_waiting t t' (sym waits ∙ waits'))
-            ((λ _. record { top = r.top; now = refl; reaches = record { front = a.front; seen = a.seen }; always = r.made.always }), λ no. absurd (no is)),
+            ((λ _. record { top = r.top; now = refl; reaches = record { front = a.front; seen = a.seen; always = r.made.always }; always = r.made.always }), λ no. absurd (no is)),
       ))
       (λ (k : IsTaken r.served r.limit r.top s.homes s.views). absurd (not_taken s r id v t at waits now k))
       r.lock)

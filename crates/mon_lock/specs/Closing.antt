@@ -8,7 +8,7 @@ use Rattle.mon_lock.specs.declared.view.Knowledge.{Knowledge}
 use Rattle.mon_lock.specs.Growth.{Follows}
 use Rattle.mon_lock.specs.Passes.{PassView, StandsIn}
 
--- The front has grown to this monitor, it has all that was seen, and each receipt stands in its log.
+-- The front has grown to this monitor, whose log is no shorter than was seen and has each receipt's entry at its place.
 pub record Covers (top : FreeMachine) (known : Knowledge) : Type 0 where
   pub front : Follows known.front top
   pub seen : known.seen ≤ length top.log
@@ -27,6 +27,6 @@ pub record HaveOneEach (first : ℕ) (log : List Entry) (receipts : List Receipt
   pub once : (place : ℕ) → first ≤ place → place < length log → times place receipts ≡ 1
   pub no_other : (place : ℕ) → (place < first) ⊎ (length log ≤ place) → times place receipts ≡ 0
 
--- First come, first served: of two receipts the one with the earlier ticket is of the earlier place.
+-- Of two receipts the one with the earlier ticket is of the earlier place.
 abbrev pub AreInOrder : List Receipt → Type 0
 AreInOrder receipts = (one other : Receipt) → Contains receipts one → Contains receipts other → (one.ticket < other.ticket) ↔ (one.place < other.place)

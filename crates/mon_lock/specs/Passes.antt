@@ -44,10 +44,11 @@ pub record IsKnown (known : Knowledge) : Type 0 where
 abbrev pub newly_known : FreeMachine → Knowledge
 newly_known free = record { front = free; seen = length free.log; receipts = []; joined_fronts = []; looks = 0 }
 
--- what a call may find: the front has grown to it, and it has all that was seen
+-- what a call may find: a monitor that can be, to which the front has grown, and which has all that was seen
 pub record Reaches (known : Knowledge) (found : FreeMachine) : Type 0 where
   pub front : Follows known.front found
   pub seen : known.seen ≤ length found.log
+  pub always : HoldsAlways found
 
 -- what is known after a look that found this monitor
 abbrev pub looked : Knowledge → FreeMachine → Knowledge
@@ -61,11 +62,11 @@ observed known count = record known { seen = count; looks = known.looks + 1 }
 abbrev pub receipted : Knowledge → FreeMachine → Receipt → Knowledge
 receipted known next receipt = record known { front = next; seen = length next.log; receipts = known.receipts ++ receipt ∷ [] }
 
--- the receipt as the program has it, with a ticket of 64 bits, is this one
+-- what the program is told, with a ticket of 64 bits, is this receipt
 abbrev pub IsReceipt : Receipt → Receipt → Type 0
 IsReceipt told receipt = (told.place ≡ receipt.place) × (told.entry ≡ receipt.entry) × (told.ticket ≡ receipt.ticket % 2 ^ 64)
 
--- The client doesn't rest in the monitor that the call found, and made a section on it.
+-- The client does not rest in the monitor that the call found, and made a section on it; its entry is the last of the monitor that is left.
 pub record MadeShared (client : ℕ) (before after : Knowledge) (told : Receipt) : Type 0 where
   pub found : FreeMachine
   pub next : FreeMachine

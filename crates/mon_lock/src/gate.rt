@@ -1,11 +1,12 @@
-//! What a worker passes ahead of each section.
+//! What a worker passes with each ticket that it takes.
 
 use std::sync::Wait;
 use std::thread::Threads;
 
 /// A call ahead of each section that a worker tries, with no lock held.
 pub trait Gate: Sync {
-    /// The worker is about to try a section of this client, and has made so many sections before.
+    /// The worker has this client's ticket and has made so many sections. It tries a section of the client next, unless
+    /// it knows that the client rests, or another worker is at the monitor.
     fn before<R: Threads + Wait + Sync>(&self, rt: &R, client: u32, sections: u64);
 }
 

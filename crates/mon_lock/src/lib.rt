@@ -1,4 +1,4 @@
-//! The running lock: a monitor that threads share in the order in which they asked for it.
+//! The running lock: a monitor that threads share in the order of their tickets.
 //!
 //! A [`SharedMonitor`] keeps a [`FreeMonitor`](mon_explicit::FreeMonitor) behind a ticket lock. Each thread has a
 //! [`Pass`] of its own. A section is made by whoever has the turn, and gives a [`Receipt`]; how long the log is can be

@@ -19,8 +19,8 @@ use std::alloc::{AllocError, Global};
 use std::marker::Model;
 use std::sync::Wait;
 
-/// A monitor that threads share, each with a pass of its own. Sections are made one at a time, in the order in which
-/// their tickets were drawn. Dropped, it drops the monitor; closed, with all passes, it gives it back.
+/// A monitor that threads share, each with a pass of its own. Sections are made one at a time, in the order of their
+/// tickets. Dropped, it drops the monitor; closed, with all passes, it gives it back.
 #[derive(Drop)]
 pub struct SharedMonitor {
     lock: Lock,
@@ -111,7 +111,7 @@ impl SharedMonitor {
         look.closed
     }
 
-    /// How long the log is at this moment. It never waits, whoever has the lock, and takes no memory.
+    /// How long the log was at a moment of this call. It never waits, whoever has the lock, and takes no memory.
     pub fn observe(&self, pass: &mut Pass) -> u64
         requires own { pass.old.lock ≡ self.now.lock }
         ensures own { pass.new.lock ≡ pass.old.lock }

@@ -24,7 +24,7 @@ pub struct Knowledge {
 pub enum Stage {
     Idle,
     Waiting(u64),
-    /// It has the lock, and has made no section yet.
+    /// It has the lock, and has counted no section yet.
     Holding(u64),
     /// It has the lock, and the section that it made is counted.
     Leaving(u64),

@@ -1,4 +1,3 @@
-pub mod Systems
 pub mod Following
 pub mod Hiring
 pub mod Crossing

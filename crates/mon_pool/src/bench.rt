@@ -12,9 +12,10 @@ use std::sync::atomic::{AtomicU64, Ordering};
 const FEWEST_AWAKE: u64 = 2;
 
 /// How many workers are awake and not at their gates, how many doze or are about to, their bell, and how many are at the
-/// monitor.
+/// monitor. Of one worker alone nothing is counted, since nobody is in its way.
 #[derive(Drop)]
 pub struct Bench {
+    alone: bool,
     awake: AtomicU64,
     dozing: AtomicU64,
     rung: AtomicU64,
@@ -25,6 +26,7 @@ impl Bench {
     /// So many workers, all awake.
     pub fn new(workers: u64) -> Bench {
         Bench {
+            alone: workers == 1,
             awake: AtomicU64::new(workers),
             dozing: AtomicU64::new(0),
             rung: AtomicU64::new(0),
@@ -34,6 +36,9 @@ impl Bench {
 
     /// An awake worker goes to its gate, where it may be held.
     pub fn go_to_gate(&self) {
+        if self.alone {
+            return;
+        }
         let others = self.awake.fetch_sub(1, Ordering::SeqCst) > 1;
         if !others && self.dozing.load(Ordering::SeqCst) > 0 {
             self.rung.fetch_add(1, Ordering::SeqCst);
@@ -43,17 +48,21 @@ impl Bench {
 
     /// A worker is back from its gate.
     pub fn come_back(&self) {
-        self.awake.fetch_add(1, Ordering::SeqCst);
+        if !self.alone {
+            self.awake.fetch_add(1, Ordering::SeqCst);
+        }
     }
 
     /// A worker comes to the monitor. Whether no other is there.
     pub fn come_to_monitor(&self) -> bool {
-        self.busy.fetch_add(1, Ordering::SeqCst) == 0
+        self.alone || self.busy.fetch_add(1, Ordering::SeqCst) == 0
     }
 
     /// A worker leaves the monitor.
     pub fn leave_monitor(&self) {
-        self.busy.fetch_sub(1, Ordering::SeqCst);
+        if !self.alone {
+            self.busy.fetch_sub(1, Ordering::SeqCst);
+        }
     }
 
     /// An awake worker dozes until it is wanted, where enough others are awake. Whether it did; it may wake for no reason.

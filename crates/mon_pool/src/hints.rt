@@ -65,16 +65,14 @@ impl Hints {
 
     /// The clients whose bits are set were woken when the log became so long.
     fn wake(&self, woken: u32, entries: u64) {
-        if woken == 0 {
-            return;
-        }
         let mut left = woken;
-        for hint in &self.clients {
-            if left % 2 == 1 {
+        for _client in 0..woken.count_ones() {
+            if let Some(hint) = self.clients.get(left.trailing_zeros() as usize) {
                 hint.woken
                     .fetch_max(entries.saturating_add(1), Ordering::SeqCst);
             }
-            left /= 2;
+            // The lowest bit is done.
+            left &= left.wrapping_sub(1);
         }
     }
 }

@@ -166,7 +166,7 @@ fn turn_of(made: bool) -> Turn {
 }
 
 /// Makes a section of a client whose ticket the worker has.
-#[tactic(auto, using(crate::proofs::Systems::section_system))]
+#[tactic(auto, using(mon_lock::proofs::Systems::section_system))]
 fn try_section<R: Wait>(rt: &R, shop: &Shop, place: &mut Pass, client: u32) -> bool
     requires own { IsPlace shop.now place.old }
     requires client { client < shop.now.clients }
@@ -185,7 +185,7 @@ fn try_section<R: Wait>(rt: &R, shop: &Shop, place: &mut Pass, client: u32) -> b
 }
 
 /// Whether the monitor is closed.
-#[tactic(auto, using(crate::proofs::Systems::look_system))]
+#[tactic(auto, using(mon_lock::proofs::Systems::look_system))]
 fn ends<R: Wait>(rt: &R, shop: &Shop, place: &mut Pass) -> bool
     requires own { IsPlace shop.now place.old }
     ensures own { IsPlace shop.now place.new }

@@ -38,7 +38,7 @@ abbrev pub queued : Stage → ℕ
 queued Idle = 0
 queued stage = 1
 
--- receipts have tickets below this number
+-- the tickets of the sections that were counted are below this number while this view holds the lock
 abbrev pub limit_of : Stage → ℕ
 limit_of Idle = 0
 limit_of (Waiting ticket) = 0
@@ -52,7 +52,7 @@ total f (one ∷ views) = f one + total f views
 
 -- ---- the sections so far
 
--- Receipts of sections that were made one after the other, from this place and this ticket on; the next ticket is no earlier than the last number.
+-- Receipts of sections that were made one after the other, from this place on and with no earlier ticket than this; all tickets are below the last number.
 abbrev pub AreInTurn : ℕ → ℕ → List Receipt → ℕ → Type 0
 AreInTurn place ticket [] last = ticket ≤ last
 AreInTurn place ticket (receipt ∷ receipts) last = (receipt.place ≡ place) × (ticket ≤ receipt.ticket) × AreInTurn (place + 1) (receipt.ticket + 1) receipts last
@@ -132,7 +132,7 @@ IsIdle me = (me.0.stage ≡ Idle) × (me.1 ≡ [])
 
 -- ---- the rule
 
--- What a seat knows is so, and its ticket is out; of a seat that was joined into another nothing is said.
+-- What a seat knows is so, and its ticket is drawn and not passed; a seat that was joined into another knows nothing.
 pub record Fits (served drawn : ℕ) (history : List Receipt) (top : FreeMachine) (v : View) : Type 0 where
   pub known : 0 < v.parts → IsKnown v.known × Agrees history top v.known
   pub joined : v.parts ≡ 0 → v ≡ spent
@@ -175,7 +175,7 @@ pub record Kept (key : Terms) (s : State FreeMachine View) : Type 0 where
   pub top : FreeMachine
   pub history : List Receipt
   pub limit : ℕ
-  -- the tickets that were served and drawn, without end
+  -- how many tickets are through, and how many were drawn, without end
   pub served : ℕ
   pub drawn : ℕ
   pub words : s.words ≡ drawn % 2 ^ 64 ∷ served % 2 ^ 64 ∷ length top.log ∷ []
