@@ -17,7 +17,7 @@ pub data Command : Type 0 where
   turns : List ℕ → List ℕ → Command
   -- compiles a monitor to a plan
   compile : List ℕ → Command
-  -- runs them by sections, under the plan of the monitor, by this schedule
+  -- runs them by sections by this schedule, under the plan that is placed for the monitor
   simulate : List ℕ → List ℕ → Schedule → Command
   -- runs them under that plan in so many workers
   run : List ℕ → List ℕ → ℕ → Command
@@ -144,7 +144,7 @@ pub record Asks (given : Given) (command : Command) : Type 0 where
 abbrev pub Takes : List (List ℕ) → Command → Type 0
 Takes words command = (given : Given) × IsGiven words given × Asks given command
 
--- the words are no command
+-- the words ask for no command
 abbrev pub TakesNone : List (List ℕ) → Type 0
 TakesNone words = (command : Command) → Takes words command → ⊥
 

@@ -1,4 +1,4 @@
-//! Rows of the crates that read, check and prove monitors: what the checker makes of a text, and which rule it names;
+//! Tests of the crates that read, check and prove monitors: what the checker makes of a text, and which rule it names;
 //! the forms and the formulas of expressions; paths, queries, candidates, invariants and certificates of whole
 //! monitors.
 //!

@@ -1,4 +1,4 @@
-//! Rows of the texts that the program prints: runs, logs, plans and client files, byte by byte.
+//! Tests of the texts that the program prints: runs, logs, plans and client files, byte by byte.
 //!
 //! There are only tests. The bytes were taken by hand from the rules of the texts.
 #![tactic(auto)]
