@@ -1,5 +1,4 @@
-//! Rows of the crates that run monitors: steps of the implicit machine, events, sections, schedules, and a monitor that
-//! threads share.
+//! Tests of the crates that run monitors: steps of the implicit machine, events, sections and schedules.
 //!
 //! There are only tests. The answers were worked out by hand from the rules of the machines; those of drawn schedules
 //! are of a model in another language.
@@ -15,5 +14,3 @@ mod schedules;
 mod scripts;
 #[cfg(test)]
 mod sections;
-#[cfg(test)]
-mod sharing;

@@ -2,25 +2,17 @@
 
 ghost use Rattle.std.specs.Prelude.{◌≡◌, ◌<◌, ◌↔◌, IsTrue, length};
 
-use mon_events::{Entry, Outcome, Plan};
+use super::opening::opened;
+use mon_events::{Entry, Outcome};
 use mon_explicit::{FreeMonitor, NotReady, SpuriousFault};
 use mon_implicit::Reply;
 use mon_lock::{Pass, Receipt, SharedMonitor};
 use samples::monitors::BUFFER;
-use samples::{checked, scripts_read};
 use std::alloc::Global;
 use std::sync::Wait;
 use std::test::Fail;
 
 const PUT_GET: &[u8] = b"client A { put(); get(); }";
-
-/// The buffer at the start, with its client and the plan that wakes everyone.
-fn opened(alloc: Global) -> Result<FreeMonitor, Fail> {
-    let monitor = checked(alloc, BUFFER).ok_or("a monitor")?;
-    let scripts = scripts_read(alloc, PUT_GET, &monitor).ok_or("clients")?;
-    let plan = Plan::everyone(alloc, &monitor)?;
-    Ok(FreeMonitor::open(alloc, monitor, plan, scripts, 0)?)
-}
 
 fn has_client(free: &FreeMonitor) -> bool
     ensures { IsTrue result ↔ (0 < length free.now.system.clients) }
@@ -110,7 +102,7 @@ fn replied(place: u64, call: u32, ticket: u64) -> Result<Receipt, NotReady> {
 
 #[test]
 fn two_passes_make_sections_in_turn(rt: HostRuntime) -> Result<(), Fail> {
-    let mut two = Two::of(rt.alloc(), opened(rt.alloc())?)?;
+    let mut two = Two::of(rt.alloc(), opened(rt.alloc(), BUFFER, PUT_GET)?)?;
     assert_eq!(rt; two.first_observes(), 0);
     assert_eq!(rt; two.first_section(&rt), replied(0, 1, 0));
     assert!(rt; two.first_observes() >= 1);

@@ -1,8 +1,8 @@
 use Rattle.std.proofs.Common.{rules, ◌≡◌, ◌<◌, ◌++◌, ◌∷◌, [], length, subst, sym}
 use Rattle.mon_lock.specs.declared.view.Knowledge.{Knowledge}
 use Rattle.mon_lock.specs.Passes.{PassView, newly_known}
-use Rattle.tests_of_machines.proofs.Parting.{both_parted}
-use Rattle.tests_of_machines.proofs.sharing.Two.of.Goals as goal
+use Rattle.tests_of_threads.proofs.Parting.{both_parted}
+use Rattle.tests_of_threads.proofs.sharing.Two.of.Goals as goal
 
 pub invariant_of-result : goal.invariant_of-result
 invariant_of-result c =
