@@ -172,7 +172,7 @@ pub(crate) fn show_plan_and_log<S: Sink>(free: &FreeMonitor, out: &mut S) -> Sta
         → (S.seen out.new).faults ≡ (S.seen out.old).faults }
     ensures later { (S.seen out.old).faults ≤ (S.seen out.new).faults }
 {
-    let finished = are_done(free.scripts().clients(), free.log());
+    let finished = are_done(free);
     let outcome = write_plan_and_log(free, out);
     finish(run_status(finished), outcome, out)
 }
@@ -198,7 +198,7 @@ pub(crate) fn show_summary<S: Sink>(free: &FreeMonitor, out: &mut S) -> Status
         → (S.seen out.new).faults ≡ (S.seen out.old).faults }
     ensures later { (S.seen out.old).faults ≤ (S.seen out.new).faults }
 {
-    let finished = are_done(free.scripts().clients(), free.log());
+    let finished = are_done(free);
     let outcome = write_summary(free, out);
     finish(run_status(finished), outcome, out)
 }

@@ -14,3 +14,4 @@ pub mod Wakes
 pub mod LogLines
 pub mod NamedLogs
 pub mod LegalEntries
+pub mod Finished

@@ -5,7 +5,7 @@ use Rattle.std.specs.List.{flat_map, enumerate_from}
 use Rattle.std.proofs.lemmas.List.{take_all}
 use Rattle.std.proofs.lemmas.List.FromFn.{length-enumerate_from, get_or-enumerate_from}
 use Rattle.std.proofs.lemmas.List.Sums.{sum_by-cons}
-use Rattle.std.proofs.lemmas.Bool.{le-leb, lt-leb}
+use Rattle.std.proofs.lemmas.Bool.{lt-leb}
 use Rattle.std.proofs.lemmas.Bool.Decides.{nat_tests}
 use Rattle.mon_base.specs.declared.value.Value.{Value}
 use Rattle.mon_monitor.specs.declared.monitor.Field.{Field}
@@ -41,10 +41,7 @@ replies_are_done client (entry ∷ log) =
     sum_by-cons (λ one. cond (is_reply_of client one) 1 0) entry log
     ∙ done-in client entry.client entry.call entry.outcome (count_by (is_reply_of client) log) (commits_of log) (replies_are_done client log)
 
--- a client whose calls are done, and one that has a call left
-pub has_done-yes : (history : List Commit) (number did : ℕ) (client : Client) (calls : List Call) → did ≡ done history number → calls ≡ client.calls → length calls ≤ did → has_done history number client ≡ true
-has_done-yes history number did client calls counts are within = rw (sym counts) (rw (sym are) (le-leb (length calls) did within))
-
+-- a client that has a call left
 pub has_done-no : (history : List Commit) (number did : ℕ) (client : Client) (calls : List Call) → did ≡ done history number → calls ≡ client.calls → did < length calls → has_done history number client ≡ false
 has_done-no history number did client calls counts are within = rw (sym counts) (rw (sym are) (lt-leb (length calls) did within))
 

@@ -1,21 +1,21 @@
 //! The text of a log.
 
-ghost use Rattle.std.specs.Prelude.{◌≡◌, ◌<◌, ◌≤◌, count_by, length};
+ghost use Rattle.std.specs.Prelude.{◌≡◌, ◌<◌, ◌≤◌, IsSomeAnd, count_by, length, slice_get};
 ghost use Rattle.std.specs.List.{flat_map};
 ghost use Rattle.mon_base.specs.Limits.{CLIENTS as MOST_CLIENTS};
 ghost use Rattle.mon_io.specs.Writing.{Wrote};
 ghost use Rattle.mon_implicit.specs.Runs.{done, next_call};
 ghost use Rattle.mon_events.specs.Logs.{IsClosed, commits_of};
 ghost use Rattle.mon_text.specs.TurnsText.{blocked_from, blocked_text, end_text};
-ghost use Rattle.mon_text.specs.LogText.{are_done, ended_log_text, entry_text, is_woken};
+ghost use Rattle.mon_text.specs.LogText.{are_done, ended_log_text, entry_text, has_done, is_woken};
 ghost use Rattle.mon_text.specs.LogText.{log_text};
 ghost use Rattle.mon_text.specs.LogText.{replied_text, wakes_text, woken_name, woken_names};
-ghost use Rattle.mon_text.specs.inner.Replies.{is_reply_of, says_replies};
+ghost use Rattle.mon_text.specs.inner.Replies.{is_reply_of, says_replies, says_waiting};
 
 use crate::turns::{calls, name_of, write_call, write_fields};
 use crate::values::reply_bytes;
 use itoa::Buffer;
-use mon_events::{Entry, Outcome};
+use mon_events::{Entry, Outcome, Stage};
 use mon_explicit::FreeMonitor;
 use mon_implicit::{Client, Reply, Scripts, State};
 use mon_io::{Sink, SinkFailed, write_piece, write_pieces};
@@ -34,6 +34,7 @@ pub fn write_log<S: Sink>(free: &FreeMonitor, out: &mut S) -> Result<(), SinkFai
         free.monitor(),
         free.scripts(),
         free.log(),
+        are_done(free),
         free.state(),
         out,
     )
@@ -44,15 +45,17 @@ fn write_ended_log<S: Sink>(
     monitor: &Monitor,
     scripts: &Scripts,
     log: &[Entry],
+    finished: bool,
     state: &State,
     out: &mut S,
 ) -> Result<(), SinkFailed>
+    requires { finished ≡ are_done scripts.now (commits_of log.now) }
     ensures { Wrote (S.seen out.old) (S.seen out.new) result
         (ended_log_text monitor.now scripts.now log.now state.now) }
 {
     let clients = scripts.clients();
     write_entries(monitor, clients, log, out)?;
-    write_end(monitor, clients, log, out)?;
+    write_end(monitor, clients, log, finished, out)?;
     write_piece(b"state", out)?;
     write_fields(monitor.fields(), state.values(), out)?;
     write_piece(b"\n", out)
@@ -176,29 +179,52 @@ pub(crate) fn write_end<S: Sink>(
     monitor: &Monitor,
     clients: &[Client],
     log: &[Entry],
+    finished: bool,
     out: &mut S,
 ) -> Result<(), SinkFailed>
+    requires { finished ≡ are_done clients.now (commits_of log.now) }
     ensures { Wrote (S.seen out.old) (S.seen out.new) result
         (let history = commits_of log.now in
         end_text monitor.now clients.now history (are_done clients.now history)) }
 {
-    if are_done(clients, log) {
+    if finished {
         return write_piece(b"done\n", out);
     }
     write_piece(b"stalled\n", out)?;
     write_blocked(monitor, clients, log, out)
 }
 
-/// Whether each client's calls are done after a log: whether it ends by `done` where it is closed.
-pub fn are_done(clients: &[Client], log: &[Entry]) -> bool
-    ensures { result ≡ are_done clients.now (commits_of log.now) }
+/// Whether each client's calls are done in a monitor that is closed: whether its log ends by `done`.
+pub fn are_done(free: &FreeMonitor) -> bool
+    requires { IsClosed free.now.system free.now.now }
+    ensures { result ≡ are_done free.now.system.clients (commits_of free.now.log) }
 {
-    for (number, client) in clients.iter().enumerate() {
-        if done(log, number) < client.calls.items().len() {
+    for client in 0..free.scripts().clients().len() {
+        if !has_done(free, client as u32) {
             return false;
         }
     }
     true
+}
+
+// Whether a client's calls are done in a monitor that is closed. Else it waits: so the log needs no count.
+fn has_done(free: &FreeMonitor, client: u32) -> bool
+    requires closed { IsClosed free.now.system free.now.now }
+    requires within { client < length free.now.system.clients }
+    ensures { IsSomeAnd (slice_get free.now.system.clients client)
+        (λ one. result ≡ has_done (commits_of free.now.log) client one) }
+{
+    !waits(free.stage(client))
+}
+
+// Whether a client at this stage waits.
+fn waits(stage: Stage) -> bool
+    ensures { result ≡ says_waiting stage }
+{
+    match stage {
+        Stage::Waiting(_) => true,
+        _ => false,
+    }
 }
 
 // A line for each client that has a call left, in file order.

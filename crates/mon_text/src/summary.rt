@@ -2,11 +2,12 @@
 
 ghost use Rattle.std.specs.Prelude.{◌≡◌, ◌++◌, codes, count_by, decimal};
 ghost use Rattle.mon_io.specs.Writing.{Wrote};
-ghost use Rattle.mon_events.specs.Logs.{IsClosed};
+ghost use Rattle.mon_events.specs.Logs.{IsClosed, commits_of};
+ghost use Rattle.mon_text.specs.LogText.{are_done};
 ghost use Rattle.mon_text.specs.SummaryText.{calls_text, ended_summary_text, state_text, summary_text};
 ghost use Rattle.mon_text.specs.inner.Replies.{is_reply};
 
-use crate::log::{replied, write_end};
+use crate::log::{are_done, replied, write_end};
 use crate::turns::write_fields;
 use itoa::Buffer;
 use mon_events::Entry;
@@ -28,6 +29,7 @@ pub fn write_summary<S: Sink>(free: &FreeMonitor, out: &mut S) -> Result<(), Sin
         free.monitor(),
         free.scripts(),
         free.log(),
+        are_done(free),
         free.state(),
         out,
     )
@@ -38,15 +40,17 @@ fn write_ended_summary<S: Sink>(
     monitor: &Monitor,
     scripts: &Scripts,
     log: &[Entry],
+    finished: bool,
     state: &State,
     out: &mut S,
 ) -> Result<(), SinkFailed>
+    requires { finished ≡ are_done scripts.now (commits_of log.now) }
     ensures { Wrote (S.seen out.old) (S.seen out.new) result
         (ended_summary_text monitor.now scripts.now log.now state.now) }
 {
     let clients = scripts.clients();
     write_calls(calls_replied(log), out)?;
-    write_end(monitor, clients, log, out)?;
+    write_end(monitor, clients, log, finished, out)?;
     write_state(monitor, state, out)
 }
 

@@ -6,9 +6,9 @@ use Rattle.mon_text.proofs.log.write_end.Goals as goal
 
 pub returns-in_err-write_piece : goal.returns-in_err-write_piece
 returns-in_err-write_piece g c =
-    wrote_same _ (ap (end_text c.args.monitor.now c.args.clients.now (commits_of c.args.log.now)) (sym (sym c.are_done.ensures ∙ c.if-are_done.false)))
+    wrote_same _ (ap (end_text c.args.monitor.now c.args.clients.now (commits_of c.args.log.now)) (sym (sym c.requires ∙ c.if-finished.false)))
     (wrote_fails _ c.from_residual.ensures.0 (wrote_longer (blocked_from c.args.monitor.now c.args.clients.now (commits_of c.args.log.now) 0 c.args.clients.now) c.in_err-write_piece.ensures))
 
 pub returns : goal.returns
 returns g c =
-    wrote_same _ (ap (end_text c.args.monitor.now c.args.clients.now (commits_of c.args.log.now)) (sym (sym c.are_done.ensures ∙ c.if-are_done.false))) (wrote_both c.in_ok-write_piece.ensures c.write_blocked.ensures)
+    wrote_same _ (ap (end_text c.args.monitor.now c.args.clients.now (commits_of c.args.log.now)) (sym (sym c.requires ∙ c.if-finished.false))) (wrote_both c.in_ok-write_piece.ensures c.write_blocked.ensures)
