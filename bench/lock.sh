@@ -1,5 +1,5 @@
 #!/usr/bin/env bash
-# Compares the running lock (SharedMonitor::section) with lock.rs, the same machine behind a std::sync::Mutex: sections a
+# Compares the running lock (SharedMonitor::section) with lock.rs, the same machine in plain Rust behind a std::sync::Mutex: sections a
 # second from 1, 2, 4 and 16 threads, and the ratio (ours / mutex). `level`: no client waits. `buffer`: they wait for each
 # other, and a thread also tries clients that are not ready. All runs of a row are interleaved.
 #
