@@ -9,7 +9,8 @@ pub fn one_command()
         → Takes words command → Takes words other → command ≡ other }
 {}
 
-/// What some words are: options stand anywhere and once, after `--` each word is a value, and a rule refuses the rest.
+/// What some words are: an option left out, before the values, as one word, twice, or without the other that it wants; `--`
+/// before a value; an asked help text; a number out of range.
 pub fn words_taken()
     ensures default_workers { Takes
         (codes "expresso" ∷ codes "run" ∷ codes "M" ∷ codes "C" ∷ [])
@@ -26,7 +27,8 @@ pub fn words_taken()
         (check (codes "-m")) }
     ensures twice { TakesNone (codes "expresso" ∷ codes "run" ∷ codes "M" ∷ codes "C"
         ∷ codes "--workers=2" ∷ codes "--workers=2" ∷ []) }
-    ensures help { TakesNone (codes "expresso" ∷ codes "check" ∷ codes "M" ∷ codes "--help" ∷ []) }
+    ensures help { TakesNone (codes "expresso" ∷ codes "check" ∷ codes "M"
+        ∷ codes "--help" ∷ []) }
     ensures no_seed { TakesNone (codes "expresso" ∷ codes "simulate" ∷ codes "M" ∷ codes "C"
         ∷ codes "--spurious" ∷ codes "2" ∷ []) }
     ensures too_many { TakesNone (codes "expresso" ∷ codes "run" ∷ codes "M" ∷ codes "C"

@@ -75,7 +75,8 @@ pub fn inside(positions: &[Position], client: u32) -> Option<u32>
 /// How many calls a client is past that waits, and on which condition.
 pub fn waiting(positions: &[Position], client: u32) -> Option<(u32, u32)>
     ensures { MatchOption result
-        ((past condition : ℕ) → PositionAt positions.now client past (Doing.Waiting condition) → ⊥)
+        ((past condition : ℕ)
+        → PositionAt positions.now client past (Doing.Waiting condition) → ⊥)
         (λ found. PositionAt positions.now client found.0 (Doing.Waiting found.1)) }
 {
     match positions.get(client as usize) {

@@ -20,9 +20,9 @@ use crossbeam_utils::Backoff;
 use mon_explicit::{NotReady, Section};
 use std::sync::Wait;
 
-/// How often a seat looks whether its ticket is served, with longer and longer pauses, before it sleeps. It never yields in
+/// How many pauses, longer and longer, a seat makes between looks at the served ticket before it sleeps. It never yields in
 /// between: a seat that yields gets its processor back too late for its turn, where there are more threads than processors.
-const LOOKS: u32 = 6;
+const PAUSES: u32 = 6;
 
 /// The words, the slot and the rule that they keep; and the bells, which tell nothing and only save a wait its processor.
 #[derive(Drop)]
@@ -91,13 +91,13 @@ impl Lock {
         ensures turn { TurnIsHere ticket place.old.me place.new.me }
     {
         let backoff = Backoff::new();
-        let mut looks = 0;
+        let mut pauses = 0;
         for _ in rt.forever() {
             if self.call(place, ticket) {
                 return;
             }
-            if looks < LOOKS {
-                looks += 1;
+            if pauses < PAUSES {
+                pauses += 1;
                 backoff.spin();
             } else if self.sleep(rt, place, ticket) {
                 return;

@@ -2,8 +2,8 @@
 //!
 //! Sections are made one at a time, so one worker alone runs a monitor fastest; the others are there for when it is held
 //! at its gate. So a worker that comes while another is at the monitor goes away again, and dozes where two others are
-//! awake. Whoever leaves nobody awake, to be held at the gate or at its end, wakes one: what is to be done is never left
-//! to those that doze.
+//! awake. Whoever leaves nobody awake at the gate wakes one, and who ends wakes all: what is to be done is never left to
+//! those that doze.
 
 use std::sync::Wait;
 use std::sync::atomic::{AtomicU64, Ordering};

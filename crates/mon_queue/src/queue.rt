@@ -45,8 +45,8 @@ impl Model for ReadyQueue {
 }
 
 impl ReadyQueue {
-    /// A queue with one ticket for each of so many clients, at most 32, in order, and so many passes that have none,
-    /// from 1 to 32. It takes all memory that the queue will need, and fails only for want of memory.
+    /// A queue with one ticket for each of so many clients, at most 32, and so many passes that have none, from 1 to 32.
+    /// It takes all memory that the queue will need, and fails only for want of memory.
     pub fn open(
         alloc: Global,
         clients: u32,

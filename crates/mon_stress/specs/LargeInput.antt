@@ -20,7 +20,7 @@ use Rattle.mon_monitor.specs.MonitorParts.{MonitorParts}
 use Rattle.mon_implicit.specs.declared.script.Call.{Call}
 use Rattle.mon_implicit.specs.declared.script.Client.{Client}
 
--- ---- how large it is, under the names that the code gives
+-- ---- how large it is
 
 -- clients that put
 abbrev pub PRODUCERS : ℕ

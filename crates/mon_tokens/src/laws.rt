@@ -6,7 +6,8 @@ ghost use Rattle.mon_tokens.specs.Spelling.{Spells, StartsNoToken, IsToken};
 
 /// Bytes spell one list of tokens at most, and none where they are stuck.
 pub fn one_spelling()
-    ensures one { (bytes : List ℕ) (a b : List Token) → Spells bytes a → Spells bytes b → a ≡ b }
+    ensures one { (bytes : List ℕ) (a b : List Token)
+        → Spells bytes a → Spells bytes b → a ≡ b }
     ensures stuck { (bytes : List ℕ) (at : ℕ) (spelled : List Token)
         → StartsNoToken bytes at → Spells bytes spelled → ⊥ }
 {}

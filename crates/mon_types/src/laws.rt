@@ -17,7 +17,8 @@ pub fn forms_keep_meaning()
     ensures guards { (tree : MonitorTree) (monitor : MonitorParts) (number : ℕ)
         (method : MethodTree) (block : Block) (valuation : Valuation)
         → faults_of tree ≡ [] → IsTyped tree monitor
-        → slice_get tree.methods number ≡ Some method → slice_get monitor.blocks number ≡ Some block
+        → slice_get tree.methods number ≡ Some method
+        → slice_get monitor.blocks number ≡ Some block
         → truth_of valuation block.guard ≡ plain_guard tree.decls method valuation }
     ensures values { (tree : MonitorTree) → faults_of tree ≡ []
         → All (BodyKeepsMeaning tree.decls) tree.methods }

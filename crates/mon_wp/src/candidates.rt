@@ -16,7 +16,8 @@ fn bound_form(alloc: Global, place: u32, times: i128, constant: i128) -> Result<
     requires times { is_within 1 times ≡ true }
     requires nonzero { times ≢ pos 0 }
     requires constant { is_within (2 ^ 65) constant ≡ true }
-    ensures term { IfOk result (λ form. form.terms ≡ record { place = place; times = times } ∷ []) }
+    ensures term { IfOk result (λ form.
+        form.terms ≡ record { place = place; times = times } ∷ []) }
     ensures constant { IfOk result (λ form. form.constant ≡ constant) }
 {
     let mut terms = Vec::new(alloc);

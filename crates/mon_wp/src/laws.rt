@@ -75,7 +75,8 @@ pub fn candidates_are_of_fields()
 pub fn claims_have_placed_queries()
     ensures keeps { (monitor : MonitorParts)
         (kept : List Candidate) (candidate : Candidate) (block : ℕ)
-        → IsMonitor monitor → list_all is_of_fields kept ≡ true → is_of_fields candidate ≡ true
+        → IsMonitor monitor → list_all is_of_fields kept ≡ true
+        → is_of_fields candidate ≡ true
         → IsPlaced (keeps_query monitor kept candidate block) }
     ensures none_needed { (monitor : MonitorParts) (kept : List Candidate) (block condition : ℕ)
         → IsMonitor monitor → list_all is_of_fields kept ≡ true

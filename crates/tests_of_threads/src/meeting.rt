@@ -8,13 +8,13 @@ const MOST_TURNS: u64 = 10_000_000;
 
 /// How many threads have come, and how many of them waited for the others in vain.
 #[derive(Drop)]
-pub struct Meeting {
+pub(crate) struct Meeting {
     come: AtomicU64,
     in_vain: AtomicU64,
 }
 
 impl Meeting {
-    pub fn new() -> Meeting {
+    pub(crate) fn new() -> Meeting {
         Meeting {
             come: AtomicU64::new(0),
             in_vain: AtomicU64::new(0),
@@ -22,7 +22,7 @@ impl Meeting {
     }
 
     /// Says that a thread has come, and waits until so many have.
-    pub fn meet(&self, all: u64) {
+    pub(crate) fn meet(&self, all: u64) {
         self.come.fetch_add(1, Ordering::SeqCst);
         for _ in 0..MOST_TURNS {
             if self.come.load(Ordering::SeqCst) >= all {
@@ -34,7 +34,7 @@ impl Meeting {
     }
 
     /// Whether so many threads have come, and none waited in vain.
-    pub fn was_of(&self, all: u64) -> bool {
+    pub(crate) fn was_of(&self, all: u64) -> bool {
         self.come.load(Ordering::SeqCst) == all && self.in_vain.load(Ordering::SeqCst) == 0
     }
 }

@@ -20,39 +20,27 @@ const BUFFER_OF_FOUR: &[u8] = b"monitor Buffer {
 }
 ";
 
-const CLIENTS: &[u8] = b"client P1 { repeat 512 { put(); } }
-client P2 { repeat 512 { put(); } }
-client P3 { repeat 512 { put(); } }
-client P4 { repeat 512 { put(); } }
-client P5 { repeat 512 { put(); } }
-client P6 { repeat 512 { put(); } }
-client P7 { repeat 512 { put(); } }
-client P8 { repeat 512 { put(); } }
-client P9 { repeat 512 { put(); } }
-client P10 { repeat 512 { put(); } }
-client P11 { repeat 512 { put(); } }
-client P12 { repeat 512 { put(); } }
-client P13 { repeat 512 { put(); } }
-client P14 { repeat 512 { put(); } }
-client P15 { repeat 512 { put(); } }
-client P16 { repeat 512 { put(); } }
-client G1 { repeat 512 { get(); } }
-client G2 { repeat 512 { get(); } }
-client G3 { repeat 512 { get(); } }
-client G4 { repeat 512 { get(); } }
-client G5 { repeat 512 { get(); } }
-client G6 { repeat 512 { get(); } }
-client G7 { repeat 512 { get(); } }
-client G8 { repeat 512 { get(); } }
-client G9 { repeat 512 { get(); } }
-client G10 { repeat 512 { get(); } }
-client G11 { repeat 512 { get(); } }
-client G12 { repeat 512 { get(); } }
-client G13 { repeat 512 { get(); } }
-client G14 { repeat 512 { get(); } }
-client G15 { repeat 512 { get(); } }
-client G16 { repeat 512 { get(); } }
-";
+/// So many clients that put, and as many that get.
+const ON_A_SIDE: u32 = 16;
+
+/// Adds a client for each number of a side, with 512 calls of a method.
+fn add_side(alloc: Global, text: &mut String, name: &str, method: &str) -> Result<(), AllocError> {
+    for number in 1..=ON_A_SIDE {
+        let client = format!(in alloc;
+            "client {name}{number} {{ repeat 512 {{ {method}(); }} }}\n"
+        )?;
+        text.push_str(client.as_str())?;
+    }
+    Ok(())
+}
+
+/// The clients as a text: those that put, and then those that get.
+fn clients_text(alloc: Global) -> Result<String, AllocError> {
+    let mut text = String::new(alloc);
+    add_side(alloc, &mut text, "P", "put")?;
+    add_side(alloc, &mut text, "G", "get")?;
+    Ok(text)
+}
 
 /// Whether every part of two monitors is the same.
 fn is_same_monitor(alloc: Global, one: &Monitor, other: &Monitor) -> Result<bool, AllocError> {
@@ -113,7 +101,8 @@ fn the_number_gives_the_room(rt: HostRuntime) -> Result<(), Fail> {
 #[test]
 fn the_clients_are_those_of_their_text(rt: HostRuntime) -> Result<(), Fail> {
     let input = made(rt.alloc(), 3)?;
-    let scripts = scripts_read(rt.alloc(), CLIENTS, &input.monitor).ok_or("clients")?;
+    let text = clients_text(rt.alloc())?;
+    let scripts = scripts_read(rt.alloc(), text.as_bytes(), &input.monitor).ok_or("clients")?;
     assert!(rt; are_same_clients(input.scripts.clients(), scripts.clients()));
     Ok(())
 }
