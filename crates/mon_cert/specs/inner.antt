@@ -1,4 +1,3 @@
 pub mod Branches
 pub mod Deciding
-pub mod Rows
 pub mod Texts

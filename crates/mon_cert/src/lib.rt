@@ -11,8 +11,6 @@ mod closing;
 mod laws;
 mod printing;
 mod rows;
-#[cfg(test)]
-mod tests;
 mod wide_row;
 
 pub use acceptance::accepts;

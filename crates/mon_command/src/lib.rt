@@ -12,8 +12,6 @@ mod command;
 mod laws;
 mod numbers;
 mod schedule;
-#[cfg(test)]
-mod tests;
 
 pub use asked::DEFAULT_WORKERS;
 pub use command::{Command, CommandFault, command_of};

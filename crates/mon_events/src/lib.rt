@@ -12,8 +12,6 @@ mod fitting;
 mod laws;
 mod log;
 mod plan;
-#[cfg(test)]
-mod tests;
 
 pub use event::{Event, Stage};
 pub use fitting::plan_fits;

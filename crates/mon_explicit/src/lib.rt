@@ -14,8 +14,6 @@ mod position;
 mod rings;
 mod section;
 mod sectioning;
-#[cfg(test)]
-mod tests;
 mod waiting;
 
 pub use config::{Config, NotEnabled};

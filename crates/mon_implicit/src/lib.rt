@@ -17,8 +17,6 @@ mod run;
 mod script;
 mod state;
 mod step;
-#[cfg(test)]
-mod tests;
 
 pub use commit::{Commit, Reply, Turns};
 pub use laws::one_run_by_rounds;

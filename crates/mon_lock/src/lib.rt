@@ -21,6 +21,3 @@ pub use pass::Pass;
 pub use receipt::Receipt;
 pub use shared::SharedMonitor;
 pub use view::Knowledge;
-
-#[cfg(test)]
-mod tests;

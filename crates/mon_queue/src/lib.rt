@@ -17,6 +17,3 @@ pub use hand::Hand;
 pub use pass::QueuePass;
 pub use queue::{MOST_PASSES, ReadyQueue};
 pub use ticket::Ticket;
-
-#[cfg(test)]
-mod tests;

@@ -10,7 +10,5 @@ mod places;
 mod prover;
 mod rows;
 mod search;
-#[cfg(test)]
-mod tests;
 
 pub use prover::{has_few_places, refute};

@@ -16,8 +16,6 @@ mod laws;
 mod many;
 mod monitor_parser;
 mod statement_parser;
-#[cfg(test)]
-mod tests;
 mod word;
 
 pub use clients_parser::parse_clients;

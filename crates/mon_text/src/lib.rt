@@ -15,8 +15,6 @@ mod plan;
 mod position;
 mod refusal;
 mod summary;
-#[cfg(test)]
-mod tests;
 mod turns;
 mod values;
 

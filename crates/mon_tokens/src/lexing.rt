@@ -87,6 +87,3 @@ pub fn tokens(alloc: Global, bytes: &[u8]) -> Result<Vec<Token>, LexFault>
     }
     Ok(out)
 }
-
-#[cfg(test)]
-mod tests;

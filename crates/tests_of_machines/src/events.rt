@@ -107,32 +107,80 @@ fn lock_machine(alloc: Global, clients: &[u8]) -> Result<Machine, Fail> {
     opened(alloc, LOCK, clients, signalling(alloc)?)
 }
 
+/// What is asked of a machine after what came before.
+#[derive(Clone, Copy)]
+enum Check<'a> {
+    /// It makes these events.
+    Makes(&'a [Event]),
+    /// It refuses the event.
+    Refuses(Event),
+    /// Of a client's events, with notes that name nobody and that name a target, it allows this one alone.
+    Allows(u32, u32, Option<Event>),
+    /// A client's stage.
+    Stage(u32, Stage),
+    /// Who has the lock.
+    Owner(Option<u32>),
+    /// The values of the fields.
+    Values(&'a [Value]),
+    /// The calls that were answered.
+    Commits(&'a [Commit]),
+}
+
+impl Machine {
+    /// Whether it is as is asked.
+    fn is_as(&mut self, check: &Check) -> bool {
+        match check {
+            Check::Makes(events) => self.makes(events),
+            Check::Refuses(event) => !self.step(*event),
+            Check::Allows(client, target, allowed) => self.allows_only(*client, *target, *allowed),
+            Check::Stage(client, stage) => self.stage(*client) == Some(*stage),
+            Check::Owner(owner) => self.config.owner() == *owner,
+            Check::Values(values) => self.config.state().values() == *values,
+            Check::Commits(commits) => self.config.commits() == *commits,
+        }
+    }
+
+    /// The place from 0 of the first check that it is not as.
+    fn first_wrong(&mut self, checks: &[Check]) -> Option<usize> {
+        for (place, check) in checks.iter().enumerate() {
+            if !self.is_as(check) {
+                return Some(place);
+            }
+        }
+        None
+    }
+}
+
+const ACQUIRES: [Event; 5] = [
+    Event::Begin { client: A },
+    Event::Lock { client: A },
+    Event::Run { client: A },
+    Event::Notify {
+        client: A,
+        target: None,
+    },
+    Event::Unlock { client: A },
+];
+
 #[test]
 fn a_client_waits_for_the_lock_and_is_woken_by_nothing(rt: HostRuntime) -> Result<(), Fail> {
     let mut machine = lock_machine(rt.alloc(), TWO_LOCKS)?;
-    assert!(rt; !machine.step(Event::Lock { client: A }));
-    let acquires = [
-        Event::Begin { client: A },
-        Event::Lock { client: A },
-        Event::Run { client: A },
-        notes_to(A, None),
-        Event::Unlock { client: A },
-    ];
-    assert!(rt; machine.makes(acquires.as_slice()));
-    assert!(rt; !machine.step(Event::Unlock { client: A }));
     let waits = [
         Event::Begin { client: B },
         Event::Lock { client: B },
         Event::Wait { client: B },
         Event::Spurious { client: B },
     ];
-    assert!(rt; machine.makes(waits.as_slice()));
-    assert_eq!(rt; machine.stage(B), Some(Stage::Woken(1)));
-    assert_eq!(rt; machine.config.owner(), None);
-    assert_eq!(rt;
-        machine.config.state().values(),
-        [Value::Bool(true)].as_slice()
-    );
+    let checks = [
+        Check::Refuses(Event::Lock { client: A }),
+        Check::Makes(&ACQUIRES),
+        Check::Refuses(Event::Unlock { client: A }),
+        Check::Makes(&waits),
+        Check::Stage(B, Stage::Woken(1)),
+        Check::Owner(None),
+        Check::Values(&[Value::Bool(true)]),
+    ];
+    assert_eq!(rt; machine.first_wrong(&checks), None);
     Ok(())
 }
 
@@ -153,21 +201,26 @@ fn everyone_has_a_broadcast_on_both_conditions_of_the_lock(rt: HostRuntime) -> R
     Ok(())
 }
 
-#[test]
-fn an_overflow_wakes_the_next_waiter(rt: HostRuntime) -> Result<(), Fail> {
+/// The gate, where what fires signals those who wait to take.
+fn gate_machine(alloc: Global) -> Result<Machine, Fail> {
     let kinds = [CondKind::Signal, CondKind::Broadcast];
     let notes = [None, Some(signal(1, false))];
-    let plan = plan_of(rt.alloc(), kinds.as_slice(), notes.as_slice())?;
-    let mut machine = opened(rt.alloc(), GATE, TWO_TAKE, plan)?;
-    for client in [A, B] {
-        let waits = [
-            Event::Begin { client },
-            Event::Lock { client },
-            Event::Wait { client },
-        ];
-        assert!(rt; machine.makes(waits.as_slice()));
-        assert_eq!(rt; machine.stage(client), Some(Stage::Waiting(1)));
-    }
+    let plan = plan_of(alloc, kinds.as_slice(), notes.as_slice())?;
+    opened(alloc, GATE, TWO_TAKE, plan)
+}
+
+/// The events of a client that waits.
+fn wait_of(client: u32) -> [Event; 3] {
+    [
+        Event::Begin { client },
+        Event::Lock { client },
+        Event::Wait { client },
+    ]
+}
+
+#[test]
+fn an_overflow_wakes_the_next_waiter(rt: HostRuntime) -> Result<(), Fail> {
+    let mut machine = gate_machine(rt.alloc())?;
     let fires = [
         Event::Begin { client: C },
         Event::Lock { client: C },
@@ -175,29 +228,42 @@ fn an_overflow_wakes_the_next_waiter(rt: HostRuntime) -> Result<(), Fail> {
         notes_to(C, Some(A)),
         Event::Unlock { client: C },
     ];
-    assert!(rt; machine.makes(fires.as_slice()));
     let overflows = [Event::Lock { client: A }, Event::Run { client: A }];
-    assert!(rt; machine.makes(overflows.as_slice()));
-    assert!(rt; machine.allows_only(A, B, Some(notes_to(A, Some(B)))));
-    assert!(rt; machine.step(notes_to(A, Some(B))));
-    assert_eq!(rt; machine.stage(B), Some(Stage::Woken(1)));
-    assert_eq!(rt;
-        machine.config.commits(),
-        [
-            Commit {
-                client: C,
-                call: 1,
-                reply: Reply::Unit
-            },
-            Commit {
-                client: A,
-                call: 1,
-                reply: Reply::Overflow
-            },
-        ]
-        .as_slice()
-    );
+    let commits = [
+        Commit {
+            client: C,
+            call: 1,
+            reply: Reply::Unit,
+        },
+        Commit {
+            client: A,
+            call: 1,
+            reply: Reply::Overflow,
+        },
+    ];
+    let checks = [
+        Check::Makes(&wait_of(A)),
+        Check::Stage(A, Stage::Waiting(1)),
+        Check::Makes(&wait_of(B)),
+        Check::Stage(B, Stage::Waiting(1)),
+        Check::Makes(&fires),
+        Check::Makes(&overflows),
+        Check::Allows(A, B, Some(notes_to(A, Some(B)))),
+        Check::Makes(&[notes_to(A, Some(B))]),
+        Check::Stage(B, Stage::Woken(1)),
+        Check::Commits(&commits),
+    ];
+    assert_eq!(rt; machine.first_wrong(&checks), None);
     Ok(())
+}
+
+/// Whether the client of the event is at the stage, has this event alone, and makes it.
+fn makes_its_own(machine: &mut Machine, stage: Stage, event: Event) -> bool {
+    let client = client_of(event);
+    let other = if client == A { B } else { A };
+    machine.stage(client) == Some(stage)
+        && machine.allows_only(client, other, Some(event))
+        && machine.step(event)
 }
 
 #[test]
@@ -221,20 +287,16 @@ fn each_stage_allows_its_own_events_alone(rt: HostRuntime) -> Result<(), Fail> {
         (Stage::Notifying, notes_to(A, Some(B))),
     ];
     for (stage, event) in run {
-        let client = client_of(event);
-        assert_eq!(rt; machine.stage(client), Some(stage), "before {event:?}");
-        let other = if client == A { B } else { A };
-        assert!(rt;
-            machine.allows_only(client, other, Some(event)),
-            "at {event:?}"
-        );
-        assert!(rt; machine.step(event), "at {event:?}");
+        assert!(rt; makes_its_own(&mut machine, stage, event), "at {event:?}");
     }
     // The lock is taken, and then A has no call left.
-    assert!(rt; machine.allows_only(B, A, None));
-    assert!(rt; machine.step(Event::Unlock { client: A }));
-    assert!(rt; machine.allows_only(A, B, None));
-    assert!(rt; machine.allows_only(C, A, None));
+    let ends = [
+        Check::Allows(B, A, None),
+        Check::Makes(&[Event::Unlock { client: A }]),
+        Check::Allows(A, B, None),
+        Check::Allows(C, A, None),
+    ];
+    assert_eq!(rt; machine.first_wrong(&ends), None);
     Ok(())
 }
 
@@ -250,6 +312,13 @@ fn client_of(event: Event) -> u32 {
     }
 }
 
+/// The lock and these clients, where what releases signals those who wait to release.
+fn signalled_lock(alloc: Global, clients: &[u8], tested: bool) -> Result<Machine, Fail> {
+    let notes = [None, Some(signal(2, tested))];
+    let plan = plan_of(alloc, SIGNALS.as_slice(), notes.as_slice())?;
+    opened(alloc, LOCK, clients, plan)
+}
+
 #[test]
 fn a_note_names_no_client_that_it_does_not_wake(rt: HostRuntime) -> Result<(), Fail> {
     let acquires = [
@@ -258,40 +327,30 @@ fn a_note_names_no_client_that_it_does_not_wake(rt: HostRuntime) -> Result<(), F
         Event::Run { client: A },
         Event::Unlock { client: A },
     ];
-    let waits = [
-        Event::Begin { client: B },
-        Event::Lock { client: B },
-        Event::Wait { client: B },
-    ];
+    let waits = wait_of(B);
     let releases = [
         Event::Begin { client: A },
         Event::Lock { client: A },
         Event::Run { client: A },
     ];
+    let nobody = Check::Allows(A, B, Some(notes_to(A, None)));
     // B waits to acquire, and the note on the other condition is for nobody. Or B waits to release, and the note's
     // guard, which was true before the body, is false after it.
-    let rows = [
-        (
-            WAITS_TO_ACQUIRE,
-            false,
-            acquires.as_slice(),
-            waits.as_slice(),
-        ),
-        (
-            WAITS_TO_RELEASE,
-            true,
-            waits.as_slice(),
-            acquires.as_slice(),
-        ),
+    let acquired = [
+        Check::Makes(&acquires),
+        Check::Makes(&waits),
+        Check::Makes(&releases),
+        nobody,
     ];
-    for (clients, tested, first, second) in rows {
-        let notes = [None, Some(signal(2, tested))];
-        let plan = plan_of(rt.alloc(), SIGNALS.as_slice(), notes.as_slice())?;
-        let mut machine = opened(rt.alloc(), LOCK, clients, plan)?;
-        assert!(rt; machine.makes(first));
-        assert!(rt; machine.makes(second));
-        assert!(rt; machine.makes(releases.as_slice()));
-        assert!(rt; machine.allows_only(A, B, Some(notes_to(A, None))));
-    }
+    let mut machine = signalled_lock(rt.alloc(), WAITS_TO_ACQUIRE, false)?;
+    assert_eq!(rt; machine.first_wrong(&acquired), None);
+    let waited = [
+        Check::Makes(&waits),
+        Check::Makes(&acquires),
+        Check::Makes(&releases),
+        nobody,
+    ];
+    let mut machine = signalled_lock(rt.alloc(), WAITS_TO_RELEASE, true)?;
+    assert_eq!(rt; machine.first_wrong(&waited), None);
     Ok(())
 }

@@ -1,4 +1,5 @@
-//! Tests of the crates that run monitors: steps of the implicit machine, events, sections and schedules.
+//! Tests of the crates that run monitors: scripts, steps of the implicit machine, plans, events, sections,
+//! schedules, and the large input.
 //!
 //! There are only tests. The answers were worked out by hand from the rules of the machines; those of drawn schedules
 //! are of a model in another language.
@@ -7,7 +8,11 @@
 #[cfg(test)]
 mod events;
 #[cfg(test)]
+mod large;
+#[cfg(test)]
 mod machine;
+#[cfg(test)]
+mod plans;
 #[cfg(test)]
 mod schedules;
 #[cfg(test)]

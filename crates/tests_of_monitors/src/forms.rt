@@ -125,6 +125,14 @@ fn is_row(formula: &Formula, times: i128, constant: i128) -> bool {
     }
 }
 
+/// Whether the formula of an expression is a row of these numbers.
+fn has_row(alloc: Global, expression: &[u8], times: i128, constant: i128) -> bool {
+    match condition(alloc, expression) {
+        Some(row) => is_row(&row, times, constant),
+        None => false,
+    }
+}
+
 /// Whether a formula is all, or any, of two rows of these numbers.
 fn are_rows(formula: &Formula, is_all: bool, one: (i128, i128), other: (i128, i128)) -> bool {
     let (all, parts) = match formula {
@@ -137,6 +145,20 @@ fn are_rows(formula: &Formula, is_all: bool, one: (i128, i128), other: (i128, i1
             all == is_all && is_row(first, one.0, one.1) && is_row(second, other.0, other.1)
         }
         _ => false,
+    }
+}
+
+/// Whether the formula of an expression is all, or any, of two rows of these numbers.
+fn has_rows(
+    alloc: Global,
+    expression: &[u8],
+    is_all: bool,
+    one: (i128, i128),
+    other: (i128, i128),
+) -> bool {
+    match condition(alloc, expression) {
+        Some(formula) => are_rows(&formula, is_all, one, other),
+        None => false,
     }
 }
 
@@ -195,43 +217,36 @@ fn at_most_0_has_one_formula(rt: HostRuntime) {
     assert!(rt; same(alloc, b"x < 1", b"x <= 0"));
     assert!(rt; same(alloc, b"!(x > 0)", b"x <= 0"));
     assert!(rt; !same(alloc, b"x < 0", b"x <= 0"));
-    match condition(alloc, b"x <= 0") {
-        Some(row) => assert!(rt; is_row(&row, 1, 0)),
-        _ => assert!(rt; false, "it is a row"),
-    }
+    assert!(rt; has_row(alloc, b"x <= 0", 1, 0));
 }
 
 #[test]
 fn equal_is_both_rows_and_different_is_one_of_two(rt: HostRuntime) {
-    let texts = [
-        (b"x == 0".as_slice(), true, (1, 0), (-1, 0)),
-        (b"x != 0".as_slice(), false, (-1, 1), (1, 1)),
-    ];
-    for (text, is_all, one, other) in texts {
-        match condition(rt.alloc(), text) {
-            Some(formula) => {
-                assert!(rt; are_rows(&formula, is_all, one, other), "in {text:?}");
-            }
-            None => assert!(rt; false, "there is no formula of {text:?}"),
-        }
-    }
+    let (equal, differs) = (b"x == 0".as_slice(), b"x != 0".as_slice());
+    assert!(rt; has_rows(rt.alloc(), equal, true, (1, 0), (-1, 0)));
+    assert!(rt; has_rows(rt.alloc(), differs, false, (-1, 1), (1, 1)));
 }
 
-#[test]
-fn names_of_conditions_are_flags_at_their_places(rt: HostRuntime) {
-    match condition(rt.alloc(), b"b && !f") {
-        Some(Formula::All(parts)) => match parts.items() {
+/// Whether the formula of an expression is all of `b` and not `f`.
+fn has_two_flags(alloc: Global, expression: &[u8]) -> bool {
+    match condition(alloc, expression) {
+        Some(Formula::All(parts)) => matches!(
+            parts.items(),
             [
                 Formula::Flag { place: 2, is: true },
                 Formula::Flag {
                     place: 17,
                     is: false,
                 },
-            ] => {}
-            _ => assert!(rt; false, "there are two flags"),
-        },
-        _ => assert!(rt; false, "it is all of its parts"),
+            ]
+        ),
+        _ => false,
     }
+}
+
+#[test]
+fn names_of_conditions_are_flags_at_their_places(rt: HostRuntime) {
+    assert!(rt; has_two_flags(rt.alloc(), b"b && !f"));
 }
 
 #[test]
@@ -252,86 +267,74 @@ fn forms_are_flattened(rt: HostRuntime) {
     assert!(rt; has_form(alloc, b"c - 7", &[], -2));
 }
 
+/// Expressions, the offset of the first token of each, and its kind.
+const KINDS: [(&[u8], u32, Option<Kind>); 6] = [
+    (b"(x + y) * c", 1, Some(Kind::Int)),
+    (b"c", 0, Some(Kind::Int)),
+    (b"b", 0, Some(Kind::Bool)),
+    (b"k", 0, Some(Kind::Int)),
+    (b"z", 0, None),
+    (b"((x) < y) || f", 2, Some(Kind::Bool)),
+];
+
 #[test]
 fn expressions_begin_at_their_first_token_and_names_have_kinds(rt: HostRuntime) {
     let alloc = rt.alloc();
-    let texts = [
-        (b"(x + y) * c".as_slice(), 1, Some(Kind::Int)),
-        (b"c".as_slice(), 0, Some(Kind::Int)),
-        (b"b".as_slice(), 0, Some(Kind::Bool)),
-        (b"k".as_slice(), 0, Some(Kind::Int)),
-        (b"z".as_slice(), 0, None),
-        (b"((x) < y) || f".as_slice(), 2, Some(Kind::Bool)),
-    ];
-    for (text, at, kind) in texts {
+    for (text, at, kind) in KINDS {
         assert_eq!(rt; start_and_kind(alloc, text), Some((START + at, kind)));
     }
 }
 
+/// Expressions, and the first fault of each.
+const FAULTS: [(&[u8], TypeFault); 15] = [
+    (b"x * y", TypeFault::NotLinear { at: 100 }),
+    (b"x * 2 * y", TypeFault::NotLinear { at: 104 }),
+    (b"2147483649 * x", TypeFault::TooLarge { at: 98 }),
+    (b"-(2147483649 * x)", TypeFault::TooLarge { at: 100 }),
+    (b"9223372036854775808", TypeFault::TooLarge { at: 98 }),
+    (
+        b"x < 9223372036854775807 + 2",
+        TypeFault::TooLarge { at: 102 },
+    ),
+    (b"!x", TypeFault::WrongType { at: 99 }),
+    (b"1 + b", TypeFault::WrongType { at: 102 }),
+    (b"!(z + 1)", TypeFault::Unknown { at: 100 }),
+    (b"b + z", TypeFault::Unknown { at: 102 }),
+    (b"z < 9223372036854775808", TypeFault::Unknown { at: 98 }),
+    (b"9223372036854775808 < z", TypeFault::TooLarge { at: 98 }),
+    (b"2147483648 * x < -x", TypeFault::TooLarge { at: 98 }),
+    (
+        b"b && 2147483648 * x + x > 0",
+        TypeFault::TooLarge { at: 103 },
+    ),
+    (b"x * 65536 * 32769 * 0", TypeFault::TooLarge { at: 98 }),
+];
+
 #[test]
 fn the_first_fault_of_an_expression_is_found(rt: HostRuntime) {
-    let texts = [
-        (b"x * y".as_slice(), TypeFault::NotLinear { at: 100 }),
-        (b"x * 2 * y".as_slice(), TypeFault::NotLinear { at: 104 }),
-        (b"2147483649 * x".as_slice(), TypeFault::TooLarge { at: 98 }),
-        (
-            b"-(2147483649 * x)".as_slice(),
-            TypeFault::TooLarge { at: 100 },
-        ),
-        (
-            b"9223372036854775808".as_slice(),
-            TypeFault::TooLarge { at: 98 },
-        ),
-        (
-            b"x < 9223372036854775807 + 2".as_slice(),
-            TypeFault::TooLarge { at: 102 },
-        ),
-        (b"!x".as_slice(), TypeFault::WrongType { at: 99 }),
-        (b"1 + b".as_slice(), TypeFault::WrongType { at: 102 }),
-        (b"!(z + 1)".as_slice(), TypeFault::Unknown { at: 100 }),
-        (b"b + z".as_slice(), TypeFault::Unknown { at: 102 }),
-        (
-            b"z < 9223372036854775808".as_slice(),
-            TypeFault::Unknown { at: 98 },
-        ),
-        (
-            b"9223372036854775808 < z".as_slice(),
-            TypeFault::TooLarge { at: 98 },
-        ),
-        (
-            b"2147483648 * x < -x".as_slice(),
-            TypeFault::TooLarge { at: 98 },
-        ),
-        (
-            b"b && 2147483648 * x + x > 0".as_slice(),
-            TypeFault::TooLarge { at: 103 },
-        ),
-        (
-            b"x * 65536 * 32769 * 0".as_slice(),
-            TypeFault::TooLarge { at: 98 },
-        ),
-    ];
-    for (text, fault) in texts {
+    for (text, fault) in FAULTS {
         assert!(rt; breaks(rt.alloc(), text, fault), "{fault:?} in {text:?}");
     }
 }
 
+/// Expressions that break no rule.
+const LIMITS: [&[u8]; 11] = [
+    b"2147483648 * x",
+    b"-(2147483648 * x)",
+    b"9223372036854775807",
+    b"x < 9223372036854775807 + 1",
+    b"2147483648 * x < y",
+    b"2147483648 * x <= x",
+    b"1073741824 * x + 1073741824 * x",
+    b"x * 65536 * 32768 * 0",
+    b"2 * y",
+    b"(x - x) * y",
+    b"y * (x - x) * y",
+];
+
 #[test]
 fn numbers_at_their_limits_break_no_rule(rt: HostRuntime) {
-    let texts = [
-        b"2147483648 * x".as_slice(),
-        b"-(2147483648 * x)".as_slice(),
-        b"9223372036854775807".as_slice(),
-        b"x < 9223372036854775807 + 1".as_slice(),
-        b"2147483648 * x < y".as_slice(),
-        b"2147483648 * x <= x".as_slice(),
-        b"1073741824 * x + 1073741824 * x".as_slice(),
-        b"x * 65536 * 32768 * 0".as_slice(),
-        b"2 * y".as_slice(),
-        b"(x - x) * y".as_slice(),
-        b"y * (x - x) * y".as_slice(),
-    ];
-    for text in texts {
+    for text in LIMITS {
         assert!(rt; breaks_none(rt.alloc(), text), "a fault in {text:?}");
     }
 }

@@ -57,10 +57,7 @@ fn same(a: TypeFault, b: TypeFault) -> bool {
 }
 
 fn breaks(alloc: Global, text: &[u8], fault: TypeFault) -> bool {
-    match fault_of(alloc, text) {
-        Some(Some(found)) => same(found, fault),
-        _ => false,
-    }
+    is_fault(fault_of(alloc, text), fault)
 }
 
 fn breaks_none(alloc: Global, text: &[u8]) -> bool {
@@ -106,360 +103,405 @@ fn assignments(
     Ok(text)
 }
 
+/// Monitors with a name that is unknown or stands twice.
+const NAMES: [(&[u8], TypeFault); 11] = [
+    (
+        b"monitor M { const c = 1; int x = 0; bool b = false; method m() waituntil (y > 0) {  } }",
+        TypeFault::Unknown { at: 74 },
+    ),
+    (
+        b"monitor M { const c = 1; int x = 0; bool b = false; method m() waituntil (true) { y = 1; } }",
+        TypeFault::Unknown { at: 82 },
+    ),
+    (
+        b"monitor M { const c = 1; int x = 0; bool b = false; method m(int k) waituntil (true) { x = x + n; } }",
+        TypeFault::Unknown { at: 95 },
+    ),
+    (
+        b"monitor M { const a = 1; int a = 2; }",
+        TypeFault::Duplicate { at: 29 },
+    ),
+    (
+        b"monitor M { const a = 1; const b = 2; const a = 3; }",
+        TypeFault::Duplicate { at: 44 },
+    ),
+    (
+        b"monitor M { int a = 1; bool b = true; bool b = false; }",
+        TypeFault::Duplicate { at: 43 },
+    ),
+    (
+        b"monitor M { int a = 0; method a() waituntil (true) { } }",
+        TypeFault::Duplicate { at: 30 },
+    ),
+    (
+        b"monitor M { method a() waituntil (true) { } method b() waituntil (true) { } method a() waituntil (true) { } }",
+        TypeFault::Duplicate { at: 83 },
+    ),
+    (
+        b"monitor M { const c = 1; int x = 0; bool b = false; method m(int k, bool k) waituntil (true) {  } }",
+        TypeFault::Duplicate { at: 73 },
+    ),
+    (
+        b"monitor M { const c = 1; int x = 0; bool b = false; method m(int x) waituntil (true) {  } }",
+        TypeFault::Duplicate { at: 65 },
+    ),
+    (
+        b"monitor M { const c = 1; int x = 0; bool b = false; method m(int k, int c) waituntil (true) {  } }",
+        TypeFault::Duplicate { at: 72 },
+    ),
+];
+
 #[test]
 fn names_are_known_and_stand_once(rt: HostRuntime) {
-    let texts = [
-        (
-            b"monitor M { const c = 1; int x = 0; bool b = false; method m() waituntil (y > 0) {  } }".as_slice(),
-            TypeFault::Unknown { at: 74 },
-        ),
-        (
-            b"monitor M { const c = 1; int x = 0; bool b = false; method m() waituntil (true) { y = 1; } }".as_slice(),
-            TypeFault::Unknown { at: 82 },
-        ),
-        (
-            b"monitor M { const c = 1; int x = 0; bool b = false; method m(int k) waituntil (true) { x = x + n; } }".as_slice(),
-            TypeFault::Unknown { at: 95 },
-        ),
-        (
-            b"monitor M { const a = 1; int a = 2; }".as_slice(),
-            TypeFault::Duplicate { at: 29 },
-        ),
-        (
-            b"monitor M { const a = 1; const b = 2; const a = 3; }".as_slice(),
-            TypeFault::Duplicate { at: 44 },
-        ),
-        (
-            b"monitor M { int a = 1; bool b = true; bool b = false; }".as_slice(),
-            TypeFault::Duplicate { at: 43 },
-        ),
-        (
-            b"monitor M { int a = 0; method a() waituntil (true) { } }".as_slice(),
-            TypeFault::Duplicate { at: 30 },
-        ),
-        (
-            b"monitor M { method a() waituntil (true) { } method b() waituntil (true) { } method a() waituntil (true) { } }".as_slice(),
-            TypeFault::Duplicate { at: 83 },
-        ),
-        (
-            b"monitor M { const c = 1; int x = 0; bool b = false; method m(int k, bool k) waituntil (true) {  } }".as_slice(),
-            TypeFault::Duplicate { at: 73 },
-        ),
-        (
-            b"monitor M { const c = 1; int x = 0; bool b = false; method m(int x) waituntil (true) {  } }".as_slice(),
-            TypeFault::Duplicate { at: 65 },
-        ),
-        (
-            b"monitor M { const c = 1; int x = 0; bool b = false; method m(int k, int c) waituntil (true) {  } }".as_slice(),
-            TypeFault::Duplicate { at: 72 },
-        ),
-    ];
-    for (text, fault) in texts {
+    for (text, fault) in NAMES {
         assert!(rt; breaks(rt.alloc(), text, fault), "{fault:?} in {text:?}");
     }
 }
+
+/// Monitors with a statement that breaks a rule.
+const STATEMENTS: [(&[u8], TypeFault); 15] = [
+    (
+        b"monitor M { const c = 1; int x = 0; bool b = false; method m() waituntil (true) { c = 2; } }",
+        TypeFault::ReadOnly { at: 82 },
+    ),
+    (
+        b"monitor M { const c = 1; int x = 0; bool b = false; method m(int k) waituntil (true) { k = 2; } }",
+        TypeFault::ReadOnly { at: 87 },
+    ),
+    (
+        b"monitor M { const c = 1; int x = 0; bool b = false; method m() waituntil (true) { return x; x = 1; } }",
+        TypeFault::Misplaced { at: 82 },
+    ),
+    (
+        b"monitor M { const c = 1; int x = 0; bool b = false; method m() waituntil (true) { if (b) { return 1; } } }",
+        TypeFault::Misplaced { at: 91 },
+    ),
+    (
+        b"monitor M { const c = 1; int x = 0; bool b = false; method m() waituntil (true) { if (b) { } else { x = 1; return 1; } return 2; } }",
+        TypeFault::Misplaced { at: 107 },
+    ),
+    (
+        b"monitor M { const c = 1; int x = 0; bool b = false; method m() waituntil (true) { if (b) { if (!b) { return b; } } } }",
+        TypeFault::Misplaced { at: 101 },
+    ),
+    (
+        b"monitor M { const c = 1; int x = 0; bool b = false; method m() waituntil (x) {  } }",
+        TypeFault::WrongType { at: 74 },
+    ),
+    (
+        b"monitor M { const c = 1; int x = 0; bool b = false; method m() waituntil (x + 1) {  } }",
+        TypeFault::WrongType { at: 74 },
+    ),
+    (
+        b"monitor M { const c = 1; int x = 0; bool b = false; method m(int k) waituntil (-k) {  } }",
+        TypeFault::WrongType { at: 79 },
+    ),
+    (
+        b"monitor M { const c = 1; int x = 0; bool b = false; method m() waituntil (true) { if (c) { } } }",
+        TypeFault::WrongType { at: 86 },
+    ),
+    (
+        b"monitor M { const c = 1; int x = 0; bool b = false; method m() waituntil (true) { x = b; } }",
+        TypeFault::WrongType { at: 86 },
+    ),
+    (
+        b"monitor M { const c = 1; int x = 0; bool b = false; method m() waituntil (true) { x = x < 1; } }",
+        TypeFault::WrongType { at: 86 },
+    ),
+    (
+        b"monitor M { const c = 1; int x = 0; bool b = false; method m() waituntil (true) { b = 2 * x; } }",
+        TypeFault::WrongType { at: 86 },
+    ),
+    (
+        b"monitor M { const c = 1; int x = 0; bool b = false; method m(int k) waituntil (true) { b = k; } }",
+        TypeFault::WrongType { at: 91 },
+    ),
+    (
+        b"monitor M { const c = 1; int x = 0; bool b = false; method m(int k) waituntil (true) { x = x * 2 * k; } }",
+        TypeFault::NotLinear { at: 97 },
+    ),
+];
 
 #[test]
 fn statements_keep_their_rules(rt: HostRuntime) {
-    let texts = [
-        (
-            b"monitor M { const c = 1; int x = 0; bool b = false; method m() waituntil (true) { c = 2; } }".as_slice(),
-            TypeFault::ReadOnly { at: 82 },
-        ),
-        (
-            b"monitor M { const c = 1; int x = 0; bool b = false; method m(int k) waituntil (true) { k = 2; } }".as_slice(),
-            TypeFault::ReadOnly { at: 87 },
-        ),
-        (
-            b"monitor M { const c = 1; int x = 0; bool b = false; method m() waituntil (true) { return x; x = 1; } }".as_slice(),
-            TypeFault::Misplaced { at: 82 },
-        ),
-        (
-            b"monitor M { const c = 1; int x = 0; bool b = false; method m() waituntil (true) { if (b) { return 1; } } }".as_slice(),
-            TypeFault::Misplaced { at: 91 },
-        ),
-        (
-            b"monitor M { const c = 1; int x = 0; bool b = false; method m() waituntil (true) { if (b) { } else { x = 1; return 1; } return 2; } }".as_slice(),
-            TypeFault::Misplaced { at: 107 },
-        ),
-        (
-            b"monitor M { const c = 1; int x = 0; bool b = false; method m() waituntil (true) { if (b) { if (!b) { return b; } } } }".as_slice(),
-            TypeFault::Misplaced { at: 101 },
-        ),
-        (
-            b"monitor M { const c = 1; int x = 0; bool b = false; method m() waituntil (x) {  } }".as_slice(),
-            TypeFault::WrongType { at: 74 },
-        ),
-        (
-            b"monitor M { const c = 1; int x = 0; bool b = false; method m() waituntil (x + 1) {  } }".as_slice(),
-            TypeFault::WrongType { at: 74 },
-        ),
-        (
-            b"monitor M { const c = 1; int x = 0; bool b = false; method m(int k) waituntil (-k) {  } }".as_slice(),
-            TypeFault::WrongType { at: 79 },
-        ),
-        (
-            b"monitor M { const c = 1; int x = 0; bool b = false; method m() waituntil (true) { if (c) { } } }".as_slice(),
-            TypeFault::WrongType { at: 86 },
-        ),
-        (
-            b"monitor M { const c = 1; int x = 0; bool b = false; method m() waituntil (true) { x = b; } }".as_slice(),
-            TypeFault::WrongType { at: 86 },
-        ),
-        (
-            b"monitor M { const c = 1; int x = 0; bool b = false; method m() waituntil (true) { x = x < 1; } }".as_slice(),
-            TypeFault::WrongType { at: 86 },
-        ),
-        (
-            b"monitor M { const c = 1; int x = 0; bool b = false; method m() waituntil (true) { b = 2 * x; } }".as_slice(),
-            TypeFault::WrongType { at: 86 },
-        ),
-        (
-            b"monitor M { const c = 1; int x = 0; bool b = false; method m(int k) waituntil (true) { b = k; } }".as_slice(),
-            TypeFault::WrongType { at: 91 },
-        ),
-        (
-            b"monitor M { const c = 1; int x = 0; bool b = false; method m(int k) waituntil (true) { x = x * 2 * k; } }".as_slice(),
-            TypeFault::NotLinear { at: 97 },
-        ),
-    ];
-    for (text, fault) in texts {
+    for (text, fault) in STATEMENTS {
         assert!(rt; breaks(rt.alloc(), text, fault), "{fault:?} in {text:?}");
     }
 }
+
+/// Monitors with an expression that breaks a rule where one of another kind is asked.
+const KINDS: [(&[u8], TypeFault); 5] = [
+    (
+        b"monitor M { const c = 1; int x = 0; bool b = false; method m() waituntil (true) { x = !y; } }",
+        TypeFault::Unknown { at: 87 },
+    ),
+    (
+        b"monitor M { const c = 1; int x = 0; bool b = false; method m() waituntil (-y) {  } }",
+        TypeFault::Unknown { at: 75 },
+    ),
+    (
+        b"monitor M { const c = 1; int x = 0; bool b = false; method m() waituntil (true) { y = true; } }",
+        TypeFault::Unknown { at: 82 },
+    ),
+    (
+        b"monitor M { const c = 1; int x = 0; bool b = false; method m() waituntil (true) { x = y; } }",
+        TypeFault::Unknown { at: 86 },
+    ),
+    (
+        b"monitor M { const c = 1; int x = 0; bool b = false; method m() waituntil (true) { if (y) { } } }",
+        TypeFault::Unknown { at: 86 },
+    ),
+];
 
 #[test]
 fn a_kind_is_asked_where_the_expression_breaks_no_rule(rt: HostRuntime) {
-    let texts = [
-        (
-            b"monitor M { const c = 1; int x = 0; bool b = false; method m() waituntil (true) { x = !y; } }".as_slice(),
-            TypeFault::Unknown { at: 87 },
-        ),
-        (
-            b"monitor M { const c = 1; int x = 0; bool b = false; method m() waituntil (-y) {  } }".as_slice(),
-            TypeFault::Unknown { at: 75 },
-        ),
-        (
-            b"monitor M { const c = 1; int x = 0; bool b = false; method m() waituntil (true) { y = true; } }".as_slice(),
-            TypeFault::Unknown { at: 82 },
-        ),
-        (
-            b"monitor M { const c = 1; int x = 0; bool b = false; method m() waituntil (true) { x = y; } }".as_slice(),
-            TypeFault::Unknown { at: 86 },
-        ),
-        (
-            b"monitor M { const c = 1; int x = 0; bool b = false; method m() waituntil (true) { if (y) { } } }".as_slice(),
-            TypeFault::Unknown { at: 86 },
-        ),
-    ];
-    for (text, fault) in texts {
+    for (text, fault) in KINDS {
         assert!(rt; breaks(rt.alloc(), text, fault), "{fault:?} in {text:?}");
     }
 }
+
+/// Monitors with a number that is too large.
+const NUMBERS: [(&[u8], TypeFault); 4] = [
+    (
+        b"monitor M { int x = 9223372036854775808; }",
+        TypeFault::TooLarge { at: 20 },
+    ),
+    (
+        b"monitor M { const a = -9223372036854775808; }",
+        TypeFault::TooLarge { at: 23 },
+    ),
+    (
+        b"monitor M { const c = 1; int x = 0; bool b = false; method m() waituntil (true) { x = 9223372036854775808; } }",
+        TypeFault::TooLarge { at: 86 },
+    ),
+    (
+        b"monitor M { const c = 1; int x = 0; bool b = false; method m() waituntil (true) { x = 2147483649 * x; } }",
+        TypeFault::TooLarge { at: 86 },
+    ),
+];
 
 #[test]
 fn numbers_have_few_inputs(rt: HostRuntime) {
-    let texts = [
-        (
-            b"monitor M { int x = 9223372036854775808; }".as_slice(),
-            TypeFault::TooLarge { at: 20 },
-        ),
-        (
-            b"monitor M { const a = -9223372036854775808; }".as_slice(),
-            TypeFault::TooLarge { at: 23 },
-        ),
-        (
-            b"monitor M { const c = 1; int x = 0; bool b = false; method m() waituntil (true) { x = 9223372036854775808; } }".as_slice(),
-            TypeFault::TooLarge { at: 86 },
-        ),
-        (
-            b"monitor M { const c = 1; int x = 0; bool b = false; method m() waituntil (true) { x = 2147483649 * x; } }".as_slice(),
-            TypeFault::TooLarge { at: 86 },
-        ),
-    ];
-    for (text, fault) in texts {
+    for (text, fault) in NUMBERS {
         assert!(rt; breaks(rt.alloc(), text, fault), "{fault:?} in {text:?}");
     }
 }
+
+/// Monitors with more than one fault, and the first.
+const FIRST: [(&[u8], TypeFault); 9] = [
+    (
+        b"monitor M { int x = 0; int x = 9223372036854775808; method m(int x) waituntil (y) { } }",
+        TypeFault::Duplicate { at: 27 },
+    ),
+    (
+        b"monitor M { int x = 9223372036854775808; int x = 1; }",
+        TypeFault::TooLarge { at: 20 },
+    ),
+    (
+        b"monitor M { const c = 1; int x = 0; bool b = false; method m() waituntil (true) { if (x > 0) { x = y; return 1; } c = 3; } }",
+        TypeFault::Unknown { at: 99 },
+    ),
+    (
+        b"monitor M { const c = 1; int x = 0; bool b = false; method m() waituntil (true) { if (b) { return y; } c = 3; } }",
+        TypeFault::Misplaced { at: 91 },
+    ),
+    (
+        b"monitor M { const c = 1; int x = 0; bool b = false; method m() waituntil (true) { x = 1; return y; x = true; } }",
+        TypeFault::Misplaced { at: 89 },
+    ),
+    (
+        b"monitor M { int x = 0; method m(int k, int x) waituntil (x) { y = 1; } method m() waituntil (x) { } }",
+        TypeFault::Duplicate { at: 43 },
+    ),
+    (
+        b"monitor M { int x = 0; method m() waituntil (x) { } method m() waituntil (true) { } }",
+        TypeFault::WrongType { at: 45 },
+    ),
+    (
+        b"monitor M { const c = 1; int x = 0; bool b = false; method m() waituntil (true) { if (x) { y = 1; } else { c = 1; } } }",
+        TypeFault::WrongType { at: 86 },
+    ),
+    (
+        b"monitor M { const c = 1; int x = 0; bool b = false; method m() waituntil (true) { x = 1; b = 1; x = y; c = 1; } }",
+        TypeFault::WrongType { at: 93 },
+    ),
+];
 
 #[test]
 fn the_least_place_comes_first(rt: HostRuntime) {
-    let texts = [
-        (
-            b"monitor M { int x = 0; int x = 9223372036854775808; method m(int x) waituntil (y) { } }".as_slice(),
-            TypeFault::Duplicate { at: 27 },
-        ),
-        (
-            b"monitor M { int x = 9223372036854775808; int x = 1; }".as_slice(),
-            TypeFault::TooLarge { at: 20 },
-        ),
-        (
-            b"monitor M { const c = 1; int x = 0; bool b = false; method m() waituntil (true) { if (x > 0) { x = y; return 1; } c = 3; } }".as_slice(),
-            TypeFault::Unknown { at: 99 },
-        ),
-        (
-            b"monitor M { const c = 1; int x = 0; bool b = false; method m() waituntil (true) { if (b) { return y; } c = 3; } }".as_slice(),
-            TypeFault::Misplaced { at: 91 },
-        ),
-        (
-            b"monitor M { const c = 1; int x = 0; bool b = false; method m() waituntil (true) { x = 1; return y; x = true; } }".as_slice(),
-            TypeFault::Misplaced { at: 89 },
-        ),
-        (
-            b"monitor M { int x = 0; method m(int k, int x) waituntil (x) { y = 1; } method m() waituntil (x) { } }".as_slice(),
-            TypeFault::Duplicate { at: 43 },
-        ),
-        (
-            b"monitor M { int x = 0; method m() waituntil (x) { } method m() waituntil (true) { } }".as_slice(),
-            TypeFault::WrongType { at: 45 },
-        ),
-        (
-            b"monitor M { const c = 1; int x = 0; bool b = false; method m() waituntil (true) { if (x) { y = 1; } else { c = 1; } } }".as_slice(),
-            TypeFault::WrongType { at: 86 },
-        ),
-        (
-            b"monitor M { const c = 1; int x = 0; bool b = false; method m() waituntil (true) { x = 1; b = 1; x = y; c = 1; } }".as_slice(),
-            TypeFault::WrongType { at: 93 },
-        ),
-    ];
-    for (text, fault) in texts {
+    for (text, fault) in FIRST {
         assert!(rt; breaks(rt.alloc(), text, fault), "{fault:?} in {text:?}");
     }
 }
 
+/// Monitors that break no rule.
+const WHOLE: [&[u8]; 10] = [
+    b"monitor M { }",
+    b"monitor M { const c = 1; int x = 0; bool b = false; method m() waituntil (true) {  } }",
+    b"monitor M { const c = 1; int x = 0; bool b = false; method m() waituntil (true) { return 1; } }",
+    b"monitor M { const c = 1; int x = 0; bool b = false; method m() waituntil (true) { x = x + 1; return b; } }",
+    b"monitor M { const c = 1; int x = 0; bool b = false; method m() waituntil (true) { if (b) { x = c; } else { b = !b; } return x; } }",
+    b"monitor M { const c = 1; int x = 0; bool b = false; method m(int k, bool f) waituntil (f && k < x) { x = k; b = f; } }",
+    b"monitor M { method a(int n) waituntil (n > 0) { } method b(int n) waituntil (n > 0) { } }",
+    b"monitor M { method a(int a) waituntil (true) { } method b(bool a) waituntil (a) { } }",
+    b"monitor M { int x = 9223372036854775807; const a = -9223372036854775807; }",
+    b"monitor M { const c = 1; int x = 0; bool b = false; method m() waituntil (true) { x = 2147483648 * x; } }",
+];
+
 #[test]
 fn whole_monitors_break_no_rule(rt: HostRuntime) {
-    let texts = [
-        b"monitor M { }".as_slice(),
-        b"monitor M { const c = 1; int x = 0; bool b = false; method m() waituntil (true) {  } }".as_slice(),
-        b"monitor M { const c = 1; int x = 0; bool b = false; method m() waituntil (true) { return 1; } }".as_slice(),
-        b"monitor M { const c = 1; int x = 0; bool b = false; method m() waituntil (true) { x = x + 1; return b; } }".as_slice(),
-        b"monitor M { const c = 1; int x = 0; bool b = false; method m() waituntil (true) { if (b) { x = c; } else { b = !b; } return x; } }".as_slice(),
-        b"monitor M { const c = 1; int x = 0; bool b = false; method m(int k, bool f) waituntil (f && k < x) { x = k; b = f; } }".as_slice(),
-        b"monitor M { method a(int n) waituntil (n > 0) { } method b(int n) waituntil (n > 0) { } }".as_slice(),
-        b"monitor M { method a(int a) waituntil (true) { } method b(bool a) waituntil (a) { } }".as_slice(),
-        b"monitor M { int x = 9223372036854775807; const a = -9223372036854775807; }".as_slice(),
-        b"monitor M { const c = 1; int x = 0; bool b = false; method m() waituntil (true) { x = 2147483648 * x; } }".as_slice(),
-    ];
-    for text in texts {
+    for text in WHOLE {
         assert!(rt; breaks_none(rt.alloc(), text), "a fault in {text:?}");
+    }
+}
+
+/// A text before items, the parts of an item around its name, how many of them, and a text after them.
+type Repeated = (
+    &'static [u8],
+    (&'static [u8], &'static [u8]),
+    u8,
+    &'static [u8],
+);
+
+const HEAD: &[u8] = b"monitor M {";
+
+const CONSTANT: (&[u8], &[u8]) = (b" const ", b" = 1;");
+
+const NUMBER: (&[u8], &[u8]) = (b" int ", b" = 1;");
+
+const FLAG: (&[u8], &[u8]) = (b" bool ", b" = true;");
+
+const METHOD: (&[u8], &[u8]) = (b" method ", b"() waituntil (true) { }");
+
+const TAKING: &[u8] = b"monitor M { method m(";
+
+const INPUT: (&[u8], &[u8]) = (b"int ", b", ");
+
+const LAST: &[u8] = b"int z) waituntil (true) { } }";
+
+/// As many as there may be.
+const EDGES: [Repeated; 5] = [
+    (HEAD, CONSTANT, 64, b" }"),
+    (HEAD, NUMBER, 16, b" }"),
+    (HEAD, FLAG, 15, b" int z = 1; }"),
+    (HEAD, METHOD, 16, b" }"),
+    (TAKING, INPUT, 5, LAST),
+];
+
+/// One more, what there is too much of, and where the first is that is too much.
+const OVER: [(Repeated, Counted, u32); 5] = [
+    ((HEAD, CONSTANT, 65, b" }"), Counted::Constants, 914),
+    ((HEAD, NUMBER, 17, b" }"), Counted::Fields, 208),
+    ((HEAD, FLAG, 16, b" int z = 1; }"), Counted::Fields, 272),
+    ((HEAD, METHOD, 17, b" }"), Counted::Methods, 547),
+    ((TAKING, INPUT, 6, LAST), Counted::Parameters, 73),
+];
+
+/// The first fault of a text of items.
+fn fault_of_items(alloc: Global, row: Repeated) -> Result<Option<Option<TypeFault>>, AllocError> {
+    let (before, item, count, after) = row;
+    let text = repeated_text(alloc, before, item, count, after)?;
+    Ok(fault_of(alloc, &text))
+}
+
+/// The first fault of a method of assignments.
+fn fault_of_assignments(
+    alloc: Global,
+    before: &[u8],
+    count: u8,
+    after: &[u8],
+) -> Result<Option<Option<TypeFault>>, AllocError> {
+    let text = assignments(alloc, before, count, after)?;
+    Ok(fault_of(alloc, &text))
+}
+
+/// Whether a fault was found, and is this one.
+fn is_fault(found: Option<Option<TypeFault>>, fault: TypeFault) -> bool {
+    match found {
+        Some(Some(found)) => same(found, fault),
+        _ => false,
     }
 }
 
 /// As many as there may be, and one more.
 #[test]
 fn the_first_one_over_a_limit_is_a_fault(rt: HostRuntime) -> Result<(), Fail> {
-    let alloc = rt.alloc();
-    let head = b"monitor M {".as_slice();
-    let constant = (b" const ".as_slice(), b" = 1;".as_slice());
-    let number = (b" int ".as_slice(), b" = 1;".as_slice());
-    let flag = (b" bool ".as_slice(), b" = true;".as_slice());
-    let method = (
-        b" method ".as_slice(),
-        b"() waituntil (true) { }".as_slice(),
-    );
-    let taking = b"monitor M { method m(".as_slice();
-    let input = (b"int ".as_slice(), b", ".as_slice());
-    let last = b"int z) waituntil (true) { } }".as_slice();
-    let edges = [
-        (head, constant, 64, b" }".as_slice()),
-        (head, number, 16, b" }".as_slice()),
-        (head, flag, 15, b" int z = 1; }".as_slice()),
-        (head, method, 16, b" }".as_slice()),
-        (taking, input, 5, last),
-    ];
-    for (before, item, count, after) in edges {
-        let text = repeated_text(alloc, before, item, count, after)?;
-        assert!(rt; breaks_none(alloc, &text), "a fault in {text:?}");
+    for row in EDGES {
+        let found = fault_of_items(rt.alloc(), row)?;
+        assert!(rt; matches!(found, Some(None)), "a fault in {row:?}");
     }
-    let over = [
-        (
-            head,
-            constant,
-            65,
-            b" }".as_slice(),
-            Counted::Constants,
-            914,
-        ),
-        (head, number, 17, b" }".as_slice(), Counted::Fields, 208),
-        (
-            head,
-            flag,
-            16,
-            b" int z = 1; }".as_slice(),
-            Counted::Fields,
-            272,
-        ),
-        (head, method, 17, b" }".as_slice(), Counted::Methods, 547),
-        (taking, input, 6, last, Counted::Parameters, 73),
-    ];
-    for (before, item, count, after, what, at) in over {
-        let text = repeated_text(alloc, before, item, count, after)?;
+    for (row, what, at) in OVER {
+        let found = fault_of_items(rt.alloc(), row)?;
         assert!(rt;
-            breaks(alloc, &text, TypeFault::TooMany { what, at }),
-            "in {text:?}"
+            is_fault(found, TypeFault::TooMany { what, at }),
+            "in {row:?}"
         );
     }
     Ok(())
 }
+
+/// Texts around so many assignments, 64 with the inner ones.
+const FULL_BODIES: [(&[u8], u8, &[u8]); 5] = [
+    (b"", 64, b""),
+    (b"", 63, b"return x;"),
+    (b"if (x > 0) { ", 63, b"}"),
+    (b"x = 1; if (x > 0) { } else { ", 62, b"}"),
+    (b"", 63, b"if (x > 0) { }"),
+];
+
+/// Texts around one more, and where it is.
+const LONG_BODIES: [(&[u8], u8, &[u8], u32); 5] = [
+    (b"", 65, b"", 501),
+    (b"", 64, b"return x;", 501),
+    (b"if (x > 0) { ", 64, b"}", 507),
+    (b"x = 1; if (x > 0) { } else { ", 63, b"}", 516),
+    (b"", 63, b"if (x > 0) { x = 1; }", 507),
+];
 
 /// 64 statements and 65, with inner ones.
 #[test]
 fn statement_65_is_a_fault(rt: HostRuntime) -> Result<(), Fail> {
-    let alloc = rt.alloc();
-    let edges = [
-        (b"".as_slice(), 64, b"".as_slice()),
-        (b"".as_slice(), 63, b"return x;".as_slice()),
-        (b"if (x > 0) { ".as_slice(), 63, b"}".as_slice()),
-        (
-            b"x = 1; if (x > 0) { } else { ".as_slice(),
-            62,
-            b"}".as_slice(),
-        ),
-        (b"".as_slice(), 63, b"if (x > 0) { }".as_slice()),
-    ];
-    for (before, count, after) in edges {
-        let text = assignments(alloc, before, count, after)?;
-        assert!(rt; breaks_none(alloc, &text), "a fault in {text:?}");
+    for (before, count, after) in FULL_BODIES {
+        let found = fault_of_assignments(rt.alloc(), before, count, after)?;
+        assert!(rt;
+            matches!(found, Some(None)),
+            "a fault in {count} after {before:?}"
+        );
     }
-    let over = [
-        (b"".as_slice(), 65, b"".as_slice(), 501),
-        (b"".as_slice(), 64, b"return x;".as_slice(), 501),
-        (b"if (x > 0) { ".as_slice(), 64, b"}".as_slice(), 507),
-        (
-            b"x = 1; if (x > 0) { } else { ".as_slice(),
-            63,
-            b"}".as_slice(),
-            516,
-        ),
-        (b"".as_slice(), 63, b"if (x > 0) { x = 1; }".as_slice(), 507),
-    ];
-    for (before, count, after, at) in over {
-        let text = assignments(alloc, before, count, after)?;
+    for (before, count, after, at) in LONG_BODIES {
+        let found = fault_of_assignments(rt.alloc(), before, count, after)?;
         let what = Counted::Statements;
         assert!(rt;
-            breaks(alloc, &text, TypeFault::TooMany { what, at }),
-            "in {text:?}"
+            is_fault(found, TypeFault::TooMany { what, at }),
+            "in {count} after {before:?}"
         );
     }
     Ok(())
 }
 
+/// Bodies with two faults at one place.
+const TWO_FAULTS: [(&[u8], TypeFault); 2] = [
+    (b"y = 1;", TypeFault::Unknown { at: 501 }),
+    (
+        b"return 1; x = 1;",
+        TypeFault::TooMany {
+            what: Counted::Statements,
+            at: 501,
+        },
+    ),
+];
+
 /// Of two faults at one place the rule that comes first in the order of faults is named.
 #[test]
 fn at_one_place_the_first_rule_is_named(rt: HostRuntime) -> Result<(), Fail> {
-    let alloc = rt.alloc();
-    let constant = (b" const ".as_slice(), b" = 1;".as_slice());
-    let text = repeated_text(alloc, b"monitor M {", constant, 64, b" const aa = 1; }")?;
-    assert!(rt; breaks(alloc, &text, TypeFault::Duplicate { at: 914 }));
-    let input = (b"int ".as_slice(), b", ".as_slice());
-    let last = b"int aa) waituntil (true) { } }".as_slice();
-    let text = repeated_text(alloc, b"monitor M { method m(", input, 6, last)?;
-    assert!(rt; breaks(alloc, &text, TypeFault::Duplicate { at: 73 }));
-    let what = Counted::Statements;
-    let text = assignments(alloc, b"", 64, b"y = 1;")?;
-    assert!(rt; breaks(alloc, &text, TypeFault::Unknown { at: 501 }));
-    let text = assignments(alloc, b"", 64, b"return 1; x = 1;")?;
-    assert!(rt; breaks(alloc, &text, TypeFault::TooMany { what, at: 501 }));
+    let constants = fault_of_items(rt.alloc(), (HEAD, CONSTANT, 64, b" const aa = 1; }"))?;
+    assert!(rt; is_fault(constants, TypeFault::Duplicate { at: 914 }));
+    let last = b"int aa) waituntil (true) { } }";
+    let inputs = fault_of_items(rt.alloc(), (TAKING, INPUT, 6, last))?;
+    assert!(rt; is_fault(inputs, TypeFault::Duplicate { at: 73 }));
+    for (after, fault) in TWO_FAULTS {
+        let found = fault_of_assignments(rt.alloc(), b"", 64, after)?;
+        assert!(rt; is_fault(found, fault), "after {after:?}");
+    }
     Ok(())
 }

@@ -1,10 +1,10 @@
-//! Tests of the texts that the program prints: runs, logs, plans and client files, byte by byte.
+//! Tests of the texts that the program prints: faults, runs, logs and plans, byte by byte.
 //!
 //! There are only tests. The bytes were taken by hand from the rules of the texts.
 #![tactic(auto)]
 
 #[cfg(test)]
-mod client_texts;
+mod fault_texts;
 #[cfg(test)]
 mod log_texts;
 #[cfg(test)]

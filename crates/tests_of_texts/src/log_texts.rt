@@ -104,12 +104,20 @@ fn text_of(alloc: Global, free: &FreeMonitor) -> Result<MemSink, Fail> {
     Ok(out)
 }
 
+/// What is written of the log after sections of these clients, which close the monitor.
+fn log_of(alloc: Global, free: &mut FreeMonitor, clients: &[u32]) -> Result<MemSink, Fail> {
+    if !makes(free, clients) {
+        return Err("clients that are ready".into());
+    }
+    text_of(alloc, free)
+}
+
 #[test]
 fn a_reply_names_who_was_woken_in_file_order(rt: HostRuntime) -> Result<(), Fail> {
     let mut free = opened(rt.alloc(), LOCK, &LOCKS, 0)?;
-    assert!(rt; makes(&mut free, &[A, C, B, A, C, B, C, B]));
+    let log = log_of(rt.alloc(), &mut free, &[A, C, B, A, C, B, C, B])?;
     assert_eq!(rt;
-        text_of(rt.alloc(), &free)?.bytes(),
+        log.bytes(),
         b"A.1 acquire() = -
 C.1 acquire() waits
 B.1 acquire() waits
@@ -129,11 +137,10 @@ state held=true
 #[test]
 fn a_spurious_wakeup_has_its_own_line(rt: HostRuntime) -> Result<(), Fail> {
     let mut free = opened(rt.alloc(), LOCK, &RELEASES, 1)?;
-    assert!(rt; makes(&mut free, &[A]));
-    assert!(rt; wakes(&mut free, A));
-    assert!(rt; makes(&mut free, &[A]));
+    assert!(rt; makes(&mut free, &[A]) && wakes(&mut free, A));
+    let log = log_of(rt.alloc(), &mut free, &[A])?;
     assert_eq!(rt;
-        text_of(rt.alloc(), &free)?.bytes(),
+        log.bytes(),
         b"A.1 release() waits
 spurious A
 A.1 release() waits
@@ -149,9 +156,9 @@ state held=false
 #[test]
 fn each_client_with_a_call_left_is_blocked_at_its_next_call(rt: HostRuntime) -> Result<(), Fail> {
     let mut free = opened(rt.alloc(), LEVEL, &LEVELS, 0)?;
-    assert!(rt; makes(&mut free, &[A, C, A, B, C, A]));
+    let log = log_of(rt.alloc(), &mut free, &[A, C, A, B, C, A])?;
     assert_eq!(rt;
-        text_of(rt.alloc(), &free)?.bytes(),
+        log.bytes(),
         b"A.1 add() = -
 C.1 reach(9) waits
 A.2 reach(3) waits
@@ -171,9 +178,9 @@ state count=2
 #[test]
 fn a_woken_client_finds_its_guard_false_and_waits_again(rt: HostRuntime) -> Result<(), Fail> {
     let mut free = buffer_opened(rt.alloc(), &GETS)?;
-    assert!(rt; makes(&mut free, &[A, B, C, A, B, A]));
+    let log = log_of(rt.alloc(), &mut free, &[A, B, C, A, B, A])?;
     assert_eq!(rt;
-        text_of(rt.alloc(), &free)?.bytes(),
+        log.bytes(),
         b"A.1 get() waits
 B.1 put() = - wakes A
 C.1 get() = -

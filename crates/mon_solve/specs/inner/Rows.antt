@@ -39,10 +39,3 @@ abbrev pub with_row : List Numbered → Numbered → List Numbered
 with_row [] new = new ∷ []
 with_row (first ∷ kept) new =
     if same_terms first.row.terms new.row.terms then (new ∷ kept) else (first ∷ with_row kept new)
-
--- The form of two terms and a constant.
-abbrev pub pair_of : ℕ → ℤ → ℕ → ℤ → ℤ → Linear
-pair_of place times other other_times constant = record {
-  terms = record { place = place; times = times } ∷ record { place = other; times = other_times } ∷ [];
-  constant = constant;
-}

@@ -1,0 +1,29 @@
+-- Where nothing fails, the status is the one that the words and the files ask for.
+use Rattle.std.proofs.Common.{◌≡◌, ℕ, List, subst}
+use Rattle.mon_io.specs.Outside.{FilesSeen, SinkSeen}
+use Rattle.mon_command.specs.CommandLine.{Command, Takes}
+use Rattle.expresso.specs.declared.status.Status.{Status}
+use Rattle.expresso.specs.Answers.{IsSound, Accepts, Rejects, AcceptsFiles, RejectsFiles, IsWorkedOrMemory, IsRefusedOrMemory, IsStoppedOrMemory}
+use Rattle.expresso.specs.inner.Ending.{HasEnded}
+
+-- words take one command at most
+abbrev pub OneCommand : Type 0
+OneCommand = (words : List (List ℕ)) (command other : Command) → Takes words command → Takes words other → command ≡ other
+
+-- accepted files are worked on
+pub accepted_runs : OneCommand → (words : List (List ℕ)) (command : Command) (files files_now : FilesSeen) (result : Status) (out out_now : SinkSeen)
+    → Takes words command → HasEnded command files files_now result out out_now → Accepts files.held words → IsSound files.faults files_now.faults → IsSound out.faults out_now.faults → IsWorkedOrMemory result
+accepted_runs one_command words command files files_now result out out_now taken has_ended (other, also, accepts) no_read no_write =
+    has_ended.accepted (subst (AcceptsFiles files.held) (one_command words other command also taken) accepts) no_read no_write
+
+-- rejected files are refused
+pub rejected_refused : OneCommand → (words : List (List ℕ)) (command : Command) (files files_now : FilesSeen) (result : Status) (out out_now : SinkSeen)
+    → Takes words command → HasEnded command files files_now result out out_now → Rejects files.held words → IsSound files.faults files_now.faults → IsSound out.faults out_now.faults → IsRefusedOrMemory result
+rejected_refused one_command words command files files_now result out out_now taken has_ended (other, also, rejects) no_read no_write =
+    has_ended.rejected (subst (RejectsFiles files.held) (one_command words other command also taken) rejects) no_read no_write
+
+-- and are not worked on even where a count of faults stands at its end
+pub rejected_stops : OneCommand → (words : List (List ℕ)) (command : Command) (files files_now : FilesSeen) (result : Status) (out out_now : SinkSeen)
+    → Takes words command → HasEnded command files files_now result out out_now → Rejects files.held words → IsSound out.faults out_now.faults → IsStoppedOrMemory result
+rejected_stops one_command words command files files_now result out out_now taken has_ended (other, also, rejects) no_write =
+    has_ended.stopped (subst (RejectsFiles files.held) (one_command words other command also taken) rejects) no_write

@@ -1,0 +1,96 @@
+-- The answer of a call keeps what `run` promises.
+use Rattle.std.proofs.Common.{◌≡◌, ◌⊎◌, ◌++◌, ℕ, List, Option, Some, None, inl, inr, sym, ap, subst, ◌∙◌}
+use Rattle.std.specs.Io.KnownBytes.{Appends}
+use Rattle.mon_io.specs.Outside.{FilesSeen, SinkSeen}
+use Rattle.mon_implicit.specs.declared.script.Client.{Client}
+use Rattle.mon_implicit.specs.Runs.{IsFinished}
+use Rattle.mon_events.specs.declared.log.Entry.{Entry}
+use Rattle.mon_events.specs.Logs.{commits_of}
+use Rattle.mon_command.specs.CommandLine.{Command, Takes, run}
+use Rattle.expresso.specs.declared.status.Status.{Status}
+use Rattle.expresso.specs.declared.status.Status.TheVariants.{Done, Stalled}
+use Rattle.expresso.specs.MonitorFiles.{IsAccepted}
+use Rattle.expresso.specs.ClientFiles.{AreAccepted}
+use Rattle.expresso.specs.Answers.{Answers, IsDoneText, IsStalledText, IsRunText}
+use Rattle.expresso.specs.Headline.{IsHeadlineText, Headline}
+use Rattle.expresso.proofs.Telling.{holds_same}
+use Rattle.expresso.proofs.Completeness.{OneCommand}
+
+done_stalled : Done ≡ Stalled → ⊥
+done_stalled e = cc
+
+-- what was appended to told bytes
+appended : (before now : Option (List ℕ)) (written text : List ℕ) → before ≡ Some written → Appends before now text → now ≡ Some (written ++ text)
+appended None now written text is appends = absurd (none_some written is)
+  where
+    none_some : (xs : List ℕ) → None ≡ Some xs → ⊥
+    none_some xs e = cc
+appended (Some xs) None written text is appends = absurd appends
+appended (Some xs) (Some ys) written text is appends = let same : xs ≡ written = cc is in ap Some (appends ∙ ap (λ (zs : List ℕ). zs ++ text) same)
+
+module _ (held : List ℕ → Option (List ℕ)) (monitor_file clients_file monitor_bytes clients_bytes : List ℕ)
+    (monitor_tells : held monitor_file ≡ Some monitor_bytes) (clients_tells : held clients_file ≡ Some clients_bytes) where
+  -- the text of a run says what is promised of it
+  run_promised : (clients : List Client) (log : List Entry) (status : Status) (text : List ℕ) → IsRunText held monitor_file clients_file clients log text
+      → ((status ≡ Stalled) → IsFinished clients (commits_of log) → ⊥) → ((IsFinished clients (commits_of log) → ⊥) → status ≡ Stalled)
+      → IsHeadlineText monitor_bytes clients_bytes status text
+  run_promised clients log status text shown stalled left = record {
+    tree = shown.files.tree;
+    monitor = shown.monitor;
+    clients = clients;
+    plan = shown.plan;
+    log = log;
+    last = shown.last;
+    monitor_accepted = subst (λ (b : List ℕ). IsAccepted b shown.files.tree shown.monitor)
+        (holds_same held monitor_file monitor_bytes shown.files.monitor_bytes monitor_tells shown.files.monitor_told) shown.files.monitor_accepted;
+    clients_accepted = subst (λ (b : List ℕ). AreAccepted b shown.monitor clients)
+        (holds_same held clients_file clients_bytes shown.files.clients_bytes clients_tells shown.files.clients_told) shown.files.clients_accepted;
+    printed = shown.printed;
+    is = shown.placed.is;
+    lawful = shown.placed.placement.lawful;
+    backed = shown.placed.placement.backed;
+    licensed = shown.placed.placement.licensed;
+    exact = shown.placed.placement.exact;
+    legal = shown.placed.legal;
+    closed = shown.placed.closed;
+    unprompted = shown.unprompted;
+    run = shown.placed.run;
+    ends = shown.placed.ends;
+    stalled = (stalled, left);
+  }
+
+  done_promised : (workers : ℕ) (text : List ℕ) → IsDoneText held (run monitor_file clients_file workers) text → IsHeadlineText monitor_bytes clients_bytes Done text
+  done_promised workers text (clients, log, shown, finished) =
+      run_promised clients log Done text shown (λ is. absurd (done_stalled is)) (λ none. absurd (none finished))
+
+  stalled_promised : (workers : ℕ) (text : List ℕ) → IsStalledText held (run monitor_file clients_file workers) text → IsHeadlineText monitor_bytes clients_bytes Stalled text
+  stalled_promised workers text (clients, log, shown, left) =
+      run_promised clients log Stalled text shown (λ is. left) (λ none. refl_stalled)
+    where
+      refl_stalled : Stalled ≡ Stalled
+      refl_stalled = cc
+
+module _ (one_command : OneCommand) (words : List (List ℕ)) (files files_now : FilesSeen) (out out_now : SinkSeen) where
+  done_kept : Answers words files files_now Done out out_now → Headline words files Done out out_now
+  done_kept (text, (command, taken, shown), appends) monitor_file clients_file workers monitor_bytes clients_bytes written also monitor_tells clients_tells sink_tells either = (
+    text,
+    appended out.written out_now.written written text sink_tells appends,
+    done_promised files.held monitor_file clients_file monitor_bytes clients_bytes monitor_tells clients_tells workers text
+        (subst (λ (c : Command). IsDoneText files.held c text) (one_command words command (run monitor_file clients_file workers) taken also) shown),
+  )
+
+  stalled_kept : Answers words files files_now Stalled out out_now → Headline words files Stalled out out_now
+  stalled_kept (text, (command, taken, shown), appends) monitor_file clients_file workers monitor_bytes clients_bytes written also monitor_tells clients_tells sink_tells either = (
+    text,
+    appended out.written out_now.written written text sink_tells appends,
+    stalled_promised files.held monitor_file clients_file monitor_bytes clients_bytes monitor_tells clients_tells workers text
+        (subst (λ (c : Command). IsStalledText files.held c text) (one_command words command (run monitor_file clients_file workers) taken also) shown),
+  )
+
+  pub headline_kept : (status : Status) → Answers words files files_now status out out_now → Headline words files status out out_now
+  headline_kept status answers monitor_file clients_file workers monitor_bytes clients_bytes written also monitor_tells clients_tells sink_tells (inl is) =
+      (subst (λ (s : Status). Headline words files s out out_now) (sym is) (done_kept (subst (λ (s : Status). Answers words files files_now s out out_now) is answers)))
+      monitor_file clients_file workers monitor_bytes clients_bytes written also monitor_tells clients_tells sink_tells (inl is)
+  headline_kept status answers monitor_file clients_file workers monitor_bytes clients_bytes written also monitor_tells clients_tells sink_tells (inr is) =
+      (subst (λ (s : Status). Headline words files s out out_now) (sym is) (stalled_kept (subst (λ (s : Status). Answers words files files_now s out out_now) is answers)))
+      monitor_file clients_file workers monitor_bytes clients_bytes written also monitor_tells clients_tells sink_tells (inr is)

@@ -1,0 +1,60 @@
+-- What a schedule leads to from the start is a simulation.
+use Rattle.std.proofs.Common.{◌≡◌, ℕ, ◌+◌, ◌≤◌, ◌++◌, List, [], sym, ap, subst, ◌∙◌, arith}
+use Rattle.mon_monitor.specs.MonitorParts.{MonitorParts}
+use Rattle.mon_implicit.specs.declared.script.Client.{Client}
+use Rattle.mon_events.specs.declared.plan.Plan.{Plan}
+use Rattle.mon_events.specs.Configurations.{System}
+use Rattle.mon_events.specs.Logs.{IsClosed}
+use Rattle.mon_explicit.specs.Sections.{FreeMachine, HoldsAlways, HasEnded, opened_free, spurious_in}
+use Rattle.mon_events.specs.PlanText.{plan_text}
+use Rattle.mon_text.specs.LogText.{log_text}
+use Rattle.mon_simulate.specs.Schedules.{Extends}
+use Rattle.mon_command.specs.declared.schedule.Schedule.{Schedule}
+use Rattle.expresso.specs.Placements.{IsPlacement}
+use Rattle.expresso.specs.Simulations.{IsScheduled, IsSimulation, most_spurious}
+use Rattle.expresso.proofs.Placed.{placed_run}
+use Rattle.mon_text.specs.Laws.{plan_and_log_text, system_under}
+
+-- all that is known of a monitor at the end of a schedule
+pub record IsRunOut (schedule : Schedule) (before next : FreeMachine) : Type 0 where
+  pub scheduled : IsScheduled schedule before next
+  pub closed : IsClosed next.system next.now
+  pub extends : Extends before next
+  pub spurious : spurious_in next.log ≤ spurious_in before.log + most_spurious schedule
+  pub always : HoldsAlways next
+  pub ends : HasEnded next
+
+run_from_start : (system : System) (schedule : Schedule) (next : FreeMachine) → IsPlacement system.monitor system.plan
+    → IsRunOut schedule (opened_free system.monitor system.plan system.clients (most_spurious schedule)) next → IsSimulation system schedule next.log next.now
+run_from_start system schedule next placement out = record {
+  placed = placed_run system next placement out.extends.system out.closed out.always out.ends;
+  scheduled = subst (λ (m : FreeMachine). IsScheduled schedule (opened_free system.monitor system.plan system.clients (most_spurious schedule)) m) whole out.scheduled;
+  spurious = let most : spurious_in next.log ≤ 0 + most_spurious schedule = out.spurious in omega (arith, most);
+}
+  where
+    whole : next ≡ record { system = system; now = next.now; log = next.log; extra = most_spurious schedule }
+    whole = λ i. record { system = out.extends.system i; now = next.now; log = next.log; extra = out.extends.extra i }
+
+module _ (monitor : MonitorParts) (clients : List Client) (schedule : Schedule) (plan : Plan) (extra : ℕ) (before next : FreeMachine)
+    (extra_is : extra ≡ most_spurious schedule) (before_is : before ≡ opened_free monitor plan clients extra) where
+  opened_is : before ≡ opened_free monitor plan clients (most_spurious schedule)
+  opened_is = before_is ∙ ap (opened_free monitor plan clients) extra_is
+
+  run_out : IsRunOut schedule before next → IsRunOut schedule (opened_free monitor plan clients (most_spurious schedule)) next
+  run_out out = subst (λ (m : FreeMachine). IsRunOut schedule m next) opened_is out
+
+  -- the plan is the one that was given
+  pub run_system : IsRunOut schedule before next → next.system ≡ system_under monitor clients next.system.plan
+  run_system out = let is : next.system ≡ system_under monitor clients plan = (run_out out).extends.system in cc is
+
+  pub run_simulates : IsPlacement monitor plan → IsRunOut schedule before next → IsSimulation (system_under monitor clients next.system.plan) schedule next.log next.now
+  run_simulates placement out =
+      let is : next.system ≡ system_under monitor clients plan = (run_out out).extends.system in
+      subst (λ (p : Plan). IsSimulation (system_under monitor clients p) schedule next.log next.now) (sym (ap (λ system. system.plan) is))
+      (run_from_start (system_under monitor clients plan) schedule next placement (run_out out))
+
+-- ---- the text
+
+pub simulation_text-parts : (machine : FreeMachine) (monitor : MonitorParts) (plan : Plan) → monitor ≡ machine.system.monitor → plan ≡ machine.system.plan
+    → plan_text monitor plan ++ log_text machine.system machine.log machine.now ≡ plan_and_log_text machine.system machine.log machine.now
+simulation_text-parts machine monitor plan p q = λ i. plan_text (p i) (q i) ++ log_text machine.system machine.log machine.now

@@ -1,0 +1,36 @@
+-- How `turns` ends where the clients were run.
+use Rattle.std.proofs.Common.{◌≡◌, ℕ, Bool, true, false, List, refl, sym, subst}
+use Rattle.std.specs.Prelude.{IsTrue, ◌↔◌}
+use Rattle.std.proofs.lemmas.Bool.{false≢true}
+use Rattle.mon_io.specs.Outside.{FilesSeen, SinkSeen}
+use Rattle.mon_monitor.specs.MonitorParts.{MonitorParts}
+use Rattle.mon_implicit.specs.declared.commit.Turns.{Turns}
+use Rattle.mon_implicit.specs.declared.script.Client.{Client}
+use Rattle.mon_implicit.specs.Runs.{IsFinished}
+use Rattle.mon_implicit.specs.Rounds.{AreTurnsByRounds}
+use Rattle.mon_text.specs.TurnsText.{turns_text}
+use Rattle.expresso.specs.declared.status.Status.{Status}
+use Rattle.mon_command.specs.CommandLine.{turns}
+use Rattle.expresso.specs.Answers.{HoldRun, IsTurnsText}
+use Rattle.expresso.specs.inner.Ending.{HasEnded, IsCommandText, IsWritten, ended}
+use Rattle.expresso.proofs.RunFiles.{held_not_rejected}
+use Rattle.expresso.proofs.Ending.{work_ended}
+
+module _ (monitor_file clients_file : List ℕ) (files files_now : FilesSeen) (monitor : MonitorParts) (clients : List Client) (run : Turns)
+    (held : HoldRun files.held monitor_file clients_file monitor clients) (rounds : AreTurnsByRounds monitor clients run) where
+  turns_shown : IsTurnsText files.held monitor_file clients_file clients run (turns_text monitor clients run)
+  turns_shown = record { monitor = monitor; files = held; rounds = rounds; printed = refl }
+
+  run_shown : (finished : Bool) → run.finished ≡ finished → IsCommandText (turns monitor_file clients_file) files files_now (ended finished) (turns_text monitor clients run)
+  run_shown true end =
+      let both : IsTrue run.finished ↔ IsFinished clients run.history = rounds.finished in
+      (clients, run, turns_shown, both.0 (subst IsTrue (sym end) refl))
+  run_shown false end =
+      let both : IsTrue run.finished ↔ IsFinished clients run.history = rounds.finished in
+      (clients, run, turns_shown, λ all. false≢true (subst IsTrue end (both.1 all)))
+
+  pub run_ended : (result : Status) (out out_now : SinkSeen) → files_now.faults ≡ files.faults → IsWritten (ended run.finished) (turns_text monitor clients run) result out out_now
+      → HasEnded (turns monitor_file clients_file) files files_now result out out_now
+  run_ended result out out_now steady written =
+      work_ended (turns monitor_file clients_file) files files_now (turns_text monitor clients run) result out out_now run.finished
+      (run_shown run.finished refl) (held_not_rejected files.held monitor_file clients_file monitor clients held) steady written

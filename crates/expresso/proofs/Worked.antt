@@ -1,0 +1,43 @@
+-- How `run` ends where the workers ran the clients.
+use Rattle.std.proofs.Common.{◌≡◌, ℕ, Bool, true, false, List, refl, sym, subst, ◌∙◌}
+use Rattle.std.proofs.lemmas.Bool.{false≢true}
+use Rattle.mon_io.specs.Outside.{FilesSeen, SinkSeen}
+use Rattle.mon_monitor.specs.MonitorParts.{MonitorParts}
+use Rattle.mon_implicit.specs.declared.script.Client.{Client}
+use Rattle.mon_events.specs.declared.log.Entry.{Entry}
+use Rattle.mon_events.specs.declared.plan.Plan.{Plan}
+use Rattle.mon_events.specs.Configurations.{System, Configuration}
+use Rattle.mon_events.specs.Logs.{IsClosed, commits_of}
+use Rattle.mon_explicit.specs.Sections.{spurious_in}
+use Rattle.mon_text.specs.LogText.{are_done}
+use Rattle.mon_text.specs.Laws.{plan_and_log_text, system_under}
+use Rattle.mon_command.specs.CommandLine.{run}
+use Rattle.expresso.specs.declared.status.Status.{Status}
+use Rattle.expresso.specs.PlacedRuns.{IsPlacedRun}
+use Rattle.expresso.specs.Answers.{HoldRun, IsRunText}
+use Rattle.expresso.specs.inner.Ending.{HasEnded, IsCommandText, IsWritten, ended}
+use Rattle.expresso.proofs.Finishing.{done_finished, finished_done}
+use Rattle.expresso.proofs.RunFiles.{held_not_rejected}
+use Rattle.expresso.proofs.Ending.{work_ended}
+
+module _ (monitor_file clients_file : List ℕ) (workers : ℕ) (files files_now : FilesSeen) (monitor : MonitorParts) (plan : Plan) (clients : List Client) (log : List Entry) (last : Configuration) (system : System)
+    (held : HoldRun files.held monitor_file clients_file monitor clients) (placed : IsPlacedRun (system_under monitor clients plan) log last) (unprompted : spurious_in log ≡ 0) (system_is : system ≡ system_under monitor clients plan) where
+  pub worked_closed : IsClosed system last
+  worked_closed = subst (λ (s : System). IsClosed s last) (sym system_is) placed.closed
+
+  worked_shown : IsRunText files.held monitor_file clients_file clients log (plan_and_log_text (system_under monitor clients plan) log last)
+  worked_shown = record { monitor = monitor; plan = plan; last = last; files = held; placed = placed; unprompted = unprompted; printed = refl }
+
+  log_shown : (finished : Bool) → are_done clients (commits_of log) ≡ finished
+      → IsCommandText (run monitor_file clients_file workers) files files_now (ended finished) (plan_and_log_text (system_under monitor clients plan) log last)
+  log_shown true end = (clients, log, worked_shown, done_finished clients (commits_of log) end)
+  log_shown false end = (clients, log, worked_shown, λ all. false≢true (sym end ∙ finished_done clients (commits_of log) all))
+
+  pub worked_ended : (result : Status) (out out_now : SinkSeen) → files_now.faults ≡ files.faults
+      → IsWritten (ended (are_done system.clients (commits_of log))) (plan_and_log_text system log last) result out out_now
+      → HasEnded (run monitor_file clients_file workers) files files_now result out out_now
+  worked_ended result out out_now steady written =
+      work_ended (run monitor_file clients_file workers) files files_now (plan_and_log_text (system_under monitor clients plan) log last) result out out_now
+      (are_done clients (commits_of log)) (log_shown (are_done clients (commits_of log)) refl)
+      (held_not_rejected files.held monitor_file clients_file monitor clients held) steady
+      (subst (λ (s : System). IsWritten (ended (are_done s.clients (commits_of log))) (plan_and_log_text s log last) result out out_now) system_is written)

@@ -1,0 +1,27 @@
+use Rattle.std.proofs.Common.{ap}
+use Rattle.mon_events.specs.Logs.{commits_of}
+use Rattle.mon_text.specs.LogText.{are_done}
+use Rattle.mon_command.specs.CommandLine.{simulate}
+use Rattle.mon_text.specs.Laws.{plan_and_log_text}
+use Rattle.expresso.specs.inner.Ending.{ended}
+use Rattle.expresso.proofs.Outcomes.{written_since}
+use Rattle.expresso.proofs.RunFiles.{simulate_runs}
+use Rattle.expresso.proofs.Simulated.{simulation_closed, simulation_ended}
+use Rattle.expresso.proofs.simulate.simulate_files.Goals as goal
+
+pub show_plan_and_log-requires : goal.show_plan_and_log-requires
+show_plan_and_log-requires g c =
+    let free = c.in-Ok-simulation.free in
+    simulation_closed c.args.monitor.now c.args.clients.now c.args.schedule (g.F.Files.seen c.args.files.now) (g.F.Files.seen c.input_of.new.files) c.in-Ok.input.monitor free.system.plan c.in-Ok.input.scripts
+    free.log free.now free.system c.in-Ok.ensures.input c.in-Ok-simulation.ensures.simulation c.in-Ok-simulation.ensures.system
+
+pub returns-in-Err-clause-ended : goal.returns-in-Err-clause-ended
+returns-in-Err-clause-ended g c =
+    c.in-Err.ensures.ended (simulate c.args.monitor.now c.args.clients.now c.args.schedule) (simulate_runs c.args.monitor.now c.args.clients.now c.args.schedule)
+
+pub returns-in-Ok-simulation-clause-ended : goal.returns-in-Ok-simulation-clause-ended
+returns-in-Ok-simulation-clause-ended g c =
+    let free = c.in-Ok-simulation.free in
+    simulation_ended c.args.monitor.now c.args.clients.now c.args.schedule (g.F.Files.seen c.args.files.now) (g.F.Files.seen c.input_of.new.files) c.in-Ok.input.monitor free.system.plan c.in-Ok.input.scripts
+    free.log free.now free.system c.in-Ok.ensures.input c.in-Ok-simulation.ensures.simulation c.in-Ok-simulation.ensures.system _ (g.S.Sink.seen c.args.out.now) _ c.in-Ok.ensures.steady
+    (written_since (ended (are_done free.system.clients (commits_of free.log))) (plan_and_log_text free.system free.log free.now) _ _ _ _ (ap g.S.Sink.seen c.in-Ok.ensures.silent) c.show_plan_and_log.ensures.written)

@@ -1,0 +1,268 @@
+-- What the program answers.
+use Rattle.std.specs.Prelude.{◌≡◌, ◌⊎◌, ℕ, List, Any, Option, Some, IfSome, codes}
+use Rattle.std.specs.Io.KnownBytes.{Appends, Keeps}
+use Rattle.mon_io.specs.Outside.{FilesSeen, SinkSeen, AppendsFront, Rises}
+use Rattle.mon_tree.specs.declared.tree.MonitorTree.{MonitorTree}
+use Rattle.mon_printer.specs.Canonical.{tree_text}
+use Rattle.mon_monitor.specs.MonitorParts.{MonitorParts}
+use Rattle.mon_implicit.specs.declared.commit.Turns.{Turns}
+use Rattle.mon_implicit.specs.declared.script.Client.{Client}
+use Rattle.mon_implicit.specs.Runs.{IsFinished}
+use Rattle.mon_implicit.specs.Rounds.{AreTurnsByRounds}
+use Rattle.mon_events.specs.declared.log.Entry.{Entry}
+use Rattle.mon_events.specs.declared.plan.Plan.{Plan}
+use Rattle.mon_events.specs.Configurations.{Configuration}
+use Rattle.mon_events.specs.Logs.{commits_of}
+use Rattle.mon_events.specs.PlanText.{plan_text}
+use Rattle.mon_explicit.specs.Sections.{spurious_in}
+use Rattle.mon_text.specs.TurnsText.{turns_text}
+use Rattle.mon_text.specs.FaultText.{unread_text}
+use Rattle.expresso.specs.declared.status.Status.{Status}
+use Rattle.expresso.specs.declared.status.Status.TheVariants.{Done, Refused, Usage, ReadFault, WriteFault, OutOfMemory, Stalled}
+use Rattle.expresso.specs.declared.source_fault.SourceFault.{SourceFault}
+use Rattle.mon_command.specs.declared.schedule.Schedule.{Schedule}
+use Rattle.mon_command.specs.CommandLine.{Command, check, turns, compile, simulate, run, stress, Takes, TakesNone, files_of}
+use Rattle.mon_stress.specs.LargeInput.{buffer_of, capacity_of, producers_and_consumers}
+use Rattle.expresso.specs.Placements.{IsPlacement}
+use Rattle.expresso.specs.PlacedRuns.{IsPlacedRun}
+use Rattle.expresso.specs.Simulations.{IsSimulation}
+use Rattle.mon_text.specs.Laws.{plan_and_log_text, system_under}
+use Rattle.mon_text.specs.SummaryText.{summary_text}
+use Rattle.expresso.specs.SourceFaults.{source_fault_text}
+use Rattle.expresso.specs.MonitorFiles.{IsAccepted, IsFirstFault}
+use Rattle.expresso.specs.ClientFiles.{AreAccepted, IsFirstOfClients}
+use Rattle.expresso.specs.Texts.{usage_text}
+
+-- the bytes are those held by a name, where they are told
+abbrev pub Holds : (List ℕ → Option (List ℕ)) → List ℕ → List ℕ → Type 0
+Holds held name bytes = IfSome (held name) (λ all. all ≡ bytes)
+
+-- the file holds the monitor, and its tree, where it is told
+pub record HoldsMonitor (held : List ℕ → Option (List ℕ)) (file : List ℕ) (tree : MonitorTree) (monitor : MonitorParts) : Type 0 where
+  pub bytes : List ℕ
+  pub told : Holds held file bytes
+  pub accepted : IsAccepted bytes tree monitor
+
+-- the two files hold the monitor and the clients, where they are told
+pub record HoldRun (held : List ℕ → Option (List ℕ)) (monitor_file clients_file : List ℕ) (monitor : MonitorParts) (clients : List Client) : Type 0 where
+  pub monitor_bytes : List ℕ
+  pub clients_bytes : List ℕ
+  pub tree : MonitorTree
+  pub monitor_told : Holds held monitor_file monitor_bytes
+  pub clients_told : Holds held clients_file clients_bytes
+  pub monitor_accepted : IsAccepted monitor_bytes tree monitor
+  pub clients_accepted : AreAccepted clients_bytes monitor clients
+
+-- ---- the text of each command
+
+-- the canonical form of the tree that the file has
+pub record IsCheckText (held : List ℕ → Option (List ℕ)) (file text : List ℕ) : Type 0 where
+  pub tree : MonitorTree
+  pub monitor : MonitorParts
+  pub holds : HoldsMonitor held file tree monitor
+  pub printed : text ≡ tree_text tree
+
+-- the text of the run by rounds of the monitor and the clients that the two files stand for
+pub record IsTurnsText (held : List ℕ → Option (List ℕ)) (monitor_file clients_file : List ℕ) (clients : List Client) (run : Turns) (text : List ℕ) : Type 0 where
+  pub monitor : MonitorParts
+  pub files : HoldRun held monitor_file clients_file monitor clients
+  pub rounds : AreTurnsByRounds monitor clients run
+  pub printed : text ≡ turns_text monitor clients run
+
+-- the text of a plan that the monitor of the file is compiled to
+pub record IsCompileText (held : List ℕ → Option (List ℕ)) (file text : List ℕ) : Type 0 where
+  pub tree : MonitorTree
+  pub monitor : MonitorParts
+  pub plan : Plan
+  pub holds : HoldsMonitor held file tree monitor
+  pub placement : IsPlacement monitor plan
+  pub printed : text ≡ plan_text monitor plan
+
+-- the text of a plan that the monitor is compiled to, and of the log of a simulation under it
+pub record IsSimulateText (held : List ℕ → Option (List ℕ)) (monitor_file clients_file : List ℕ) (schedule : Schedule) (clients : List Client) (log : List Entry) (text : List ℕ) : Type 0 where
+  pub monitor : MonitorParts
+  pub plan : Plan
+  pub last : Configuration
+  pub files : HoldRun held monitor_file clients_file monitor clients
+  pub simulation : IsSimulation (system_under monitor clients plan) schedule log last
+  pub printed : text ≡ plan_and_log_text (system_under monitor clients plan) log last
+
+-- the text of a plan that the monitor is compiled to, and of the log of a run under it in which no wake-up is spurious
+pub record IsRunText (held : List ℕ → Option (List ℕ)) (monitor_file clients_file : List ℕ) (clients : List Client) (log : List Entry) (text : List ℕ) : Type 0 where
+  pub monitor : MonitorParts
+  pub plan : Plan
+  pub last : Configuration
+  pub files : HoldRun held monitor_file clients_file monitor clients
+  pub placed : IsPlacedRun (system_under monitor clients plan) log last
+  pub unprompted : spurious_in log ≡ 0
+  pub printed : text ≡ plan_and_log_text (system_under monitor clients plan) log last
+
+-- the summary of such a run of the large input that the number stands for; its calls are done and the buffer is empty
+pub record IsStressText (number : ℕ) (text : List ℕ) : Type 0 where
+  pub plan : Plan
+  pub log : List Entry
+  pub last : Configuration
+  pub placed : IsPlacedRun (system_under (buffer_of (capacity_of number)) producers_and_consumers plan) log last
+  pub unprompted : spurious_in log ≡ 0
+  pub finished : IsFinished producers_and_consumers (commits_of log)
+  pub summed : text ≡ summary_text (system_under (buffer_of (capacity_of number)) producers_and_consumers plan) log last
+  pub printed : text ≡ codes "calls 16384\ndone\nstate count=0\n"
+
+-- the text of a command whose work is done; of `turns`, `simulate` and `run`, that no client has a call left
+abbrev pub IsDoneText : (List ℕ → Option (List ℕ)) → Command → List ℕ → Type 0
+IsDoneText held (check file) text = IsCheckText held file text
+IsDoneText held (turns monitor clients) text = (scripts : List Client) × (run : Turns) × IsTurnsText held monitor clients scripts run text × IsFinished scripts run.history
+IsDoneText held (compile file) text = IsCompileText held file text
+IsDoneText held (simulate monitor clients schedule) text =
+    (scripts : List Client) × (log : List Entry) × IsSimulateText held monitor clients schedule scripts log text × IsFinished scripts (commits_of log)
+IsDoneText held (run monitor clients workers) text = (scripts : List Client) × (log : List Entry) × IsRunText held monitor clients scripts log text × IsFinished scripts (commits_of log)
+IsDoneText held (stress number workers) text = IsStressText number text
+
+-- the text of `turns`, `simulate` or `run` where some client has a call left; no other command stalls
+abbrev pub IsStalledText : (List ℕ → Option (List ℕ)) → Command → List ℕ → Type 0
+IsStalledText held (check file) text = ⊥
+IsStalledText held (turns monitor clients) text = (scripts : List Client) × (run : Turns) × IsTurnsText held monitor clients scripts run text × (IsFinished scripts run.history → ⊥)
+IsStalledText held (compile file) text = ⊥
+IsStalledText held (simulate monitor clients schedule) text =
+    (scripts : List Client) × (log : List Entry) × IsSimulateText held monitor clients schedule scripts log text × (IsFinished scripts (commits_of log) → ⊥)
+IsStalledText held (run monitor clients workers) text = (scripts : List Client) × (log : List Entry) × IsRunText held monitor clients scripts log text × (IsFinished scripts (commits_of log) → ⊥)
+IsStalledText held (stress number workers) text = ⊥
+
+-- ---- refusals
+
+-- the line of the first fault of the monitor file
+pub record IsMonitorRefusal (held : List ℕ → Option (List ℕ)) (file text : List ℕ) : Type 0 where
+  pub bytes : List ℕ
+  pub fault : SourceFault
+  pub told : Holds held file bytes
+  pub first : IsFirstFault bytes fault
+  pub printed : text ≡ source_fault_text file bytes fault
+
+-- the monitor file is accepted, and the line is that of the first fault of the client file
+pub record IsClientsRefusal (held : List ℕ → Option (List ℕ)) (monitor_file clients_file text : List ℕ) : Type 0 where
+  pub monitor_bytes : List ℕ
+  pub clients_bytes : List ℕ
+  pub tree : MonitorTree
+  pub monitor : MonitorParts
+  pub monitor_told : Holds held monitor_file monitor_bytes
+  pub clients_told : Holds held clients_file clients_bytes
+  pub monitor_accepted : IsAccepted monitor_bytes tree monitor
+  pub fault : SourceFault
+  pub first : IsFirstOfClients clients_bytes monitor fault
+  pub printed : text ≡ source_fault_text clients_file clients_bytes fault
+
+-- the line of the first of both files that is not accepted
+abbrev pub IsRunRefusal : (List ℕ → Option (List ℕ)) → List ℕ → List ℕ → List ℕ → Type 0
+IsRunRefusal held monitor clients text = IsMonitorRefusal held monitor text ⊎ IsClientsRefusal held monitor clients text
+
+abbrev pub IsRefusedText : (List ℕ → Option (List ℕ)) → Command → List ℕ → Type 0
+IsRefusedText held (check file) text = IsMonitorRefusal held file text
+IsRefusedText held (turns monitor clients) text = IsRunRefusal held monitor clients text
+IsRefusedText held (compile file) text = IsMonitorRefusal held file text
+IsRefusedText held (simulate monitor clients schedule) text = IsRunRefusal held monitor clients text
+IsRefusedText held (run monitor clients workers) text = IsRunRefusal held monitor clients text
+IsRefusedText held (stress number workers) text = ⊥
+
+-- a read fault's line that names one of the command's files; which of them, no clause says
+abbrev pub IsUnreadText : Command → List ℕ → Type 0
+IsUnreadText command text = Any (λ file. text ≡ unread_text file) (files_of command)
+
+-- ---- what a status says
+
+-- The whole text of a status, and what is true where it is written. The files were seen before the call, and are seen now.
+abbrev pub IsText : List (List ℕ) → FilesSeen → FilesSeen → Status → List ℕ → Type 0
+IsText words files files_now Done text = (command : Command) × Takes words command × IsDoneText files.held command text
+IsText words files files_now Stalled text = (command : Command) × Takes words command × IsStalledText files.held command text
+IsText words files files_now Refused text = (command : Command) × Takes words command × IsRefusedText files.held command text
+IsText words files files_now Usage text = TakesNone words × (text ≡ usage_text)
+IsText words files files_now ReadFault text = (command : Command) × Takes words command × IsUnreadText command text × Rises files.faults files_now.faults
+IsText words files files_now WriteFault text = ⊥
+IsText words files files_now OutOfMemory text = ⊥
+
+-- What was written for a status: its whole text; where the sink failed, a proper front of the text whose status this one
+-- replaces; where memory ran out, nothing.
+abbrev pub Answers : List (List ℕ) → FilesSeen → FilesSeen → Status → SinkSeen → SinkSeen → Type 0
+Answers words files files_now WriteFault out out_now = (status : Status) × (text : List ℕ) × IsText words files files_now status text × AppendsFront out.written out_now.written text
+Answers words files files_now OutOfMemory out out_now = Keeps out.written out_now.written
+Answers words files files_now status out out_now = (text : List ℕ) × IsText words files files_now status text × Appends out.written out_now.written text
+
+-- ---- completeness: what the status must be where nothing fails
+
+-- the file tells its bytes, which are accepted
+abbrev pub AcceptsMonitor : (List ℕ → Option (List ℕ)) → List ℕ → Type 0
+AcceptsMonitor held file = (bytes : List ℕ) × (tree : MonitorTree) × (monitor : MonitorParts) × (held file ≡ Some bytes) × IsAccepted bytes tree monitor
+
+-- it tells its bytes, which are not accepted
+abbrev pub RejectsMonitor : (List ℕ → Option (List ℕ)) → List ℕ → Type 0
+RejectsMonitor held file = (bytes : List ℕ) × (held file ≡ Some bytes) × ((tree : MonitorTree) (monitor : MonitorParts) → IsAccepted bytes tree monitor → ⊥)
+
+-- the two files tell their bytes, which are accepted
+abbrev pub AcceptsRun : (List ℕ → Option (List ℕ)) → List ℕ → List ℕ → Type 0
+AcceptsRun held monitor_file clients_file =
+    (monitor_bytes : List ℕ) × (clients_bytes : List ℕ) × (tree : MonitorTree) × (monitor : MonitorParts) × (clients : List Client)
+    × (held monitor_file ≡ Some monitor_bytes) × (held clients_file ≡ Some clients_bytes)
+    × IsAccepted monitor_bytes tree monitor × AreAccepted clients_bytes monitor clients
+
+-- they tell their bytes, and one of them is not accepted
+abbrev pub RejectsRun : (List ℕ → Option (List ℕ)) → List ℕ → List ℕ → Type 0
+RejectsRun held monitor_file clients_file =
+    (monitor_bytes : List ℕ) × (clients_bytes : List ℕ) × (held monitor_file ≡ Some monitor_bytes) × (held clients_file ≡ Some clients_bytes)
+    × ((tree : MonitorTree) (monitor : MonitorParts) (clients : List Client) → IsAccepted monitor_bytes tree monitor → AreAccepted clients_bytes monitor clients → ⊥)
+
+-- the files of the command tell their bytes, which are accepted; `stress` has no files
+abbrev pub AcceptsFiles : (List ℕ → Option (List ℕ)) → Command → Type 0
+AcceptsFiles held (check file) = AcceptsMonitor held file
+AcceptsFiles held (turns monitor clients) = AcceptsRun held monitor clients
+AcceptsFiles held (compile file) = AcceptsMonitor held file
+AcceptsFiles held (simulate monitor clients schedule) = AcceptsRun held monitor clients
+AcceptsFiles held (run monitor clients workers) = AcceptsRun held monitor clients
+AcceptsFiles held (stress number workers) = Unit {0}
+
+-- they tell their bytes, and one of them is not accepted
+abbrev pub RejectsFiles : (List ℕ → Option (List ℕ)) → Command → Type 0
+RejectsFiles held (check file) = RejectsMonitor held file
+RejectsFiles held (turns monitor clients) = RejectsRun held monitor clients
+RejectsFiles held (compile file) = RejectsMonitor held file
+RejectsFiles held (simulate monitor clients schedule) = RejectsRun held monitor clients
+RejectsFiles held (run monitor clients workers) = RejectsRun held monitor clients
+RejectsFiles held (stress number workers) = ⊥
+
+-- the words are a command's whose files are accepted; or one of them is not
+abbrev pub Accepts : (List ℕ → Option (List ℕ)) → List (List ℕ) → Type 0
+Accepts held words = (command : Command) × Takes words command × AcceptsFiles held command
+
+abbrev pub Rejects : (List ℕ → Option (List ℕ)) → List (List ℕ) → Type 0
+Rejects held words = (command : Command) × Takes words command × RejectsFiles held command
+
+-- ---- which statuses may come
+
+-- no fault of a device rose in the call, and its count does not stand at its end
+abbrev pub IsSound : ℕ → ℕ → Type 0
+IsSound before now = Rises before now → ⊥
+
+abbrev pub IsWorkedOrMemory : Status → Type 0
+IsWorkedOrMemory Done = Unit {0}
+IsWorkedOrMemory Stalled = Unit {0}
+IsWorkedOrMemory OutOfMemory = Unit {0}
+IsWorkedOrMemory status = ⊥
+
+abbrev pub IsRefusedOrMemory : Status → Type 0
+IsRefusedOrMemory Refused = Unit {0}
+IsRefusedOrMemory OutOfMemory = Unit {0}
+IsRefusedOrMemory status = ⊥
+
+abbrev pub IsStoppedOrMemory : Status → Type 0
+IsStoppedOrMemory Refused = Unit {0}
+IsStoppedOrMemory ReadFault = Unit {0}
+IsStoppedOrMemory OutOfMemory = Unit {0}
+IsStoppedOrMemory status = ⊥
+
+abbrev pub IsUsageOrMemory : Status → Type 0
+IsUsageOrMemory Usage = Unit {0}
+IsUsageOrMemory OutOfMemory = Unit {0}
+IsUsageOrMemory status = ⊥
+
+abbrev pub IsUnreadOrMemory : Status → Type 0
+IsUnreadOrMemory ReadFault = Unit {0}
+IsUnreadOrMemory OutOfMemory = Unit {0}
+IsUnreadOrMemory status = ⊥

@@ -1,0 +1,34 @@
+//! `expresso check FILE`.
+
+ghost use Rattle.std.specs.Prelude.{◌≡◌, ◌≢◌, ◌≤◌, ◌↔◌, ℕ, List};
+ghost use Rattle.mon_command.specs.CommandLine.{check};
+ghost use Rattle.expresso.specs.inner.Ending.{HasEnded};
+
+use crate::input::monitor_of;
+use crate::status::Status;
+use crate::text::show_tree;
+use mon_io::{Files, Sink};
+use std::alloc::Global;
+
+/// Checks a monitor file and writes its canonical form, or the line of its first fault.
+pub(crate) fn check_file<F: Files, S: Sink>(
+    alloc: Global,
+    file: &str,
+    files: &mut F,
+    out: &mut S,
+) -> Status
+    requires { F.may_read files.old file.now }
+    ensures ended { HasEnded (check file.now)
+        (F.seen files.old) (F.seen files.new) result (S.seen out.old) (S.seen out.new) }
+    ensures reads { (F.seen files.old).faults ≤ (F.seen files.new).faults }
+    ensures writes { (S.seen out.old).faults ≤ (S.seen out.new).faults }
+    ensures handed_on { result ≢ Status.WriteFault
+        → (S.seen out.new).faults ≡ (S.seen out.old).faults }
+    ensures held { (name : List ℕ) → (F.seen files.new).held name ≡ (F.seen files.old).held name }
+    ensures may_read { (name : List ℕ) → F.may_read files.new name ↔ F.may_read files.old name }
+{
+    match monitor_of(alloc, file, files, out) {
+        Ok(found) => show_tree(&found.tree, out),
+        Err(status) => status,
+    }
+}

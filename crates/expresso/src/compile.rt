@@ -1,0 +1,39 @@
+//! `expresso compile FILE`.
+
+ghost use Rattle.std.specs.Prelude.{◌≡◌, ◌≢◌, ◌≤◌, ◌↔◌, ℕ, List};
+ghost use Rattle.mon_command.specs.CommandLine.{compile};
+ghost use Rattle.expresso.specs.inner.Ending.{HasEnded};
+
+use crate::input::monitor_of;
+use crate::placement::plan_of;
+use crate::status::Status;
+use crate::text::show_plan;
+use mon_io::{Files, Sink};
+use std::alloc::{AllocError, Global};
+
+/// Compiles a monitor file and writes the plan, or the line of its first fault.
+pub(crate) fn compile_file<F: Files, S: Sink>(
+    alloc: Global,
+    file: &str,
+    files: &mut F,
+    out: &mut S,
+) -> Status
+    requires { F.may_read files.old file.now }
+    ensures ended { HasEnded (compile file.now)
+        (F.seen files.old) (F.seen files.new) result (S.seen out.old) (S.seen out.new) }
+    ensures reads { (F.seen files.old).faults ≤ (F.seen files.new).faults }
+    ensures writes { (S.seen out.old).faults ≤ (S.seen out.new).faults }
+    ensures handed_on { result ≢ Status.WriteFault
+        → (S.seen out.new).faults ≡ (S.seen out.old).faults }
+    ensures held { (name : List ℕ) → (F.seen files.new).held name ≡ (F.seen files.old).held name }
+    ensures may_read { (name : List ℕ) → F.may_read files.new name ↔ F.may_read files.old name }
+{
+    let found = match monitor_of(alloc, file, files, out) {
+        Ok(found) => found,
+        Err(status) => return status,
+    };
+    match plan_of(alloc, &found.monitor) {
+        Ok(plan) => show_plan(&found.monitor, &plan, out),
+        Err(AllocError) => Status::OutOfMemory,
+    }
+}

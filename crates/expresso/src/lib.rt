@@ -1,0 +1,30 @@
+//! The top call: from words, files and a sink to a status and what is printed.
+//!
+//! [`expresso`] reads the words of the command line and does what they ask for. `run FILE CLIENTS` compiles a monitor to a
+//! plan, has workers run clients on it in threads, and prints the plan and the log. `check` prints a monitor's canonical
+//! form, `turns` a run by rounds of the implicit machine, `compile` the plan alone: whom each block wakes; `simulate` runs
+//! the clients by a schedule in place of threads, and `stress` runs a large input.
+//!
+//! Its clause `headline` is `specs/Headline`: what `run` promises. `specs/Answers` says what each command prints, and
+//! `specs/Exit` which number stands for a [`Status`].
+#![tactic(auto)]
+
+mod check;
+mod client_file;
+mod compile;
+mod input;
+mod monitor_file;
+mod placement;
+mod program;
+mod reading;
+mod run;
+mod simulate;
+mod source_fault;
+mod status;
+mod stress;
+mod text;
+mod turns;
+mod work;
+
+pub use program::expresso;
+pub use status::{Status, number};

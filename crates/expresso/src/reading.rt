@@ -1,0 +1,41 @@
+//! The bytes of the files that a command names.
+
+ghost use Rattle.std.specs.Prelude.{◌≡◌, ◌≢◌, ◌≤◌, ◌↔◌, ℕ, List, IfErr, IfOk, OnOk};
+ghost use Rattle.mon_base.specs.Limits.{FILE_BYTES};
+ghost use Rattle.mon_io.specs.Outside.{IsRead};
+ghost use Rattle.expresso.specs.inner.Ending.{IsUnread};
+
+use crate::source_fault::LONGEST_FILE;
+use crate::status::Status;
+use crate::text::show_unread;
+use mon_io::{FileFault, Files, Sink};
+use std::alloc::Global;
+
+/// The bytes of a file, one more than a file may have at most. Where it has none, the status of its command: the
+/// line of a file that couldn't be read is written then.
+pub(crate) fn bytes_of<F: Files, S: Sink>(
+    alloc: Global,
+    file: &str,
+    files: &mut F,
+    out: &mut S,
+) -> Result<Vec<u8>, Status>
+    requires { F.may_read files.old file.now }
+    ensures told { IfOk result (λ bytes.
+        IsRead ((F.seen files.old).held file.now) FILE_BYTES bytes.items) }
+    ensures steady { OnOk result ((F.seen files.new).faults ≡ (F.seen files.old).faults) }
+    ensures silent { OnOk result (out.new ≡ out.old) }
+    ensures unread { IfErr result (λ status. IsUnread file.now
+        (F.seen files.old) (F.seen files.new) status (S.seen out.old) (S.seen out.new)) }
+    ensures reads { (F.seen files.old).faults ≤ (F.seen files.new).faults }
+    ensures writes { (S.seen out.old).faults ≤ (S.seen out.new).faults }
+    ensures handed_on { IfErr result (λ status. status ≢ Status.WriteFault
+        → (S.seen out.new).faults ≡ (S.seen out.old).faults) }
+    ensures held { (name : List ℕ) → (F.seen files.new).held name ≡ (F.seen files.old).held name }
+    ensures may_read { (name : List ℕ) → F.may_read files.new name ↔ F.may_read files.old name }
+{
+    match files.read_up_to(alloc, file, LONGEST_FILE) {
+        Ok(bytes) => Ok(bytes),
+        Err(FileFault::Failed) => Err(show_unread(file, out)),
+        Err(FileFault::OutOfMemory) => Err(Status::OutOfMemory),
+    }
+}

@@ -1,0 +1,83 @@
+//! `expresso run FILE CLIENTS [--workers N]`.
+
+ghost use Rattle.std.specs.Prelude.{◌≡◌, ◌≢◌, ◌≤◌, ◌↔◌, ℕ, List, IfOk};
+ghost use Rattle.mon_base.specs.Limits.{WORKERS};
+ghost use Rattle.mon_command.specs.CommandLine.{run};
+ghost use Rattle.mon_implicit.specs.Scripted.{FitsScripts};
+ghost use Rattle.mon_explicit.specs.Sections.{spurious_in};
+ghost use Rattle.mon_text.specs.Laws.{system_under};
+ghost use Rattle.expresso.specs.PlacedRuns.{IsPlacedRun};
+ghost use Rattle.expresso.specs.inner.Ending.{HasEnded};
+
+use crate::input::{Input, input_of};
+use crate::placement::plan_of;
+use crate::status::Status;
+use crate::text::show_plan_and_log;
+use mon_explicit::FreeMonitor;
+use mon_implicit::Scripts;
+use mon_io::{Files, Sink};
+use mon_lock::Gate;
+use mon_monitor::Monitor;
+use mon_pool::run_pool;
+use std::alloc::{AllocError, Global};
+use std::sync::Wait;
+use std::thread::Threads;
+
+/// So many workers run the clients on their monitor to the end, under a plan that it is compiled to. All memory is
+/// taken here.
+pub(crate) fn worked<R: Threads + Wait + Sync, G: Gate>(
+    rt: &R,
+    alloc: Global,
+    monitor: Monitor,
+    scripts: Scripts,
+    workers: u32,
+    gate: &G,
+) -> Result<FreeMonitor, AllocError>
+    requires fits { FitsScripts monitor scripts }
+    requires some { 1 ≤ workers }
+    requires few { workers ≤ WORKERS }
+    ensures system { IfOk result (λ free.
+        free.system ≡ system_under monitor scripts free.system.plan) }
+    ensures placed { IfOk result (λ free.
+        IsPlacedRun (system_under monitor scripts free.system.plan) free.log free.now) }
+    ensures unprompted { IfOk result (λ free. spurious_in free.log ≡ 0) }
+{
+    let plan = plan_of(alloc, &monitor)?;
+    let free = FreeMonitor::open(alloc, monitor, plan, scripts, 0)?;
+    run_pool(rt, alloc, free, workers, gate)
+}
+
+/// Reads both files, the monitor first, has workers run the clients on the monitor in threads, and writes the plan and
+/// the log, or the line of the first fault.
+pub(crate) fn run_files<R: Threads + Wait + Sync, F: Files, S: Sink, G: Gate>(
+    rt: &R,
+    alloc: Global,
+    monitor: &str,
+    clients: &str,
+    workers: u32,
+    files: &mut F,
+    out: &mut S,
+    gate: &G,
+) -> Status
+    requires monitor { F.may_read files.old monitor.now }
+    requires clients { F.may_read files.old clients.now }
+    requires some { 1 ≤ workers }
+    requires few { workers ≤ WORKERS }
+    ensures ended { HasEnded (run monitor.now clients.now workers)
+        (F.seen files.old) (F.seen files.new) result (S.seen out.old) (S.seen out.new) }
+    ensures handed_on { result ≢ Status.WriteFault
+        → (S.seen out.new).faults ≡ (S.seen out.old).faults }
+    ensures reads { (F.seen files.old).faults ≤ (F.seen files.new).faults }
+    ensures writes { (S.seen out.old).faults ≤ (S.seen out.new).faults }
+    ensures held { (name : List ℕ) → (F.seen files.new).held name ≡ (F.seen files.old).held name }
+    ensures may_read { (name : List ℕ) → F.may_read files.new name ↔ F.may_read files.old name }
+{
+    let Input { monitor, scripts } = match input_of(alloc, monitor, clients, files, out) {
+        Ok(input) => input,
+        Err(status) => return status,
+    };
+    match worked(rt, alloc, monitor, scripts, workers, gate) {
+        Ok(free) => show_plan_and_log(&free, out),
+        Err(AllocError) => Status::OutOfMemory,
+    }
+}

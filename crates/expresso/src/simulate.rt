@@ -1,0 +1,96 @@
+//! `expresso simulate FILE CLIENTS [--seed N] [--spurious K]`.
+
+ghost use Rattle.std.specs.Prelude.{◌≡◌, ◌≢◌, ◌≤◌, ◌+◌, ◌↔◌, ℕ, List, IfOk};
+ghost use Rattle.mon_implicit.specs.Scripted.{FitsScripts};
+ghost use Rattle.mon_events.specs.Logs.{IsClosed};
+ghost use Rattle.mon_explicit.specs.Sections.{MOST_EXTRA, HasEnded as HasEndedRight, HoldsAlways, spurious_in};
+ghost use Rattle.mon_simulate.specs.Schedules.{Extends};
+ghost use Rattle.mon_command.specs.CommandLine.{simulate};
+ghost use Rattle.expresso.specs.Simulations.{IsScheduled, IsSimulation, most_spurious};
+ghost use Rattle.mon_text.specs.Laws.{system_under};
+ghost use Rattle.expresso.specs.inner.Ending.{HasEnded};
+
+use crate::input::{Input, input_of};
+use crate::placement::plan_of;
+use crate::status::Status;
+use crate::text::show_plan_and_log;
+use mon_command::Schedule;
+use mon_explicit::FreeMonitor;
+use mon_io::{Files, Sink};
+use mon_simulate::{drawn, rounds};
+use std::alloc::{AllocError, Global};
+
+/// The most spurious wake-ups of a schedule.
+fn most_spurious(schedule: Schedule) -> u64
+    ensures { result ≡ most_spurious schedule }
+{
+    match schedule {
+        Schedule::Rounds => 0,
+        Schedule::Drawn { spurious, .. } => spurious as u64,
+    }
+}
+
+/// Runs a monitor to the end of the schedule.
+fn run(free: &mut FreeMonitor, schedule: Schedule)
+    requires left { spurious_in free.old.log + most_spurious schedule ≤ free.old.extra }
+    ensures scheduled { IsScheduled schedule free.old free.new }
+    ensures closed { IsClosed free.new.system free.new.now }
+    ensures extends { Extends free.old free.new }
+    ensures spurious { spurious_in free.new.log
+        ≤ spurious_in free.old.log + most_spurious schedule }
+    ensures always { HoldsAlways free.new }
+    ensures ends { HasEndedRight free.new }
+{
+    match schedule {
+        Schedule::Rounds => rounds(free),
+        Schedule::Drawn { seed, spurious } => drawn(free, seed, spurious),
+    }
+}
+
+/// The clients run on their monitor by the schedule, under a plan that it is compiled to. All memory is taken here.
+fn simulation(alloc: Global, input: Input, schedule: Schedule) -> Result<FreeMonitor, AllocError>
+    requires fits { FitsScripts input.monitor input.scripts }
+    requires few { most_spurious schedule ≤ MOST_EXTRA }
+    ensures system { IfOk result (λ free.
+        free.system ≡ system_under input.monitor input.scripts free.system.plan) }
+    ensures simulation { IfOk result (λ free. IsSimulation
+        (system_under input.monitor input.scripts free.system.plan) schedule free.log free.now) }
+{
+    let Input { monitor, scripts } = input;
+    let plan = plan_of(alloc, &monitor)?;
+    let mut free = FreeMonitor::open(alloc, monitor, plan, scripts, most_spurious(schedule))?;
+    run(&mut free, schedule);
+    Ok(free)
+}
+
+/// Reads both files, the monitor first, runs the clients on the monitor by sections, and writes the plan and the
+/// log, or the line of the first fault.
+pub(crate) fn simulate_files<F: Files, S: Sink>(
+    alloc: Global,
+    monitor: &str,
+    clients: &str,
+    schedule: Schedule,
+    files: &mut F,
+    out: &mut S,
+) -> Status
+    requires monitor { F.may_read files.old monitor.now }
+    requires clients { F.may_read files.old clients.now }
+    requires few { most_spurious schedule ≤ MOST_EXTRA }
+    ensures ended { HasEnded (simulate monitor.now clients.now schedule)
+        (F.seen files.old) (F.seen files.new) result (S.seen out.old) (S.seen out.new) }
+    ensures handed_on { result ≢ Status.WriteFault
+        → (S.seen out.new).faults ≡ (S.seen out.old).faults }
+    ensures reads { (F.seen files.old).faults ≤ (F.seen files.new).faults }
+    ensures writes { (S.seen out.old).faults ≤ (S.seen out.new).faults }
+    ensures held { (name : List ℕ) → (F.seen files.new).held name ≡ (F.seen files.old).held name }
+    ensures may_read { (name : List ℕ) → F.may_read files.new name ↔ F.may_read files.old name }
+{
+    let input = match input_of(alloc, monitor, clients, files, out) {
+        Ok(input) => input,
+        Err(status) => return status,
+    };
+    match simulation(alloc, input, schedule) {
+        Ok(free) => show_plan_and_log(&free, out),
+        Err(AllocError) => Status::OutOfMemory,
+    }
+}

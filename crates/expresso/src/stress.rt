@@ -1,0 +1,44 @@
+//! `expresso stress N [--workers N]`.
+
+ghost use Rattle.std.specs.Prelude.{◌≡◌, ◌≢◌, ◌≤◌};
+ghost use Rattle.mon_base.specs.Limits.{WORKERS};
+ghost use Rattle.mon_command.specs.CommandLine.{stress};
+ghost use Rattle.mon_io.specs.Outside.{FilesSeen};
+ghost use Rattle.expresso.specs.inner.Ending.{HasEnded};
+
+use crate::run::worked;
+use crate::status::Status;
+use crate::text::show_summary;
+use mon_io::Sink;
+use mon_lock::Gate;
+use mon_stress::{LargeInput, every_large_run_ends_done, large_input};
+use std::alloc::{AllocError, Global};
+use std::sync::Wait;
+use std::thread::Threads;
+
+/// Has workers run the large input that a number stands for, and writes the summary of the log. It reads no file.
+pub(crate) fn stress<R: Threads + Wait + Sync, S: Sink, G: Gate>(
+    rt: &R,
+    alloc: Global,
+    number: u64,
+    workers: u32,
+    out: &mut S,
+    gate: &G,
+) -> Status
+    requires some { 1 ≤ workers }
+    requires few { workers ≤ WORKERS }
+    ensures ended { (files : FilesSeen) → HasEnded (stress number workers)
+        files files result (S.seen out.old) (S.seen out.new) }
+    ensures handed_on { result ≢ Status.WriteFault
+        → (S.seen out.new).faults ≡ (S.seen out.old).faults }
+    ensures writes { (S.seen out.old).faults ≤ (S.seen out.new).faults }
+{
+    every_large_run_ends_done();
+    let Ok(LargeInput { monitor, scripts }) = large_input(alloc, number) else {
+        return Status::OutOfMemory;
+    };
+    match worked(rt, alloc, monitor, scripts, workers, gate) {
+        Ok(free) => show_summary(&free, out),
+        Err(AllocError) => Status::OutOfMemory,
+    }
+}

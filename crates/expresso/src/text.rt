@@ -1,0 +1,204 @@
+//! What the program itself prints, written whole to a sink and handed on, with the status that it comes to.
+//! No writer takes memory.
+
+ghost use Rattle.std.specs.Prelude.{◌≡◌, ◌≢◌, ◌<◌, ◌≤◌, ℕ, List, length};
+ghost use Rattle.mon_io.specs.Outside.{SinkSeen};
+ghost use Rattle.mon_io.specs.Writing.{Wrote};
+ghost use Rattle.mon_events.specs.Logs.{IsClosed, commits_of};
+ghost use Rattle.mon_events.specs.PlanText.{plan_text};
+ghost use Rattle.mon_printer.specs.Canonical.{tree_text};
+ghost use Rattle.mon_text.specs.FaultText.{unread_text};
+ghost use Rattle.mon_text.specs.Faults.{fault_text};
+ghost use Rattle.mon_text.specs.LogText.{are_done};
+ghost use Rattle.mon_text.specs.TurnsText.{turns_text};
+ghost use Rattle.mon_text.specs.Laws.{plan_and_log_text};
+ghost use Rattle.mon_text.specs.SummaryText.{summary_text};
+ghost use Rattle.expresso.specs.SourceFaults.{source_fault_text};
+ghost use Rattle.expresso.specs.Texts.{usage_text};
+ghost use Rattle.expresso.specs.inner.Ending.{IsWritten, ended};
+
+use crate::source_fault::SourceFault;
+use crate::status::Status;
+use mon_events::Plan;
+use mon_explicit::FreeMonitor;
+use mon_implicit::{Scripts, Turns};
+use mon_io::{Sink, SinkFailed, write_piece};
+use mon_monitor::Monitor;
+use mon_printer::print_monitor;
+use mon_text::{Fault, are_done, write_fault, write_log, write_plan, write_summary, write_turns};
+use mon_tree::MonitorTree;
+
+/// Hands on what was written of a text, and gives the status that the text comes to.
+fn finish<S: Sink>(status: Status, outcome: Result<(), SinkFailed>, out: &mut S) -> Status
+    ensures written { (before : SinkSeen) (text : List ℕ) → 0 < length text
+        → Wrote before (S.seen out.old) outcome text
+        → IsWritten status text result before (S.seen out.new) }
+    ensures later { (S.seen out.old).faults ≤ (S.seen out.new).faults }
+    ensures handed_on { (before : SinkSeen) (text : List ℕ)
+        → Wrote before (S.seen out.old) outcome text
+        → result ≢ Status.WriteFault → (S.seen out.new).faults ≡ before.faults }
+{
+    match outcome {
+        Ok(()) => match out.flush() {
+            Ok(()) => status,
+            Err(SinkFailed) => Status::WriteFault,
+        },
+        Err(SinkFailed) => Status::WriteFault,
+    }
+}
+
+/// Writes the usage.
+pub(crate) fn show_usage<S: Sink>(out: &mut S) -> Status
+    ensures written { IsWritten Status.Usage usage_text result (S.seen out.old) (S.seen out.new) }
+    ensures later { (S.seen out.old).faults ≤ (S.seen out.new).faults }
+    ensures handed_on { result ≢ Status.WriteFault
+        → (S.seen out.new).faults ≡ (S.seen out.old).faults }
+{
+    let outcome = write_piece(
+        b"usage:\nexpresso check FILE\nexpresso turns FILE CLIENTS\nexpresso compile FILE\nexpresso simulate FILE CLIENTS [--seed N] [--spurious K]\nexpresso run FILE CLIENTS [--workers N]\nexpresso stress N [--workers N]\n",
+        out,
+    );
+    finish(Status::Usage, outcome, out)
+}
+
+/// Writes the line of a file that couldn't be read.
+pub(crate) fn show_unread<S: Sink>(file: &str, out: &mut S) -> Status
+    ensures written { IsWritten Status.ReadFault (unread_text file.now) result
+        (S.seen out.old) (S.seen out.new) }
+    ensures later { (S.seen out.old).faults ≤ (S.seen out.new).faults }
+    ensures handed_on { result ≢ Status.WriteFault
+        → (S.seen out.new).faults ≡ (S.seen out.old).faults }
+{
+    let outcome = write_fault(&Fault::Unread { file }, out);
+    finish(Status::ReadFault, outcome, out)
+}
+
+/// The fault of a file as one that is printed.
+fn shown_fault<'a>(file: &'a str, bytes: &'a [u8], fault: SourceFault) -> Fault<'a>
+    requires { fault ≢ SourceFault.OutOfMemory }
+    ensures { fault_text result ≡ source_fault_text file.now bytes.now fault }
+{
+    match fault {
+        SourceFault::TooLong => Fault::TooLong { file },
+        SourceFault::At { at, what } => Fault::Place {
+            file,
+            bytes,
+            at,
+            what,
+        },
+        SourceFault::OutOfMemory => unreachable!(),
+    }
+}
+
+/// Writes the line of a file's fault.
+pub(crate) fn show_fault<S: Sink>(
+    file: &str,
+    bytes: &[u8],
+    fault: SourceFault,
+    out: &mut S,
+) -> Status
+    requires { fault ≢ SourceFault.OutOfMemory }
+    ensures written { IsWritten Status.Refused (source_fault_text file.now bytes.now fault) result
+        (S.seen out.old) (S.seen out.new) }
+    ensures later { (S.seen out.old).faults ≤ (S.seen out.new).faults }
+    ensures handed_on { result ≢ Status.WriteFault
+        → (S.seen out.new).faults ≡ (S.seen out.old).faults }
+{
+    let shown = shown_fault(file, bytes, fault);
+    let outcome = write_fault(&shown, out);
+    finish(Status::Refused, outcome, out)
+}
+
+/// Writes the canonical form of a tree.
+pub(crate) fn show_tree<S: Sink>(tree: &MonitorTree, out: &mut S) -> Status
+    ensures written { IsWritten Status.Done (tree_text tree.now) result
+        (S.seen out.old) (S.seen out.new) }
+    ensures later { (S.seen out.old).faults ≤ (S.seen out.new).faults }
+    ensures handed_on { result ≢ Status.WriteFault
+        → (S.seen out.new).faults ≡ (S.seen out.old).faults }
+{
+    let outcome = print_monitor(tree, out);
+    finish(Status::Done, outcome, out)
+}
+
+/// Writes a plan of a monitor.
+pub(crate) fn show_plan<S: Sink>(monitor: &Monitor, plan: &Plan, out: &mut S) -> Status
+    ensures written { IsWritten Status.Done (plan_text monitor.now plan.now) result
+        (S.seen out.old) (S.seen out.new) }
+    ensures later { (S.seen out.old).faults ≤ (S.seen out.new).faults }
+    ensures handed_on { result ≢ Status.WriteFault
+        → (S.seen out.new).faults ≡ (S.seen out.old).faults }
+{
+    let outcome = write_plan(monitor, plan, out);
+    finish(Status::Done, outcome, out)
+}
+
+/// The status of a run.
+fn run_status(finished: bool) -> Status
+    ensures { result ≡ ended finished }
+{
+    if finished {
+        Status::Done
+    } else {
+        Status::Stalled
+    }
+}
+
+/// Writes a run. Where a client has calls left it is stalled.
+pub(crate) fn show_turns<S: Sink>(
+    monitor: &Monitor,
+    scripts: &Scripts,
+    turns: &Turns,
+    out: &mut S,
+) -> Status
+    ensures written { IsWritten (ended turns.now.finished)
+        (turns_text monitor.now scripts.now turns.now) result (S.seen out.old) (S.seen out.new) }
+    ensures later { (S.seen out.old).faults ≤ (S.seen out.new).faults }
+    ensures handed_on { result ≢ Status.WriteFault
+        → (S.seen out.new).faults ≡ (S.seen out.old).faults }
+{
+    let outcome = write_turns(monitor, scripts, turns, out);
+    finish(run_status(turns.finished), outcome, out)
+}
+
+/// Writes the plan and the log of a run by sections. Where a client has calls left it is stalled.
+pub(crate) fn show_plan_and_log<S: Sink>(free: &FreeMonitor, out: &mut S) -> Status
+    requires { IsClosed free.now.system free.now.now }
+    ensures written { IsWritten
+        (ended (are_done free.now.system.clients (commits_of free.now.log)))
+        (plan_and_log_text free.now.system free.now.log free.now.now)
+        result (S.seen out.old) (S.seen out.new) }
+    ensures handed_on { result ≢ Status.WriteFault
+        → (S.seen out.new).faults ≡ (S.seen out.old).faults }
+    ensures later { (S.seen out.old).faults ≤ (S.seen out.new).faults }
+{
+    let finished = are_done(free);
+    let outcome = write_plan_and_log(free, out);
+    finish(run_status(finished), outcome, out)
+}
+
+/// Writes the plan, and then the log.
+fn write_plan_and_log<S: Sink>(free: &FreeMonitor, out: &mut S) -> Result<(), SinkFailed>
+    requires { IsClosed free.now.system free.now.now }
+    ensures { Wrote (S.seen out.old) (S.seen out.new) result
+        (plan_and_log_text free.now.system free.now.log free.now.now) }
+{
+    write_plan(free.monitor(), free.plan(), out)?;
+    write_log(free, out)
+}
+
+/// Writes the summary of a run by sections. Where a client has calls left it is stalled.
+pub(crate) fn show_summary<S: Sink>(free: &FreeMonitor, out: &mut S) -> Status
+    requires { IsClosed free.now.system free.now.now }
+    ensures written { IsWritten
+        (ended (are_done free.now.system.clients (commits_of free.now.log)))
+        (summary_text free.now.system free.now.log free.now.now)
+        result (S.seen out.old) (S.seen out.new) }
+    ensures handed_on { result ≢ Status.WriteFault
+        → (S.seen out.new).faults ≡ (S.seen out.old).faults }
+    ensures later { (S.seen out.old).faults ≤ (S.seen out.new).faults }
+{
+    let finished = are_done(free);
+    let outcome = write_summary(free, out);
+    finish(run_status(finished), outcome, out)
+}

@@ -1,0 +1,42 @@
+//! `expresso turns FILE CLIENTS`.
+
+ghost use Rattle.std.specs.Prelude.{◌≡◌, ◌≢◌, ◌≤◌, ◌↔◌, ℕ, List};
+ghost use Rattle.mon_command.specs.CommandLine.{turns};
+ghost use Rattle.expresso.specs.inner.Ending.{HasEnded};
+
+use crate::input::input_of;
+use crate::status::Status;
+use crate::text::show_turns;
+use mon_implicit::turns;
+use mon_io::{Files, Sink};
+use std::alloc::{AllocError, Global};
+
+/// Reads both files, the monitor first, runs the clients on the monitor by rounds, and writes the run, or
+/// the line of the first fault.
+pub(crate) fn take_turns<F: Files, S: Sink>(
+    alloc: Global,
+    monitor: &str,
+    clients: &str,
+    files: &mut F,
+    out: &mut S,
+) -> Status
+    requires monitor { F.may_read files.old monitor.now }
+    requires clients { F.may_read files.old clients.now }
+    ensures ended { HasEnded (turns monitor.now clients.now)
+        (F.seen files.old) (F.seen files.new) result (S.seen out.old) (S.seen out.new) }
+    ensures reads { (F.seen files.old).faults ≤ (F.seen files.new).faults }
+    ensures writes { (S.seen out.old).faults ≤ (S.seen out.new).faults }
+    ensures handed_on { result ≢ Status.WriteFault
+        → (S.seen out.new).faults ≡ (S.seen out.old).faults }
+    ensures held { (name : List ℕ) → (F.seen files.new).held name ≡ (F.seen files.old).held name }
+    ensures may_read { (name : List ℕ) → F.may_read files.new name ↔ F.may_read files.old name }
+{
+    let input = match input_of(alloc, monitor, clients, files, out) {
+        Ok(input) => input,
+        Err(status) => return status,
+    };
+    match turns(alloc, &input.monitor, &input.scripts) {
+        Ok(run) => show_turns(&input.monitor, &input.scripts, &run, out),
+        Err(AllocError) => Status::OutOfMemory,
+    }
+}

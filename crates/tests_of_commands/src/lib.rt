@@ -1,0 +1,31 @@
+//! Tests of the words of the command line, and of what each command prints over files and sinks in memory.
+//!
+//! There are only tests. What is asked for was worked out by hand.
+#![tactic(auto)]
+
+#[cfg(test)]
+mod asking;
+#[cfg(test)]
+mod checks;
+#[cfg(test)]
+mod clients;
+#[cfg(test)]
+mod compile;
+#[cfg(test)]
+mod derived;
+#[cfg(test)]
+mod gates;
+#[cfg(test)]
+mod outside;
+#[cfg(test)]
+mod readme;
+#[cfg(test)]
+mod run;
+#[cfg(test)]
+mod runs;
+#[cfg(test)]
+mod simulate;
+#[cfg(test)]
+mod stress;
+#[cfg(test)]
+mod words;

@@ -1,0 +1,214 @@
+//! Words that are no command, and devices that fail.
+
+use super::asking::{
+    CHECK, COMPILE, Call, Devices, Outcome, RUN, SIMULATE, SOUND, TURNS, answers, asked, check,
+    outcome_of, texts_of, turns, two_files,
+};
+use super::runs::TWO_RUN;
+use expresso::{Status, expresso};
+use mon_io::StdSink;
+use mon_lock::OpenGate;
+use samples::clients::TWO;
+use samples::monitors::BUFFER;
+use std::alloc::AllocError;
+use std::fmt::Display;
+use std::io;
+use std::io::Print;
+use std::process::Abort;
+use std::sync::Wait;
+use std::test::Fail;
+use std::thread::Threads;
+
+const USAGE: &[u8] = b"usage:
+expresso check FILE
+expresso turns FILE CLIENTS
+expresso compile FILE
+expresso simulate FILE CLIENTS [--seed N] [--spurious K]
+expresso run FILE CLIENTS [--workers N]
+expresso stress N [--workers N]
+";
+
+#[test]
+fn other_words_get_the_usage(rt: HostRuntime) -> Result<(), Fail> {
+    let none: [&str; 0] = [];
+    let table: [&[&str]; 19] = [
+        &["expresso", "turns", "m.mon"],
+        &["expresso", "check"],
+        &["expresso", "check", "m.mon", "c.cl"],
+        &["expresso", "compile", "m.mon", "c.cl"],
+        &["expresso", "frob", "x"],
+        &["expresso", "Check", "m.mon"],
+        &["expresso"],
+        &none,
+        &["expresso", "turns", "m.mon", "c.cl", "more"],
+        &["expresso", "--help"],
+        &["expresso", "simulate", "m.mon", "c.cl", "--spurious", "2"],
+        &["expresso", "run", "m.mon"],
+        &["expresso", "run", "m.mon", "c.cl", "--workers", "17"],
+        &["expresso", "run", "m.mon", "c.cl", "--workers", "0"],
+        &["expresso", "run", "m.mon", "c.cl", "--seed", "1"],
+        &["expresso", "stress"],
+        &["expresso", "stress", "x"],
+        &["expresso", "stress", "3", "--workers", "17"],
+        &["expresso", "stress", "3", "--seed", "1"],
+    ];
+    for words in table {
+        answers(&rt, asked(words, BUFFER, TWO), Status::Usage, USAGE)?;
+    }
+    Ok(())
+}
+
+/// A call of the buffer and two clients on these words, over these devices.
+fn buffer_over<'a>(words: &'a [&'a str], devices: Devices) -> Call<'a> {
+    Call {
+        devices,
+        ..asked(words, BUFFER, TWO)
+    }
+}
+
+#[test]
+fn a_read_that_fails_names_its_file(rt: HostRuntime) -> Result<(), Fail> {
+    let table: [(&[&str], u64, &[u8]); 8] = [
+        (TURNS, 1, b"read fault: m.mon\n"),
+        (TURNS, 2, b"read fault: c.cl\n"),
+        (CHECK, 1, b"read fault: m.mon\n"),
+        (COMPILE, 1, b"read fault: m.mon\n"),
+        (SIMULATE, 1, b"read fault: m.mon\n"),
+        (SIMULATE, 2, b"read fault: c.cl\n"),
+        (RUN, 1, b"read fault: m.mon\n"),
+        (RUN, 2, b"read fault: c.cl\n"),
+    ];
+    for (words, number, line) in table {
+        let devices = Devices {
+            failing_read: Some(number),
+            ..SOUND
+        };
+        answers(&rt, buffer_over(words, devices), Status::ReadFault, line)?;
+    }
+    Ok(())
+}
+
+#[test]
+fn both_files_are_read_before_one_is_refused(rt: HostRuntime) -> Result<(), Fail> {
+    let devices = Devices {
+        failing_read: Some(2),
+        ..SOUND
+    };
+    let refused = Call {
+        devices,
+        ..turns(b"monitor", TWO)
+    };
+    answers(&rt, refused, Status::ReadFault, b"read fault: c.cl\n")?;
+    Ok(())
+}
+
+#[test]
+fn a_file_that_is_not_held_is_a_read_fault(rt: HostRuntime) -> Result<(), Fail> {
+    let words = ["expresso", "turns", "b.mon", "c.cl"];
+    let other = asked(words.as_slice(), BUFFER, TWO);
+    answers(&rt, other, Status::ReadFault, b"read fault: b.mon\n")?;
+    Ok(())
+}
+
+#[test]
+fn a_sink_of_ten_bytes_takes_a_front_of_the_text(rt: HostRuntime) -> Result<(), Fail> {
+    let table: [(Call<'_>, &[u8]); 4] = [
+        (turns(BUFFER, TWO), b"A.1 put() "),
+        (check(BUFFER), b"monitor Bu"),
+        (check(b"@"), b"refused: m"),
+        (asked(COMPILE, BUFFER, b""), b"plan Buffe"),
+    ];
+    for (mut short, front) in table {
+        short.devices.room = 10;
+        answers(&rt, short, Status::WriteFault, front)?;
+    }
+    Ok(())
+}
+
+/// Demands that what a write fault left is some of the first bytes of the run of the buffer, and not all.
+fn leaves_a_front(rt: &impl Abort, outcome: &Outcome) {
+    assert_eq!(rt; outcome.status, Status::WriteFault);
+    assert!(rt; TWO_RUN.starts_with(outcome.text.as_slice()));
+    assert!(rt; outcome.text.len() < TWO_RUN.len());
+}
+
+/// Demands of the run of the buffer that it is whole, or has failed and left a front, where the write of this number
+/// fails, and says which.
+fn is_whole_or_front(
+    rt: &(impl Abort + Threads + Wait + Sync + AllocGlobal),
+    number: u64,
+) -> Result<bool, AllocError> {
+    let devices = Devices {
+        failing_write: Some(number),
+        ..SOUND
+    };
+    let outcome = outcome_of(rt, &buffer_over(TURNS, devices), &OpenGate)?;
+    if outcome.status == Status::Done {
+        assert_eq!(rt; outcome.text.as_slice(), TWO_RUN);
+        return Ok(true);
+    }
+    leaves_a_front(rt, &outcome);
+    Ok(false)
+}
+
+#[test]
+fn a_write_that_fails_leaves_a_front_of_the_text(rt: HostRuntime) -> Result<(), Fail> {
+    let mut sound = 0;
+    for number in 1..200 {
+        if is_whole_or_front(&rt, number)? {
+            sound = number;
+            break;
+        }
+    }
+    assert!(rt;
+        sound > 5,
+        "a run with no fault comes after one for each of more than four pieces"
+    );
+    Ok(())
+}
+
+/// A standard output that takes nothing.
+#[derive(Drop)]
+struct Closed;
+
+impl Print for Closed {
+    fn print<D: Display + Drop>(&self, _value: D) -> io::Result<()> {
+        Ok(())
+    }
+
+    fn println<D: Display + Drop>(&self, _value: D) -> io::Result<()> {
+        Ok(())
+    }
+
+    fn write_all(&self, _bytes: &[u8]) -> io::Result<()> {
+        Err(io::Error::from(io::ErrorKind::BrokenPipe))
+    }
+}
+
+/// Demands of a call over this output that it is a write fault, counted once.
+fn fails_to_hand_on(
+    rt: &(impl Abort + Threads + Wait + Sync + AllocGlobal),
+    call: &Call<'_>,
+) -> Result<(), AllocError> {
+    let words = texts_of(rt.alloc(), call.words)?;
+    let mut files = two_files(rt.alloc(), call)?;
+    let mut out = StdSink::new(&Closed);
+    let status = expresso(rt, rt.alloc(), &words, &mut files, &mut out, &OpenGate);
+    assert_eq!(rt; status, Status::WriteFault);
+    assert_eq!(rt; out.faults(), 1);
+    Ok(())
+}
+
+#[test]
+fn a_text_that_is_gathered_and_not_handed_on_is_a_write_fault(rt: HostRuntime) -> Result<(), Fail> {
+    let alone: &[&str] = &["expresso"];
+    for call in [
+        turns(BUFFER, TWO),
+        check(BUFFER),
+        check(b"@"),
+        asked(alone, b"", TWO),
+    ] {
+        fails_to_hand_on(&rt, &call)?;
+    }
+    Ok(())
+}

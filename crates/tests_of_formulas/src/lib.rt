@@ -1,0 +1,15 @@
+//! Tests of formulas, of their certificates and of the prover.
+//!
+//! There are only tests. What they ask for was worked out by hand.
+#![tactic(auto)]
+
+#[cfg(test)]
+mod certificates;
+#[cfg(test)]
+mod formulas;
+#[cfg(test)]
+mod refuting;
+#[cfg(test)]
+mod shapes;
+#[cfg(test)]
+mod substitutions;
