@@ -7,7 +7,7 @@ use Rattle.expresso.specs.declared.status.Status.{Status}
 use Rattle.expresso.specs.declared.status.Status.TheVariants as statuses
 use Rattle.mon_command.specs.CommandLine.{Command}
 use Rattle.expresso.specs.Answers.{AcceptsFiles, RejectsFiles, IsRefusedText, IsUnreadText, IsWorkedOrMemory, IsRefusedOrMemory, IsStoppedOrMemory, IsUnreadOrMemory}
-use Rattle.expresso.specs.inner.Ending.{HasEnded, IsCommandText, IsUnread, IsWritten, ended}
+use Rattle.expresso.specs.inner.Ending.{CommandEnds, IsCommandText, IsUnread, IsWritten, ended}
 
 -- a status that a text came to, where the sink took it whole
 whole_status : (P : Status → Type 0) (status : Status) (text : List ℕ) (result : Status) (out out_now : SinkSeen) → P status → IsWritten status text result out out_now
@@ -17,7 +17,7 @@ whole_status P status text result out out_now holds (inr (same, front, rises)) n
 
 module _ (command : Command) (files files_now : FilesSeen) (text : List ℕ) (result : Status) (out out_now : SinkSeen) where
   -- a file couldn't be read
-  pub unread_ended : IsUnreadText command text → Rises files.faults files_now.faults → IsWritten statuses.ReadFault text result out out_now → HasEnded command files files_now result out out_now
+  pub unread_ended : IsUnreadText command text → Rises files.faults files_now.faults → IsWritten statuses.ReadFault text result out out_now → CommandEnds command files files_now result out out_now
   unread_ended line risen written = record {
     answer = inl (statuses.ReadFault, text, (line, risen), written);
     accepted = λ accepts no_read no_write. absurd (no_read risen);
@@ -28,7 +28,7 @@ module _ (command : Command) (files files_now : FilesSeen) (text : List ℕ) (re
 
   -- a file isn't accepted
   pub refused_ended : IsRefusedText files.held command text → (AcceptsFiles files.held command → ⊥) → files_now.faults ≡ files.faults → IsWritten statuses.Refused text result out out_now
-      → HasEnded command files files_now result out out_now
+      → CommandEnds command files files_now result out out_now
   refused_ended line none steady written = record {
     answer = inl (statuses.Refused, text, line, written);
     accepted = λ accepts no_read no_write. absurd (none accepts);
@@ -43,7 +43,7 @@ module _ (command : Command) (files files_now : FilesSeen) (text : List ℕ) (re
 
   -- the work was done
   pub work_ended : (finished : Bool) → IsCommandText command files files_now (ended finished) text → (RejectsFiles files.held command → ⊥) → files_now.faults ≡ files.faults
-      → IsWritten (ended finished) text result out out_now → HasEnded command files files_now result out out_now
+      → IsWritten (ended finished) text result out out_now → CommandEnds command files files_now result out out_now
   work_ended finished is none steady written = record {
     answer = inl (ended finished, text, is, written);
     accepted = λ accepts no_read no_write. whole_status IsWorkedOrMemory (ended finished) text result out out_now (is_run finished) written no_write;
@@ -54,7 +54,7 @@ module _ (command : Command) (files files_now : FilesSeen) (text : List ℕ) (re
 
 -- memory ran out
 pub memory_ended : (command : Command) (files files_now : FilesSeen) (result : Status) (out out_now : SinkSeen) → result ≡ statuses.OutOfMemory → Keeps out.written out_now.written
-    → HasEnded command files files_now result out out_now
+    → CommandEnds command files files_now result out out_now
 memory_ended command files files_now result out out_now is keeps = record {
   answer = inr (is, keeps);
   accepted = λ accepts no_read no_write. subst IsWorkedOrMemory (sym is) tt;
@@ -65,6 +65,6 @@ memory_ended command files files_now result out out_now is keeps = record {
 
 -- a file of the command has no bytes
 pub no_bytes_ended : (command : Command) (file : List ℕ) (files files_now : FilesSeen) (result : Status) (out out_now : SinkSeen) → IsUnreadText command (unread_text file)
-    → IsUnread file files files_now result out out_now → HasEnded command files files_now result out out_now
+    → IsUnread file files files_now result out out_now → CommandEnds command files files_now result out out_now
 no_bytes_ended command file files files_now result out out_now line (inl (is, keeps)) = memory_ended command files files_now result out out_now is keeps
 no_bytes_ended command file files files_now result out out_now line (inr (risen, written)) = unread_ended command files files_now (unread_text file) result out out_now line risen written

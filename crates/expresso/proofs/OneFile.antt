@@ -17,8 +17,8 @@ use Rattle.expresso.specs.Placements.{IsPlacement}
 use Rattle.expresso.specs.SourceFaults.{source_fault_text}
 use Rattle.expresso.specs.MonitorFiles.{HasMonitorCause, IsAccepted, IsFirstFault}
 use Rattle.expresso.specs.Answers.{AcceptsMonitor, HoldsMonitor, IsUnreadText, RejectsMonitor}
-use Rattle.expresso.specs.inner.Ending.{HasEnded, IsUnread, IsWritten}
-use Rattle.expresso.specs.inner.Input.{HasEndedOn, WorksOn}
+use Rattle.expresso.specs.inner.Ending.{CommandEnds, IsUnread, IsWritten}
+use Rattle.expresso.specs.inner.Input.{CommandsEndOn, WorksOn}
 use Rattle.expresso.proofs.Telling.{told, is_told, accepted_told, fault_told, refusal_told, holds_same}
 use Rattle.expresso.proofs.MonitorFaults.{OneSpelling, NoSpelling, OneTree, accepted_faultless, first_fault}
 use Rattle.expresso.proofs.Ending.{memory_ended, no_bytes_ended, refused_ended, work_ended}
@@ -37,14 +37,14 @@ compile_works file = record { files = refl; refused = λ held text is. is; accep
 names_file : (command : Command) (file : List ℕ) → WorksOn command file → IsUnreadText command (unread_text file)
 names_file command file works = subst (λ (names : List (List ℕ)). Any (λ name. unread_text file ≡ unread_text name) names) (sym works.files) (0, file, omega arith, refl, refl)
 
-pub file_unread : (file : List ℕ) (files files_now : FilesSeen) (result : Status) (out out_now : SinkSeen) → IsUnread file files files_now result out out_now → HasEndedOn file files files_now result out out_now
+pub file_unread : (file : List ℕ) (files files_now : FilesSeen) (result : Status) (out out_now : SinkSeen) → IsUnread file files files_now result out out_now → CommandsEndOn file files files_now result out out_now
 file_unread file files files_now result out out_now unread command works =
     no_bytes_ended command file files files_now result out out_now (names_file command file works) unread
 
 -- memory ran out
-pub monitor_unmade : (file : List ℕ) (files files_now : FilesSeen) (result : Status) (out out_now : SinkSeen) → result ≡ statuses.OutOfMemory → out_now ≡ out → HasEndedOn file files files_now result out out_now
+pub monitor_unmade : (file : List ℕ) (files files_now : FilesSeen) (result : Status) (out out_now : SinkSeen) → result ≡ statuses.OutOfMemory → out_now ≡ out → CommandsEndOn file files files_now result out out_now
 monitor_unmade file files files_now result out out_now is silent command works =
-    subst (λ (s : SinkSeen). HasEnded command files files_now result out s) (sym silent) (memory_ended command files files_now result out out is (keeps_itself out.written))
+    subst (λ (s : SinkSeen). CommandEnds command files files_now result out s) (sym silent) (memory_ended command files files_now result out out is (keeps_itself out.written))
 
 -- ---- the bytes that were read have a fault
 
@@ -56,7 +56,7 @@ no_fault one_spelling no_spelling one_tree held file bytes fault read first (all
 
 pub file_refused : OneSpelling → NoSpelling → OneTree → (file bytes judged shown : List ℕ) (fault : SourceFault) (files files_now : FilesSeen) (result : Status) (out out_now : SinkSeen)
     → judged ≡ bytes → shown ≡ bytes → IsRead (files.held file) 65536 bytes → HasMonitorCause judged fault → fault ≢ faults.OutOfMemory → files_now.faults ≡ files.faults
-    → IsWritten statuses.Refused (source_fault_text file shown fault) result out out_now → HasEndedOn file files files_now result out out_now
+    → IsWritten statuses.Refused (source_fault_text file shown fault) result out out_now → CommandsEndOn file files files_now result out out_now
 file_refused one_spelling no_spelling one_tree file bytes judged shown fault files files_now result out out_now judged_is shown_is read cause other steady written command works =
     let first : IsFirstFault bytes fault = subst (λ (b : List ℕ). IsFirstFault b fault) judged_is (first_fault judged fault other cause) in
     refused_ended command files files_now (source_fault_text file bytes fault) result out out_now
@@ -83,7 +83,7 @@ no_rejection held file tree monitor holds (all, is, none) =
     none tree monitor (subst (λ (b : List ℕ). IsAccepted b tree monitor) same holds.accepted)
 
 pub check_done : (file : List ℕ) (tree : MonitorTree) (monitor : MonitorParts) (files files_now : FilesSeen) (result : Status) (out out_now : SinkSeen)
-    → HoldsMonitor files.held file tree monitor → files_now.faults ≡ files.faults → IsWritten statuses.Done (tree_text tree) result out out_now → HasEnded (check file) files files_now result out out_now
+    → HoldsMonitor files.held file tree monitor → files_now.faults ≡ files.faults → IsWritten statuses.Done (tree_text tree) result out out_now → CommandEnds (check file) files files_now result out out_now
 check_done file tree monitor files files_now result out out_now holds steady written =
     work_ended (check file) files files_now (tree_text tree) result out out_now true
     (record { tree = tree; monitor = monitor; holds = holds; printed = refl })
@@ -91,7 +91,7 @@ check_done file tree monitor files files_now result out out_now holds steady wri
 
 pub compile_done : (file : List ℕ) (tree : MonitorTree) (monitor : MonitorParts) (plan : Plan) (files files_now : FilesSeen) (result : Status) (out out_now : SinkSeen)
     → HoldsMonitor files.held file tree monitor → IsPlacement monitor plan → files_now.faults ≡ files.faults → IsWritten statuses.Done (plan_text monitor plan) result out out_now
-    → HasEnded (compile file) files files_now result out out_now
+    → CommandEnds (compile file) files files_now result out out_now
 compile_done file tree monitor plan files files_now result out out_now holds placement steady written =
     work_ended (compile file) files files_now (plan_text monitor plan) result out out_now true
     (record { tree = tree; monitor = monitor; plan = plan; holds = holds; placement = placement; printed = refl })

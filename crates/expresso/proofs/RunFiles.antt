@@ -18,8 +18,8 @@ use Rattle.expresso.specs.MonitorFiles.{IsAccepted, IsFirstFault}
 use Rattle.expresso.specs.SourceFaults.{source_fault_text}
 use Rattle.expresso.specs.Answers.{AcceptsFiles, AcceptsRun, RejectsRun, HoldRun, IsUnreadText}
 use Rattle.expresso.specs.ClientFiles.{AreAccepted, IsFirstOfClients}
-use Rattle.expresso.specs.inner.Ending.{HasEnded, IsUnread, IsWritten}
-use Rattle.expresso.specs.inner.Input.{HasInputCause, HasEndedRun, IsInput, RunsFiles}
+use Rattle.expresso.specs.inner.Ending.{CommandEnds, IsUnread, IsWritten}
+use Rattle.expresso.specs.inner.Input.{HasInputCause, RunsEnd, IsInput, RunsFiles}
 use Rattle.expresso.proofs.Telling.{told, is_told, accepted_told, scripts_told, fault_told, clients_fault_told, clients_text_told, refusal_told, holds_same}
 use Rattle.expresso.proofs.MonitorFaults.{OneSpelling, NoSpelling, OneTree, accepted_faultless}
 use Rattle.expresso.proofs.ClientFaults.{OneClientsTree, clients_faultless}
@@ -68,12 +68,12 @@ names_first command monitor clients runs = subst (λ (names : List (List ℕ)). 
 names_second : (command : Command) (monitor clients : List ℕ) → RunsFiles command monitor clients → IsUnreadText command (unread_text clients)
 names_second command monitor clients runs = subst (λ (names : List (List ℕ)). Any (λ file. unread_text clients ≡ unread_text file) names) (sym runs.files) (1, clients, omega arith, refl, refl)
 
-pub monitor_unread : (monitor clients : List ℕ) (files files_now : FilesSeen) (result : Status) (out out_now : SinkSeen) → IsUnread monitor files files_now result out out_now → HasEndedRun monitor clients files files_now result out out_now
+pub monitor_unread : (monitor clients : List ℕ) (files files_now : FilesSeen) (result : Status) (out out_now : SinkSeen) → IsUnread monitor files files_now result out out_now → RunsEnd monitor clients files files_now result out out_now
 monitor_unread monitor clients files files_now result out out_now unread command runs =
     no_bytes_ended command monitor files files_now result out out_now (names_first command monitor clients runs) unread
 
 pub clients_unread : (monitor clients : List ℕ) (files between files_now : FilesSeen) (result : Status) (out mid out_now : SinkSeen)
-    → between.faults ≡ files.faults → mid ≡ out → IsUnread clients between files_now result mid out_now → HasEndedRun monitor clients files files_now result out out_now
+    → between.faults ≡ files.faults → mid ≡ out → IsUnread clients between files_now result mid out_now → RunsEnd monitor clients files files_now result out out_now
 clients_unread monitor clients files between files_now result out mid out_now steady silent unread command runs =
     no_bytes_ended command clients files files_now result out out_now (names_second command monitor clients runs)
     (subst (λ (s : SinkSeen). IsUnread clients files files_now result s out_now) silent (later_unread unread))
@@ -87,9 +87,9 @@ keeps_itself None = tt
 keeps_itself (Some xs) = refl
 
 -- memory ran out
-pub run_unmade : (monitor clients : List ℕ) (files files_now : FilesSeen) (result : Status) (out out_now : SinkSeen) → result ≡ statuses.OutOfMemory → out_now ≡ out → HasEndedRun monitor clients files files_now result out out_now
+pub run_unmade : (monitor clients : List ℕ) (files files_now : FilesSeen) (result : Status) (out out_now : SinkSeen) → result ≡ statuses.OutOfMemory → out_now ≡ out → RunsEnd monitor clients files files_now result out out_now
 run_unmade monitor clients files files_now result out out_now is silent command runs =
-    subst (λ (s : SinkSeen). HasEnded command files files_now result out s) (sym silent) (memory_ended command files files_now result out out is (keeps_itself out.written))
+    subst (λ (s : SinkSeen). CommandEnds command files files_now result out s) (sym silent) (memory_ended command files files_now result out out is (keeps_itself out.written))
 
 -- ---- both files were read
 
@@ -104,7 +104,7 @@ module _ (one_spelling : OneSpelling) (one_tree : OneTree) (monitor clients ms c
 
   -- the monitor file has a fault
   pub monitor_refused : NoSpelling → (answered : InputFault) (fault : SourceFault) (shown : List ℕ) → answered ≡ input_faults.Monitor fault → shown ≡ ms → HasInputCause ms cs answered
-      → IsWritten statuses.Refused (source_fault_text monitor shown fault) result out out_now → HasEndedRun monitor clients files files_now result out out_now
+      → IsWritten statuses.Refused (source_fault_text monitor shown fault) result out out_now → RunsEnd monitor clients files files_now result out out_now
   monitor_refused no_spelling answered fault shown is same cause written command runs =
       refused_ended command files files_now (source_fault_text monitor ms fault) result out out_now
       (runs.refused files.held (source_fault_text monitor ms fault) (inl (refusal_told files.held monitor ms fault read.monitor_read first)))
@@ -121,7 +121,7 @@ module _ (one_spelling : OneSpelling) (one_tree : OneTree) (monitor clients ms c
 
   -- the monitor file is accepted, and the client file has a fault
   pub clients_refused : NoSpelling → OneClientsTree → (answered : InputFault) (fault : SourceFault) (shown : List ℕ) → answered ≡ input_faults.Clients fault → shown ≡ cs → HasInputCause ms cs answered
-      → IsWritten statuses.Refused (source_fault_text clients shown fault) result out out_now → HasEndedRun monitor clients files files_now result out out_now
+      → IsWritten statuses.Refused (source_fault_text clients shown fault) result out out_now → RunsEnd monitor clients files files_now result out out_now
   clients_refused no_spelling one_clients answered fault shown is same cause written command runs =
       refused_ended command files files_now (source_fault_text clients cs fault) result out out_now
       (runs.refused files.held (source_fault_text clients cs fault) (inr (record {

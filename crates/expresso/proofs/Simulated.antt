@@ -15,7 +15,7 @@ use Rattle.mon_command.specs.CommandLine.{simulate}
 use Rattle.expresso.specs.declared.status.Status.{Status}
 use Rattle.expresso.specs.Simulations.{IsSimulation}
 use Rattle.expresso.specs.Answers.{HoldRun, IsSimulateText}
-use Rattle.expresso.specs.inner.Ending.{HasEnded, IsCommandText, IsWritten, ended}
+use Rattle.expresso.specs.inner.Ending.{CommandEnds, IsCommandText, IsWritten, ended}
 use Rattle.expresso.proofs.Finishing.{done_finished, finished_done}
 use Rattle.expresso.proofs.RunFiles.{held_not_rejected}
 use Rattle.expresso.proofs.Ending.{work_ended}
@@ -35,7 +35,7 @@ module _ (monitor_file clients_file : List ℕ) (schedule : Schedule) (files fil
 
   pub simulation_ended : (result : Status) (out out_now : SinkSeen) → files_now.faults ≡ files.faults
       → IsWritten (ended (are_done system.clients (commits_of log))) (plan_and_log_text system log last) result out out_now
-      → HasEnded (simulate monitor_file clients_file schedule) files files_now result out out_now
+      → CommandEnds (simulate monitor_file clients_file schedule) files files_now result out out_now
   simulation_ended result out out_now steady written =
       work_ended (simulate monitor_file clients_file schedule) files files_now (plan_and_log_text (system_under monitor clients plan) log last) result out out_now
       (are_done clients (commits_of log)) (log_shown (are_done clients (commits_of log)) refl)

@@ -17,7 +17,7 @@ use Rattle.mon_stress.specs.LargeInput.{buffer_of, capacity_of, producers_and_co
 use Rattle.expresso.specs.declared.status.Status.{Status}
 use Rattle.expresso.specs.PlacedRuns.{IsPlacedRun}
 use Rattle.expresso.specs.Answers.{IsStressText}
-use Rattle.expresso.specs.inner.Ending.{HasEnded, IsWritten, ended}
+use Rattle.expresso.specs.inner.Ending.{CommandEnds, IsWritten, ended}
 use Rattle.expresso.proofs.Finishing.{finished_done}
 use Rattle.expresso.proofs.Ending.{work_ended}
 use Rattle.mon_stress.specs.Laws.{EveryLargeRunEndsDone}
@@ -48,7 +48,7 @@ module _ (ends_done : EveryLargeRunEndsDone) (number workers : ℕ) (plan : Plan
   }
 
   pub stress_ended : (files : FilesSeen) (result : Status) (out out_now : SinkSeen)
-      → IsWritten (ended (are_done system.clients (commits_of log))) (summary_text system log last) result out out_now → HasEnded (stress number workers) files files result out out_now
+      → IsWritten (ended (are_done system.clients (commits_of log))) (summary_text system log last) result out out_now → CommandEnds (stress number workers) files files result out out_now
   stress_ended files result out out_now written =
       work_ended (stress number workers) files files (summary_text (large number plan) log last) result out out_now true stress_shown (λ none. none) refl
       (subst (λ finished. IsWritten (ended finished) (summary_text (large number plan) log last) result out out_now) (finished_done producers_and_consumers (commits_of log) all_finished)
@@ -59,7 +59,7 @@ pub large_ended : EveryLargeRunEndsDone → (number workers : ℕ) (monitor : Mo
     → monitor ≡ buffer_of (capacity_of number) → clients ≡ producers_and_consumers
     → IsPlacedRun (system_under monitor clients plan) log last → spurious_in log ≡ 0 → system ≡ system_under monitor clients plan
     → (files : FilesSeen) (result : Status) (out out_now : SinkSeen)
-    → IsWritten (ended (are_done system.clients (commits_of log))) (summary_text system log last) result out out_now → HasEnded (stress number workers) files files result out out_now
+    → IsWritten (ended (are_done system.clients (commits_of log))) (summary_text system log last) result out out_now → CommandEnds (stress number workers) files files result out out_now
 large_ended ends_done number workers monitor clients plan log last system monitor_is clients_is placed unprompted system_is files result out out_now written =
     let same : system_under monitor clients plan ≡ large number plan = λ i. system_under (monitor_is i) (clients_is i) plan in
     stress_ended ends_done number workers plan log last system (subst (λ (s : System). IsPlacedRun s log last) same placed) unprompted (system_is ∙ same) files result out out_now written

@@ -12,7 +12,7 @@ use Rattle.mon_text.specs.TurnsText.{turns_text}
 use Rattle.expresso.specs.declared.status.Status.{Status}
 use Rattle.mon_command.specs.CommandLine.{turns}
 use Rattle.expresso.specs.Answers.{HoldRun, IsTurnsText}
-use Rattle.expresso.specs.inner.Ending.{HasEnded, IsCommandText, IsWritten, ended}
+use Rattle.expresso.specs.inner.Ending.{CommandEnds, IsCommandText, IsWritten, ended}
 use Rattle.expresso.proofs.RunFiles.{held_not_rejected}
 use Rattle.expresso.proofs.Ending.{work_ended}
 
@@ -30,7 +30,7 @@ module _ (monitor_file clients_file : List ℕ) (files files_now : FilesSeen) (m
       (clients, run, turns_shown, λ all. false≢true (subst IsTrue end (both.1 all)))
 
   pub run_ended : (result : Status) (out out_now : SinkSeen) → files_now.faults ≡ files.faults → IsWritten (ended run.finished) (turns_text monitor clients run) result out out_now
-      → HasEnded (turns monitor_file clients_file) files files_now result out out_now
+      → CommandEnds (turns monitor_file clients_file) files files_now result out out_now
   run_ended result out out_now steady written =
       work_ended (turns monitor_file clients_file) files files_now (turns_text monitor clients run) result out out_now run.finished
       (run_shown run.finished refl) (held_not_rejected files.held monitor_file clients_file monitor clients held) steady written

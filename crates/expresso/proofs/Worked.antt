@@ -15,7 +15,7 @@ use Rattle.mon_command.specs.CommandLine.{run}
 use Rattle.expresso.specs.declared.status.Status.{Status}
 use Rattle.expresso.specs.PlacedRuns.{IsPlacedRun}
 use Rattle.expresso.specs.Answers.{HoldRun, IsRunText}
-use Rattle.expresso.specs.inner.Ending.{HasEnded, IsCommandText, IsWritten, ended}
+use Rattle.expresso.specs.inner.Ending.{CommandEnds, IsCommandText, IsWritten, ended}
 use Rattle.expresso.proofs.Finishing.{done_finished, finished_done}
 use Rattle.expresso.proofs.RunFiles.{held_not_rejected}
 use Rattle.expresso.proofs.Ending.{work_ended}
@@ -35,7 +35,7 @@ module _ (monitor_file clients_file : List ℕ) (workers : ℕ) (files files_now
 
   pub worked_ended : (result : Status) (out out_now : SinkSeen) → files_now.faults ≡ files.faults
       → IsWritten (ended (are_done system.clients (commits_of log))) (plan_and_log_text system log last) result out out_now
-      → HasEnded (run monitor_file clients_file workers) files files_now result out out_now
+      → CommandEnds (run monitor_file clients_file workers) files files_now result out out_now
   worked_ended result out out_now steady written =
       work_ended (run monitor_file clients_file workers) files files_now (plan_and_log_text (system_under monitor clients plan) log last) result out out_now
       (are_done clients (commits_of log)) (log_shown (are_done clients (commits_of log)) refl)

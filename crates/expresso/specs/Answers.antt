@@ -237,8 +237,8 @@ Rejects held words = (command : Command) × Takes words command × RejectsFiles 
 -- ---- which statuses may come
 
 -- no fault of a device rose in the call, and its count does not stand at its end
-abbrev pub IsSound : ℕ → ℕ → Type 0
-IsSound before now = Rises before now → ⊥
+abbrev pub IsFaultless : ℕ → ℕ → Type 0
+IsFaultless before now = Rises before now → ⊥
 
 abbrev pub IsWorkedOrMemory : Status → Type 0
 IsWorkedOrMemory Done = Unit {0}

@@ -2,7 +2,7 @@
 
 ghost use Rattle.std.specs.Prelude.{◌≡◌, ◌≢◌, ◌≤◌, ◌↔◌, ℕ, List};
 ghost use Rattle.mon_command.specs.CommandLine.{check};
-ghost use Rattle.expresso.specs.inner.Ending.{HasEnded};
+ghost use Rattle.expresso.specs.inner.Ending.{CommandEnds};
 
 use crate::input::monitor_of;
 use crate::status::Status;
@@ -18,7 +18,7 @@ pub(crate) fn check_file<F: Files, S: Sink>(
     out: &mut S,
 ) -> Status
     requires { F.may_read files.old file.now }
-    ensures ended { HasEnded (check file.now)
+    ensures ended { CommandEnds (check file.now)
         (F.seen files.old) (F.seen files.new) result (S.seen out.old) (S.seen out.new) }
     ensures reads { (F.seen files.old).faults ≤ (F.seen files.new).faults }
     ensures writes { (S.seen out.old).faults ≤ (S.seen out.new).faults }

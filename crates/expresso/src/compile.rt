@@ -2,7 +2,7 @@
 
 ghost use Rattle.std.specs.Prelude.{◌≡◌, ◌≢◌, ◌≤◌, ◌↔◌, ℕ, List};
 ghost use Rattle.mon_command.specs.CommandLine.{compile};
-ghost use Rattle.expresso.specs.inner.Ending.{HasEnded};
+ghost use Rattle.expresso.specs.inner.Ending.{CommandEnds};
 
 use crate::input::monitor_of;
 use crate::placement::plan_of;
@@ -19,7 +19,7 @@ pub(crate) fn compile_file<F: Files, S: Sink>(
     out: &mut S,
 ) -> Status
     requires { F.may_read files.old file.now }
-    ensures ended { HasEnded (compile file.now)
+    ensures ended { CommandEnds (compile file.now)
         (F.seen files.old) (F.seen files.new) result (S.seen out.old) (S.seen out.new) }
     ensures reads { (F.seen files.old).faults ≤ (F.seen files.new).faults }
     ensures writes { (S.seen out.old).faults ≤ (S.seen out.new).faults }

@@ -3,7 +3,7 @@
 ghost use Rattle.std.specs.Prelude.{◌≡◌, ◌≢◌, ◌≤◌, ◌↔◌, ℕ, List, IfErr, IfOk, OnOk};
 ghost use Rattle.mon_implicit.specs.Scripted.{FitsScripts};
 ghost use Rattle.expresso.specs.Answers.{HoldRun, HoldsMonitor};
-ghost use Rattle.expresso.specs.inner.Input.{HasEndedOn, HasEndedRun, HasInputCause, IsInput, fault_of_input};
+ghost use Rattle.expresso.specs.inner.Input.{CommandsEndOn, RunsEnd, HasInputCause, IsInput, fault_of_input};
 
 use crate::client_file::read_clients;
 use crate::monitor_file::{MonitorFile, read_monitor};
@@ -32,7 +32,7 @@ pub(crate) fn monitor_of<F: Files, S: Sink>(
         file.now found.tree found.monitor) }
     ensures steady { OnOk result ((F.seen files.new).faults ≡ (F.seen files.old).faults) }
     ensures silent { OnOk result (out.new ≡ out.old) }
-    ensures ended { IfErr result (λ status. HasEndedOn file.now
+    ensures ended { IfErr result (λ status. CommandsEndOn file.now
         (F.seen files.old) (F.seen files.new) status (S.seen out.old) (S.seen out.new)) }
     ensures handed_on { IfErr result (λ status. status ≢ Status.WriteFault
         → (S.seen out.new).faults ≡ (S.seen out.old).faults) }
@@ -116,7 +116,7 @@ pub(crate) fn input_of<F: Files, S: Sink>(
     ensures fits { IfOk result (λ input. FitsScripts input.monitor input.scripts) }
     ensures steady { OnOk result ((F.seen files.new).faults ≡ (F.seen files.old).faults) }
     ensures silent { OnOk result (out.new ≡ out.old) }
-    ensures ended { IfErr result (λ status. HasEndedRun monitor.now clients.now
+    ensures ended { IfErr result (λ status. RunsEnd monitor.now clients.now
         (F.seen files.old) (F.seen files.new) status (S.seen out.old) (S.seen out.new)) }
     ensures handed_on { IfErr result (λ status. status ≢ Status.WriteFault
         → (S.seen out.new).faults ≡ (S.seen out.old).faults) }

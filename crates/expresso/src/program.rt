@@ -5,7 +5,7 @@ ghost use Rattle.std.specs.String.{string_bytes};
 ghost use Rattle.mon_io.specs.Outside.{Rises};
 ghost use Rattle.mon_command.specs.CommandLine.{MayReadFiles, TakesNone};
 ghost use Rattle.expresso.specs.Headline.{Headline};
-ghost use Rattle.expresso.specs.Answers.{Answers, IsSound, Accepts, Rejects, IsUsageOrMemory};
+ghost use Rattle.expresso.specs.Answers.{Answers, IsFaultless, Accepts, Rejects, IsUsageOrMemory};
 ghost use Rattle.expresso.specs.Answers.{IsWorkedOrMemory, IsRefusedOrMemory};
 ghost use Rattle.expresso.specs.Answers.{IsStoppedOrMemory, IsUnreadOrMemory};
 
@@ -52,19 +52,19 @@ pub fn expresso<R: Threads + Wait + Sync, F: Files, S: Sink, G: Gate>(
         Rises (S.seen out.old).faults (S.seen out.new).faults }
     // Where the devices do not fail, the words and the files ask for this status, unless memory ran out.
     ensures usage { TakesNone (map string_bytes words.now.items)
-        → IsSound (S.seen out.old).faults (S.seen out.new).faults → IsUsageOrMemory result }
+        → IsFaultless (S.seen out.old).faults (S.seen out.new).faults → IsUsageOrMemory result }
     ensures accepted { Accepts (F.seen files.old).held (map string_bytes words.now.items)
-        → IsSound (F.seen files.old).faults (F.seen files.new).faults
-        → IsSound (S.seen out.old).faults (S.seen out.new).faults → IsWorkedOrMemory result }
+        → IsFaultless (F.seen files.old).faults (F.seen files.new).faults
+        → IsFaultless (S.seen out.old).faults (S.seen out.new).faults → IsWorkedOrMemory result }
     ensures rejected { Rejects (F.seen files.old).held (map string_bytes words.now.items)
-        → IsSound (F.seen files.old).faults (F.seen files.new).faults
-        → IsSound (S.seen out.old).faults (S.seen out.new).faults → IsRefusedOrMemory result }
-    // Where a told file is not accepted and the sink is sound no work is done, at the end of the files' count of faults too.
+        → IsFaultless (F.seen files.old).faults (F.seen files.new).faults
+        → IsFaultless (S.seen out.old).faults (S.seen out.new).faults → IsRefusedOrMemory result }
+    // Where a told file is not accepted and the sink is faultless no work is done, at the end of the files' count of faults too.
     ensures stopped { Rejects (F.seen files.old).held (map string_bytes words.now.items)
-        → IsSound (S.seen out.old).faults (S.seen out.new).faults → IsStoppedOrMemory result }
-    // Where the files' count of faults rose and the sink is sound this must come.
+        → IsFaultless (S.seen out.old).faults (S.seen out.new).faults → IsStoppedOrMemory result }
+    // Where the files' count of faults rose and the sink is faultless this must come.
     ensures unread { (F.seen files.old).faults < (F.seen files.new).faults
-        → IsSound (S.seen out.old).faults (S.seen out.new).faults → IsUnreadOrMemory result }
+        → IsFaultless (S.seen out.old).faults (S.seen out.new).faults → IsUnreadOrMemory result }
     // Any other status leaves the sink's count of faults as it was.
     ensures handed_on { result ≢ Status.WriteFault
         → (S.seen out.new).faults ≡ (S.seen out.old).faults }

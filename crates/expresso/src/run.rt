@@ -7,7 +7,7 @@ ghost use Rattle.mon_implicit.specs.Scripted.{FitsScripts};
 ghost use Rattle.mon_explicit.specs.Sections.{spurious_in};
 ghost use Rattle.mon_text.specs.Laws.{system_under};
 ghost use Rattle.expresso.specs.PlacedRuns.{IsPlacedRun};
-ghost use Rattle.expresso.specs.inner.Ending.{HasEnded};
+ghost use Rattle.expresso.specs.inner.Ending.{CommandEnds};
 
 use crate::input::{Input, input_of};
 use crate::placement::plan_of;
@@ -63,7 +63,7 @@ pub(crate) fn run_files<R: Threads + Wait + Sync, F: Files, S: Sink, G: Gate>(
     requires clients { F.may_read files.old clients.now }
     requires some { 1 ≤ workers }
     requires few { workers ≤ WORKERS }
-    ensures ended { HasEnded (run monitor.now clients.now workers)
+    ensures ended { CommandEnds (run monitor.now clients.now workers)
         (F.seen files.old) (F.seen files.new) result (S.seen out.old) (S.seen out.new) }
     ensures handed_on { result ≢ Status.WriteFault
         → (S.seen out.new).faults ≡ (S.seen out.old).faults }

@@ -3,12 +3,12 @@
 ghost use Rattle.std.specs.Prelude.{◌≡◌, ◌≢◌, ◌≤◌, ◌+◌, ◌↔◌, ℕ, List, IfOk};
 ghost use Rattle.mon_implicit.specs.Scripted.{FitsScripts};
 ghost use Rattle.mon_events.specs.Logs.{IsClosed};
-ghost use Rattle.mon_explicit.specs.Sections.{MOST_EXTRA, HasEnded as HasEndedRight, HoldsAlways, spurious_in};
+ghost use Rattle.mon_explicit.specs.Sections.{MOST_EXTRA, HasEnded, HoldsAlways, spurious_in};
 ghost use Rattle.mon_simulate.specs.Schedules.{Extends};
 ghost use Rattle.mon_command.specs.CommandLine.{simulate};
 ghost use Rattle.expresso.specs.Simulations.{IsScheduled, IsSimulation, most_spurious};
 ghost use Rattle.mon_text.specs.Laws.{system_under};
-ghost use Rattle.expresso.specs.inner.Ending.{HasEnded};
+ghost use Rattle.expresso.specs.inner.Ending.{CommandEnds};
 
 use crate::input::{Input, input_of};
 use crate::placement::plan_of;
@@ -39,7 +39,7 @@ fn run(free: &mut FreeMonitor, schedule: Schedule)
     ensures spurious { spurious_in free.new.log
         ≤ spurious_in free.old.log + most_spurious schedule }
     ensures always { HoldsAlways free.new }
-    ensures ends { HasEndedRight free.new }
+    ensures ends { HasEnded free.new }
 {
     match schedule {
         Schedule::Rounds => rounds(free),
@@ -76,7 +76,7 @@ pub(crate) fn simulate_files<F: Files, S: Sink>(
     requires monitor { F.may_read files.old monitor.now }
     requires clients { F.may_read files.old clients.now }
     requires few { most_spurious schedule ≤ MOST_EXTRA }
-    ensures ended { HasEnded (simulate monitor.now clients.now schedule)
+    ensures ended { CommandEnds (simulate monitor.now clients.now schedule)
         (F.seen files.old) (F.seen files.new) result (S.seen out.old) (S.seen out.new) }
     ensures handed_on { result ≢ Status.WriteFault
         → (S.seen out.new).faults ≡ (S.seen out.old).faults }

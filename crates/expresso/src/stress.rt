@@ -4,7 +4,7 @@ ghost use Rattle.std.specs.Prelude.{◌≡◌, ◌≢◌, ◌≤◌};
 ghost use Rattle.mon_base.specs.Limits.{WORKERS};
 ghost use Rattle.mon_command.specs.CommandLine.{stress};
 ghost use Rattle.mon_io.specs.Outside.{FilesSeen};
-ghost use Rattle.expresso.specs.inner.Ending.{HasEnded};
+ghost use Rattle.expresso.specs.inner.Ending.{CommandEnds};
 
 use crate::run::worked;
 use crate::status::Status;
@@ -27,7 +27,7 @@ pub(crate) fn stress<R: Threads + Wait + Sync, S: Sink, G: Gate>(
 ) -> Status
     requires some { 1 ≤ workers }
     requires few { workers ≤ WORKERS }
-    ensures ended { (files : FilesSeen) → HasEnded (stress number workers)
+    ensures ended { (files : FilesSeen) → CommandEnds (stress number workers)
         files files result (S.seen out.old) (S.seen out.new) }
     ensures handed_on { result ≢ Status.WriteFault
         → (S.seen out.new).faults ≡ (S.seen out.old).faults }

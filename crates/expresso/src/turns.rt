@@ -2,7 +2,7 @@
 
 ghost use Rattle.std.specs.Prelude.{◌≡◌, ◌≢◌, ◌≤◌, ◌↔◌, ℕ, List};
 ghost use Rattle.mon_command.specs.CommandLine.{turns};
-ghost use Rattle.expresso.specs.inner.Ending.{HasEnded};
+ghost use Rattle.expresso.specs.inner.Ending.{CommandEnds};
 
 use crate::input::input_of;
 use crate::status::Status;
@@ -22,7 +22,7 @@ pub(crate) fn take_turns<F: Files, S: Sink>(
 ) -> Status
     requires monitor { F.may_read files.old monitor.now }
     requires clients { F.may_read files.old clients.now }
-    ensures ended { HasEnded (turns monitor.now clients.now)
+    ensures ended { CommandEnds (turns monitor.now clients.now)
         (F.seen files.old) (F.seen files.new) result (S.seen out.old) (S.seen out.new) }
     ensures reads { (F.seen files.old).faults ≤ (F.seen files.new).faults }
     ensures writes { (S.seen out.old).faults ≤ (S.seen out.new).faults }

@@ -3,7 +3,7 @@
 ghost use Rattle.std.specs.Prelude.{◌≡◌, ◌≢◌, ◌≤◌, ◌↔◌, ℕ, List, All};
 ghost use Rattle.mon_command.specs.CommandLine.{files_of};
 ghost use Rattle.mon_command.specs.Commands.{command_meant};
-ghost use Rattle.expresso.specs.inner.Ending.{HasEnded};
+ghost use Rattle.expresso.specs.inner.Ending.{CommandEnds};
 ghost use Rattle.expresso.specs.inner.Ranges.{IsInRange};
 
 use crate::check::check_file;
@@ -31,7 +31,7 @@ pub(crate) fn work<R: Threads + Wait + Sync, F: Files, S: Sink, G: Gate>(
 ) -> Status
     requires files { All (F.may_read files.old) (files_of (command_meant command)) }
     requires range { IsInRange (command_meant command) }
-    ensures ended { HasEnded (command_meant command.entry)
+    ensures ended { CommandEnds (command_meant command.entry)
         (F.seen files.old) (F.seen files.new) result (S.seen out.old) (S.seen out.new) }
     ensures handed_on { result ≢ Status.WriteFault
         → (S.seen out.new).faults ≡ (S.seen out.old).faults }

@@ -83,7 +83,7 @@ opened_free monitor plan clients extra = record {
 }
 
 -- the entry was added to the log, and what it runs stays
-pub record Appends (before : FreeMachine) (entry : Entry) (next : FreeMachine) : Type 0 where
+pub record AddsEntry (before : FreeMachine) (entry : Entry) (next : FreeMachine) : Type 0 where
   pub log : next.log ≡ before.log ++ entry ∷ []
   pub system : next.system ≡ before.system
   pub extra : next.extra ≡ before.extra
@@ -107,7 +107,7 @@ pub record MadeSection (client : ℕ) (before next : FreeMachine) (section : Sec
   pub made : IsSection before.system before.log before.now section.entry next.now
   pub whose : section.entry.client ≡ client
   pub place : section.place ≡ length before.log
-  pub appends : Appends before section.entry next
+  pub appends : AddsEntry before section.entry next
 
 -- the client rests, and all is as before
 pub record NotMade (client : ℕ) (before next : FreeMachine) (fault : NotReady) : Type 0 where
@@ -132,7 +132,7 @@ pub record WokenByNothing (client : ℕ) (before next : FreeMachine) : Type 0 wh
   pub condition : ℕ
   pub left : spurious_in before.log < before.extra
   pub wakes : WakesSpuriously client past condition before.now next.now
-  pub appends : Appends before (spurious_entry client past) next
+  pub appends : AddsEntry before (spurious_entry client past) next
 
 -- why it isn't: it doesn't wait; or it waits, and the log has all the spurious entries that it may have
 abbrev pub IsSpuriousFault : FreeMachine → ℕ → SpuriousFault → Type 0

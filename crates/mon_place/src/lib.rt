@@ -13,5 +13,5 @@ mod notes;
 mod placed;
 mod placement;
 
-pub use placed::{Placed, Proof};
+pub use placed::{PlacedPlan, Proof};
 pub use placement::place;

@@ -14,7 +14,7 @@ pub struct Proof {
 
 /// A plan, and a proof of each claim that it rests on, in the order of [`Claim`].
 #[derive(Debug, Drop)]
-pub struct Placed {
+pub struct PlacedPlan {
     pub plan: Plan,
     pub proofs: Seq<Proof>,
 }

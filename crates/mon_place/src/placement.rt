@@ -10,7 +10,7 @@ ghost use Rattle.mon_place.specs.inner.Answers.{AreAskable, IsAnswered, proof_of
 use super::kinds::{Kinds, kinds_of_all};
 use super::laws::answered_plans_are_placed;
 use super::notes::{Found, Notes, notes_of_all};
-use super::placed::{Placed, Proof};
+use super::placed::{PlacedPlan, Proof};
 use mon_events::Plan;
 use mon_list::Seq;
 use mon_monitor::{Claim, Monitor};
@@ -28,7 +28,7 @@ use std::alloc::{AllocError, Global};
 ///
 /// Placing signals by such triples is due to K. Ferles, J. Van Geffen, I. Dillig and Y. Smaragdakis, "Symbolic
 /// Reasoning for Automatic Signal Placement" (PLDI 2018).
-pub fn place(alloc: Global, monitor: &Monitor) -> Result<Placed, AllocError>
+pub fn place(alloc: Global, monitor: &Monitor) -> Result<PlacedPlan, AllocError>
     ensures fits { IfOk result (λ placed. FitsPlan monitor.now placed.plan) }
     ensures lawful { IfOk result (λ placed. IsLawful monitor.now placed.plan) }
     ensures licensed { IfOk result (λ placed. IsLicensed monitor.now placed.plan) }
@@ -44,7 +44,7 @@ pub fn place(alloc: Global, monitor: &Monitor) -> Result<Placed, AllocError>
 }
 
 /// The plan that the prover's answers make.
-fn answered(alloc: Global, monitor: &Monitor) -> Result<Placed, AllocError>
+fn answered(alloc: Global, monitor: &Monitor) -> Result<PlacedPlan, AllocError>
     ensures plan { IfOk result (λ placed. IsAnswered monitor.now placed.plan) }
     ensures proofs { IfOk result (λ placed. AreProofs monitor.now placed.plan.kept
         (backed_claims monitor.now placed.plan) placed.proofs) }
@@ -58,7 +58,7 @@ fn answered(alloc: Global, monitor: &Monitor) -> Result<Placed, AllocError>
     let Notes { notes, found } = notes_of_all(alloc, monitor, kept.items(), &kinds)?;
     let Found { unnoted, untested } = found;
     let proofs = joined(keeps, unnoted, signals, untested)?;
-    Ok(Placed {
+    Ok(PlacedPlan {
         plan: Plan {
             kept,
             kinds: Seq::of(kinds),

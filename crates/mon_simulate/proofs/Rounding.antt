@@ -5,7 +5,7 @@ use Rattle.mon_events.specs.declared.log.Entry.{Entry}
 use Rattle.mon_events.specs.Configurations.{System, Configuration}
 use Rattle.mon_events.specs.Logs.{IsSection, IsClosed, is_spurious_entry, all_calls}
 use Rattle.mon_events.specs.Logs.IsSection.{waited, replied}
-use Rattle.mon_explicit.specs.Sections.{FreeMachine, Appends, HoldsAlways, spurious_in, room_of}
+use Rattle.mon_explicit.specs.Sections.{FreeMachine, AddsEntry, HoldsAlways, spurious_in, room_of}
 use Rattle.mon_simulate.specs.Schedules.{Acts, Extends, IsNextReady, IsByRounds}
 use Rattle.mon_simulate.specs.Schedules.IsByRounds.{ended, acted}
 use Rattle.mon_simulate.specs.inner.Turns.{RoundsSoFar}
@@ -16,7 +16,7 @@ use Rattle.mon_simulate.proofs.Closing.{none_ready_where_closed}
 pub extends_itself : (machine : FreeMachine) → Extends machine machine
 extends_itself machine = record { entries = ([], grind (arith, common_steps)); system = refl; extra = refl }
 
-pub extends_more : (before now next : FreeMachine) (entry : Entry) → Extends before now → Appends now entry next → Extends before next
+pub extends_more : (before now next : FreeMachine) (entry : Entry) → Extends before now → AddsEntry now entry next → Extends before next
 extends_more before now next entry so_far more = record {
   entries = (so_far.entries.0 ++ entry ∷ [], more.log ∙ ap (λ (log : List Entry). log ++ entry ∷ []) so_far.entries.1 ∙ append_assoc before.log so_far.entries.0 (entry ∷ []));
   system = more.system ∙ so_far.system;
@@ -40,11 +40,11 @@ section_spurious client now next (section, made) =
     let none = ap count_one isnt in
     omega (arith, ap (λ (log : List Entry). spurious_in log) made.appends.log, more, none)
 
-pub same_room : (before next : FreeMachine) (entry : Entry) → Appends before entry next → room_of next ≡ room_of before
+pub same_room : (before next : FreeMachine) (entry : Entry) → AddsEntry before entry next → room_of next ≡ room_of before
 same_room before next entry more = ap₂ (λ (system : System) (extra : ℕ). all_calls system * length system.clients + 2 * extra) more.system more.extra
 
 -- the room that is left falls
-pub room_falls : (now next : FreeMachine) (entry : Entry) → Appends now entry next → HoldsAlways next → room_of next - length next.log < room_of now - length now.log
+pub room_falls : (now next : FreeMachine) (entry : Entry) → AddsEntry now entry next → HoldsAlways next → room_of next - length next.log < room_of now - length now.log
 room_falls now next entry more always =
     omega (arith, same_room now next entry more, always.rule.bounded, ap (λ (log : List Entry). length log) more.log, length-append now.log (entry ∷ []))
 

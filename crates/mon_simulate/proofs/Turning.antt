@@ -5,7 +5,7 @@ use Rattle.rand_pcg.specs.Lcg.{Lcg}
 use Rattle.rand_pcg.specs.Pcg.{pcg32}
 use Rattle.mon_events.specs.declared.log.Entry.{Entry}
 use Rattle.mon_events.specs.Logs.{IsClosed}
-use Rattle.mon_explicit.specs.Sections.{FreeMachine, Appends, WokenByNothing, HoldsAlways, spurious_in, spurious_entry, room_of}
+use Rattle.mon_explicit.specs.Sections.{FreeMachine, AddsEntry, WokenByNothing, HoldsAlways, spurious_in, spurious_entry, room_of}
 use Rattle.mon_simulate.specs.declared.draws.Draws.{Draws}
 use Rattle.mon_simulate.specs.Schedules.{Drawing, Acts, IsAt, IsTurn, IsDrawnFrom, ready, waiting, wakes_at}
 use Rattle.mon_simulate.specs.Schedules.IsTurn.{woken, acted}
@@ -31,7 +31,7 @@ turn_acts now next draws x client last first wakes at acts = acted (drawing now 
 wake_spurious : (client : ℕ) (now next : FreeMachine) → WokenByNothing client now next → spurious_in next.log ≡ spurious_in now.log + 1
 wake_spurious client now next wakes = ap (λ (log : List Entry). spurious_in log) wakes.appends.log ∙ spurious_more now.log (spurious_entry client wakes.past)
 
-turn_appends : (now next : Drawing) → IsTurn now next → (entry : Entry) × Appends now.machine entry next.machine
+turn_appends : (now next : Drawing) → IsTurn now next → (entry : Entry) × AddsEntry now.machine entry next.machine
 turn_appends now next (woken own end x y client drawn first wakes second at wake left) = (spurious_entry client wake.past, wake.appends)
 turn_appends now next (acted own end x client first wakes at acts left) = (acts.0.entry, acts.1.appends)
 

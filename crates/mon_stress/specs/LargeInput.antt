@@ -39,8 +39,8 @@ abbrev pub ALL_CALLS : ℕ
 ALL_CALLS = 16384
 
 -- a buffer has room for 1 to so many
-abbrev pub CAPACITIES : ℕ
-CAPACITIES = 7
+abbrev pub MOST_ROOM : ℕ
+MOST_ROOM = 7
 
 -- ---- the buffer
 --
@@ -57,7 +57,7 @@ CAPACITIES = 7
 
 -- the room of the buffer
 abbrev pub capacity_of : ℕ → ℕ
-capacity_of number = 1 + number % CAPACITIES
+capacity_of number = 1 + number % MOST_ROOM
 
 -- the one field, `count`, has place 0: these are `count` and a constant, and the constant less `count`
 abbrev pub count_and : ℤ → Linear

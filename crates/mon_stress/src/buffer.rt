@@ -3,7 +3,7 @@
 ghost use Rattle.std.specs.Prelude.{◌≡◌, ◌≢◌, ◌^◌, ◌<◌, ◌≤◌, ◌∷◌, [], IfOk, codes, neg_ℤ, pos, true};
 ghost use Rattle.mon_base.specs.Numbers.{is_within};
 ghost use Rattle.mon_stress.specs.LargeInput.{buffer_of, count_and, count_field, counting_block, has_room, has_some, plain_method, room_shown, shown_condition, some_shown};
-ghost use Rattle.mon_stress.specs.LargeInput.{CAPACITIES as MOST_ROOM};
+ghost use Rattle.mon_stress.specs.LargeInput.{MOST_ROOM};
 
 use mon_base::{Kind, Name, Value};
 use mon_linear::{Formula, Lin, Term};

@@ -11,7 +11,7 @@ use mon_monitor::Monitor;
 use std::alloc::{AllocError, Global};
 
 /// A buffer has room for 1 to so many.
-pub const CAPACITIES: u64 = 7;
+pub const MOST_ROOM: u64 = 7;
 
 /// The monitor and the clients of a large run.
 #[derive(Debug, Drop)]
@@ -28,7 +28,7 @@ pub fn large_input(alloc: Global, number: u64) -> Result<LargeInput, AllocError>
     ensures fits { IfOk result (λ input. FitsScripts input.monitor input.scripts) }
 {
     Ok(LargeInput {
-        monitor: buffer(alloc, 1 + number % CAPACITIES)?,
+        monitor: buffer(alloc, 1 + number % MOST_ROOM)?,
         scripts: producers_and_consumers(alloc)?,
     })
 }

@@ -10,5 +10,5 @@ mod input;
 mod laws;
 
 pub use clients::{CALLS_EACH, CONSUMERS, PRODUCERS};
-pub use input::{CAPACITIES, LargeInput, large_input};
+pub use input::{LargeInput, MOST_ROOM, large_input};
 pub use laws::every_large_run_ends_done;

@@ -1,6 +1,6 @@
 -- The grammar of client files: which words are a tree's, one definition for each production.
 use Rattle.std.specs.Prelude.{◌≡◌, ℕ, zero, suc, ◌≤◌, ◌⊎◌, Bool, true, false, List, [], ◌∷◌, length}
-use Rattle.mon_base.specs.Limits.{LEVELS}
+use Rattle.mon_base.specs.Limits.{FILE_BYTES, LEVELS}
 use Rattle.mon_tokens.specs.declared.token.TokenKind.TheVariants as kinds
 use Rattle.mon_tokens.specs.declared.token.Token.{Token}
 use Rattle.mon_tree.specs.declared.tree.Arg.{Arg}
@@ -71,6 +71,6 @@ DerivesClients bytes tokens tree = IsClientFile tree (words bytes tokens)
 pub record AreParsed (tree : ClientsTree) : Type 0 where
   pub bytes : List ℕ
   pub tokens : List Token
-  pub short : length bytes ≤ 65536
+  pub short : length bytes ≤ FILE_BYTES
   pub spelled : Spells bytes tokens
   pub derived : DerivesClients bytes tokens tree

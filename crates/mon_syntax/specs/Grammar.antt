@@ -1,6 +1,6 @@
 -- The grammar of monitor files: which words are a tree's, one definition for each production.
 use Rattle.std.specs.Prelude.{◌≡◌, ℕ, zero, suc, ◌≤◌, ◌⊎◌, Bool, true, false, List, [], ◌∷◌, ◌++◌, length, Option, Some, None}
-use Rattle.mon_base.specs.Limits.{LEVELS}
+use Rattle.mon_base.specs.Limits.{FILE_BYTES, LEVELS}
 use Rattle.mon_tokens.specs.declared.token.TokenKind.{TokenKind}
 use Rattle.mon_tokens.specs.declared.token.TokenKind.TheVariants as kinds
 use Rattle.mon_tokens.specs.declared.token.Token.{Token}
@@ -228,6 +228,6 @@ Derives bytes tokens tree = IsMonitorFile tree (words bytes tokens)
 pub record IsParsed (tree : MonitorTree) : Type 0 where
   pub bytes : List ℕ
   pub tokens : List Token
-  pub short : length bytes ≤ 65536
+  pub short : length bytes ≤ FILE_BYTES
   pub spelled : Spells bytes tokens
   pub derived : Derives bytes tokens tree

@@ -1,6 +1,7 @@
 //! The parser of client files: one function for each production.
 
 ghost use Rattle.std.specs.Prelude.{◌≡◌, ℕ, ◌≤◌, List, IfOk, IfErr, length};
+ghost use Rattle.mon_base.specs.Limits.{FILE_BYTES};
 ghost use Rattle.mon_tokens.specs.Spelling.{Spells};
 ghost use Rattle.mon_tokens.specs.Words.{words};
 ghost use Rattle.mon_syntax.specs.ClientGrammar.{IsClientFile, DerivesClients};
@@ -65,7 +66,7 @@ pub fn parse_clients(
     bytes: &[u8],
     tokens: &[Token],
 ) -> Result<ClientsTree, SyntaxFault>
-    requires small { length bytes.now ≤ 65536 }
+    requires small { length bytes.now ≤ FILE_BYTES }
     requires spelled { Spells bytes.now tokens.now }
     // The tree is the one that the grammar derives.
     ensures derived { IfOk result (λ tree. DerivesClients bytes.now tokens.now tree) }

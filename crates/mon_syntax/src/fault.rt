@@ -1,6 +1,7 @@
 //! Why tokens give no tree.
 
 ghost use Rattle.std.specs.Prelude.{◌≡◌, ◌≤◌, ◌-◌, length, drop};
+ghost use Rattle.mon_base.specs.Limits.{FILE_BYTES};
 ghost use Rattle.mon_syntax.specs.declared.fault.SyntaxFault.TheVariants as faults;
 ghost use Rattle.mon_syntax.specs.declared.fault.Stop.TheVariants as stops;
 ghost use Rattle.mon_syntax.specs.inner.Reading.{IsFaultOf, first_offset};
@@ -68,7 +69,7 @@ pub fn stop_before(tokens: &[Token]) -> Stop
 }
 
 fn offset_of(bytes: &[u8], tokens: &[Token], left: usize) -> u32
-    requires { length bytes.now ≤ 65536 }
+    requires { length bytes.now ≤ FILE_BYTES }
     ensures { result ≡ first_offset bytes.now (drop (length tokens.now - left) tokens.now) }
 {
     match tokens.get(tokens.len().saturating_sub(left)) {
@@ -79,7 +80,7 @@ fn offset_of(bytes: &[u8], tokens: &[Token], left: usize) -> u32
 
 /// The fault of a stop while these tokens of these bytes were read.
 pub fn fault_of(bytes: &[u8], tokens: &[Token], stop: Stop) -> SyntaxFault
-    requires { length bytes.now ≤ 65536 }
+    requires { length bytes.now ≤ FILE_BYTES }
     ensures { IsFaultOf bytes.now tokens.now stop result }
 {
     match stop {

@@ -7,7 +7,7 @@ ghost use Rattle.mon_wp.specs.Expressible.{is_expressible};
 
 use mon_cert::{Cert, accepts};
 use mon_monitor::{Candidate, Claim, Monitor, Query};
-use mon_place::{Placed, Proof, place};
+use mon_place::{PlacedPlan, Proof, place};
 use mon_wp::{keeps, negated, no_test, none_needed, one_enough};
 use samples::checked;
 use samples::monitors::{BUFFER, READERS_AND_WRITERS};
@@ -120,7 +120,7 @@ fn is_accepted(
 fn accepted(
     alloc: Global,
     monitor: &Monitor,
-    placed: &Placed,
+    placed: &PlacedPlan,
 ) -> Result<Option<usize>, AllocError> {
     let kept = placed.plan.kept.items();
     if !are_expressible(kept) {

@@ -41,7 +41,7 @@ AnswersCommand command files files_now result out out_now =
 
 -- How a command ended, between what was seen of the files and of the sink before it and what is seen now: what was written, and which status
 -- had to come where nothing failed.
-pub record HasEnded (command : Command) (files files_now : FilesSeen) (result : Status) (out out_now : SinkSeen) : Type 0 where
+pub record CommandEnds (command : Command) (files files_now : FilesSeen) (result : Status) (out out_now : SinkSeen) : Type 0 where
   pub answer : AnswersCommand command files files_now result out out_now
   pub accepted : AcceptsFiles files.held command → (Rises files.faults files_now.faults → ⊥) → (Rises out.faults out_now.faults → ⊥) → IsWorkedOrMemory result
   pub rejected : RejectsFiles files.held command → (Rises files.faults files_now.faults → ⊥) → (Rises out.faults out_now.faults → ⊥) → IsRefusedOrMemory result

@@ -13,7 +13,7 @@ use Rattle.mon_command.specs.CommandLine.{Command, files_of}
 use Rattle.expresso.specs.MonitorFiles.{IsAccepted, IsFirstFault}
 use Rattle.expresso.specs.ClientFiles.{AreAccepted, IsFirstOfClients}
 use Rattle.expresso.specs.Answers.{AcceptsFiles, AcceptsMonitor, AcceptsRun, IsMonitorRefusal, IsRefusedText, IsRunRefusal}
-use Rattle.expresso.specs.inner.Ending.{HasEnded}
+use Rattle.expresso.specs.inner.Ending.{CommandEnds}
 
 -- the command works on the monitor of this file
 pub record WorksOn (command : Command) (file : List ℕ) : Type 0 where
@@ -22,8 +22,8 @@ pub record WorksOn (command : Command) (file : List ℕ) : Type 0 where
   pub accepted : (held : List ℕ → Option (List ℕ)) → AcceptsFiles held command → AcceptsMonitor held file
 
 -- how any command that works on it ended
-abbrev pub HasEndedOn : List ℕ → FilesSeen → FilesSeen → Status → SinkSeen → SinkSeen → Type 0
-HasEndedOn file files files_now result out out_now = (command : Command) → WorksOn command file → HasEnded command files files_now result out out_now
+abbrev pub CommandsEndOn : List ℕ → FilesSeen → FilesSeen → Status → SinkSeen → SinkSeen → Type 0
+CommandsEndOn file files files_now result out out_now = (command : Command) → WorksOn command file → CommandEnds command files files_now result out out_now
 
 -- the monitor and the clients that the bytes stand for
 pub record IsInput (monitor_bytes clients_bytes : List ℕ) (input : Input) : Type 0 where
@@ -49,5 +49,5 @@ pub record RunsFiles (command : Command) (monitor clients : List ℕ) : Type 0 w
   pub accepted : (held : List ℕ → Option (List ℕ)) → AcceptsFiles held command → AcceptsRun held monitor clients
 
 -- how any command that runs these files ended
-abbrev pub HasEndedRun : List ℕ → List ℕ → FilesSeen → FilesSeen → Status → SinkSeen → SinkSeen → Type 0
-HasEndedRun monitor clients files files_now result out out_now = (command : Command) → RunsFiles command monitor clients → HasEnded command files files_now result out out_now
+abbrev pub RunsEnd : List ℕ → List ℕ → FilesSeen → FilesSeen → Status → SinkSeen → SinkSeen → Type 0
+RunsEnd monitor clients files files_now result out out_now = (command : Command) → RunsFiles command monitor clients → CommandEnds command files files_now result out out_now
