@@ -1,4 +1,4 @@
-//! Identifiers: the names that a file may give.
+//! Identifiers: the names that a file may give, and their bytes.
 
 ghost use Rattle.std.specs.Prelude.{◌≡◌, ◌↔◌, IsTrue};
 ghost use Rattle.std.specs.List.{list_all, list_any};
@@ -50,19 +50,22 @@ fn are_words(bytes: &[u8]) -> bool
     bytes.iter().all(|b| is_word(*b))
 }
 
-fn is_letter(b: u8) -> bool
+/// Whether the byte is a letter or an underscore: one of `a` to `z`, `A` to `Z` and `_`.
+pub fn is_letter(b: u8) -> bool
     ensures { result ≡ is_letter b }
 {
     (b'a' <= b && b <= b'z') || (b'A' <= b && b <= b'Z') || b == b'_'
 }
 
-fn is_digit(b: u8) -> bool
+/// Whether the byte is a decimal digit: one of `0` to `9`.
+pub fn is_digit(b: u8) -> bool
     ensures { result ≡ is_digit b }
 {
     b'0' <= b && b <= b'9'
 }
 
-fn is_word(b: u8) -> bool
+/// Whether the byte may stand in an identifier after its first: a letter, an underscore or a decimal digit.
+pub fn is_word(b: u8) -> bool
     ensures { result ≡ is_word b }
 {
     is_letter(b) || is_digit(b)

@@ -18,7 +18,7 @@ mod named;
 mod value;
 
 pub use counted::Counted;
-pub use identifier::{KEYWORDS, is_identifier};
+pub use identifier::{KEYWORDS, is_digit, is_identifier, is_letter, is_word};
 pub use kind::Kind;
 pub use laws::least_is_least;
 pub use line::is_in_line;

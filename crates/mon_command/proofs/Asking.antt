@@ -6,7 +6,7 @@ use Rattle.std.proofs.Math.Dec.{eqb-suc-zero}
 use Rattle.mon_base.specs.Limits.{MOST_EXTRA, WORKERS}
 use Rattle.mon_command.specs.declared.schedule.Schedule.{Schedule}
 use Rattle.mon_command.specs.declared.schedule.Schedule.TheVariants.{Rounds, Drawn}
-use Rattle.mon_command.specs.CommandLine.{Command, check, turns, compile, simulate, run, stress, Given, GREATEST_SEED, HasNoSchedule, IsSpurious, IsSchedule, IsWorkers, Asks}
+use Rattle.mon_command.specs.CommandLine.{Command, check, turns, compile, simulate, run, stress, Given, GREATEST_UNSIGNED, HasNoSchedule, IsSpurious, IsSchedule, IsWorkers, Asks}
 use Rattle.mon_command.specs.inner.Asked.{number_if, spurious_if, schedule_if, some_workers, workers_if, has_schedule, plain_if, stress_if, run_if, simulate_if, single_if, pair_if, command_of_values, command_if}
 use Rattle.mon_command.proofs.Written.{chosen, cond_second, number_found, number_is}
 
@@ -32,16 +32,16 @@ schedule_found seed spurious Rounds (no_seed, no_spurious) = λ i. schedule_if (
 schedule_found seed spurious (Drawn number extra) (word, is, drawn, made) =
     let rest : ℕ → Option Schedule = λ n. option_map (λ k. Drawn n k) (spurious_if spurious) in
     ap (λ (s : Option Text). schedule_if s spurious) is
-    ∙ ap (option_and_then rest) (number_found GREATEST_SEED word number drawn)
+    ∙ ap (option_and_then rest) (number_found GREATEST_UNSIGNED word number drawn)
     ∙ ap (option_map (λ k. Drawn number k)) (spurious_found spurious extra made)
 
 schedule_is : (seed spurious : Option Text) (schedule : Schedule) → schedule_if seed spurious ≡ Some schedule → IsSchedule seed spurious schedule
 schedule_is None None schedule e = subst (IsSchedule None None) (same_Some Rounds schedule e) (refl, refl)
 schedule_is None (Some word) schedule e = absurd (none-some schedule e)
 schedule_is (Some word) spurious schedule e =
-    option_and_then_some (λ n. option_map (λ k. Drawn n k) (spurious_if spurious)) (number_if GREATEST_SEED word) schedule e
+    option_and_then_some (λ n. option_map (λ k. Drawn n k) (spurious_if spurious)) (number_if GREATEST_UNSIGNED word) schedule e
     (λ number drawn more. map_is (λ k. Drawn number k) (spurious_if spurious) schedule more
-    (λ extra made same. subst (IsSchedule (Some word) spurious) same (word, refl, number_is GREATEST_SEED word number drawn, spurious_is spurious extra made)))
+    (λ extra made same. subst (IsSchedule (Some word) spurious) same (word, refl, number_is GREATEST_UNSIGNED word number drawn, spurious_is spurious extra made)))
 
 some_found : (number : ℕ) → 1 ≤ number → some_workers number ≡ Some number
 some_found zero some = absurd (omega arith)
@@ -104,7 +104,7 @@ run_found given monitor clients workers rounds is =
     let found = workers_found given.workers workers is in
     λ i. cond (unused i) None (option_map (λ n. run monitor clients n) (found i))
 
-stress_found : (given : Given) (word : Text) (number workers : ℕ) → (number_if GREATEST_SEED word ≡ Some number) → HasNoSchedule given → IsWorkers given.workers workers
+stress_found : (given : Given) (word : Text) (number workers : ℕ) → (number_if GREATEST_UNSIGNED word ≡ Some number) → HasNoSchedule given → IsWorkers given.workers workers
     → stress_if given word ≡ Some (stress number workers)
 stress_found given word number workers large rounds is =
     let unused = schedule_unused given rounds in
@@ -148,7 +148,7 @@ command_found given (run m c n) asks =
 command_found given (stress n k) asks =
     let (word, values, large) = asks.has_values in
     let (rounds, is) = asks.has_options in
-    single_found given (codes "stress") word (stress n k) asks.name values (stress_found given word n k (number_found GREATEST_SEED word n large) rounds is)
+    single_found given (codes "stress") word (stress n k) asks.name values (stress_found given word n k (number_found GREATEST_UNSIGNED word n large) rounds is)
 
 -- ---- what is found is asked for
 
@@ -187,12 +187,12 @@ stress_asks : (given : Given) (word : Text) (found : Command) → given.command 
     → stress_if given word ≡ Some found → Asks given found
 stress_asks given word found name values e =
     let rest : ℕ → Option Command = λ n. option_map (λ k. stress n k) (workers_if given.workers) in
-    let (unused, more) = cond_second (has_schedule given) (option_and_then rest (number_if GREATEST_SEED word)) found e in
-    option_and_then_some rest (number_if GREATEST_SEED word) found more
+    let (unused, more) = cond_second (has_schedule given) (option_and_then rest (number_if GREATEST_UNSIGNED word)) found e in
+    option_and_then_some rest (number_if GREATEST_UNSIGNED word) found more
     (λ number large made. map_is (λ k. stress number k) (workers_if given.workers) found made
     (λ workers is same. subst (Asks given) same (record {
       name = name;
-      has_values = (word, values, number_is GREATEST_SEED word number large);
+      has_values = (word, values, number_is GREATEST_UNSIGNED word number large);
       has_options = (no_schedule given unused, workers_is given.workers workers is);
     })))
 

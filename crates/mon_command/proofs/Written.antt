@@ -1,12 +1,13 @@
 -- The numbers that words are.
-use Rattle.std.proofs.Common.{◌≡◌, ℕ, ◌<◌, ◌≤◌, Bool, true, false, ◌&&◌, List, length, Option, Some, None, cond, All, nat_le, nat_lt, refl, ap, sym, ◌∙◌, true≢false}
+use Rattle.std.proofs.Common.{◌≡◌, ℕ, ◌<◌, ◌≤◌, Bool, true, false, ◌&&◌, List, length, Option, Some, None, cond, All, nat_le, nat_lt, refl, ap, sym, ◌∙◌, true≢false, arith}
 use Rattle.std.specs.List.{list_all}
 use Rattle.std.proofs.lemmas.Bool.{leb-true, le-leb, ltb-true}
 use Rattle.std.proofs.lemmas.List.Sums.{AllPass-from_list_all, list_all-from_AllPass}
 use Rattle.std.proofs.lemmas.Option.{none-some, cond_some}
 use Rattle.mon_base.specs.Identifiers.{is_digit}
+use Rattle.mon_tokens.specs.Spelling.{IsDecimal}
 use Rattle.mon_tokens.specs.Words.{number_of_digits}
-use Rattle.mon_command.specs.CommandLine.{IsNumber}
+use Rattle.mon_command.specs.CommandLine.{IsNumber, MOST_DIGITS}
 use Rattle.mon_command.specs.inner.Asked.{is_written, within, number_if}
 
 -- ---- tests
@@ -30,25 +31,35 @@ cond_second false x z e = (refl, e)
 
 -- ---- digits
 
-pub record IsWritten (word : List ℕ) : Type 0 where
+record IsWritten (word : List ℕ) : Type 0 where
   pub some : 0 < length word
-  pub short : length word ≤ 20
+  pub short : length word ≤ MOST_DIGITS
   pub digits : All (λ b. is_digit b ≡ true) word
 
-pub written_is : (word : List ℕ) → is_written word ≡ true → IsWritten word
+written_is : (word : List ℕ) → is_written word ≡ true → IsWritten word
 written_is word e =
-    let (some, more) = both_true (nat_lt 0 (length word)) (nat_le (length word) 20 && list_all is_digit word) e in
-    let (short, digits) = both_true (nat_le (length word) 20) (list_all is_digit word) more in
+    let (some, more) = both_true (nat_lt 0 (length word)) (nat_le (length word) MOST_DIGITS && list_all is_digit word) e in
+    let (short, digits) = both_true (nat_le (length word) MOST_DIGITS) (list_all is_digit word) more in
     record {
       some = ltb-true 0 (length word) some;
-      short = leb-true (length word) 20 short;
+      short = leb-true (length word) MOST_DIGITS short;
       digits = AllPass-from_list_all is_digit word digits;
+    }
+
+-- as many digits are a number that a file may write, too
+pub written_decimal : (word : List ℕ) → is_written word ≡ true → IsDecimal word
+written_decimal word e =
+    let is = written_is word e in
+    record {
+      some = is.some;
+      digits = is.digits;
+      short = omega (arith, is.short);
     }
 
 written_found : (word : List ℕ) (most number : ℕ) → IsNumber most word number → is_written word ≡ true
 written_found word most number is =
     let some : nat_lt 0 (length word) ≡ true = le-leb 1 (length word) is.some in
-    let short : nat_le (length word) 20 ≡ true = le-leb (length word) 20 is.short in
+    let short : nat_le (length word) MOST_DIGITS ≡ true = le-leb (length word) MOST_DIGITS is.short in
     let digits : list_all is_digit word ≡ true = list_all-from_AllPass is_digit word is.digits in
     λ i. some i && (short i && digits i)
 

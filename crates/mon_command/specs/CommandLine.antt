@@ -67,17 +67,21 @@ pub record IsGiven (words : List Text) (given : Given) : Type 0 where
 -- ---- numbers
 
 -- the greatest seed, and the greatest number of a large input: 2^64 - 1
-abbrev pub GREATEST_SEED : ℕ
-GREATEST_SEED = 18446744073709551615
+abbrev pub GREATEST_UNSIGNED : ℕ
+GREATEST_UNSIGNED = 18446744073709551615
 
 -- the workers of a run where the words give no number of them
 abbrev pub DEFAULT_WORKERS : ℕ
 DEFAULT_WORKERS = 4
 
--- the word is this number, in 1 to 20 decimal digits, and the number is at most so much
+-- the most decimal digits of a number
+abbrev pub MOST_DIGITS : ℕ
+MOST_DIGITS = 20
+
+-- the word is this number, in 1 to `MOST_DIGITS` decimal digits, and the number is at most so much
 pub record IsNumber (most : ℕ) (word : List ℕ) (number : ℕ) : Type 0 where
   pub some : 0 < length word
-  pub short : length word ≤ 20
+  pub short : length word ≤ MOST_DIGITS
   pub digits : All (λ b. is_digit b ≡ true) word
   pub value : number_of_digits word ≡ number
   pub within : number ≤ most
@@ -93,7 +97,7 @@ IsSpurious (Some word) number = IsNumber MOST_EXTRA word number
 abbrev pub IsSchedule : Option Text → Option Text → Schedule → Type 0
 IsSchedule seed spurious Rounds = (seed ≡ None) × (spurious ≡ None)
 IsSchedule seed spurious (Drawn number extra) =
-    (word : Text) × (seed ≡ Some word) × IsNumber GREATEST_SEED word number × IsSpurious spurious extra
+    (word : Text) × (seed ≡ Some word) × IsNumber GREATEST_UNSIGNED word number × IsSpurious spurious extra
 
 -- `--workers` asks for 1 to 16 workers
 abbrev pub IsWorkers : Option Text → ℕ → Type 0
@@ -118,7 +122,7 @@ HasValues values (turns monitor clients) = values ≡ monitor ∷ clients ∷ []
 HasValues values (compile monitor) = values ≡ monitor ∷ []
 HasValues values (simulate monitor clients schedule) = values ≡ monitor ∷ clients ∷ []
 HasValues values (run monitor clients workers) = values ≡ monitor ∷ clients ∷ []
-HasValues values (stress number workers) = (word : Text) × (values ≡ word ∷ []) × IsNumber GREATEST_SEED word number
+HasValues values (stress number workers) = (word : Text) × (values ≡ word ∷ []) × IsNumber GREATEST_UNSIGNED word number
 
 abbrev pub HasNoSchedule : Given → Type 0
 HasNoSchedule given = (given.seed ≡ None) × (given.spurious ≡ None)

@@ -7,7 +7,7 @@ ghost use Rattle.mon_syntax.specs.ClientGrammar.{plain};
 ghost use Rattle.mon_syntax.specs.inner.Reading.{is_kind, kind_of, minus_of, op_of, truth_of};
 
 use mon_base::Name;
-use mon_tokens::{Token, TokenKind};
+use mon_tokens::{Token, TokenKind, number_of_digits};
 use mon_tree::{Arg, Expr, InputKind, Lit, Op};
 use std::alloc::{AllocError, Global};
 
@@ -96,17 +96,6 @@ pub fn name_of(alloc: Global, bytes: &[u8], token: &Token) -> Result<Name, Alloc
     ensures { IfOk result (λ name. name ≡ text_of bytes.now token.now) }
 {
     Ok(Name::of(Vec::from_slice(alloc, text_of(bytes, token))?))
-}
-
-fn number_of_digits(digits: &[u8]) -> u128
-    requires { IsDecimal digits.now }
-    ensures { result ≡ number_of_digits digits.now }
-{
-    let mut value: u128 = 0;
-    for digit in digits {
-        value = value * 10 + (*digit - b'0') as u128;
-    }
-    value
 }
 
 /// The number that a token's text stands for.

@@ -3,13 +3,13 @@
 ghost use Rattle.std.specs.Prelude.{◌≡◌, ℕ, List, length, IfSome, nat_eq, find, option_map, ◌≤◌, ◌<◌, ◌+◌};
 ghost use Rattle.std.specs.List.{position, prefix_len, starts_with};
 ghost use Rattle.std.specs.Str.{bytes_eq};
-ghost use Rattle.mon_tokens.specs.Spelling.{is_letter, is_word, is_digit, is_blank, is_in_line, kind_of_word};
+ghost use Rattle.mon_tokens.specs.Spelling.{is_word, is_digit, is_blank, is_in_line, kind_of_word};
 ghost use Rattle.mon_base.specs.Limits.{FILE_BYTES};
 ghost use Rattle.mon_tokens.specs.inner.Pieces.{class_of, is_run, other_at, by_class, longest_at, limited, sign_at};
 
 use super::token::{KEYWORD_KINDS, SIGNS, TokenKind};
 use mon_base::limits::WORD_BYTES;
-use mon_base::{KEYWORDS, is_in_line};
+use mon_base::{KEYWORDS, is_digit, is_in_line, is_letter, is_word};
 
 /// What a byte outside comments can begin.
 #[derive(Clone, Copy, Debug, PartialEq, Eq)]
@@ -31,18 +31,6 @@ pub enum Shape {
     Sign(TokenKind),
 }
 
-fn is_letter(b: u8) -> bool
-    ensures { result ≡ is_letter b }
-{
-    (b'a' <= b && b <= b'z') || (b'A' <= b && b <= b'Z') || b == b'_'
-}
-
-fn is_digit(b: u8) -> bool
-    ensures { result ≡ is_digit b }
-{
-    b'0' <= b && b <= b'9'
-}
-
 fn is_blank(b: u8) -> bool
     ensures { result ≡ is_blank b }
 {
@@ -61,12 +49,6 @@ fn class_of(b: u8) -> Class
     } else {
         Class::Other
     }
-}
-
-fn is_word(b: u8) -> bool
-    ensures { result ≡ is_word b }
-{
-    is_letter(b) || is_digit(b)
 }
 
 fn word_len(bytes: &[u8]) -> usize

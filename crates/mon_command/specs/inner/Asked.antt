@@ -6,11 +6,11 @@ use Rattle.mon_base.specs.Limits.{MOST_EXTRA, WORKERS}
 use Rattle.mon_tokens.specs.Words.{number_of_digits}
 use Rattle.mon_command.specs.declared.schedule.Schedule.{Schedule}
 use Rattle.mon_command.specs.declared.schedule.Schedule.TheVariants.{Rounds, Drawn}
-use Rattle.mon_command.specs.CommandLine.{Given, Command, check, turns, compile, simulate, run, stress, GREATEST_SEED, DEFAULT_WORKERS}
+use Rattle.mon_command.specs.CommandLine.{Given, Command, check, turns, compile, simulate, run, stress, GREATEST_UNSIGNED, DEFAULT_WORKERS, MOST_DIGITS}
 
--- 1 to 20 decimal digits
+-- 1 to `MOST_DIGITS` decimal digits
 abbrev pub is_written : List ℕ → Bool
-is_written word = nat_lt 0 (length word) && (nat_le (length word) 20 && list_all is_digit word)
+is_written word = nat_lt 0 (length word) && (nat_le (length word) MOST_DIGITS && list_all is_digit word)
 
 abbrev pub within : ℕ → ℕ → Option ℕ
 within most number = cond (nat_le number most) (Some number) None
@@ -27,7 +27,7 @@ abbrev pub schedule_if : Option (List ℕ) → Option (List ℕ) → Option Sche
 schedule_if None None = Some Rounds
 schedule_if None (Some word) = None
 schedule_if (Some seed) spurious =
-    option_and_then (λ number. option_map (λ extra. Drawn number extra) (spurious_if spurious)) (number_if GREATEST_SEED seed)
+    option_and_then (λ number. option_map (λ extra. Drawn number extra) (spurious_if spurious)) (number_if GREATEST_UNSIGNED seed)
 
 -- a number of workers is not 0
 abbrev pub some_workers : ℕ → Option ℕ
@@ -43,7 +43,7 @@ has_schedule given = is_some given.seed || is_some given.spurious
 
 abbrev pub stress_if : Given → List ℕ → Option Command
 stress_if given word = cond (has_schedule given) None
-    (option_and_then (λ number. option_map (λ workers. stress number workers) (workers_if given.workers)) (number_if GREATEST_SEED word))
+    (option_and_then (λ number. option_map (λ workers. stress number workers) (workers_if given.workers)) (number_if GREATEST_UNSIGNED word))
 
 abbrev pub run_if : Given → List ℕ → List ℕ → Option Command
 run_if given monitor clients = cond (has_schedule given) None
