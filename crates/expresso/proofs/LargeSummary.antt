@@ -10,9 +10,9 @@ use Rattle.mon_implicit.specs.Runs.{Ends, IsFinished, IsRun}
 use Rattle.mon_events.specs.declared.log.Entry.{Entry}
 use Rattle.mon_events.specs.Configurations.{System, Configuration}
 use Rattle.mon_events.specs.Logs.{commits_of}
-use Rattle.mon_text.specs.TurnsText.{end_text}
+use Rattle.mon_text.specs.TurnsText.{end_text, state_text}
 use Rattle.mon_text.specs.LogText.{are_done}
-use Rattle.mon_text.specs.SummaryText.{calls_text, state_text, summary_text}
+use Rattle.mon_text.specs.SummaryText.{calls_text, summary_text}
 use Rattle.mon_stress.specs.LargeInput.{buffer_of, capacity_of, producers_and_consumers}
 use Rattle.mon_stress.specs.Laws.{IsDone}
 use Rattle.mon_stress.proofs.LargeRuns.{every_run}

@@ -26,8 +26,8 @@ written_since status text result out mid out_now silent written = subst (λ (s :
 positive : (n : ℕ) → 0 < suc n
 positive n = omega arith
 
-some_end : (xs : List ℕ) (x : ℕ) → 0 < length (xs ++ x ∷ [])
-some_end xs x = omega (arith, length-append xs (x ∷ []))
+some_after : (xs : List ℕ) (x : ℕ) (ys : List ℕ) → 0 < length (xs ++ x ∷ ys)
+some_after xs x ys = omega (arith, length-append xs (x ∷ ys))
 
 pub some_usage : 0 < length usage_text
 some_usage = positive _
@@ -39,7 +39,7 @@ pub some_tree : (tree : MonitorTree) → 0 < length (tree_text tree)
 some_tree tree = positive _
 
 pub some_turns : (monitor : MonitorParts) (clients : List Client) (turns : Turns) → 0 < length (turns_text monitor clients turns)
-some_turns monitor clients turns = some_end _ 10
+some_turns monitor clients turns = some_after _ 115 _
 
 pub some_plan : (monitor : MonitorParts) (plan : Plan) → 0 < length (plan_text monitor plan)
 some_plan monitor plan = positive _

@@ -6,10 +6,10 @@ use Rattle.rand_pcg.specs.Lcg.{Lcg, started, increment_of}
 use Rattle.rand_pcg.specs.Pcg.{pcg32, multiplier_64}
 use Rattle.mon_implicit.specs.Rounds.{asked_before}
 use Rattle.mon_events.specs.declared.log.Entry.{Entry}
-use Rattle.mon_events.specs.Configurations.{Phase}
-use Rattle.mon_events.specs.Configurations.Phase.{Waiting}
+use Rattle.mon_events.specs.Stages.{is_waiting_stage}
 use Rattle.mon_events.specs.Logs.{IsClosed}
 use Rattle.mon_explicit.specs.declared.section.Section.{Section}
+use Rattle.mon_explicit.specs.Machines.{stage_of}
 use Rattle.mon_explicit.specs.Sections.{FreeMachine, MadeSection, WokenByNothing, is_ready}
 
 -- the client makes a section
@@ -34,13 +34,9 @@ pub data IsByRounds : ℕ → FreeMachine → FreeMachine → Type 0 where
 
 -- ---- drawn
 
-abbrev pub is_waiting_phase : Phase → Bool
-is_waiting_phase (Waiting condition) = true
-is_waiting_phase phase = false
-
 -- whether a client waits
 abbrev pub is_waiting : FreeMachine → ℕ → Bool
-is_waiting machine client = option_map_or (λ standing. is_waiting_phase standing.phase) (slice_get machine.now.standings client) false
+is_waiting machine client = option_map_or (λ standing. is_waiting_stage (stage_of standing.phase)) (slice_get machine.now.standings client) false
 
 -- the clients of whom this is true, in file order
 abbrev pub clients_who : (FreeMachine → ℕ → Bool) → FreeMachine → List ℕ

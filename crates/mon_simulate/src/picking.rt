@@ -2,10 +2,10 @@
 
 ghost use Rattle.std.specs.Prelude.{◌≡◌, ◌<◌, length, true, Some, slice_get};
 ghost use Rattle.mon_simulate.specs.Schedules.{IsAt};
-ghost use Rattle.mon_simulate.specs.inner.Turns.{is_one, is_waiting_stage, those};
+ghost use Rattle.mon_simulate.specs.inner.Turns.{is_one, those};
 
 use super::acting::count_clients;
-use mon_explicit::{FreeMonitor, Stage};
+use mon_explicit::FreeMonitor;
 
 /// Those who can make a section, or those who wait.
 #[derive(Clone, Copy)]
@@ -63,16 +63,6 @@ fn is_one(free: &FreeMonitor, who: Who, client: u32) -> bool
 {
     match who {
         Who::Ready => free.is_ready(client),
-        Who::Waiting => waits(free.stage(client)),
-    }
-}
-
-/// Whether a client at this stage waits.
-fn waits(stage: Stage) -> bool
-    ensures { result ≡ is_waiting_stage stage }
-{
-    match stage {
-        Stage::Waiting(_) => true,
-        _ => false,
+        Who::Waiting => free.stage(client).is_waiting(),
     }
 }

@@ -12,20 +12,20 @@ use Rattle.mon_implicit.specs.Runs.{done}
 use Rattle.mon_events.specs.declared.event.Stage.{Stage}
 use Rattle.mon_events.specs.Configurations.{System, Phase, Standing, Configuration, StandsAt}
 use Rattle.mon_events.specs.Configurations.Phase.{Idle, Entering, Waiting, Woken, Inside, Notifying}
+use Rattle.mon_events.specs.Stages.{is_waiting_stage}
 use Rattle.mon_events.specs.Pending.{IsSound}
 use Rattle.mon_events.specs.Logs.{IsClosed, commits_of}
 use Rattle.mon_events.proofs.Facing.{is_some_and}
 use Rattle.mon_explicit.specs.Machines.{stage_of}
 use Rattle.mon_explicit.specs.Sections.{FreeMachine, HoldsAlways}
 use Rattle.mon_text.specs.LogText.{has_done, are_done}
-use Rattle.mon_text.specs.inner.Replies.{says_waiting}
 use Rattle.mon_text.proofs.PlanRows.{both}
 use Rattle.mon_text.proofs.LogRows.{both_true, has_done-no, within_enumerated, enumerated_at, enumerated_end}
 use Rattle.std.proofs.lemmas.Bool.{false≢true}
 
 -- where a client stands tells whether its calls are done: it waits with a call left, or is idle with none
 phase_tells : (system : System) (c : Configuration) (client past : ℕ) (phase : Phase) (one : Client) → IsSound system c → IsClosed system c
-    → StandsAt c.standings client past phase → calls_of system.clients client ≡ one.calls → not (says_waiting (stage_of phase)) ≡ has_done c.commits client one
+    → StandsAt c.standings client past phase → calls_of system.clients client ≡ one.calls → not (is_waiting_stage (stage_of phase)) ≡ has_done c.commits client one
 phase_tells system c client past Idle one sound closed at calls =
     let counted : done c.commits client ≡ past = sound.counted client past Idle at ∙ add-zero past in
     sym (ap (λ (of : List Call). nat_le (length of) (done c.commits client)) (sym calls) ∙ ap (nat_le (length (calls_of system.clients client))) counted ∙ closed.each client past Idle at)
@@ -39,10 +39,10 @@ phase_tells system c client past (Notifying notes) one sound closed at calls = a
 
 -- so does its stage, of a client that is there
 stage_tells : (free : FreeMachine) (client : ℕ) (one : Client) (stage : Stage) → HoldsAlways free → IsClosed free.system free.now → slice_get free.system.clients client ≡ Some one
-    → IsSomeAnd (slice_get free.now.standings client) (λ standing. stage ≡ stage_of standing.phase) → not (says_waiting stage) ≡ has_done (commits_of free.log) client one
+    → IsSomeAnd (slice_get free.now.standings client) (λ standing. stage ≡ stage_of standing.phase) → not (is_waiting_stage stage) ≡ has_done (commits_of free.log) client one
 stage_tells free client one stage always closed is told =
     let found = is_some_and (slice_get free.now.standings client) (λ (standing : Standing). stage ≡ stage_of standing.phase) told in
-    ap (λ (of : Stage). not (says_waiting of)) found.2
+    ap (λ (of : Stage). not (is_waiting_stage of)) found.2
     ∙ phase_tells free.system free.now client found.0.past found.0.phase one always.sound closed found.1 (ap calls_in is)
     ∙ ap (λ (commits : List Commit). has_done commits client one) always.rule.commits
 
@@ -54,7 +54,7 @@ one_there clients client P within holds (inr past) = absurd (omega (arith, withi
 
 -- and of a client by its number
 pub closed_stage_tells : (free : FreeMachine) (client : ℕ) (stage : Stage) (waits : Bool) → HoldsAlways free → IsClosed free.system free.now → client < length free.system.clients
-    → IsSomeAnd (slice_get free.now.standings client) (λ standing. stage ≡ stage_of standing.phase) → waits ≡ says_waiting stage
+    → IsSomeAnd (slice_get free.now.standings client) (λ standing. stage ≡ stage_of standing.phase) → waits ≡ is_waiting_stage stage
     → IsSomeAnd (slice_get free.system.clients client) (λ one. not waits ≡ has_done (commits_of free.log) client one)
 closed_stage_tells free client stage waits always closed within told is =
     one_there free.system.clients client (λ one. not waits ≡ has_done (commits_of free.log) client one) within

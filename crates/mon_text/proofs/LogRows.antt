@@ -1,6 +1,6 @@
 -- The parts of a log's text.
-use Rattle.std.proofs.Common.{◌≡◌, ℕ, ◌+◌, ◌-◌, ◌*◌, ◌%◌, ◌^◌, ◌<◌, ◌≤◌, ◌==◌, ◌++◌, ◌∷◌, [], ◌∙◌, ◌&&◌, Bool, true, false, not, List, length, get_or, take, codes, ap, sym, refl, zero-add, append-nil, arith}
-use Rattle.std.specs.Prelude.{bit_and, count_by, cond}
+use Rattle.std.proofs.Common.{◌≡◌, ℕ, ◌+◌, ◌<◌, ◌≤◌, ◌==◌, ◌++◌, ◌∷◌, [], ◌∙◌, ◌&&◌, Bool, true, false, List, length, get_or, take, codes, ap, sym, refl, zero-add, append-nil, arith}
+use Rattle.std.specs.Prelude.{count_by, cond}
 use Rattle.std.specs.List.{flat_map, enumerate_from}
 use Rattle.std.proofs.lemmas.List.{take_all}
 use Rattle.std.proofs.lemmas.List.FromFn.{length-enumerate_from, get_or-enumerate_from}
@@ -8,7 +8,6 @@ use Rattle.std.proofs.lemmas.List.Sums.{sum_by-cons}
 use Rattle.std.proofs.lemmas.Bool.{lt-leb}
 use Rattle.std.proofs.lemmas.Bool.Decides.{nat_tests}
 use Rattle.mon_base.specs.declared.value.Value.{Value}
-use Rattle.mon_monitor.specs.declared.monitor.Field.{Field}
 use Rattle.mon_monitor.specs.MonitorParts.{MonitorParts}
 use Rattle.mon_implicit.specs.declared.script.Client.{Client}
 use Rattle.mon_implicit.specs.declared.script.Call.{Call}
@@ -20,9 +19,9 @@ use Rattle.mon_events.specs.declared.log.Outcome.{Outcome}
 use Rattle.mon_events.specs.declared.log.Outcome.TheVariants as outcomes
 use Rattle.mon_events.specs.Configurations.{System, Configuration}
 use Rattle.mon_events.specs.Logs.{commits_of, commits_in}
-use Rattle.mon_text.specs.TurnsText.{end_text, fields_text, reply_text}
+use Rattle.mon_text.specs.TurnsText.{end_text, state_text, reply_text}
 use Rattle.mon_text.specs.LogText.{wakes_text, woken_names, replied_text, entry_text, has_done, are_done, ended_log_text, log_text}
-use Rattle.mon_text.specs.inner.Replies.{is_reply_of, says_replies}
+use Rattle.mon_text.specs.inner.Replies.{is_reply_of}
 use Rattle.mon_text.proofs.PlanRows.{both}
 
 -- ---- the calls that are done
@@ -75,14 +74,12 @@ enumerated_end xs i end = take_all i (enumerate_from 0 xs) (omega (arith, length
 
 -- ---- the whole
 
--- the parts of a log's text, by what stands for the scripts, the fields and the values
-pub ended_log_text-parts : (monitor : MonitorParts) (scripts clients : List Client) (log : List Entry) (fields : List Field) (values state : List Value)
-    → clients ≡ scripts → fields ≡ monitor.fields → values ≡ state
-    → flat_map (entry_text monitor clients) log ++ end_text monitor clients (commits_of log) (are_done clients (commits_of log)) ++ codes "state" ++ fields_text fields values ++ codes "\n" ≡ ended_log_text monitor scripts log state
-ended_log_text-parts monitor scripts clients log fields values state these are stand =
-    ap (λ them. flat_map (entry_text monitor them) log ++ end_text monitor them (commits_of log) (are_done them (commits_of log)) ++ codes "state" ++ fields_text fields values ++ codes "\n") these
-    ∙ ap (λ all. flat_map (entry_text monitor scripts) log ++ end_text monitor scripts (commits_of log) (are_done scripts (commits_of log)) ++ codes "state" ++ fields_text all values ++ codes "\n") are
-    ∙ ap (λ held. flat_map (entry_text monitor scripts) log ++ end_text monitor scripts (commits_of log) (are_done scripts (commits_of log)) ++ codes "state" ++ fields_text monitor.fields held ++ codes "\n") stand
+-- the parts of a log's text, by what stands for the scripts, and whether all calls are done
+pub ended_log_text-parts : (monitor : MonitorParts) (scripts clients : List Client) (log : List Entry) (finished : Bool) (state : List Value) → clients ≡ scripts → finished ≡ are_done scripts (commits_of log)
+    → flat_map (entry_text monitor clients) log ++ end_text monitor clients (commits_of log) finished ++ state_text monitor state ≡ ended_log_text monitor scripts log state
+ended_log_text-parts monitor scripts clients log finished state these ends =
+    ap (λ them. flat_map (entry_text monitor them) log ++ end_text monitor them (commits_of log) finished ++ state_text monitor state) these
+    ∙ ap (λ end. flat_map (entry_text monitor scripts) log ++ end_text monitor scripts (commits_of log) end ++ state_text monitor state) ends
 
 -- the text of a system's log, by what stands for its parts
 pub log_text-parts : (system : System) (log : List Entry) (last : Configuration) (monitor : MonitorParts) (clients : List Client) (entries : List Entry) (state : List Value)

@@ -10,7 +10,7 @@ use Rattle.mon_events.specs.declared.plan.Plan.{Plan}
 use Rattle.mon_events.specs.Plans.{FitsPlan}
 use Rattle.mon_events.specs.PlanText.{plan_text}
 use Rattle.mon_events.specs.Logs.{commits_of}
-use Rattle.mon_text.specs.TurnsText.{end_text, fields_text}
+use Rattle.mon_text.specs.TurnsText.{end_text, state_text}
 use Rattle.mon_text.specs.LogText.{entry_text, are_done, ended_log_text}
 use Rattle.mon_text.proofs.Lines.{same_line}
 use Rattle.mon_text.proofs.NamedPlans.{IsAfterKept, other_after, plan_named}
@@ -32,13 +32,13 @@ abbrev IsEnd : List ℕ → Type 0
 IsEnd text = ((more : List ℕ) × (text ≡ codes "done" ++ (codes "\n" ++ more))) ⊎ ((more : List ℕ) × (text ≡ codes "stalled" ++ (codes "\n" ++ more)))
 
 end_of : MonitorParts → List Client → List Entry → List Value → List ℕ
-end_of monitor clients log state = end_text monitor clients (commits_of log) (are_done clients (commits_of log)) ++ codes "state" ++ fields_text monitor.fields state ++ codes "\n"
+end_of monitor clients log state = end_text monitor clients (commits_of log) (are_done clients (commits_of log)) ++ state_text monitor state
 
 end_is : (monitor : MonitorParts) (clients : List Client) (log : List Entry) (state : List Value) → IsEnd (end_of monitor clients log state)
 unfolding end_of
 end_is monitor clients log state = by_test (are_done clients (commits_of log))
   where
-    by_test : (done : Bool) → IsEnd (end_text monitor clients (commits_of log) done ++ codes "state" ++ fields_text monitor.fields state ++ codes "\n")
+    by_test : (done : Bool) → IsEnd (end_text monitor clients (commits_of log) done ++ state_text monitor state)
     by_test true = inl (_, refl)
     by_test false = inr (_, refl)
 
@@ -46,13 +46,7 @@ text_parts : (monitor : MonitorParts) (clients : List Client) (log : List Entry)
     → ended_log_text monitor clients log state ≡ flat_map (entry_text monitor clients) log ++ end_of monitor clients log state
 unfolding end_of
 text_parts monitor clients log state =
-    let entries : List ℕ = flat_map (entry_text monitor clients) log in
-    let ended : List ℕ = end_text monitor clients (commits_of log) (are_done clients (commits_of log)) in
-    let fields : List ℕ = fields_text monitor.fields state in
-    ap (λ text. text ++ codes "state" ++ fields ++ codes "\n") {x = entries ++ ended} refl
-    ∙ ap (λ text. text ++ fields ++ codes "\n") (append_assoc entries ended (codes "state"))
-    ∙ ap (λ text. text ++ codes "\n") (append_assoc entries (ended ++ codes "state") fields)
-    ∙ append_assoc entries (ended ++ codes "state" ++ fields) (codes "\n")
+    append_assoc (flat_map (entry_text monitor clients) log) (end_text monitor clients (commits_of log) (are_done clients (commits_of log))) (state_text monitor state)
 
 -- an entry's line is none of these
 no_end : (monitor : MonitorParts) (clients : List Client) (past : List Entry) (entry : Entry) (rest text : List ℕ) → AreClients clients → IsEntryAfter clients past entry

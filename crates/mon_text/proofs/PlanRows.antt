@@ -1,5 +1,5 @@
 -- Rows of pairs: the conditions with their numbers and kinds, the blocks with their notes, and the notes with a separator between them.
-use Rattle.std.proofs.Common.{◌≡◌, ℕ, ◌+◌, ◌-◌, ◌<◌, ◌≤◌, ◌++◌, ◌∷◌, [], ◌∙◌, min, map, List, Ok, length, get_or, take, drop, codes, ap, sym, refl, arith}
+use Rattle.std.proofs.Common.{◌≡◌, ℕ, ◌+◌, ◌-◌, ◌<◌, ◌≤◌, ◌++◌, ◌∷◌, [], ◌∙◌, min, map, List, Ok, length, get_or, take, codes, ap, sym, refl, arith}
 use Rattle.std.specs.Prelude.{slice_get}
 use Rattle.std.specs.List.{flat_map, zip, enumerate_from}
 use Rattle.std.proofs.lemmas.List.{take_all}

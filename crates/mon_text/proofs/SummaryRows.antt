@@ -1,9 +1,8 @@
 -- The parts of the text that sums up a log.
-use Rattle.std.proofs.Common.{◌≡◌, ℕ, ◌+◌, ◌++◌, ◌∷◌, [], ◌∙◌, List, length, codes, ap, refl, zero-add, arith}
+use Rattle.std.proofs.Common.{◌≡◌, ℕ, Bool, ◌+◌, ◌++◌, ◌∷◌, [], ◌∙◌, List, length, ap, refl, zero-add, arith}
 use Rattle.std.specs.Prelude.{cond, count_by}
 use Rattle.std.proofs.lemmas.List.Sums.{sum_by-cons}
 use Rattle.mon_base.specs.declared.value.Value.{Value}
-use Rattle.mon_monitor.specs.declared.monitor.Field.{Field}
 use Rattle.mon_monitor.specs.MonitorParts.{MonitorParts}
 use Rattle.mon_implicit.specs.declared.commit.Commit.{Commit}
 use Rattle.mon_implicit.specs.declared.script.Client.{Client}
@@ -12,9 +11,9 @@ use Rattle.mon_events.specs.declared.log.Outcome.{Outcome}
 use Rattle.mon_events.specs.declared.log.Outcome.TheVariants as outcomes
 use Rattle.mon_events.specs.Configurations.{System, Configuration}
 use Rattle.mon_events.specs.Logs.{commits_in, commits_of}
-use Rattle.mon_text.specs.TurnsText.{end_text, fields_text}
+use Rattle.mon_text.specs.TurnsText.{end_text, state_text}
 use Rattle.mon_text.specs.LogText.{are_done}
-use Rattle.mon_text.specs.SummaryText.{calls_text, ended_summary_text, state_text, summary_text}
+use Rattle.mon_text.specs.SummaryText.{calls_text, ended_summary_text, summary_text}
 use Rattle.mon_text.specs.inner.Replies.{is_reply, says_replies}
 
 -- ---- the calls that replied
@@ -32,15 +31,12 @@ replies_are_commits (entry ∷ log) =
 
 -- ---- the whole, by what stands for its parts
 
-pub state_text-parts : (monitor : MonitorParts) (fields : List Field) (values state : List Value) → fields ≡ monitor.fields → values ≡ state
-    → codes "state" ++ fields_text fields values ++ codes "\n" ≡ state_text monitor state
-state_text-parts monitor fields values state are stand =
-    ap (λ all. codes "state" ++ fields_text all values ++ codes "\n") are ∙ ap (λ held. codes "state" ++ fields_text monitor.fields held ++ codes "\n") stand
-
-pub ended_summary_text-parts : (monitor : MonitorParts) (scripts clients : List Client) (log : List Entry) (state : List Value) (calls : ℕ) → clients ≡ scripts → calls ≡ count_by is_reply log
-    → calls_text calls ++ end_text monitor clients (commits_of log) (are_done clients (commits_of log)) ++ state_text monitor state ≡ ended_summary_text monitor scripts log state
-ended_summary_text-parts monitor scripts clients log state calls these counts =
-    ap (λ them. calls_text calls ++ end_text monitor them (commits_of log) (are_done them (commits_of log)) ++ state_text monitor state) these
+pub ended_summary_text-parts : (monitor : MonitorParts) (scripts clients : List Client) (log : List Entry) (finished : Bool) (state : List Value) (calls : ℕ) → clients ≡ scripts
+    → finished ≡ are_done scripts (commits_of log) → calls ≡ count_by is_reply log
+    → calls_text calls ++ end_text monitor clients (commits_of log) finished ++ state_text monitor state ≡ ended_summary_text monitor scripts log state
+ended_summary_text-parts monitor scripts clients log finished state calls these ends counts =
+    ap (λ them. calls_text calls ++ end_text monitor them (commits_of log) finished ++ state_text monitor state) these
+    ∙ ap (λ end. calls_text calls ++ end_text monitor scripts (commits_of log) end ++ state_text monitor state) ends
     ∙ ap (λ count. calls_text count ++ end_text monitor scripts (commits_of log) (are_done scripts (commits_of log)) ++ state_text monitor state) (counts ∙ replies_are_commits log)
 
 pub summary_text-parts : (system : System) (log : List Entry) (last : Configuration) (monitor : MonitorParts) (clients : List Client) (entries : List Entry) (state : List Value)

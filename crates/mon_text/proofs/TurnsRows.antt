@@ -18,7 +18,7 @@ use Rattle.mon_implicit.specs.declared.script.Client.{Client}
 use Rattle.mon_implicit.specs.declared.script.Call.{Call}
 use Rattle.mon_implicit.specs.Scripted.{calls_of}
 use Rattle.mon_implicit.specs.Runs.{done, next_call}
-use Rattle.mon_text.specs.TurnsText.{client_name, method_name, called_text, call_text, commit_text, blocked_text, blocked_from, end_text, fields_text, value_text, turns_text}
+use Rattle.mon_text.specs.TurnsText.{client_name, method_name, called_text, call_text, commit_text, blocked_text, blocked_from, end_text, fields_text, state_text, value_text, turns_text}
 
 -- ---- the clients that are blocked, from client `first` on
 
@@ -168,12 +168,15 @@ fields_text-end (f ∷ fields) (v ∷ values) (suc i) end = ap (λ l. field_text
 
 -- ---- the whole
 
--- the parts of a run's text, by what stands for the scripts, the history, the fields and the values
-pub turns_text-parts : (monitor : MonitorParts) (scripts : List Client) (turns : Turns) (clients : List Client) (history : List Commit) (fields : List Field) (values : List Value)
-    → clients ≡ scripts → history ≡ turns.history → fields ≡ monitor.fields → values ≡ turns.state
-    → flat_map (commit_text monitor clients) history ++ end_text monitor clients history turns.finished ++ codes "state" ++ fields_text fields values ++ codes "\n" ≡ turns_text monitor scripts turns
-turns_text-parts monitor scripts turns clients history fields values these did are stand =
-    ap (λ them. flat_map (commit_text monitor them) history ++ end_text monitor them history turns.finished ++ codes "state" ++ fields_text fields values ++ codes "\n") these
-    ∙ ap (λ so_far. flat_map (commit_text monitor scripts) so_far ++ end_text monitor scripts so_far turns.finished ++ codes "state" ++ fields_text fields values ++ codes "\n") did
-    ∙ ap (λ all. flat_map (commit_text monitor scripts) turns.history ++ end_text monitor scripts turns.history turns.finished ++ codes "state" ++ fields_text all values ++ codes "\n") are
-    ∙ ap (λ state. flat_map (commit_text monitor scripts) turns.history ++ end_text monitor scripts turns.history turns.finished ++ codes "state" ++ fields_text monitor.fields state ++ codes "\n") stand
+-- the line of the state, by what stands for the fields and the values
+pub state_text-parts : (monitor : MonitorParts) (fields : List Field) (values state : List Value) → fields ≡ monitor.fields → values ≡ state
+    → codes "state" ++ fields_text fields values ++ codes "\n" ≡ state_text monitor state
+state_text-parts monitor fields values state are stand =
+    ap (λ all. codes "state" ++ fields_text all values ++ codes "\n") are ∙ ap (λ held. codes "state" ++ fields_text monitor.fields held ++ codes "\n") stand
+
+-- the parts of a run's text, by what stands for the scripts and the history
+pub turns_text-parts : (monitor : MonitorParts) (scripts : List Client) (turns : Turns) (clients : List Client) (history : List Commit) → clients ≡ scripts → history ≡ turns.history
+    → flat_map (commit_text monitor clients) history ++ end_text monitor clients history turns.finished ++ state_text monitor turns.state ≡ turns_text monitor scripts turns
+turns_text-parts monitor scripts turns clients history these did =
+    ap (λ them. flat_map (commit_text monitor them) history ++ end_text monitor them history turns.finished ++ state_text monitor turns.state) these
+    ∙ ap (λ so_far. flat_map (commit_text monitor scripts) so_far ++ end_text monitor scripts so_far turns.finished ++ state_text monitor turns.state) did

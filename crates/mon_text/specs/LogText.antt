@@ -1,5 +1,5 @@
 -- The text of a log.
-use Rattle.std.specs.Prelude.{ℕ, ◌+◌, ◌^◌, ◌==◌, Bool, true, false, not, nat_le, List, [], ◌∷◌, ◌++◌, length, slice_get, codes, if◌then◌else◌, bit_and}
+use Rattle.std.specs.Prelude.{ℕ, ◌^◌, ◌==◌, Bool, not, nat_le, List, [], ◌++◌, length, slice_get, codes, if◌then◌else◌, bit_and}
 use Rattle.std.specs.List.{flat_map, list_all, enumerate_from}
 use Rattle.mon_base.specs.declared.value.Value.{Value}
 use Rattle.mon_monitor.specs.MonitorParts.{MonitorParts}
@@ -12,7 +12,7 @@ use Rattle.mon_events.specs.declared.log.Outcome.TheVariants as outcomes
 use Rattle.mon_events.specs.declared.log.Entry.{Entry}
 use Rattle.mon_events.specs.Configurations.{System, Configuration}
 use Rattle.mon_events.specs.Logs.{commits_of}
-use Rattle.mon_text.specs.TurnsText.{client_name, call_text, reply_text, end_text, fields_text}
+use Rattle.mon_text.specs.TurnsText.{client_name, call_text, reply_text, end_text, state_text}
 
 -- ---- who was woken
 
@@ -62,7 +62,7 @@ abbrev pub ended_log_text : MonitorParts → List Client → List Entry → List
 ended_log_text monitor clients log state =
     flat_map (entry_text monitor clients) log
     ++ end_text monitor clients (commits_of log) (are_done clients (commits_of log))
-    ++ codes "state" ++ fields_text monitor.fields state ++ codes "\n"
+    ++ state_text monitor state
 
 -- the text of a system's log that ended in a configuration
 abbrev pub log_text : System → List Entry → Configuration → List ℕ

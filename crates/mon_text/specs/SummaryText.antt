@@ -6,16 +6,12 @@ use Rattle.mon_implicit.specs.declared.script.Client.{Client}
 use Rattle.mon_events.specs.declared.log.Entry.{Entry}
 use Rattle.mon_events.specs.Configurations.{System, Configuration}
 use Rattle.mon_events.specs.Logs.{commits_of}
-use Rattle.mon_text.specs.TurnsText.{end_text, fields_text}
+use Rattle.mon_text.specs.TurnsText.{end_text, state_text}
 use Rattle.mon_text.specs.LogText.{are_done}
 
 -- `calls 16384` and a line feed
 abbrev pub calls_text : ℕ → List ℕ
 calls_text calls = codes "calls " ++ decimal calls ++ codes "\n"
-
--- `state count=0` and a line feed
-abbrev pub state_text : MonitorParts → List Value → List ℕ
-state_text monitor state = codes "state" ++ fields_text monitor.fields state ++ codes "\n"
 
 -- how many calls replied, then how the log ended, as a run by its commits ends, then this state
 abbrev pub ended_summary_text : MonitorParts → List Client → List Entry → List Value → List ℕ

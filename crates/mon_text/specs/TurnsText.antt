@@ -69,9 +69,13 @@ abbrev pub fields_text : List Field → List Value → List ℕ
 fields_text (field ∷ fields) (value ∷ values) = codes " " ++ field.name ++ codes "=" ++ value_text value ++ fields_text fields values
 fields_text fields values = []
 
+-- `state count=0` and a line feed
+abbrev pub state_text : MonitorParts → List Value → List ℕ
+state_text monitor state = codes "state" ++ fields_text monitor.fields state ++ codes "\n"
+
 -- a line for each commit, then how the run ended, then the last state
 abbrev pub turns_text : MonitorParts → List Client → Turns → List ℕ
 turns_text monitor clients turns =
     flat_map (commit_text monitor clients) turns.history
     ++ end_text monitor clients turns.history turns.finished
-    ++ codes "state" ++ fields_text monitor.fields turns.state ++ codes "\n"
+    ++ state_text monitor turns.state

@@ -8,6 +8,7 @@
 //! and of the log after it name both ([`text_names_log`], `specs/Laws`).
 #![tactic(auto)]
 
+mod ending;
 mod fault;
 mod laws;
 mod log;

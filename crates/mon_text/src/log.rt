@@ -1,21 +1,19 @@
 //! The text of a log.
 
-ghost use Rattle.std.specs.Prelude.{◌≡◌, ◌<◌, ◌≤◌, IsSomeAnd, count_by, length, slice_get};
+ghost use Rattle.std.specs.Prelude.{◌≡◌, ◌<◌, ◌≤◌, IsSomeAnd, length, slice_get};
 ghost use Rattle.std.specs.List.{flat_map};
 ghost use Rattle.mon_base.specs.Limits.{CLIENTS as MOST_CLIENTS};
 ghost use Rattle.mon_io.specs.Writing.{Wrote};
-ghost use Rattle.mon_implicit.specs.Runs.{done, next_call};
 ghost use Rattle.mon_events.specs.Logs.{IsClosed, commits_of};
-ghost use Rattle.mon_text.specs.TurnsText.{blocked_from, blocked_text, end_text};
 ghost use Rattle.mon_text.specs.LogText.{are_done, ended_log_text, entry_text, has_done, is_woken};
 ghost use Rattle.mon_text.specs.LogText.{log_text};
 ghost use Rattle.mon_text.specs.LogText.{replied_text, wakes_text, woken_name, woken_names};
-ghost use Rattle.mon_text.specs.inner.Replies.{is_reply_of, says_replies, says_waiting};
 
-use crate::turns::{calls, name_of, write_call, write_fields};
+use crate::ending::{Commits, write_end};
+use crate::turns::{name_of, write_call, write_state};
 use crate::values::reply_bytes;
 use itoa::Buffer;
-use mon_events::{Entry, Outcome, Stage};
+use mon_events::{Entry, Outcome};
 use mon_explicit::FreeMonitor;
 use mon_implicit::{Client, Reply, Scripts, State};
 use mon_io::{Sink, SinkFailed, write_piece, write_pieces};
@@ -55,10 +53,8 @@ fn write_ended_log<S: Sink>(
 {
     let clients = scripts.clients();
     write_entries(monitor, clients, log, out)?;
-    write_end(monitor, clients, log, finished, out)?;
-    write_piece(b"state", out)?;
-    write_fields(monitor.fields(), state.values(), out)?;
-    write_piece(b"\n", out)
+    write_end(monitor, clients, &Commits::Log(log), finished, out)?;
+    write_state(monitor, state, out)
 }
 
 // ---- entries
@@ -172,27 +168,7 @@ fn is_woken(woken: u32, client: u32) -> bool
     woken & (1 << client) != 0
 }
 
-// ---- how the log ended
-
-// `done`, or `stalled` and who is blocked.
-pub(crate) fn write_end<S: Sink>(
-    monitor: &Monitor,
-    clients: &[Client],
-    log: &[Entry],
-    finished: bool,
-    out: &mut S,
-) -> Result<(), SinkFailed>
-    requires { finished ≡ are_done clients.now (commits_of log.now) }
-    ensures { Wrote (S.seen out.old) (S.seen out.new) result
-        (let history = commits_of log.now in
-        end_text monitor.now clients.now history (are_done clients.now history)) }
-{
-    if finished {
-        return write_piece(b"done\n", out);
-    }
-    write_piece(b"stalled\n", out)?;
-    write_blocked(monitor, clients, log, out)
-}
+// ---- whether all calls are done
 
 /// Whether each client's calls are done in a monitor that is closed: whether its log ends by `done`.
 pub fn are_done(free: &FreeMonitor) -> bool
@@ -214,78 +190,5 @@ fn has_done(free: &FreeMonitor, client: u32) -> bool
     ensures { IsSomeAnd (slice_get free.now.system.clients client)
         (λ one. result ≡ has_done (commits_of free.now.log) client one) }
 {
-    !waits(free.stage(client))
-}
-
-// Whether a client at this stage waits.
-fn waits(stage: Stage) -> bool
-    ensures { result ≡ says_waiting stage }
-{
-    match stage {
-        Stage::Waiting(_) => true,
-        _ => false,
-    }
-}
-
-// A line for each client that has a call left, in file order.
-fn write_blocked<S: Sink>(
-    monitor: &Monitor,
-    clients: &[Client],
-    log: &[Entry],
-    out: &mut S,
-) -> Result<(), SinkFailed>
-    ensures { Wrote (S.seen out.old) (S.seen out.new) result
-        (blocked_from monitor.now clients.now (commits_of log.now) 0 clients.now) }
-{
-    for client in 0..clients.len() {
-        write_if_blocked(monitor, clients, log, client, out)?;
-    }
-    Ok(())
-}
-
-// `A.1 put(3) blocked` and a line feed, where the client has a call left.
-fn write_if_blocked<S: Sink>(
-    monitor: &Monitor,
-    clients: &[Client],
-    log: &[Entry],
-    client: usize,
-    out: &mut S,
-) -> Result<(), SinkFailed>
-    ensures { Wrote (S.seen out.old) (S.seen out.new) result
-        (let history = commits_of log.now in
-        blocked_text monitor.now clients.now history client
-        (next_call clients.now history client)) }
-{
-    let done = done(log, client);
-    if calls(clients, client).len() <= done {
-        return Ok(());
-    }
-    write_call(monitor, clients, client, done + 1, out)?;
-    write_piece(b" blocked\n", out)
-}
-
-// How many calls of a client are done.
-fn done(log: &[Entry], client: usize) -> usize
-    ensures { result ≡ done (commits_of log.now) client }
-{
-    replies(log, client)
-}
-
-// How many entries are replies to calls of a client.
-fn replies(log: &[Entry], client: usize) -> usize
-    ensures { result ≡ count_by (is_reply_of client) log.now }
-{
-    log.iter()
-        .filter(|entry| replied(entry.outcome) && entry.client as usize == client)
-        .count()
-}
-
-// Whether a call replied.
-pub(crate) fn replied(outcome: Outcome) -> bool
-    ensures { result ≡ says_replies outcome }
-{
-    match outcome {
-        Outcome::Replies { .. } => true,
-        Outcome::Waits | Outcome::Spurious => false,
-    }
+    !free.stage(client).is_waiting()
 }

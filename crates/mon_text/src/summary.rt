@@ -4,16 +4,17 @@ ghost use Rattle.std.specs.Prelude.{◌≡◌, ◌++◌, codes, count_by, decima
 ghost use Rattle.mon_io.specs.Writing.{Wrote};
 ghost use Rattle.mon_events.specs.Logs.{IsClosed, commits_of};
 ghost use Rattle.mon_text.specs.LogText.{are_done};
-ghost use Rattle.mon_text.specs.SummaryText.{calls_text, ended_summary_text, state_text, summary_text};
+ghost use Rattle.mon_text.specs.SummaryText.{calls_text, ended_summary_text, summary_text};
 ghost use Rattle.mon_text.specs.inner.Replies.{is_reply};
 
-use crate::log::{are_done, replied, write_end};
-use crate::turns::write_fields;
+use crate::ending::{Commits, replied, write_end};
+use crate::log::are_done;
+use crate::turns::write_state;
 use itoa::Buffer;
 use mon_events::Entry;
 use mon_explicit::FreeMonitor;
 use mon_implicit::{Scripts, State};
-use mon_io::{Sink, SinkFailed, write_piece, write_pieces};
+use mon_io::{Sink, SinkFailed, write_pieces};
 use mon_monitor::Monitor;
 
 /// Writes what sums up a monitor that ran by sections and is closed: how many calls replied, then how the log ended,
@@ -50,7 +51,7 @@ fn write_ended_summary<S: Sink>(
 {
     let clients = scripts.clients();
     write_calls(calls_replied(log), out)?;
-    write_end(monitor, clients, log, finished, out)?;
+    write_end(monitor, clients, &Commits::Log(log), finished, out)?;
     write_state(monitor, state, out)
 }
 
@@ -68,13 +69,4 @@ fn calls_replied(log: &[Entry]) -> usize
     ensures { result ≡ count_by is_reply log.now }
 {
     log.iter().filter(|entry| replied(entry.outcome)).count()
-}
-
-// `state x=1 b=true` and a line feed.
-fn write_state<S: Sink>(monitor: &Monitor, state: &State, out: &mut S) -> Result<(), SinkFailed>
-    ensures { Wrote (S.seen out.old) (S.seen out.new) result (state_text monitor.now state.now) }
-{
-    write_piece(b"state", out)?;
-    write_fields(monitor.fields(), state.values(), out)?;
-    write_piece(b"\n", out)
 }

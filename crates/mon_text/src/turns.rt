@@ -6,23 +6,15 @@ ghost use Rattle.std.specs.Option.{option_copied};
 ghost use Rattle.mon_io.specs.Writing.{Wrote};
 ghost use Rattle.mon_printer.specs.Canonical.{joined};
 ghost use Rattle.mon_implicit.specs.Scripted.{calls_of};
-ghost use Rattle.mon_implicit.specs.Runs.{done, next_call};
-ghost use Rattle.mon_text.specs.TurnsText.{value_text, client_name, method_name, called_text, call_text, commit_text, blocked_text, blocked_from, end_text, fields_text, turns_text};
+ghost use Rattle.mon_text.specs.TurnsText.{value_text, client_name, method_name, called_text, call_text, commit_text, fields_text, state_text, turns_text};
 
+use crate::ending::{Commits, write_end};
 use crate::values::{reply_bytes, value_bytes};
 use itoa::Buffer;
 use mon_base::Value;
-use mon_implicit::{Call, Client, Commit, Scripts, Turns};
+use mon_implicit::{Call, Client, Commit, Scripts, State, Turns};
 use mon_io::{Sink, SinkFailed, write_piece, write_pieces};
 use mon_monitor::{Field, Monitor};
-
-/// What the lines of a run speak of.
-#[derive(Clone, Copy)]
-struct Run<'a> {
-    monitor: &'a Monitor,
-    clients: &'a [Client],
-    history: &'a [Commit],
-}
 
 /// Writes a run: a line for each commit, then how it ended, then the last state. It takes no memory.
 ///
@@ -36,37 +28,48 @@ pub fn write_turns<S: Sink>(
     ensures { Wrote (S.seen out.old) (S.seen out.new) result
         (turns_text monitor.now scripts.now turns.now) }
 {
-    let run = Run {
+    let clients = scripts.clients();
+    let history = turns.history.items();
+    write_commits(monitor, clients, history, out)?;
+    write_end(
         monitor,
-        clients: scripts.clients(),
-        history: turns.history.items(),
-    };
-    write_commits(&run, out)?;
-    write_end(&run, turns.finished, out)?;
-    write_piece(b"state", out)?;
-    write_fields(monitor.fields(), turns.state.values(), out)?;
-    write_piece(b"\n", out)
+        clients,
+        &Commits::History(history),
+        turns.finished,
+        out,
+    )?;
+    write_state(monitor, &turns.state, out)
 }
 
 // A line for each commit.
-fn write_commits<S: Sink>(run: &Run<'_>, out: &mut S) -> Result<(), SinkFailed>
+fn write_commits<S: Sink>(
+    monitor: &Monitor,
+    clients: &[Client],
+    history: &[Commit],
+    out: &mut S,
+) -> Result<(), SinkFailed>
     ensures { Wrote (S.seen out.old) (S.seen out.new) result
-        (flat_map (commit_text run.now.monitor.now run.now.clients.now) run.now.history.now) }
+        (flat_map (commit_text monitor.now clients.now) history.now) }
 {
-    for commit in run.history {
-        write_commit(run, commit, out)?;
+    for commit in history {
+        write_commit(monitor, clients, commit, out)?;
     }
     Ok(())
 }
 
 // `A.1 put(3, true) = -` and a line feed.
-fn write_commit<S: Sink>(run: &Run<'_>, commit: &Commit, out: &mut S) -> Result<(), SinkFailed>
+fn write_commit<S: Sink>(
+    monitor: &Monitor,
+    clients: &[Client],
+    commit: &Commit,
+    out: &mut S,
+) -> Result<(), SinkFailed>
     ensures { Wrote (S.seen out.old) (S.seen out.new) result
-        (commit_text run.now.monitor.now run.now.clients.now commit.now) }
+        (commit_text monitor.now clients.now commit.now) }
 {
     write_call(
-        run.monitor,
-        run.clients,
+        monitor,
+        clients,
         commit.client as usize,
         commit.call as usize,
         out,
@@ -140,54 +143,6 @@ fn write_more_inputs<S: Sink>(inputs: &[Value], out: &mut S) -> Result<(), SinkF
     Ok(())
 }
 
-// `done`, or `stalled` and who is blocked.
-fn write_end<S: Sink>(run: &Run<'_>, finished: bool, out: &mut S) -> Result<(), SinkFailed>
-    ensures { Wrote (S.seen out.old) (S.seen out.new) result
-        (end_text run.now.monitor.now run.now.clients.now run.now.history.now finished) }
-{
-    if finished {
-        return write_piece(b"done\n", out);
-    }
-    write_piece(b"stalled\n", out)?;
-    write_blocked(run, out)
-}
-
-// A line for each client that has a call left, in file order.
-fn write_blocked<S: Sink>(run: &Run<'_>, out: &mut S) -> Result<(), SinkFailed>
-    ensures { Wrote (S.seen out.old) (S.seen out.new) result
-        (blocked_from run.now.monitor.now run.now.clients.now run.now.history.now 0
-        run.now.clients.now) }
-{
-    for client in 0..run.clients.len() {
-        write_if_blocked(run, client, out)?;
-    }
-    Ok(())
-}
-
-// `A.1 put(3, true) blocked` and a line feed, where the client has a call left.
-fn write_if_blocked<S: Sink>(run: &Run<'_>, client: usize, out: &mut S) -> Result<(), SinkFailed>
-    ensures { Wrote (S.seen out.old) (S.seen out.new) result
-        (blocked_text run.now.monitor.now run.now.clients.now run.now.history.now client
-        (next_call run.now.clients.now run.now.history.now client)) }
-{
-    let done = done(run.history, client);
-    if calls(run.clients, client).len() <= done {
-        return Ok(());
-    }
-    write_call(run.monitor, run.clients, client, done + 1, out)?;
-    write_piece(b" blocked\n", out)
-}
-
-// How many calls of a client are done.
-fn done(history: &[Commit], client: usize) -> usize
-    ensures { result ≡ done history.now client }
-{
-    history
-        .iter()
-        .filter(|commit| commit.client as usize == client)
-        .count()
-}
-
 // The name of a client, or nothing where there is none.
 pub(crate) fn name_of(clients: &[Client], client: usize) -> &[u8]
     ensures { result.now ≡ client_name (slice_get clients.now client) }
@@ -225,12 +180,21 @@ pub(crate) fn method_bytes(monitor: &Monitor, method: u32) -> &[u8]
     }
 }
 
-// ` name=value` for each field, as far as there are values.
-pub(crate) fn write_fields<S: Sink>(
-    fields: &[Field],
-    values: &[Value],
+// `state x=1 b=true` and a line feed.
+pub(crate) fn write_state<S: Sink>(
+    monitor: &Monitor,
+    state: &State,
     out: &mut S,
 ) -> Result<(), SinkFailed>
+    ensures { Wrote (S.seen out.old) (S.seen out.new) result (state_text monitor.now state.now) }
+{
+    write_piece(b"state", out)?;
+    write_fields(monitor.fields(), state.values(), out)?;
+    write_piece(b"\n", out)
+}
+
+// ` name=value` for each field, as far as there are values.
+fn write_fields<S: Sink>(fields: &[Field], values: &[Value], out: &mut S) -> Result<(), SinkFailed>
     ensures { Wrote (S.seen out.old) (S.seen out.new) result (fields_text fields.now values.now) }
 {
     for (field, value) in fields.iter().zip(values) {

@@ -1,7 +1,5 @@
 -- Who acts next, and schedules so far.
 use Rattle.std.specs.Prelude.{◌≡◌, ◌+◌, ◌<◌, ◌≤◌, ℕ, Bool, true, false, List, length}
-use Rattle.mon_events.specs.declared.event.Stage.{Stage}
-use Rattle.mon_events.specs.declared.event.Stage.TheVariants as stages
 use Rattle.mon_explicit.specs.Sections.{FreeMachine, is_ready, spurious_in}
 use Rattle.mon_simulate.specs.declared.draws.Draws.{Draws}
 use Rattle.mon_simulate.specs.declared.picking.Who.{Who}
@@ -34,10 +32,6 @@ pub record RoundsSoFar (asked : ℕ) (before now : FreeMachine) : Type 0 where
 abbrev pub is_one : Who → FreeMachine → ℕ → Bool
 is_one who.Ready machine client = is_ready machine client
 is_one who.Waiting machine client = is_waiting machine client
-
-abbrev pub is_waiting_stage : Stage → Bool
-is_waiting_stage (stages.Waiting condition) = true
-is_waiting_stage stage = false
 
 -- these clients, in file order
 abbrev pub those : Who → FreeMachine → List ℕ

@@ -5,8 +5,8 @@ use Rattle.mon_text.proofs.turns.write_commits.Goals as goal
 
 pub loop-commit-preserved : goal.loop-commit-preserved
 loop-commit-preserved g c =
-    wrote_same _ (flat_map-next (commit_text c.args.run.now.monitor.now c.args.run.now.clients.now) c.args.run.now.history.now c.loop-commit.commit-index _ c.loop-commit-test.true) (wrote_both c.loop-commit.invariant c.in_ok-write_commit.ensures)
+    wrote_same _ (flat_map-next (commit_text c.args.monitor.now c.args.clients.now) c.args.history.now c.loop-commit.commit-index _ c.loop-commit-test.true) (wrote_both c.loop-commit.invariant c.in_ok-write_commit.ensures)
 
 pub returns-in_err-write_commit : goal.returns-in_err-write_commit
 returns-in_err-write_commit g c =
-    wrote_until _ _ _ (flat_map-parts (commit_text c.args.run.now.monitor.now c.args.run.now.clients.now) c.args.run.now.history.now c.loop-commit.commit-index _ c.loop-commit-test.true) c.from_residual.ensures.0 c.loop-commit.invariant c.in_err-write_commit.ensures
+    wrote_until _ _ _ (flat_map-parts (commit_text c.args.monitor.now c.args.clients.now) c.args.history.now c.loop-commit.commit-index _ c.loop-commit-test.true) c.from_residual.ensures.0 c.loop-commit.invariant c.in_err-write_commit.ensures

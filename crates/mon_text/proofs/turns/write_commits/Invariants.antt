@@ -6,4 +6,4 @@ use Rattle.mon_text.proofs.turns.write_commits.Given as goal
 
 abbrev pub invariant-loop-commit : goal.invariant-loop-commit
 invariant-loop-commit g l =
-    Wrote (g.S.Sink.seen l.initial.out) (g.S.Sink.seen l.out) (Ok tt) (flat_map (commit_text l.run.monitor.now l.run.clients.now) (take l.commit-index l.run.history.now))
+    Wrote (g.S.Sink.seen l.initial.out) (g.S.Sink.seen l.out) (Ok tt) (flat_map (commit_text l.monitor l.clients) (take l.commit-index l.history))

@@ -1,8 +1,8 @@
 use Rattle.std.proofs.Common.{codes, refl}
 use Rattle.mon_text.specs.TurnsText.{fields_text}
-use Rattle.mon_text.proofs.SummaryRows.{state_text-parts}
+use Rattle.mon_text.proofs.TurnsRows.{state_text-parts}
 use Rattle.mon_io.proofs.Writing.{wrote_both, wrote_fails, wrote_longer, wrote_same}
-use Rattle.mon_text.proofs.summary.write_state.Goals as goal
+use Rattle.mon_text.proofs.turns.write_state.Goals as goal
 
 pub returns-in_err-write_piece : goal.returns-in_err-write_piece
 returns-in_err-write_piece g c =
