@@ -3,8 +3,8 @@
 //! A [`Name`] is a text that contracts see as a list of bytes, and an identifier a name that a file may give
 //! ([`is_identifier`], `specs/Identifiers`). A [`Kind`] is what a field, an input or an expression holds, and a
 //! [`Value`] is a number or a truth value. The limits stand in [`limits`], and a [`Counted`] is what a monitor has
-//! too many of. What is [`Named`] is searched for a name that stands twice ([`first_repeat`], `specs/Names`), and
-//! `specs/Least` says which of several things comes first.
+//! too many of. What is [`Named`] is searched for a name that stands twice ([`first_repeat`], `specs/Names`), and of
+//! what is [`Placed`] the first is found ([`earlier_of`], `specs/Least`).
 #![tactic(auto)]
 
 mod counted;
@@ -15,6 +15,7 @@ pub mod limits;
 mod line;
 mod name;
 mod named;
+mod placed;
 mod value;
 
 pub use counted::Counted;
@@ -24,4 +25,5 @@ pub use laws::least_is_least;
 pub use line::is_in_line;
 pub use name::Name;
 pub use named::{Named, first_repeat, is_among, is_repeated};
+pub use placed::{Placed, earlier_of};
 pub use value::Value;

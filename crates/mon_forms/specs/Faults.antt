@@ -1,5 +1,5 @@
 -- The order of faults: by place, and at one place by rule.
-use Rattle.std.specs.Prelude.{◌≡◌, ℕ, ◌+◌, Bool, List, [], ◌∷◌, Option, Some}
+use Rattle.std.specs.Prelude.{◌≡◌, ℕ, ◌+◌, List, [], ◌∷◌, Option, Some}
 use Rattle.mon_base.specs.Least as ordered
 use Rattle.mon_base.specs.Least.{Order}
 use Rattle.mon_base.specs.declared.counted.Counted.{Counted}
@@ -49,17 +49,9 @@ IsLeast = ordered.IsLeast order
 abbrev pub least : List TypeFault → Option TypeFault
 least = ordered.least order
 
--- this fault, or one after it that comes before it
-abbrev pub earlier : TypeFault → Option TypeFault → Option TypeFault
-earlier = ordered.earlier order
-
 -- the earlier of two faults that may be, and the one where neither comes before the other
 abbrev pub earlier_of : Option TypeFault → Option TypeFault → Option TypeFault
 earlier_of = ordered.earlier_of order
-
--- the one comes before the other
-abbrev pub is_before : TypeFault → TypeFault → Bool
-is_before = ordered.is_before order
 
 -- what is found first among faults is one of them that none comes before
 abbrev pub FindsLeast : List TypeFault → Type 0

@@ -2,7 +2,6 @@
 
 ghost use Rattle.std.specs.Prelude.{◌≡◌};
 ghost use Rattle.mon_forms.specs.declared.fault.TypeFault.TheVariants.{OutOfMemory};
-ghost use Rattle.mon_forms.specs.Faults.{is_before};
 
 use mon_base::Counted;
 use std::alloc::{AllocError, AllocFailed};

@@ -8,14 +8,13 @@ ghost use Rattle.mon_forms.specs.Scope.{entry_named};
 ghost use Rattle.mon_forms.specs.Sense.{faults_in, large_number, unknown};
 ghost use Rattle.mon_forms.specs.inner.Parts.{IsFirstOfBoth, IsFirstOfEither, IsFirstOfNot, faults_in_addends, faults_in_factors, faults_in_parts};
 
-use crate::earlier::earlier_of;
 use crate::fault::TypeFault;
 use crate::scope::{Entry, find};
 use crate::whole_fault::{
     fault_of_comparison, fault_of_minus, fault_of_not, fault_of_parts, fault_of_product,
     fault_of_sum,
 };
-use mon_base::limits;
+use mon_base::{earlier_of, limits};
 use mon_list::{Boxed, Seq};
 use mon_tree::{Addend, Expr, Factor};
 use std::alloc::{AllocError, Global};

@@ -7,17 +7,16 @@
 //! plain meaning of `specs/Plain`.
 #![tactic(auto)]
 
-mod earlier;
 mod fault;
 mod finding;
 mod first_fault;
 mod form;
 mod laws;
 mod making;
+mod placed;
 mod scope;
 mod whole_fault;
 
-pub use earlier::earlier_of;
 pub use fault::TypeFault;
 pub use finding::{first_place, is_other, kind_of, kind_of_name};
 pub use first_fault::{fault_in, large_number};

@@ -8,13 +8,12 @@ ghost use Rattle.mon_forms.specs.Making.{IsInt, has_small_numbers};
 ghost use Rattle.mon_forms.specs.Sense.{faults_in, large_form, sense, wrong_type};
 ghost use Rattle.mon_forms.specs.inner.Parts.{IsFirstOfBoth, IsFirstOfComparison, IsFirstOfEither, IsFirstOfNot, IsFirstOfProduct, IsFirstOfSum, broken_from, broken_product, faults_in_parts, first_in_product, first_in_sides, first_in_sum, large_difference, large_opposite, large_sum, wrong_addends, wrong_factors, wrong_parts};
 
-use crate::earlier::earlier_of;
 use crate::fault::TypeFault;
 use crate::finding::{first_place, is_other, kind_of};
 use crate::form::Flat;
 use crate::making::{add_all, difference, flat_of, multiply};
 use crate::scope::Entry;
-use mon_base::Kind;
+use mon_base::{Kind, earlier_of};
 use mon_tree::{Addend, Expr, Factor};
 use std::alloc::{AllocError, Global};
 

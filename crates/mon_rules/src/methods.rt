@@ -8,8 +8,8 @@ ghost use Rattle.mon_rules.specs.Rules.{faults_in_methods, method_faults};
 use crate::limits::over_inputs;
 use crate::names::repeated_input;
 use crate::statements::{fault_in_body, fault_in_expected};
-use mon_base::Kind;
-use mon_forms::{TypeFault, earlier_of, scope_numbers_are_small, scope_of};
+use mon_base::{Kind, earlier_of};
+use mon_forms::{TypeFault, scope_numbers_are_small, scope_of};
 use mon_tree::{Decl, MethodTree};
 use std::alloc::{AllocError, Global};
 

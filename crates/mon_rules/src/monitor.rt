@@ -8,7 +8,8 @@ use crate::limits::{over_constants, over_fields, over_methods};
 use crate::methods::fault_in_methods;
 use crate::names::repeated_name;
 use crate::numbers::large_literal;
-use mon_forms::{TypeFault, earlier_of};
+use mon_base::earlier_of;
+use mon_forms::TypeFault;
 use mon_tree::MonitorTree;
 use std::alloc::{AllocError, Global};
 

@@ -6,8 +6,8 @@ ghost use Rattle.mon_forms.specs.declared.fault.TypeFault.TheVariants as faults;
 ghost use Rattle.mon_forms.specs.Faults.{least};
 ghost use Rattle.mon_rules.specs.Rules.{declared_name, declared_names, input_names, method_names, repeated};
 
-use mon_base::{Named, is_among, is_repeated};
-use mon_forms::{TypeFault, earlier_of};
+use mon_base::{Named, earlier_of, is_among, is_repeated};
+use mon_forms::TypeFault;
 use mon_tree::{Decl, InputTree, MethodTree};
 
 /// The first of the constants, fields and methods with the name of an earlier one.

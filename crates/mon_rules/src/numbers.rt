@@ -5,7 +5,8 @@ ghost use Rattle.std.specs.List.{flat_map};
 ghost use Rattle.mon_forms.specs.Faults.{least};
 ghost use Rattle.mon_rules.specs.Rules.{literal_faults};
 
-use mon_forms::{TypeFault, earlier_of, large_number};
+use mon_base::earlier_of;
+use mon_forms::{TypeFault, large_number};
 use mon_tree::Decl;
 
 /// The first of the written numbers of declarations that is too large.

@@ -10,8 +10,8 @@ ghost use Rattle.mon_rules.specs.Rules.{body_faults, early_faults, expected, fau
 ghost use Rattle.mon_rules.specs.inner.Parts.{block_faults, misplaced_in, misplaced_in_each, set_faults, unwanted};
 
 use crate::limits::over_statements;
-use mon_base::Kind;
-use mon_forms::{Entry, TypeFault, earlier_of, fault_in, find, kind_of_name, wrong_type};
+use mon_base::{Kind, earlier_of};
+use mon_forms::{Entry, TypeFault, fault_in, find, kind_of_name, wrong_type};
 use mon_tree::{Expr, StmtTree};
 use std::alloc::{AllocError, Global};
 

@@ -171,10 +171,6 @@ least = ordered.least order
 abbrev pub earlier_of : Option ScriptFault → Option ScriptFault → Option ScriptFault
 earlier_of = ordered.earlier_of order
 
--- the one comes before the other
-abbrev pub is_before : ScriptFault → ScriptFault → Bool
-is_before = ordered.is_before order
-
 -- the fault is the first of those in the tree, unless memory ran out
 abbrev pub HasCause : MonitorParts → ClientsTree → ScriptFault → Type 0
 HasCause monitor tree OutOfMemory = Unit {0}

@@ -7,10 +7,9 @@ ghost use Rattle.mon_script.specs.Faults.{argument_faults, argument_place, is_fo
 ghost use Rattle.mon_script.specs.Scripts.{number_of, value_of};
 ghost use Rattle.mon_script.specs.inner.Making.{IsSmallArgument};
 
-use crate::earlier::earlier_of;
 use crate::fault::ScriptFault;
 use mon_base::limits::GREATEST_NUMBER;
-use mon_base::{Kind, Value};
+use mon_base::{Kind, Value, earlier_of};
 use mon_tree::{Arg, Lit};
 
 /// The first of the written numbers that is too large.

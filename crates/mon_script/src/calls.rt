@@ -7,9 +7,8 @@ ghost use Rattle.mon_script.specs.Faults.{PlacedCall, call_faults, item_faults, 
 ghost use Rattle.mon_script.specs.Scripts.{method_named};
 
 use crate::arguments::{argument_fault, large_number};
-use crate::earlier::earlier_of;
 use crate::fault::ScriptFault;
-use mon_base::Name;
+use mon_base::{Name, earlier_of};
 use mon_monitor::{Method, Monitor};
 use mon_tree::{Arg, ClientTree, Item};
 

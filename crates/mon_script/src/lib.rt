@@ -8,11 +8,11 @@
 mod arguments;
 mod calls;
 mod counting;
-mod earlier;
 mod fault;
 mod laws;
 mod making;
 mod names;
+mod placed;
 mod scripts;
 
 pub use fault::ScriptFault;

@@ -4,10 +4,9 @@ ghost use Rattle.std.specs.Prelude.{◌≡◌, [], None, Some, if◌then◌else�
 ghost use Rattle.mon_script.specs.declared.fault.ScriptFault.TheVariants.{DuplicateClient};
 ghost use Rattle.mon_script.specs.Faults.{doubled, least, over_clients};
 
-use crate::earlier::earlier_of;
 use crate::fault::ScriptFault;
-use mon_base::is_repeated;
 use mon_base::limits::CLIENTS;
+use mon_base::{earlier_of, is_repeated};
 use mon_tree::ClientTree;
 
 /// The first client with the name of an earlier one.

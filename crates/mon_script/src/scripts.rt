@@ -9,10 +9,10 @@ ghost use Rattle.mon_script.specs.Scripts.{IsScripted};
 
 use crate::calls::fault_in_clients;
 use crate::counting::over_calls;
-use crate::earlier::earlier_of;
 use crate::fault::ScriptFault;
 use crate::making::make_clients;
 use crate::names::{doubled_client, over_clients};
+use mon_base::earlier_of;
 use mon_implicit::Scripts;
 use mon_monitor::Monitor;
 use mon_tree::ClientsTree;
