@@ -12,7 +12,7 @@ use Rattle.expresso.specs.declared.source_fault.SourceFault.{SourceFault}
 use Rattle.expresso.specs.declared.source_fault.SourceFault.TheVariants as faults
 use Rattle.expresso.specs.SourceFaults.{source_fault_text}
 use Rattle.expresso.specs.MonitorFiles.{IsAccepted, IsFirstFault}
-use Rattle.expresso.specs.Answers.{Holds, IsMonitorRefusal}
+use Rattle.expresso.specs.Answers.{HoldsBytes, IsMonitorRefusal}
 use Rattle.expresso.specs.ClientFiles.{AreAccepted, IsFirstOfClients}
 
 -- the bytes that are held, where they are told, or else those that were read
@@ -98,5 +98,5 @@ clients_text_told o file bytes monitor faults.OutOfMemory read first = refl
 -- ---- bytes that are told
 
 -- bytes that a name tells are those that it holds
-pub holds_same : (held : List ℕ → Option (List ℕ)) (file all bytes : List ℕ) → held file ≡ Some all → Holds held file bytes → bytes ≡ all
+pub holds_same : (held : List ℕ → Option (List ℕ)) (file all bytes : List ℕ) → held file ≡ Some all → HoldsBytes held file bytes → bytes ≡ all
 holds_same held file all bytes told holds = let equal : all ≡ bytes = subst (λ (o : Option (List ℕ)). IfSome o (λ x. x ≡ bytes)) told holds in sym equal

@@ -34,13 +34,13 @@ use Rattle.expresso.specs.ClientFiles.{AreAccepted, IsFirstOfClients}
 use Rattle.expresso.specs.Texts.{usage_text}
 
 -- the bytes are those held by a name, where they are told
-abbrev pub Holds : (List ℕ → Option (List ℕ)) → List ℕ → List ℕ → Type 0
-Holds held name bytes = IfSome (held name) (λ all. all ≡ bytes)
+abbrev pub HoldsBytes : (List ℕ → Option (List ℕ)) → List ℕ → List ℕ → Type 0
+HoldsBytes held name bytes = IfSome (held name) (λ all. all ≡ bytes)
 
 -- the file holds the monitor, and its tree, where it is told
 pub record HoldsMonitor (held : List ℕ → Option (List ℕ)) (file : List ℕ) (tree : MonitorTree) (monitor : MonitorParts) : Type 0 where
   pub bytes : List ℕ
-  pub told : Holds held file bytes
+  pub told : HoldsBytes held file bytes
   pub accepted : IsAccepted bytes tree monitor
 
 -- the two files hold the monitor and the clients, where they are told
@@ -48,8 +48,8 @@ pub record HoldRun (held : List ℕ → Option (List ℕ)) (monitor_file clients
   pub monitor_bytes : List ℕ
   pub clients_bytes : List ℕ
   pub tree : MonitorTree
-  pub monitor_told : Holds held monitor_file monitor_bytes
-  pub clients_told : Holds held clients_file clients_bytes
+  pub monitor_told : HoldsBytes held monitor_file monitor_bytes
+  pub clients_told : HoldsBytes held clients_file clients_bytes
   pub monitor_accepted : IsAccepted monitor_bytes tree monitor
   pub clients_accepted : AreAccepted clients_bytes monitor clients
 
@@ -134,7 +134,7 @@ IsStalledText held (stress number workers) text = ⊥
 pub record IsMonitorRefusal (held : List ℕ → Option (List ℕ)) (file text : List ℕ) : Type 0 where
   pub bytes : List ℕ
   pub fault : SourceFault
-  pub told : Holds held file bytes
+  pub told : HoldsBytes held file bytes
   pub first : IsFirstFault bytes fault
   pub printed : text ≡ source_fault_text file bytes fault
 
@@ -144,8 +144,8 @@ pub record IsClientsRefusal (held : List ℕ → Option (List ℕ)) (monitor_fil
   pub clients_bytes : List ℕ
   pub tree : MonitorTree
   pub monitor : MonitorParts
-  pub monitor_told : Holds held monitor_file monitor_bytes
-  pub clients_told : Holds held clients_file clients_bytes
+  pub monitor_told : HoldsBytes held monitor_file monitor_bytes
+  pub clients_told : HoldsBytes held clients_file clients_bytes
   pub monitor_accepted : IsAccepted monitor_bytes tree monitor
   pub fault : SourceFault
   pub first : IsFirstOfClients clients_bytes monitor fault

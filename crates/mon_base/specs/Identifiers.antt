@@ -11,13 +11,13 @@ abbrev pub is_digit : ℕ → Bool
 is_digit b = nat_le 48 b && nat_le b 57
 
 -- a byte of an identifier after its first
-abbrev pub is_word : ℕ → Bool
-is_word b = is_letter b || is_digit b
+abbrev pub is_word_byte : ℕ → Bool
+is_word_byte b = is_letter b || is_digit b
 
 -- a letter, and then letters and digits
 abbrev pub is_spelled : List ℕ → Bool
 is_spelled [] = false
-is_spelled (first ∷ more) = is_letter first && list_all is_word more
+is_spelled (first ∷ more) = is_letter first && list_all is_word_byte more
 
 -- the words of the language, which name nothing
 abbrev pub KEYWORDS : List (List ℕ)

@@ -6,11 +6,10 @@ use Rattle.mon_linear.specs.declared.formula.Formula.{Formula}
 use Rattle.mon_linear.specs.declared.formula.Formula.TheOpen.{Formula-F, Row, Flag, All, Any}
 use Rattle.mon_linear.specs.declared.formula.Formula.TheViews.{roll-Formula}
 use Rattle.mon_linear.specs.declared.formula.Formula.TheFolds.{fold-Formula}
-use Rattle.mon_linear.specs.declared.measure.TheConstants.{MOST_NODES}
 use Rattle.mon_linear.specs.declared.substitution.Put.{Put}
 use Rattle.mon_linear.specs.declared.substitution.Put.TheVariants.{Number, Truth}
 use Rattle.mon_linear.specs.Linear.{Linear}
-use Rattle.mon_linear.specs.Measures.{nodes_of}
+use Rattle.mon_linear.specs.Measures.{nodes_of, MOST_NODES}
 use Rattle.mon_linear.specs.Negation.{negation}
 use Rattle.mon_linear.specs.Sums.{sum_of_multiples}
 use Rattle.mon_linear.specs.Truth.{Valuation, value_of, truth_of}

@@ -3,7 +3,7 @@
 ghost use Rattle.std.specs.Prelude.{◌≡◌, ◌+◌, ◌+ℤ◌, ◌*ℤ◌, IfOk, All, map, min, true};
 ghost use Rattle.std.specs.List.{list_all, filter};
 ghost use Rattle.mon_linear.specs.Linear.{IsTerm};
-ghost use Rattle.mon_linear.specs.Measures.{nodes_of};
+ghost use Rattle.mon_linear.specs.Measures.{nodes_of, MOST_NODES};
 ghost use Rattle.mon_linear.specs.Negation.{negation, negative_term, one_less};
 ghost use Rattle.mon_linear.specs.Substitution.{has_term_in_range, is_in_range, is_other, put_in_flag};
 ghost use Rattle.mon_linear.specs.Substitution.{put_in_row, replaced, substituted, times_at, within_limits};

@@ -4,7 +4,7 @@ use Rattle.std.specs.Prelude.{nat_lt}
 use Rattle.std.specs.List.{All}
 use Rattle.std.proofs.lemmas.List.Elements.{All-nil, All-cons, All-head, All-push, All-tail, All-weaker}
 use Rattle.mon_lock.specs.declared.receipt.Receipt.{Receipt}
-use Rattle.mon_lock.specs.Passes.{AreRising}
+use Rattle.mon_lock.specs.Passes.{HaveRisingPlaces}
 use Rattle.mon_lock.specs.Closing.{times}
 use Rattle.mon_lock.specs.inner.Queueing.{put_in, merged}
 use Rattle.mon_lock.proofs.Receipts.{here, is_here, times_cons}
@@ -53,14 +53,14 @@ module _ (P : Receipt → Type 0) where
       (All-cons P r rs one.0 more.0, more.1)
 
 -- places that differ stay in rising order
-rising_put : (r : Receipt) (qs : List Receipt) → AreRising qs → times r.place qs ≡ 0 → AreRising (put_in r qs)
+rising_put : (r : Receipt) (qs : List Receipt) → HaveRisingPlaces qs → times r.place qs ≡ 0 → HaveRisingPlaces (put_in r qs)
 rising_put r [] rising none = (All-nil (λ other. r.place < other.place), tt)
 rising_put r (q ∷ qs) rising none =
     let counts = times_cons r.place q qs in
     let apart : q.place ≢ r.place = λ same. let one = is_here r.place q same in absurd (omega arith) in
     which (nat_lt r.place q.place) refl apart (rising_put r qs rising.1 (omega arith))
   where
-    which : (b : Bool) → nat_lt r.place q.place ≡ b → q.place ≢ r.place → AreRising (put_in r qs) → AreRising (by_test b r q qs (put_in r qs))
+    which : (b : Bool) → nat_lt r.place q.place ≡ b → q.place ≢ r.place → HaveRisingPlaces (put_in r qs) → HaveRisingPlaces (by_test b r q qs (put_in r qs))
     which true is apart more =
         let lt : r.place < q.place = grind arith in
         (All-cons (λ other. r.place < other.place) q qs lt (All-weaker (λ other. q.place < other.place) (λ other. r.place < other.place) (λ other after. omega arith) qs rising.0), rising)
@@ -69,13 +69,13 @@ rising_put r (q ∷ qs) rising none =
         let lt : q.place < r.place = omega arith in
         (all_put (λ other. q.place < other.place) r qs lt rising.0, more)
 
-pub rising_merged : (rs qs : List Receipt) → AreRising rs → AreRising qs → ((k : ℕ) → times k (merged rs qs) ≤ 1) → AreRising (merged rs qs)
+pub rising_merged : (rs qs : List Receipt) → HaveRisingPlaces rs → HaveRisingPlaces qs → ((k : ℕ) → times k (merged rs qs) ≤ 1) → HaveRisingPlaces (merged rs qs)
 rising_merged [] qs rising other once = other
 rising_merged (r ∷ rs) qs rising other once =
     let at = times_put r.place r (merged rs qs) in let mine = is_here r.place r refl in let most = once r.place in
     rising_put r (merged rs qs) (rising_merged rs qs rising.1 other (λ k. let a = times_put k r (merged rs qs) in let b = once k in omega arith)) (omega arith)
 
-pub rising_push : (rs : List Receipt) (r : Receipt) → AreRising rs → All (λ other. other.place < r.place) rs → AreRising (rs ++ r ∷ [])
+pub rising_push : (rs : List Receipt) (r : Receipt) → HaveRisingPlaces rs → All (λ other. other.place < r.place) rs → HaveRisingPlaces (rs ++ r ∷ [])
 rising_push [] r rising below = (All-nil (λ other. r.place < other.place), tt)
 rising_push (q ∷ qs) r rising below =
     (all_push (λ other. q.place < other.place) qs r rising.0 (All-head (λ other. other.place < r.place) q qs below), rising_push qs r rising.1 (All-tail (λ other. other.place < r.place) q qs below))

@@ -27,16 +27,16 @@ abbrev pub StandsIn : List Entry → Receipt → Type 0
 StandsIn log receipt = slice_get log receipt.place ≡ Some receipt.entry
 
 -- each is of an earlier place than those after it
-abbrev pub AreRising : List Receipt → Type 0
-AreRising [] = Unit {0}
-AreRising (receipt ∷ later) = All (λ other. receipt.place < other.place) later × AreRising later
+abbrev pub HaveRisingPlaces : List Receipt → Type 0
+HaveRisingPlaces [] = Unit {0}
+HaveRisingPlaces (receipt ∷ later) = All (λ other. receipt.place < other.place) later × HaveRisingPlaces later
 
 -- The rule of what is known: the front is a monitor that can be, so its log is legal, and it is no longer than was seen; each receipt stands in it.
 pub record IsKnown (known : Knowledge) : Type 0 where
   pub always : HoldsAlways known.front
   pub seen : length known.front.log ≤ known.seen
   pub stand : All (StandsIn known.front.log) known.receipts
-  pub rising : AreRising known.receipts
+  pub rising : HaveRisingPlaces known.receipts
 
 -- ---- what the calls do
 

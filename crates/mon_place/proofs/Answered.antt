@@ -22,7 +22,7 @@ use Rattle.mon_events.specs.declared.plan.Plan.{Plan}
 use Rattle.mon_events.specs.PlanText.{note_kind}
 use Rattle.mon_events.specs.Plans.{IsCondition as IsThere, FitsNote, FitsNotes, FitsPlan, IsLawful, IsUntestedBroadcast, condition_kind, has_note, notes_at}
 use Rattle.mon_events.proofs.Facing.{at_index, all_at, is_some_and}
-use Rattle.mon_wp.specs.Hardness.{is_easy, IsBlock, IsClaimOf, IsCondition, IsHard, IsSmall, ReadsNone, WaitsAt}
+use Rattle.mon_wp.specs.Hardness.{is_easy, IsBlockNumber, IsClaimOf, IsConditionNumber, IsHard, IsSmall, ReadsNone, WaitsAt}
 use Rattle.mon_place.specs.Backing.{HasCertificate}
 use Rattle.mon_place.specs.Exact.{HasHardBlock, HaveTheirKinds, IsExact, IsLicensed, MaySignal, NeedsTest}
 use Rattle.mon_place.specs.inner.Answers.{AreNotes, IsAnswered, IsKindOf, IsNote, IsUnproved}
@@ -73,7 +73,7 @@ not_read monitor number which rule is reads =
     let none = subst (λ (one : Option Condition). IsSomeAnd one (λ held. held.reads_inputs ≡ false)) is.there reads.1 in
     sym described.inputs ∙ none
 
-is_condition : (monitor : MonitorParts) (condition : ℕ) → ReadsNone monitor condition → IsCondition monitor condition
+is_condition : (monitor : MonitorParts) (condition : ℕ) → ReadsNone monitor condition → IsConditionNumber monitor condition
 is_condition monitor condition reads =
     let found = is_some_and (slice_get monitor.conditions (condition - 1)) (λ (held : Condition). held.reads_inputs ≡ false) reads.1 in
     let first = reads.0 in
@@ -232,7 +232,7 @@ fails : Laws → (monitor : MonitorParts) (plan : Plan) (claim : Claim) → IsAn
 fails laws monitor plan claim answered small is_claim unproved holds = small.easy claim is_claim (hard_from laws monitor plan claim answered unproved holds)
 
 exactly_noted : Laws → (monitor : MonitorParts) (plan : Plan) (block condition : ℕ) → IsMonitor monitor → IsAnswered monitor plan → IsSmall monitor
-    → IsBlock monitor block → IsCondition monitor condition → (has_note (notes_at plan block) condition ≡ true) ↔ (NoneNeeded monitor plan.kept block condition → ⊥)
+    → IsBlockNumber monitor block → IsConditionNumber monitor condition → (has_note (notes_at plan block) condition ≡ true) ↔ (NoneNeeded monitor plan.kept block condition → ⊥)
 exactly_noted laws monitor plan block condition rule answered small within is = (
   λ has needless. small.easy (claims.NoNote block condition) (within, is) (unneeded_hard laws monitor plan block condition answered has needless),
   λ needed. by_test (has_note (notes_at plan block) condition) refl (λ none. needed (none_needed laws monitor plan block condition rule answered within is.0 is.1 none)),
@@ -243,7 +243,7 @@ exactly_noted laws monitor plan block condition rule answered small within is = 
     by_test false told never = absurd (never told)
 
 exactly_signals : Laws → (monitor : MonitorParts) (plan : Plan) (condition : ℕ) → IsMonitor monitor → IsAnswered monitor plan → IsSmall monitor
-    → IsCondition monitor condition → (condition_kind plan condition ≡ Some kinds.Signal) ↔ MaySignal monitor plan condition
+    → IsConditionNumber monitor condition → (condition_kind plan condition ≡ Some kinds.Signal) ↔ MaySignal monitor plan condition
 exactly_signals laws monitor plan condition rule answered small is =
     let many = answered.many_kinds in
     let first = is.0 in

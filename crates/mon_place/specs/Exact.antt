@@ -8,7 +8,7 @@ use Rattle.mon_events.specs.declared.plan.Note.{Note}
 use Rattle.mon_events.specs.declared.plan.Plan.{Plan}
 use Rattle.mon_events.specs.PlanText.{note_kind}
 use Rattle.mon_events.specs.Plans.{condition_kind, has_note, notes_at}
-use Rattle.mon_wp.specs.Hardness.{IsBlock, IsCondition, IsHard, ReadsNone, WaitsAt}
+use Rattle.mon_wp.specs.Hardness.{IsBlockNumber, IsConditionNumber, IsHard, ReadsNone, WaitsAt}
 use Rattle.mon_prune.specs.Invariants.{ContainsEasy, IsGreatest}
 
 -- each note has its condition's kind
@@ -30,10 +30,10 @@ pub record IsExact (monitor : MonitorParts) (plan : Plan) : Type 0 where
   -- the greatest invariant is kept
   pub greatest : IsGreatest monitor plan.kept
   -- a block has a note on a condition exactly where one is needed
-  pub noted : (block condition : ℕ) → IsBlock monitor block → IsCondition monitor condition
+  pub noted : (block condition : ℕ) → IsBlockNumber monitor block → IsConditionNumber monitor condition
       → (has_note (notes_at plan block) condition ≡ true) ↔ (NoneNeeded monitor plan.kept block condition → ⊥)
   -- a condition is of kind signal exactly where it may be
-  pub signals : (condition : ℕ) → IsCondition monitor condition
+  pub signals : (condition : ℕ) → IsConditionNumber monitor condition
       → (condition_kind plan condition ≡ Some kinds.Signal) ↔ MaySignal monitor plan condition
   pub kinds : HaveTheirKinds plan
   -- a note is tested exactly where it needs a test

@@ -2,7 +2,7 @@
 use Rattle.std.proofs.Common.{◌≡◌, List, [], ◌∷◌, ◌++◌, ap}
 use Rattle.std.specs.List.{All}
 use Rattle.std.proofs.lemmas.List.Elements.{All-nil, All-cons, All-head, All-tail}
-use Rattle.mon_queue.specs.Tickets.{PassView, new_pass}
+use Rattle.mon_queue.specs.Tickets.{QueuePassView, new_pass}
 use Rattle.mon_pool.specs.declared.shop.Shop.{Shop}
 use Rattle.mon_pool.specs.declared.worker.Worker.{Worker}
 use Rattle.mon_pool.specs.inner.Workers.{IsPlace, IsWorker}
@@ -10,8 +10,8 @@ use Rattle.mon_pool.specs.inner.Workers.{IsPlace, IsWorker}
 pub hired : (shop : Shop) (worker : Worker) → IsPlace shop worker.place → worker.tickets ≡ new_pass shop.queue → IsWorker shop worker
 hired shop worker place new = record {
   place = place;
-  queue = ap (λ (p : PassView). p.queue) new;
-  idle = ap (λ (p : PassView). p.tickets) new;
+  queue = ap (λ (p : QueuePassView). p.queue) new;
+  idle = ap (λ (p : QueuePassView). p.tickets) new;
 }
 
 pub has_place : (shop : Shop) (worker : Worker) → IsWorker shop worker → worker.place.lock ≡ shop.monitor.lock

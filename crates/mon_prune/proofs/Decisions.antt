@@ -3,9 +3,8 @@ use Rattle.std.proofs.Common.{◌≡◌, Bool, true, false, Option, Some, None, 
 use Rattle.std.specs.Prelude.{IfSome}
 use Rattle.std.proofs.lemmas.Bool.{and_parts, leb-true}
 use Rattle.mon_linear.specs.declared.formula.Formula.{Formula}
-use Rattle.mon_linear.specs.declared.measure.TheConstants.{MOST_CUBES}
 use Rattle.mon_linear.specs.Differences.{has_difference_rows}
-use Rattle.mon_linear.specs.Measures.{cubes_of}
+use Rattle.mon_linear.specs.Measures.{cubes_of, MOST_CUBES}
 use Rattle.mon_linear.specs.Places.{HasFewPlaces}
 use Rattle.mon_linear.specs.Truth.{Valuation, truth_of}
 use Rattle.mon_monitor.specs.declared.query.Query.{Query}

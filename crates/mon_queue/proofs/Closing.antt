@@ -4,12 +4,12 @@ use Rattle.std.specs.Prelude.{sum_by}
 use Rattle.std.specs.List.{range_with_len}
 use Rattle.std.proofs.lemmas.List.Sums.{sum_by-append}
 use Rattle.mon_queue.specs.declared.hand.Hand.{Hand}
-use Rattle.mon_queue.specs.Tickets.{IsEachOnce, PassView, times, tickets_of}
+use Rattle.mon_queue.specs.Tickets.{IsEachOnce, QueuePassView, times, tickets_of}
 use Rattle.mon_queue.specs.inner.Gathered.{Gathered}
 use Rattle.mon_queue.specs.inner.Moves.{AreAll}
 use Rattle.mon_queue.proofs.Sums.{here, times_after, times_within}
 
-pub weight_with_last : (h : ℕ → ℕ) (passes : List PassView) (last : PassView) → sum_by h (tickets_of (passes ++ last ∷ [])) ≡ sum_by h (tickets_of passes) + sum_by h last.tickets
+pub weight_with_last : (h : ℕ → ℕ) (passes : List QueuePassView) (last : QueuePassView) → sum_by h (tickets_of (passes ++ last ∷ [])) ≡ sum_by h (tickets_of passes) + sum_by h last.tickets
 weight_with_last h [] last =
     let a = sum_by-append h last.tickets [] in
     let z : sum_by h [] ≡ 0 = refl in
@@ -20,7 +20,7 @@ weight_with_last h (pass ∷ passes) last =
     let rest = weight_with_last h passes last in
     omega arith
 
-pub closes : (clients : ℕ) (before after : Hand) (rest : List PassView) (last : PassView) (queued : List ℕ)
+pub closes : (clients : ℕ) (before after : Hand) (rest : List QueuePassView) (last : QueuePassView) (queued : List ℕ)
     → last.tickets ≡ before.tickets → before.clients ≡ clients → Gathered before after rest → AreAll after queued
     → IsEachOnce clients (queued ++ tickets_of (rest ++ last ∷ []))
 closes clients before after rest last queued same of_queue gathered all =

@@ -14,13 +14,13 @@ pub record QueueView : Type 0 where
   pub passes : ℕ
 
 -- a pass: which queue it is of, the clients whose tickets it has, and how many of its pops found the queue empty
-pub record PassView : Type 0 where
+pub record QueuePassView : Type 0 where
   pub queue : QueueView
   pub tickets : List ℕ
   pub empties : ℕ
 
 -- a pass at the start
-abbrev pub new_pass : QueueView → PassView
+abbrev pub new_pass : QueueView → QueuePassView
 new_pass queue = record { queue = queue; tickets = []; empties = 0 }
 
 -- ---- each ticket once
@@ -35,7 +35,7 @@ pub record IsEachOnce (clients : ℕ) (tickets : List ℕ) : Type 0 where
   pub no_other : (number : ℕ) → clients ≤ number → times number tickets ≡ 0
 
 -- the tickets of all passes
-abbrev pub tickets_of : List PassView → List ℕ
+abbrev pub tickets_of : List QueuePassView → List ℕ
 tickets_of passes = flat_map (λ pass. pass.tickets) passes
 
 -- the list without the first that is this number
@@ -46,23 +46,23 @@ without number (ticket ∷ tickets) = if ticket == number then tickets else tick
 -- ---- what the calls do
 
 -- what the rule of the queue knows of a pass
-abbrev pub hand_of : PassView → Hand
+abbrev pub hand_of : QueuePassView → Hand
 hand_of pass = record { clients = pass.queue.clients; passes = pass.queue.passes; parts = 1; tickets = pass.tickets; empties = pass.empties }
 
 -- At one moment no ticket was in the queue: the passes had them all, this one its own.
-pub record WasEmpty (pass : PassView) : Type 0 where
+pub record WasEmpty (pass : QueuePassView) : Type 0 where
   pub hands : List Hand
   pub place : ℕ
   pub own : get_elem? hands place ≡ some (hand_of pass)
   pub all : EachHasOneHolder [] hands
 
 -- A ticket is one more of the pass; or a pop found the queue empty, and is counted.
-abbrev pub Takes : PassView → PassView → Option ℕ → Type 0
+abbrev pub Takes : QueuePassView → QueuePassView → Option ℕ → Type 0
 Takes before after result =
     MatchOption result
     (WasEmpty before × (after ≡ record before { empties = before.empties + 1 }))
     (λ ticket. (ticket < before.queue.clients) × (after ≡ record before { tickets = ticket ∷ before.tickets }))
 
 -- the pass has the ticket no more
-abbrev pub put_back : ℕ → PassView → PassView
+abbrev pub put_back : ℕ → QueuePassView → QueuePassView
 put_back ticket pass = record pass { tickets = without ticket pass.tickets }

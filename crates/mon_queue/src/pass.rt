@@ -17,10 +17,10 @@ pub struct QueuePass {
 
 impl Model for QueuePass {
     ghost use Rattle.std.specs.Prelude.{◌≡◌, []};
-    ghost use Rattle.mon_queue.specs.Tickets.{PassView};
+    ghost use Rattle.mon_queue.specs.Tickets.{QueuePassView};
     ghost use Rattle.mon_queue.specs.inner.Gathered.{pass_view};
 
-    ghost Value = { PassView };
+    ghost Value = { QueuePassView };
 
     ghost view = { λ p. pass_view p.place };
 

@@ -2,6 +2,7 @@
 
 ghost use Rattle.std.specs.Prelude.{◌≡◌, ◌≤◌, IfOk, OnOk, length, []};
 ghost use Rattle.std.specs.List.{position};
+ghost use Rattle.mon_linear.specs.Measures.{MOST_NODES};
 ghost use Rattle.mon_solve.specs.inner.Literals.{is_absurd_literal, is_opposite, noted, terms_in_literal, terms_in_literals, HasAbsurd, HasClash, IsClosing, IsGathered, FitsLiteral, FindsChain, IsStart};
 
 use super::elimination::{Elimination, MOST_ROWS, eliminate_all};
@@ -33,7 +34,7 @@ fn first_opposite(literals: &[Literal], literal: &Literal) -> Option<usize>
 
 /// Two literals that are the same flag with opposite truths, where there are such.
 fn clash(literals: &[Literal]) -> Option<Cert>
-    requires { length literals.now ≤ 65536 }
+    requires { length literals.now ≤ MOST_NODES }
     ensures { HasClash literals.now result }
 {
     for i in 0..literals.len() {
@@ -63,7 +64,7 @@ fn is_absurd_literal(literal: &Literal) -> bool
 
 /// A sum that is the first row with no variable and a constant above 0, where there is one.
 fn absurd_sum(literals: &[Literal]) -> Option<Combine>
-    requires { length literals.now ≤ 65536 }
+    requires { length literals.now ≤ MOST_NODES }
     ensures { HasAbsurd literals.now result }
 {
     for i in 0..literals.len() {
@@ -104,7 +105,7 @@ fn gather_row(
 
 /// The rows of the literals under their numbers, of those with the same terms the tightest.
 fn gathered_rows(alloc: Global, side: u32, literals: &[Literal]) -> Result<Rows, AllocError>
-    requires { length literals.now ≤ 65536 }
+    requires { length literals.now ≤ MOST_NODES }
     ensures { IfOk result (λ kept. IsStart literals.now kept) }
 {
     let mut kept = Rows::new(alloc, side_for(side, literals.len()))?;
@@ -137,7 +138,7 @@ fn places_of(alloc: Global, literals: &[Literal]) -> Result<Vec<u32>, AllocError
 
 /// The number of the first sum: there are as many rows as literals before it.
 fn first_sum(literals: &[Literal]) -> u32
-    requires { length literals.now ≤ 65536 }
+    requires { length literals.now ≤ MOST_NODES }
     ensures { result ≡ length literals.now }
 {
     literals.len() as u32
@@ -145,7 +146,7 @@ fn first_sum(literals: &[Literal]) -> u32
 
 /// A chain that refutes the rows of the literals, where the elimination of their variables finds one.
 fn refuting_chain(alloc: Global, literals: &[Literal]) -> Result<Option<Vec<Combine>>, AllocError>
-    requires { length literals.now ≤ 65536 }
+    requires { length literals.now ≤ MOST_NODES }
     ensures { IfOk result (FindsChain literals.now) }
 {
     if let Some(combine) = absurd_sum(literals) {
@@ -172,7 +173,7 @@ fn refuting_chain(alloc: Global, literals: &[Literal]) -> Result<Option<Vec<Comb
 /// A clash or a chain that refutes the literals, where one is found. Literals whose rows are difference
 /// rows with at most 32 places are refuted, or have a solution.
 pub(crate) fn closing(alloc: Global, literals: &[Literal]) -> Result<Option<Cert>, AllocError>
-    requires { length literals.now ≤ 65536 }
+    requires { length literals.now ≤ MOST_NODES }
     ensures { IfOk result (IsClosing literals.now) }
 {
     if let Some(cert) = clash(literals) {

@@ -1,7 +1,7 @@
 //! Refutations of formulas.
 
 ghost use Rattle.std.specs.Prelude.{◌≡◌, ◌≤◌, ◌↔◌, IfOk, IsTrue};
-ghost use Rattle.mon_linear.specs.Measures.{nodes_of};
+ghost use Rattle.mon_linear.specs.Measures.{nodes_of, MOST_NODES};
 ghost use Rattle.mon_linear.specs.Places.{HasFewPlaces};
 ghost use Rattle.mon_solve.specs.Refutation.{IsAnswer};
 
@@ -31,7 +31,7 @@ use std::alloc::{AllocError, Global};
 /// so memory grows with the square of their depth: 1,000 took 130 MB. A condition of a monitor opens at most 64
 /// levels, and where a truth value is assigned, those of its expression stand in place of a flag.
 pub fn refute(alloc: Global, formula: &Formula) -> Result<Option<Cert>, AllocError>
-    requires { nodes_of formula.now ≤ 65536 }
+    requires { nodes_of formula.now ≤ MOST_NODES }
     ensures { IfOk result (IsAnswer formula.now) }
 {
     if cubes(formula) > MOST_CUBES {

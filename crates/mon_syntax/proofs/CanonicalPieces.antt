@@ -16,7 +16,7 @@ use Rattle.mon_tokens.specs.declared.piece.Shape.TheVariants as coded
 use Rattle.mon_tokens.specs.Shapes.{Shape}
 use Rattle.mon_tokens.specs.Shapes as shapes
 use Rattle.mon_tokens.proofs.Identifiers.{name_piece}
-use Rattle.mon_tokens.specs.Spelling.{is_word, is_letter, is_digit, IsShape, IsIdentifier, Starts, Piece, AreCut, Spells, token, tokens_from, kind_of_word}
+use Rattle.mon_tokens.specs.Spelling.{is_word_byte, is_letter, is_digit, IsShape, IsIdentifier, Starts, Piece, AreCut, Spells, token, tokens_from, kind_of_word}
 use Rattle.mon_tokens.specs.inner.Pieces.{class_of, longest_at, limited, meant, sign_at}
 use Rattle.mon_tokens.specs.Words.{Word, ident, numeral, mark, word_of, word, words, number_of_digits}
 use Rattle.mon_syntax.proofs.CanonicalWords.{bare}
@@ -97,7 +97,7 @@ spells_words bytes ws r = (tokens_from 0 r.pieces, (r.pieces, r.cut, refl), toke
 -- no word or number goes on here
 abbrev pub ends : List ℕ → Bool
 ends [] = true
-ends (b ∷ more) = if is_word b then false else true
+ends (b ∷ more) = if is_word_byte b then false else true
 
 -- what follows says these words; where it is asked, a word or a number before it ends there
 abbrev pub Ready : Bool → List ℕ → List Word → Type 0
@@ -157,7 +157,7 @@ lone_at : (a : ℕ) (kind : TokenKind) → class_of a ≡ classes.Other → eqb 
 lone_at a kind c no_line rest found =
     ap limited (looked_up a rest c no_line ∙ ap (λ (sign : Option (TokenKind × ℕ)). option_map (λ sign. (coded.Sign sign.0, sign.1)) sign) found)
 
-pub lone : (a : ℕ) (kind : TokenKind) → class_of a ≡ classes.Other → eqb 47 a ≡ false → is_word a ≡ false → ((rest : List ℕ) → sign_at (a ∷ rest) ≡ Some (kind, 1)) → Says false true (a ∷ []) (word_of kind (a ∷ []) 0 ∷ [])
+pub lone : (a : ℕ) (kind : TokenKind) → class_of a ≡ classes.Other → eqb 47 a ≡ false → is_word_byte a ≡ false → ((rest : List ℕ) → sign_at (a ∷ rest) ≡ Some (kind, 1)) → Says false true (a ∷ []) (word_of kind (a ∷ []) 0 ∷ [])
 lone a kind c no_line no_word found = record { before = λ rest more r. (rw no_word refl, reads_piece (a ∷ []) rest (coded.Sign kind) more (lone_at a kind c no_line rest (found rest)) r) }
 
 -- a sign between blanks
@@ -201,11 +201,11 @@ prefix_all p (x ∷ xs) rest all none =
     let others = prefix_all p xs rest (All-tail (λ b. p b ≡ true) x xs all) none in
     rw here (omega (arith, others))
 
-word_ends : (rest : List ℕ) → ends rest ≡ true → prefix_len is_word rest ≡ 0
+word_ends : (rest : List ℕ) → ends rest ≡ true → prefix_len is_word_byte rest ≡ 0
 word_ends [] h = refl
-word_ends (b ∷ rest) h = by_test (is_word b) h
+word_ends (b ∷ rest) h = by_test (is_word_byte b) h
   where
-    by_test : (t : Bool) → (if t then false else true) ≡ true → cond t (1 + prefix_len is_word rest) 0 ≡ 0
+    by_test : (t : Bool) → (if t then false else true) ≡ true → cond t (1 + prefix_len is_word_byte rest) 0 ≡ 0
     by_test true h = absurd cc
     by_test false h = refl
 
@@ -222,7 +222,7 @@ word_at : (text rest : List ℕ) → IsShape shapes.Word text → length text �
 unfolding longest_at
 word_at text rest (first, more, is_first, all, is) short h =
     let c = letter_class first is_first in
-    let n : 1 + prefix_len is_word (more ++ rest) ≡ length text = omega (arith, prefix_all is_word more rest all (word_ends rest h), ap length is) in
+    let n : 1 + prefix_len is_word_byte (more ++ rest) ≡ length text = omega (arith, prefix_all is_word_byte more rest all (word_ends rest h), ap length is) in
     subst (λ (t : List ℕ). limited (longest_at (t ++ rest)) ≡ Some (coded.Word, length text)) (sym is) (rw (c, n, le-ltb 32 (length text) short) refl)
 
 number_at : (text rest : List ℕ) → IsShape shapes.Number text → length text ≤ 32 → ends rest ≡ true → limited (longest_at (text ++ rest)) ≡ Some (coded.Number, length text)
@@ -238,12 +238,12 @@ one_word text spelled short = record { before = λ rest more r. reads_piece text
 pub name : (text : List ℕ) → IsIdentifier text → Says true false text (ident text 0 ∷ [])
 name text is = let piece = name_piece text is in subst (λ (k : TokenKind). Says true false text (word_of k text 0 ∷ [])) piece.no_keyword (one_word text piece.spelled piece.short)
 
-all_words : (xs : List ℕ) → list_all is_word xs ≡ true → All (λ b. is_word b ≡ true) xs
-all_words [] h = All-nil (λ b. is_word b ≡ true)
-all_words (x ∷ xs) h = let parts = and_parts (is_word x) (list_all is_word xs) h in All-cons (λ b. is_word b ≡ true) x xs parts.0 (all_words xs parts.1)
+all_words : (xs : List ℕ) → list_all is_word_byte xs ≡ true → All (λ b. is_word_byte b ≡ true) xs
+all_words [] h = All-nil (λ b. is_word_byte b ≡ true)
+all_words (x ∷ xs) h = let parts = and_parts (is_word_byte x) (list_all is_word_byte xs) h in All-cons (λ b. is_word_byte b ≡ true) x xs parts.0 (all_words xs parts.1)
 
 -- a word that is written out
-pub keyword : (first : ℕ) (more : List ℕ) → is_letter first ≡ true → list_all is_word more ≡ true → length more < 32 → Says true false (first ∷ more) (word_of (kind_of_word (first ∷ more)) (first ∷ more) 0 ∷ [])
+pub keyword : (first : ℕ) (more : List ℕ) → is_letter first ≡ true → list_all is_word_byte more ≡ true → length more < 32 → Says true false (first ∷ more) (word_of (kind_of_word (first ∷ more)) (first ∷ more) 0 ∷ [])
 keyword first more c all short = one_word (first ∷ more) (first, more, c, all_words more all, refl) (omega arith)
 
 -- ---- numbers

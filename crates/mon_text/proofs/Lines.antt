@@ -2,7 +2,7 @@
 use Rattle.std.proofs.Common.{◌≡◌, ◌==◌, ℕ, Bool, true, not, List, [], ◌∷◌, ◌++◌, map, codes, ap, sym, refl, ◌∙◌, append_assoc, arith, decimal, ℤ}
 use Rattle.std.specs.List.{list_all, flat_map}
 use Rattle.std.specs.Fmt.{signed_decimal}
-use Rattle.mon_base.specs.Identifiers.{is_digit, is_word}
+use Rattle.mon_base.specs.Identifiers.{is_digit, is_word_byte}
 use Rattle.mon_printer.specs.Canonical.{joined}
 use Rattle.mon_text.proofs.Cuts.{same_rest, cut, all_append, all_weaker}
 use Rattle.mon_text.proofs.Numerals.{is_figure, decimal_digits, signed_figures}
@@ -29,7 +29,7 @@ same_line text other rest others line also same =
 
 -- ---- texts with no line feed
 
-word_in_line : (byte : ℕ) → is_word byte ≡ true → is_in_line byte ≡ true
+word_in_line : (byte : ℕ) → is_word_byte byte ≡ true → is_in_line byte ≡ true
 word_in_line byte is = grind arith
 
 digit_in_line : (byte : ℕ) → is_digit byte ≡ true → is_in_line byte ≡ true
@@ -38,8 +38,8 @@ digit_in_line byte is = grind arith
 figure_in_line : (byte : ℕ) → is_figure byte ≡ true → is_in_line byte ≡ true
 figure_in_line byte is = grind arith
 
-pub words_in_line : (text : List ℕ) → list_all is_word text ≡ true → HasNoLineFeed text
-words_in_line = all_weaker is_word is_in_line word_in_line
+pub words_in_line : (text : List ℕ) → list_all is_word_byte text ≡ true → HasNoLineFeed text
+words_in_line = all_weaker is_word_byte is_in_line word_in_line
 
 pub decimal_in_line : (number : ℕ) → HasNoLineFeed (decimal number)
 decimal_in_line number = all_weaker is_digit is_in_line digit_in_line (decimal number) (decimal_digits number)

@@ -6,7 +6,7 @@ use Rattle.std.specs.Fmt.{signed_decimal}
 use Rattle.std.specs.List.{list_all}
 use Rattle.std.proofs.lemmas.Bool.{false≢true}
 use Rattle.std.proofs.lemmas.List.{append_cancel_left}
-use Rattle.mon_base.specs.Identifiers.{is_word}
+use Rattle.mon_base.specs.Identifiers.{is_word_byte}
 use Rattle.mon_base.specs.declared.value.Value.{Value}
 use Rattle.mon_base.specs.declared.value.Value.TheVariants as values
 use Rattle.mon_printer.specs.Canonical.{joined, truth_text}
@@ -115,7 +115,7 @@ entry_is_line monitor clients past entry rule are after = outcome_is_line monito
 
 -- a byte of a reply
 abbrev is_answer : ℕ → Bool
-is_answer byte = is_word byte || byte == 45
+is_answer byte = is_word_byte byte || byte == 45
 
 figure_answers : (byte : ℕ) → is_figure byte ≡ true → is_answer byte ≡ true
 figure_answers byte is = grind arith
@@ -219,7 +219,7 @@ same_called monitor clients client call other number rest more are here there fo
     let name : List ℕ = client_name (slice_get clients client) in
     let also : List ℕ = client_name (slice_get clients other) in
     let parts =
-    cut is_word name also (codes "." ++ (line_of monitor clients client call ++ rest)) (codes "." ++ (line_of monitor clients other number ++ more))
+    cut is_word_byte name also (codes "." ++ (line_of monitor clients client call ++ rest)) (codes "." ++ (line_of monitor clients other number ++ more))
     (name_words name (client_is_named clients client are here)) (name_words also (client_is_named clients other are there)) refl refl
     (sym (call_parts monitor clients client call rest) ∙ same ∙ call_parts monitor clients other number more) in
     let who = same_client clients client other are here there parts.0 in
@@ -234,7 +234,7 @@ no_spurious monitor clients client call rest more are within same =
     let name : List ℕ = client_name (slice_get clients client) in
     let after : List ℕ = line_of monitor clients client call ++ rest in
     let parts =
-    cut is_word name (codes "spurious") (codes "." ++ after) (codes " " ++ more) (name_words name (client_is_named clients client are within)) refl refl refl
+    cut is_word_byte name (codes "spurious") (codes "." ++ after) (codes " " ++ more) (name_words name (client_is_named clients client are within)) refl refl refl
     (sym (call_parts monitor clients client call rest) ∙ same) in
     omega (arith, same_first 46 32 after more parts.1)
 
@@ -266,7 +266,7 @@ same_outcome monitor clients client call other number outcomes.Spurious outcomes
     let name : List ℕ = client_name (slice_get clients client) in
     let also : List ℕ = client_name (slice_get clients other) in
     let parts =
-    cut is_word name also (codes "\n") (codes "\n") (name_words name (client_is_named clients client are here)) (name_words also (client_is_named clients other are there)) refl refl
+    cut is_word_byte name also (codes "\n") (codes "\n") (name_words name (client_is_named clients client are here)) (name_words also (client_is_named clients other are there)) refl refl
     (append_cancel_left (codes "spurious ") (name ++ codes "\n") (also ++ codes "\n") same) in
     let who = same_client clients client other are here there parts.0 in
     (who, follows who, refl)
@@ -286,8 +286,8 @@ pub record Begins (text : List ℕ) : Type 0 where
   pub word : List ℕ
   pub sign : ℕ
   pub more : List ℕ
-  pub words : list_all is_word word ≡ true
-  pub ends : is_word sign ≡ false
+  pub words : list_all is_word_byte word ≡ true
+  pub ends : is_word_byte sign ≡ false
   pub no_feed : sign ≡ 10 → ⊥
   pub no_keep : word ≡ codes "keep" → sign ≡ 32 → ⊥
   pub is : text ≡ word ++ (sign ∷ more)
@@ -327,13 +327,13 @@ pub entry_begins : (monitor : MonitorParts) (clients : List Client) (past : List
 entry_begins monitor clients past entry rest are after = outcome_begins monitor clients entry.client entry.call entry.outcome rest are after.client
 
 -- a word that stands before a line feed
-pub no_word : (text word rest : List ℕ) → Begins text → list_all is_word word ≡ true → text ≡ word ++ (codes "\n" ++ rest) → ⊥
+pub no_word : (text word rest : List ℕ) → Begins text → list_all is_word_byte word ≡ true → text ≡ word ++ (codes "\n" ++ rest) → ⊥
 no_word text word rest begins words same =
     begins.no_feed (same_first begins.sign 10 begins.more rest
-    (cut is_word begins.word word (begins.sign ∷ begins.more) (codes "\n" ++ rest) begins.words words (ap not begins.ends) refl (sym begins.is ∙ same)).1)
+    (cut is_word_byte begins.word word (begins.sign ∷ begins.more) (codes "\n" ++ rest) begins.words words (ap not begins.ends) refl (sym begins.is ∙ same)).1)
 
 -- a candidate's line
 pub no_candidate : (text rest : List ℕ) → Begins text → text ≡ codes "keep " ++ rest → ⊥
 no_candidate text rest begins same =
-    let parts = cut is_word begins.word (codes "keep") (begins.sign ∷ begins.more) (codes " " ++ rest) begins.words refl (ap not begins.ends) refl (sym begins.is ∙ same) in
+    let parts = cut is_word_byte begins.word (codes "keep") (begins.sign ∷ begins.more) (codes " " ++ rest) begins.words refl (ap not begins.ends) refl (sym begins.is ∙ same) in
     begins.no_keep parts.0 (same_first begins.sign 32 begins.more rest parts.1)

@@ -4,7 +4,7 @@ use Rattle.std.specs.Prelude.{AllPairs, slice_get}
 use Rattle.std.specs.List.{list_all}
 use Rattle.std.proofs.lemmas.Bool.{and_parts, and_from, or_left, cases_order, false≢true}
 use Rattle.std.proofs.lemmas.List.{length-map, get_or-map, get_or-append-add}
-use Rattle.mon_base.specs.Identifiers.{is_letter, is_digit, is_word, is_spelled, IsIdentifier}
+use Rattle.mon_base.specs.Identifiers.{is_letter, is_digit, is_word_byte, is_spelled, IsIdentifier}
 use Rattle.mon_monitor.specs.declared.monitor.Field.{Field}
 use Rattle.mon_monitor.specs.declared.monitor.Method.{Method}
 use Rattle.mon_monitor.specs.MonitorParts.{MonitorParts, IsMonitor, names_of}
@@ -15,16 +15,16 @@ use Rattle.mon_text.specs.TurnsText.{client_name}
 
 -- ---- the bytes of a name
 
-letter_is_word : (byte : ℕ) → is_letter byte ≡ true → is_word byte ≡ true
+letter_is_word : (byte : ℕ) → is_letter byte ≡ true → is_word_byte byte ≡ true
 letter_is_word byte is = or_left (is_letter byte) (is_digit byte) is
 
-spelled_words : (name : List ℕ) → is_spelled name ≡ true → list_all is_word name ≡ true
+spelled_words : (name : List ℕ) → is_spelled name ≡ true → list_all is_word_byte name ≡ true
 spelled_words [] is = refl
 spelled_words (first ∷ more) is =
-    let parts = and_parts (is_letter first) (list_all is_word more) is in
-    and_from (is_word first) (list_all is_word more) (letter_is_word first parts.0) parts.1
+    let parts = and_parts (is_letter first) (list_all is_word_byte more) is in
+    and_from (is_word_byte first) (list_all is_word_byte more) (letter_is_word first parts.0) parts.1
 
-pub name_words : (name : List ℕ) → IsIdentifier name → list_all is_word name ≡ true
+pub name_words : (name : List ℕ) → IsIdentifier name → list_all is_word_byte name ≡ true
 name_words name is = spelled_words name is.spelled
 
 abbrev pub begins_with_letter : List ℕ → Bool
@@ -33,7 +33,7 @@ begins_with_letter (first ∷ more) = is_letter first
 
 spelled_begins : (name rest : List ℕ) → is_spelled name ≡ true → begins_with_letter (name ++ rest) ≡ true
 spelled_begins [] rest is = absurd (false≢true is)
-spelled_begins (first ∷ more) rest is = (and_parts (is_letter first) (list_all is_word more) is).0
+spelled_begins (first ∷ more) rest is = (and_parts (is_letter first) (list_all is_word_byte more) is).0
 
 pub name_begins : (name rest : List ℕ) → IsIdentifier name → begins_with_letter (name ++ rest) ≡ true
 name_begins name rest is = spelled_begins name rest is.spelled
@@ -77,7 +77,7 @@ same_field monitor field other rule here there same =
     same_place (names_of monitor) field other rule.distinct (within_names monitor field here) (within_names monitor other there)
     (sym (field_at monitor.fields methods field here) ∙ same ∙ field_at monitor.fields methods other there)
 
-methods_words : (methods : List Method) → ((i : ℕ) → i < length methods → IsIdentifier (get_or (map (λ method. method.name) methods) i [])) → (i : ℕ) → list_all is_word (method_name (slice_get methods i)) ≡ true
+methods_words : (methods : List Method) → ((i : ℕ) → i < length methods → IsIdentifier (get_or (map (λ method. method.name) methods) i [])) → (i : ℕ) → list_all is_word_byte (method_name (slice_get methods i)) ≡ true
 methods_words [] named i = refl
 methods_words (method ∷ methods) named zero = name_words method.name (named zero (omega arith))
 methods_words (method ∷ methods) named (suc i) = methods_words methods (λ k within. named (suc k) (omega (arith, within))) i
@@ -91,7 +91,7 @@ method_named monitor method rule within =
     (rule.names place [] (omega (arith, within, length-append fields methods, length-map monitor.methods (λ one. one.name))))
 
 -- the name of a method, or none
-pub method_words : (monitor : MonitorParts) (method : ℕ) → IsMonitor monitor → list_all is_word (method_name (slice_get monitor.methods method)) ≡ true
+pub method_words : (monitor : MonitorParts) (method : ℕ) → IsMonitor monitor → list_all is_word_byte (method_name (slice_get monitor.methods method)) ≡ true
 method_words monitor method rule = methods_words monitor.methods (λ i. method_named monitor i rule) method
 
 -- ---- clients

@@ -6,14 +6,14 @@ use Rattle.std.specs.Str.Parse.{digits_value}
 use Rattle.std.proofs.lemmas.Bool.{le-leb, lt-ltb, and_from, or_right, cases_lt, cond-true, cond_both, false≢true}
 use Rattle.std.proofs.lemmas.Fmt.{decimal_is_IsNumeral_wide, length-decimal-le_wide}
 use Rattle.std.proofs.lemmas.Int.{ints}
-use Rattle.mon_base.specs.Identifiers.{is_letter, is_digit, is_word}
+use Rattle.mon_base.specs.Identifiers.{is_letter, is_digit, is_word_byte}
 use Rattle.mon_base.specs.Numbers.{is_within}
 use Rattle.mon_text.proofs.Cuts.{same_rest, all_weaker}
 
 -- ---- digits
 
 -- a byte of an identifier
-pub digit_is_word : (byte : ℕ) → is_digit byte ≡ true → is_word byte ≡ true
+pub digit_is_word : (byte : ℕ) → is_digit byte ≡ true → is_word_byte byte ≡ true
 digit_is_word byte is = or_right (is_letter byte) (is_digit byte) is
 
 glyph_is_digit : (digit : ℕ) → digit < 10 → is_digit (digit_glyph false digit) ≡ true

@@ -6,7 +6,7 @@ use Rattle.std.specs.Fmt.{signed_decimal}
 use Rattle.std.specs.List.{list_all, flat_map, AllByRecursion as Each}
 use Rattle.std.proofs.lemmas.Bool.{and_parts, true≢false, false≢true}
 use Rattle.std.proofs.lemmas.List.{append_cancel_left, append_cancel_right}
-use Rattle.mon_base.specs.Identifiers.{IsIdentifier, is_letter, is_digit, is_word}
+use Rattle.mon_base.specs.Identifiers.{IsIdentifier, is_letter, is_digit, is_word_byte}
 use Rattle.mon_printer.specs.Canonical.{expression_text}
 use Rattle.mon_monitor.specs.declared.candidate.Candidate.{Candidate}
 use Rattle.mon_monitor.specs.declared.candidate.Candidate.TheVariants as candidates
@@ -79,7 +79,7 @@ right_within fields left right low = ltb-true right fields (and_parts (nat_lt le
 about_named : (monitor : MonitorParts) (candidate : Candidate) → IsMonitor monitor → IsKnown monitor candidate → IsIdentifier (name_at monitor (about candidate))
 about_named monitor candidate rule known = field_is_named monitor (about candidate) rule (about_within (length monitor.fields) candidate known.low)
 
-tail_stops : (monitor : MonitorParts) (candidate : Candidate) → stops is_word (tail monitor candidate) ≡ true
+tail_stops : (monitor : MonitorParts) (candidate : Candidate) → stops is_word_byte (tail monitor candidate) ≡ true
 tail_stops monitor (candidates.AtMost field bound) = refl
 tail_stops monitor (candidates.AtLeast field bound) = refl
 tail_stops monitor (candidates.Flag field is) = refl
@@ -114,12 +114,12 @@ kept_is_line monitor candidate rule known =
 -- ---- its line names one candidate
 
 -- a name after its mark, and what follows it
-marked : (is also : Bool) (name other rest others : List ℕ) → IsIdentifier name → IsIdentifier other → stops is_word rest ≡ true → stops is_word others ≡ true
+marked : (is also : Bool) (name other rest others : List ℕ) → IsIdentifier name → IsIdentifier other → stops is_word_byte rest ≡ true → stops is_word_byte others ≡ true
     → flag_mark is ++ (name ++ rest) ≡ flag_mark also ++ (other ++ others) → (is ≡ also) × (name ≡ other) × (rest ≡ others)
 marked true true name other rest others one two end ends same =
-    let parts = cut is_word name other rest others (name_words name one) (name_words other two) end ends same in (refl, parts.0, parts.1)
+    let parts = cut is_word_byte name other rest others (name_words name one) (name_words other two) end ends same in (refl, parts.0, parts.1)
 marked false false name other rest others one two end ends same =
-    let parts = cut is_word name other rest others (name_words name one) (name_words other two) end ends (same_rest 33 33 (name ++ rest) (other ++ others) same) in (refl, parts.0, parts.1)
+    let parts = cut is_word_byte name other rest others (name_words name one) (name_words other two) end ends (same_rest 33 33 (name ++ rest) (other ++ others) same) in (refl, parts.0, parts.1)
 marked true false name other rest others one two end ends same = absurd (false≢true (ap begins_with_letter (sym same) ∙ name_begins name rest one))
 marked false true name other rest others one two end ends same = absurd (false≢true (ap begins_with_letter same ∙ name_begins other others two))
 

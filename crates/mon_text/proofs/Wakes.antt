@@ -8,7 +8,7 @@ use Rattle.std.proofs.lemmas.List.{append_cancel_left}
 use Rattle.std.proofs.lemmas.List.Elements.{recursion_from_All}
 use Rattle.std.proofs.lemmas.Nat.{bit_set_by_shift}
 use Rattle.std.proofs.lemmas.Nat.Bits.{shr_and_one, bit_at-lt, same_from_bits}
-use Rattle.mon_base.specs.Identifiers.{IsIdentifier, is_word}
+use Rattle.mon_base.specs.Identifiers.{IsIdentifier, is_word_byte}
 use Rattle.mon_implicit.specs.declared.script.Client.{Client}
 use Rattle.mon_implicit.specs.Scripted.{AreClients}
 use Rattle.mon_text.specs.LogText.{is_woken, woken_name, woken_names, wakes_text}
@@ -65,24 +65,24 @@ line_from woken number clients = names_from woken number clients ++ codes "\n"
 line_more : (woken number : ℕ) (client : Client) (clients : List Client) → line_from woken number (client ∷ clients) ≡ cond (is_woken woken number) (codes " " ++ client.name) [] ++ line_from woken (number + 1) clients
 line_more woken number client clients = append_assoc (woken_name woken number client) (names_from woken (number + 1) clients) (codes "\n")
 
-named_stops : (test : Bool) (name rest : List ℕ) → stops is_word rest ≡ true → stops is_word (cond test (codes " " ++ name) [] ++ rest) ≡ true
+named_stops : (test : Bool) (name rest : List ℕ) → stops is_word_byte rest ≡ true → stops is_word_byte (cond test (codes " " ++ name) [] ++ rest) ≡ true
 named_stops true name rest end = refl
 named_stops false name rest end = end
 
-line_stops : (woken number : ℕ) (clients : List Client) → stops is_word (line_from woken number clients) ≡ true
+line_stops : (woken number : ℕ) (clients : List Client) → stops is_word_byte (line_from woken number clients) ≡ true
 line_stops woken number [] = refl
 line_stops woken number (client ∷ clients) =
-    ap (stops is_word) (line_more woken number client clients)
+    ap (stops is_word_byte) (line_more woken number client clients)
     ∙ named_stops (is_woken woken number) client.name (line_from woken (number + 1) clients) (line_stops woken (number + 1) clients)
 
 -- the text does not go on with this name
 abbrev IsNotNext : List ℕ → List ℕ → Type 0
-IsNotNext name text = (more : List ℕ) → stops is_word more ≡ true → text ≡ codes " " ++ (name ++ more) → ⊥
+IsNotNext name text = (more : List ℕ) → stops is_word_byte more ≡ true → text ≡ codes " " ++ (name ++ more) → ⊥
 
-other_not_next : (test : Bool) (name other rest : List ℕ) → IsIdentifier name → IsIdentifier other → name ≢ other → stops is_word rest ≡ true → IsNotNext name rest
+other_not_next : (test : Bool) (name other rest : List ℕ) → IsIdentifier name → IsIdentifier other → name ≢ other → stops is_word_byte rest ≡ true → IsNotNext name rest
     → IsNotNext name (cond test (codes " " ++ other) [] ++ rest)
 other_not_next true name other rest is also differs ends later more end same =
-    differs (sym (cut is_word other name rest more (name_words other also) (name_words name is) ends end (same_rest 32 32 (other ++ rest) (name ++ more) same)).0)
+    differs (sym (cut is_word_byte other name rest more (name_words other also) (name_words name is) ends end (same_rest 32 32 (other ++ rest) (name ++ more) same)).0)
 other_not_next false name other rest is also differs ends later more end same = later more end same
 
 is_not_next : (name : List ℕ) → IsIdentifier name → (woken number : ℕ) (clients : List Client) → AreNamed clients → Each (λ client. name ≢ client.name) clients → IsNotNext name (line_from woken number clients)
@@ -95,7 +95,7 @@ is_not_next name is woken number (client ∷ clients) named apart =
 -- ---- two lines of names
 
 -- whether one is named, from the first name, and what stands after it
-same_named : (test also : Bool) (name rest others : List ℕ) → stops is_word rest ≡ true → stops is_word others ≡ true → IsNotNext name rest → IsNotNext name others
+same_named : (test also : Bool) (name rest others : List ℕ) → stops is_word_byte rest ≡ true → stops is_word_byte others ≡ true → IsNotNext name rest → IsNotNext name others
     → cond test (codes " " ++ name) [] ++ rest ≡ cond also (codes " " ++ name) [] ++ others → (test ≡ also) × (rest ≡ others)
 same_named true true name rest others end ends later more same = (refl, append_cancel_left (codes " " ++ name) rest others same)
 same_named false false name rest others end ends later more same = (refl, same)

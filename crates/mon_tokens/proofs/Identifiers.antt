@@ -3,7 +3,7 @@ use Rattle.std.proofs.Common.{◌≡◌, ℕ, ◌≤◌, Bool, true, false, List
 use Rattle.std.specs.Prelude.{◌&&◌}
 use Rattle.std.specs.List.{All, list_all}
 use Rattle.std.proofs.lemmas.List.Elements.{All-cons, All-nil, All-head, All-tail}
-use Rattle.mon_base.specs.Identifiers.{IsIdentifier, is_letter, is_spelled, is_word}
+use Rattle.mon_base.specs.Identifiers.{IsIdentifier, is_letter, is_spelled, is_word_byte}
 use Rattle.mon_tokens.specs.declared.token.TokenKind.TheVariants as kinds
 use Rattle.mon_tokens.specs.Shapes as shapes
 use Rattle.mon_tokens.specs.Spelling.{IsShape, kind_of_word}
@@ -15,16 +15,16 @@ both : (b c : Bool) → (b && c) ≡ true → (b ≡ true) × (c ≡ true)
 both true c e = (refl, e)
 both false c e = absurd (cc)
 
-words_spelled : (more : List ℕ) → All (λ b. is_word b ≡ true) more → list_all is_word more ≡ true
+words_spelled : (more : List ℕ) → All (λ b. is_word_byte b ≡ true) more → list_all is_word_byte more ≡ true
 words_spelled [] each = refl
 words_spelled (b ∷ more) each =
-    rw (All-head (λ (b : ℕ). is_word b ≡ true) b more each) (words_spelled more (All-tail (λ (b : ℕ). is_word b ≡ true) b more each))
+    rw (All-head (λ (b : ℕ). is_word_byte b ≡ true) b more each) (words_spelled more (All-tail (λ (b : ℕ). is_word_byte b ≡ true) b more each))
 
-each_word : (more : List ℕ) → list_all is_word more ≡ true → All (λ b. is_word b ≡ true) more
-each_word [] spelled = All-nil (λ (b : ℕ). is_word b ≡ true)
+each_word : (more : List ℕ) → list_all is_word_byte more ≡ true → All (λ b. is_word_byte b ≡ true) more
+each_word [] spelled = All-nil (λ (b : ℕ). is_word_byte b ≡ true)
 each_word (b ∷ more) spelled =
-    let parts = both (is_word b) (list_all is_word more) spelled in
-    All-cons (λ (b : ℕ). is_word b ≡ true) b more parts.0 (each_word more parts.1)
+    let parts = both (is_word_byte b) (list_all is_word_byte more) spelled in
+    All-cons (λ (b : ℕ). is_word_byte b ≡ true) b more parts.0 (each_word more parts.1)
 
 spelled_word : (text : List ℕ) → IsShape shapes.Word text → is_spelled text ≡ true
 spelled_word text (first, more, letter, each, is) =
@@ -33,7 +33,7 @@ spelled_word text (first, more, letter, each, is) =
 word_spelled : (text : List ℕ) → is_spelled text ≡ true → IsShape shapes.Word text
 word_spelled [] spelled = absurd (cc)
 word_spelled (first ∷ more) spelled =
-    let parts = both (is_letter first) (list_all is_word more) spelled in
+    let parts = both (is_letter first) (list_all is_word_byte more) spelled in
     (first, more, parts.0, each_word more parts.1, refl)
 
 -- ---- identifiers

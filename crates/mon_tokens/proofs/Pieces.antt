@@ -12,7 +12,7 @@ use Rattle.mon_tokens.specs.declared.piece.Shape.{Shape}
 use Rattle.mon_tokens.specs.declared.piece.Shape.TheVariants as coded
 use Rattle.mon_tokens.specs.Shapes.{Shape as Meant}
 use Rattle.mon_tokens.specs.Shapes as shapes
-use Rattle.mon_tokens.specs.Spelling.{SIGNS, is_word, is_digit, is_in_line, is_run, IsShape, Starts, Piece, AreCut}
+use Rattle.mon_tokens.specs.Spelling.{SIGNS, is_word_byte, is_digit, is_in_line, is_run, IsShape, Starts, Piece, AreCut}
 use Rattle.mon_tokens.specs.inner.Pieces.{class_of, meant, is_run as is_coded_run, other_at, by_class, longest_at, limited, sign_at}
 use Rattle.mon_tokens.proofs.Classes.{letter_is, digit_is, blank_is, letter_class, digit_class, blank_class}
 use Rattle.mon_tokens.proofs.Signs.{found_is, front_is, longest_sign, sign_begins}
@@ -68,7 +68,7 @@ reaches : (shape : Meant) (text more : List ℕ) → IsShape shape text → Reac
 unfolding longest_at other_at
 reaches shapes.Blank text more (b, blank, is) = rw (is, blank_class b blank) (omega arith, λ same. refl)
 reaches shapes.Comment text more (line, all, is) = rw is (omega (arith, covers is_in_line line more all), λ same. refl)
-reaches shapes.Word text more (first, ws, letter, all, is) = rw (is, letter_class first letter) (omega (arith, covers is_word ws more all), λ same. refl)
+reaches shapes.Word text more (first, ws, letter, all, is) = rw (is, letter_class first letter) (omega (arith, covers is_word_byte ws more all), λ same. refl)
 reaches shapes.Number text more (first, ds, digit, all, is) = rw (is, digit_class first digit) (omega (arith, covers is_digit ds more all), λ same. refl)
 reaches (shapes.Sign kind) text more has = sign_reaches kind text more has
 
@@ -118,7 +118,7 @@ longest_spells [] = tt
 longest_spells (a ∷ rest) = at_class (class_of a) refl
   where
     at_class : (c : Class) → class_of a ≡ c → IsPieceAt (a ∷ rest) (by_class c a rest)
-    at_class classes.Letter e = let k = passes is_word rest in let n : 1 + prefix_len is_word rest ≡ suc (prefix_len is_word rest) = omega arith in rw n ((a, take (prefix_len is_word rest) rest, letter_is a e, k.0, refl), omega (arith, k.1))
+    at_class classes.Letter e = let k = passes is_word_byte rest in let n : 1 + prefix_len is_word_byte rest ≡ suc (prefix_len is_word_byte rest) = omega arith in rw n ((a, take (prefix_len is_word_byte rest) rest, letter_is a e, k.0, refl), omega (arith, k.1))
     at_class classes.Digit e = let k = passes is_digit rest in let n : 1 + prefix_len is_digit rest ≡ suc (prefix_len is_digit rest) = omega arith in rw n ((a, take (prefix_len is_digit rest) rest, digit_is a e, k.0, refl), omega (arith, k.1))
     at_class classes.Blank e = ((a, blank_is a e, refl), omega arith)
     at_class classes.Other e = other_spells (a ∷ rest)

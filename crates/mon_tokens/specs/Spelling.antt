@@ -6,7 +6,7 @@ use Rattle.std.specs.Str.{bytes_eq}
 use Rattle.mon_base.specs.Identifiers.{KEYWORDS}
 use Rattle.mon_base.specs.Limits.{WORD_BYTES}
 pub use Rattle.mon_base.specs.Lines.{is_in_line}
-pub use Rattle.mon_base.specs.Identifiers.{is_letter, is_digit, is_word, IsIdentifier}
+pub use Rattle.mon_base.specs.Identifiers.{is_letter, is_digit, is_word_byte, IsIdentifier}
 use Rattle.mon_tokens.specs.declared.token.TokenKind.{TokenKind}
 use Rattle.mon_tokens.specs.declared.token.TokenKind.TheVariants as kinds
 use Rattle.mon_tokens.specs.declared.token.Token.{Token}
@@ -50,7 +50,7 @@ kind_of_word text = option_map_or (λ place. slice_index_or KEYWORD_KINDS place 
 abbrev pub IsShape : Shape → List ℕ → Type 0
 IsShape shapes.Blank text = (b : ℕ) × (is_blank b ≡ true) × (text ≡ b ∷ [])
 IsShape shapes.Comment text = (line : List ℕ) × All (λ b. is_in_line b ≡ true) line × (text ≡ 47 ∷ 47 ∷ line)
-IsShape shapes.Word text = (first : ℕ) × (more : List ℕ) × (is_letter first ≡ true) × All (λ b. is_word b ≡ true) more × (text ≡ first ∷ more)
+IsShape shapes.Word text = (first : ℕ) × (more : List ℕ) × (is_letter first ≡ true) × All (λ b. is_word_byte b ≡ true) more × (text ≡ first ∷ more)
 IsShape shapes.Number text = (first : ℕ) × (more : List ℕ) × (is_digit first ≡ true) × All (λ b. is_digit b ≡ true) more × (text ≡ first ∷ more)
 IsShape (shapes.Sign kind) text = Contains SIGNS (text, kind)
 

@@ -3,13 +3,13 @@
 ghost use Rattle.std.specs.Prelude.{◌≡◌, ℕ, List, length, IfSome, nat_eq, find, option_map, ◌≤◌, ◌<◌, ◌+◌};
 ghost use Rattle.std.specs.List.{position, prefix_len, starts_with};
 ghost use Rattle.std.specs.Str.{bytes_eq};
-ghost use Rattle.mon_tokens.specs.Spelling.{is_word, is_digit, is_blank, is_in_line, kind_of_word};
+ghost use Rattle.mon_tokens.specs.Spelling.{is_word_byte, is_digit, is_blank, is_in_line, kind_of_word};
 ghost use Rattle.mon_base.specs.Limits.{FILE_BYTES};
 ghost use Rattle.mon_tokens.specs.inner.Pieces.{class_of, is_run, other_at, by_class, longest_at, limited, sign_at};
 
 use super::token::{KEYWORD_KINDS, SIGNS, TokenKind};
 use mon_base::limits::WORD_BYTES;
-use mon_base::{KEYWORDS, is_digit, is_in_line, is_letter, is_word};
+use mon_base::{KEYWORDS, is_digit, is_in_line, is_letter, is_word_byte};
 
 /// What a byte outside comments can begin.
 #[derive(Clone, Copy, Debug, PartialEq, Eq)]
@@ -52,10 +52,10 @@ fn class_of(b: u8) -> Class
 }
 
 fn word_len(bytes: &[u8]) -> usize
-    ensures len { result ≡ prefix_len is_word bytes.now }
+    ensures len { result ≡ prefix_len is_word_byte bytes.now }
     ensures within { result ≤ length bytes.now }
 {
-    bytes.iter().take_while(|b| is_word(**b)).count()
+    bytes.iter().take_while(|b| is_word_byte(**b)).count()
 }
 
 fn digits_len(bytes: &[u8]) -> usize

@@ -14,10 +14,9 @@ use Rattle.mon_linear.specs.declared.formula.Formula.TheVariants as formulas
 use Rattle.mon_linear.specs.declared.formula.Formula.TheOpen.{Row, Flag, All as Every}
 use Rattle.mon_linear.specs.declared.formula.Formula.TheViews.{roll-Formula}
 use Rattle.mon_linear.specs.declared.formula.Formula.TheFolds.{fold-roll-Formula}
-use Rattle.mon_linear.specs.declared.measure.TheConstants.{MOST_CUBES, MOST_NODES}
 use Rattle.mon_linear.specs.Differences.{is_difference, has_difference_rows}
 use Rattle.mon_linear.specs.Linear.{Linear}
-use Rattle.mon_linear.specs.Measures.{cubes_layer, cubes_of, nodes_layer, nodes_of, product}
+use Rattle.mon_linear.specs.Measures.{cubes_layer, cubes_of, nodes_layer, nodes_of, product, MOST_CUBES, MOST_NODES}
 use Rattle.mon_linear.specs.Places.{rows_layer, rows_of}
 use Rattle.mon_linear.specs.Truth.{Valuation, truth_of}
 use Rattle.mon_monitor.specs.declared.candidate.Candidate.{Candidate}

@@ -6,8 +6,7 @@ use Rattle.std.specs.Option.{IsSomeAnd}
 use Rattle.std.specs.Ordering.{int_eq}
 use Rattle.mon_linear.specs.declared.form.Term.{Term}
 use Rattle.mon_linear.specs.Differences.{has_difference_rows}
-use Rattle.mon_linear.specs.declared.measure.TheConstants.{MOST_CUBES}
-use Rattle.mon_linear.specs.Measures.{cubes_of}
+use Rattle.mon_linear.specs.Measures.{cubes_of, MOST_CUBES}
 use Rattle.mon_linear.specs.declared.formula.Formula.{Formula}
 use Rattle.mon_monitor.specs.declared.claim.Claim.{Claim}
 use Rattle.mon_monitor.specs.declared.claim.Claim.TheVariants as claims
@@ -62,12 +61,12 @@ abbrev pub is_simple_block : Block → Bool
 is_simple_block block = has_difference_rows block.guard && list_all is_simple_statement block.body
 
 -- a block of the monitor
-abbrev pub IsBlock : MonitorParts → ℕ → Type 0
-IsBlock monitor block = block < length monitor.blocks
+abbrev pub IsBlockNumber : MonitorParts → ℕ → Type 0
+IsBlockNumber monitor block = block < length monitor.blocks
 
 -- a condition of the monitor, numbered from 1
-abbrev pub IsCondition : MonitorParts → ℕ → Type 0
-IsCondition monitor condition = (1 ≤ condition) × (condition ≤ length monitor.conditions)
+abbrev pub IsConditionNumber : MonitorParts → ℕ → Type 0
+IsConditionNumber monitor condition = (1 ≤ condition) × (condition ≤ length monitor.conditions)
 
 -- a condition whose guard reads no inputs
 abbrev pub ReadsNone : MonitorParts → ℕ → Type 0
@@ -83,13 +82,13 @@ WaitsAt monitor block condition =
 -- the claims that are asked of a monitor: where a guard reads inputs, only whether no note is needed
 abbrev pub IsClaimOf : MonitorParts → Claim → Type 0
 IsClaimOf monitor (claims.Keeps candidate block) =
-    Contains (candidates_of monitor) candidate × IsBlock monitor block
+    Contains (candidates_of monitor) candidate × IsBlockNumber monitor block
 IsClaimOf monitor (claims.NoNote block condition) =
-    IsBlock monitor block × IsCondition monitor condition
+    IsBlockNumber monitor block × IsConditionNumber monitor condition
 IsClaimOf monitor (claims.One condition block) =
     ReadsNone monitor condition × WaitsAt monitor block condition
 IsClaimOf monitor (claims.NoTest block condition) =
-    IsBlock monitor block × ReadsNone monitor condition
+    IsBlockNumber monitor block × ReadsNone monitor condition
 
 -- blocks are simple, and no query is hard
 pub record IsSmall (monitor : MonitorParts) : Type 0 where

@@ -2,14 +2,12 @@
 use Rattle.std.specs.Prelude.{ℕ, Bool, ◌&&◌, nat_le, List, [], ◌∷◌, length, Option, Some, None, if◌then◌else◌}
 use Rattle.std.specs.List.{list_all}
 use Rattle.mon_linear.specs.declared.formula.Formula.{Formula}
-use Rattle.mon_linear.specs.declared.measure.TheConstants.{MOST_NODES}
-use Rattle.mon_linear.specs.Measures.{nodes_of}
+use Rattle.mon_linear.specs.Measures.{nodes_of, MOST_NODES}
 use Rattle.mon_linear.specs.Substitution.{is_formula_within}
-use Rattle.mon_monitor.specs.declared.counting.TheConstants.{MOST_PATHS}
 use Rattle.mon_monitor.specs.declared.monitor.Stmt.{Stmt}
 use Rattle.mon_monitor.specs.declared.query.Query.{Query}
 use Rattle.mon_monitor.specs.MonitorParts.{MonitorParts}
-use Rattle.mon_monitor.specs.Paths.{block_body}
+use Rattle.mon_monitor.specs.Paths.{block_body, MOST_PATHS}
 use Rattle.mon_wp.specs.declared.step.Step.{Step}
 use Rattle.mon_wp.specs.Paths.{body_paths, block_paths}
 use Rattle.mon_wp.specs.NegatedQueries.{path_part, negated_triple, negated_query}

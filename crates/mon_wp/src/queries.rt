@@ -2,7 +2,7 @@
 
 ghost use Rattle.std.specs.Prelude.{◌≡◌, ◌<◌, ◌≤◌, IfOk, IfSome, IsTrue, length};
 ghost use Rattle.mon_linear.specs.Negation.{can_negate};
-ghost use Rattle.mon_linear.specs.Measures.{nodes_of};
+ghost use Rattle.mon_linear.specs.Measures.{nodes_of, MOST_NODES};
 ghost use Rattle.mon_wp.specs.Limits.{few_paths, query_within};
 
 use super::path::Path;

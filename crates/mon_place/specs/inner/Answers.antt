@@ -15,7 +15,7 @@ use Rattle.mon_events.specs.PlanText.{note_kind}
 use Rattle.mon_events.specs.Plans.{has_note}
 use Rattle.mon_events.specs.Rising.{AreRising}
 use Rattle.mon_wp.specs.Expressible.{is_expressible}
-use Rattle.mon_wp.specs.Hardness.{is_easy, IsBlock, IsCondition, IsSmall, ReadsNone, WaitsAt}
+use Rattle.mon_wp.specs.Hardness.{is_easy, IsBlockNumber, IsConditionNumber, IsSmall, ReadsNone, WaitsAt}
 use Rattle.mon_wp.specs.QueryPlaces.{is_of_fields}
 use Rattle.mon_prune.specs.Invariants.{ContainsEasy, IsGreatest, IsInvariant}
 use Rattle.mon_prune.specs.declared.kept.Kept.{Kept}
@@ -43,10 +43,10 @@ pub record AreAskable (kept : List Candidate) : Type 0 where
 -- the claim names a block and a condition of the monitor, and a candidate that has a formula
 abbrev pub MayAsk : MonitorParts → Claim → Type 0
 MayAsk monitor (claims.Keeps candidate block) =
-    IsBlock monitor block × (is_expressible candidate ≡ true) × (is_of_fields candidate ≡ true)
-MayAsk monitor (claims.NoNote block condition) = IsBlock monitor block × IsCondition monitor condition
-MayAsk monitor (claims.One condition block) = IsBlock monitor block × IsCondition monitor condition
-MayAsk monitor (claims.NoTest block condition) = IsBlock monitor block × IsCondition monitor condition
+    IsBlockNumber monitor block × (is_expressible candidate ≡ true) × (is_of_fields candidate ≡ true)
+MayAsk monitor (claims.NoNote block condition) = IsBlockNumber monitor block × IsConditionNumber monitor condition
+MayAsk monitor (claims.One condition block) = IsBlockNumber monitor block × IsConditionNumber monitor condition
+MayAsk monitor (claims.NoTest block condition) = IsBlockNumber monitor block × IsConditionNumber monitor condition
 
 -- proofs of these claims were added to those that were there
 abbrev pub Adds : MonitorParts → List Candidate → List Claim → List Proof → List Proof → Type 0
@@ -82,7 +82,7 @@ pub record IsTested (monitor : MonitorParts) (kept : List Candidate) (block cond
 
 -- a note of a block, where conditions are of these kinds
 pub record IsNote (monitor : MonitorParts) (kept : List Candidate) (all_kinds : List CondKind) (block : ℕ) (note : Note) : Type 0 where
-  pub on : IsCondition monitor note.condition
+  pub on : IsConditionNumber monitor note.condition
   pub kind : slice_get all_kinds (note.condition - 1) ≡ Some (note_kind note.all)
   pub needed : IsUnproved monitor kept (claims.NoNote block note.condition)
   pub tests : note.tested ≡ true → IsTested monitor kept block note.condition

@@ -3,9 +3,10 @@ use Rattle.std.specs.Prelude.{◌≡◌, ℕ, ◌+◌, ◌*◌, ◌<◌, ◌≤�
 use Rattle.std.specs.List.{AllByRecursion as Each}
 use Rattle.mon_linear.specs.declared.form.Term.{Term}
 use Rattle.mon_linear.specs.Linear.{Linear}
+use Rattle.mon_linear.specs.Measures.{MOST_NODES}
 use Rattle.mon_linear.specs.Truth.{Valuation, value_of}
 use Rattle.mon_cert.specs.Refutes.{chain_closes, is_absurd}
-use Rattle.mon_linear.specs.Places.{IsIn}
+use Rattle.mon_linear.specs.Places.{IsIn, MOST_PLACES}
 use Rattle.mon_solve.specs.declared.rows.Numbered.{Numbered}
 use Rattle.mon_solve.specs.declared.elimination.Progress.{Progress}
 use Rattle.mon_solve.specs.declared.elimination.Progress.TheVariants.{Left, Closed, Stopped}
@@ -86,7 +87,7 @@ PairHolds valuation upper lower = (value_of valuation upper.row +ℤ value_of va
 
 -- What is given where sums of difference rows are added: there is room for so many of them.
 pub record IsCase (place : ℕ) (rest : List ℕ) (bits : ℕ) (uppers lowers : List Numbered) (pairs : ℕ) (before : State) : Type 0 where
-  pub few : length rest < 32
+  pub few : length rest < MOST_PLACES
   pub small : bits < 127
   pub each_upper : Each (IsUpper place rest bits) uppers
   pub each_lower : Each (IsLower place rest bits) lowers
@@ -146,12 +147,12 @@ Eliminates place rest bits before after Stopped = ⊥
 -- In difference rows with one place more than the rest, the variable of that place goes.
 abbrev pub CanEliminate : ℕ → State → State → Progress → Type 0
 CanEliminate place before after progress =
-    (rest : List ℕ) (bits : ℕ) → length rest < 32 → bits < 127 → AreReadyRows (place ∷ rest) bits before → before.next + 2 ^ 21 < 2 ^ 32 → Eliminates place rest bits before after progress
+    (rest : List ℕ) (bits : ℕ) → length rest < MOST_PLACES → bits < 127 → AreReadyRows (place ∷ rest) bits before → before.next + 2 ^ 21 < 2 ^ 32 → Eliminates place rest bits before after progress
 
 -- Difference rows of few places have a solution, with each truth value as it is.
 abbrev pub CanSolve : List ℕ → State → Type 0
 CanSolve places before =
-    length places ≤ 32 → AreReadyRows places 95 before → before.next ≤ 65536 → (valuation : Valuation) → (solution : Valuation) × RowsHold solution before.kept × (solution.flag ≡ valuation.flag)
+    length places ≤ MOST_PLACES → AreReadyRows places 95 before → before.next ≤ MOST_NODES → (valuation : Valuation) → (solution : Valuation) × RowsHold solution before.kept × (solution.flag ≡ valuation.flag)
 
 -- The chain closes, or such rows have a solution.
 abbrev pub EliminatesAll : List ℕ → State → State → Bool → Type 0

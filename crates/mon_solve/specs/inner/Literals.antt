@@ -12,7 +12,7 @@ use Rattle.mon_cert.specs.declared.cert.Cert.{Cert, out-Cert}
 use Rattle.mon_cert.specs.declared.cert.Literal.{Literal}
 use Rattle.mon_cert.specs.declared.cert.Literal.TheVariants.{Row, Flag}
 use Rattle.mon_cert.specs.Refutes.{are_opposite, chain_closes, closes, is_absurd, literal_truth, row_of}
-use Rattle.mon_linear.specs.Places.{HasPlaces}
+use Rattle.mon_linear.specs.Places.{HasPlaces, MOST_PLACES}
 use Rattle.mon_solve.specs.declared.rows.Numbered.{Numbered}
 use Rattle.mon_solve.specs.inner.Rows.{is_as_tight, with_row}
 use Rattle.mon_solve.specs.inner.Chains.{HasNumber}
@@ -104,7 +104,7 @@ IsStart literals kept = IsStartOf literals literals kept
 
 -- The chain closes, or small literals of few places have rows that hold somewhere, with each truth value as it is.
 abbrev pub IsRefuting : List Literal → Option (List Combine) → Type 0
-IsRefuting literals None = (few : List ℕ) → length few ≤ 32 → AreSmall few literals → (valuation : Valuation) → (solution : Valuation) × Each (LiteralHolds solution) literals × (solution.flag ≡ valuation.flag)
+IsRefuting literals None = (few : List ℕ) → length few ≤ MOST_PLACES → AreSmall few literals → (valuation : Valuation) → (solution : Valuation) × Each (LiteralHolds solution) literals × (solution.flag ≡ valuation.flag)
 IsRefuting literals (Some combines) = chain_closes combines (map row_of literals) ≡ true
 
 -- The same of the chain that is answered.
@@ -113,7 +113,7 @@ FindsChain literals chain = IsRefuting literals (option_map (λ combines. combin
 
 -- Small literals of few places are true somewhere.
 abbrev pub CanBeTrue : List Literal → Type 0
-CanBeTrue literals = (few : List ℕ) → length few ≤ 32 → AreSmall few literals → (valuation : Valuation) × AreTrue valuation literals
+CanBeTrue literals = (few : List ℕ) → length few ≤ MOST_PLACES → AreSmall few literals → (valuation : Valuation) × AreTrue valuation literals
 
 abbrev pub IsClosing : List Literal → Option Cert → Type 0
 IsClosing literals None = CanBeTrue literals

@@ -12,7 +12,7 @@ use Rattle.mon_linear.specs.Truth.{Valuation, truth_of}
 use Rattle.mon_cert.specs.declared.cert.Cert.{Cert}
 use Rattle.mon_cert.specs.declared.cert.Literal.{Literal}
 use Rattle.mon_cert.specs.Refutes.{RefutesFrom}
-use Rattle.mon_linear.specs.Places.{HasPlaces, rows_of}
+use Rattle.mon_linear.specs.Places.{HasPlaces, MOST_PLACES, rows_of}
 use Rattle.mon_solve.specs.inner.Literals.{AreSmall, AreTrue}
 
 -- The nodes of the formulas.
@@ -42,7 +42,7 @@ HasSmallRows places formula = Each (IsSmallRow places) (rows_of formula)
 -- Where the rows are difference rows of few places, the literals and the formulas are true somewhere.
 abbrev pub CanHold : List Formula → List Literal → Type 0
 CanHold stack literals =
-    (few : List ℕ) → length few ≤ 32 → AreSmall few literals → Each (HasSmallRows few) stack
+    (few : List ℕ) → length few ≤ MOST_PLACES → AreSmall few literals → Each (HasSmallRows few) stack
     → (valuation : Valuation) × AreTrue valuation literals × Each (λ (formula : Formula). truth_of valuation formula ≡ true) stack
 
 -- The formula was put into what is left to do and the literals.

@@ -9,7 +9,7 @@ use Rattle.mon_tokens.specs.declared.piece.Shape.{Shape}
 use Rattle.mon_tokens.specs.declared.piece.Shape.TheVariants as coded
 use Rattle.mon_tokens.specs.Shapes.{Shape as Meant}
 use Rattle.mon_tokens.specs.Shapes as shapes
-use Rattle.mon_tokens.specs.Spelling.{SIGNS, is_letter, is_word, is_digit, is_blank, is_in_line}
+use Rattle.mon_tokens.specs.Spelling.{SIGNS, is_letter, is_word_byte, is_digit, is_blank, is_in_line}
 
 -- a shape of the code as one of the definitions
 abbrev pub meant : Shape → Meant
@@ -36,7 +36,7 @@ unfoldable pub other_at : List ℕ → Option (Shape × ℕ)
 other_at bytes = if starts_with nat_eq bytes (47 ∷ 47 ∷ []) then Some (coded.Comment, prefix_len is_in_line bytes) else option_map (λ sign. (coded.Sign sign.0, sign.1)) (sign_at bytes)
 
 abbrev pub by_class : Class → ℕ → List ℕ → Option (Shape × ℕ)
-by_class classes.Letter a rest = Some (coded.Word, 1 + prefix_len is_word rest)
+by_class classes.Letter a rest = Some (coded.Word, 1 + prefix_len is_word_byte rest)
 by_class classes.Digit a rest = Some (coded.Number, 1 + prefix_len is_digit rest)
 by_class classes.Blank a rest = Some (coded.Blank, 1)
 by_class classes.Other a rest = other_at (a ∷ rest)

@@ -1,6 +1,6 @@
 use Rattle.std.proofs.Common.{◌≡◌, ◌++◌, [], ◌∷◌, rules, ap, sym, ◌∙◌, subst}
 use Rattle.crossbeam_queue.specs.Passes.{view}
-use Rattle.mon_queue.specs.Tickets.{IsEachOnce, PassView, QueueView, tickets_of}
+use Rattle.mon_queue.specs.Tickets.{IsEachOnce, QueuePassView, QueueView, tickets_of}
 use Rattle.mon_queue.proofs.Closing.{closes}
 use Rattle.mon_queue.proofs.queue.ReadyQueue.close.Goals as goal
 
@@ -8,8 +8,8 @@ pub returns : goal.returns
 returns c =
     let parted : c.args.passes.items ≡ c.pop.new.self.items ++ c.unwrap-last.result ∷ [] = search rules in
     let own : c.unwrap-last.result.queue ≡ c.args.self = search rules in
-    let same : c.unwrap-last.result.tickets ≡ (view c.into_place-place.result).tickets = ap (λ (p : PassView). p.tickets) c.into_place-place.ensures.pass in
-    let of_pass : c.unwrap-last.result.queue.clients ≡ (view c.into_place-place.result).clients = ap (λ (p : PassView). p.queue.clients) c.into_place-place.ensures.pass in
+    let same : c.unwrap-last.result.tickets ≡ (view c.into_place-place.result).tickets = ap (λ (p : QueuePassView). p.tickets) c.into_place-place.ensures.pass in
+    let of_pass : c.unwrap-last.result.queue.clients ≡ (view c.into_place-place.result).clients = ap (λ (p : QueuePassView). p.queue.clients) c.into_place-place.ensures.pass in
     let of_queue = sym of_pass ∙ ap (λ (q : QueueView). q.clients) own in
     let all = c.learn.ensures.all in record {
       once = (
