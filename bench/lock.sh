@@ -44,7 +44,7 @@ ghost use Rattle.mon_implicit.specs.Scripted.{FitsScripts};
 use mon_base::Name;
 use mon_events::Outcome;
 use mon_explicit::FreeMonitor;
-use mon_implicit::{Call, Client, Scripts, are_clients, fit};
+use mon_implicit::{Call, Client, Scripts, are_clients, scripts_fit};
 use mon_list::Seq;
 use mon_lock::{Pass, SharedMonitor};
 use mon_monitor::Monitor;
@@ -135,7 +135,7 @@ fn scripts_of(alloc: Global, workload: Workload, monitor: &Monitor) -> Option<Sc
         let one = client(alloc, number, method).ok()?;
         clients.push(one).ok()?;
     }
-    if !are_clients(&clients) || !fit(monitor, &clients) {
+    if !are_clients(&clients) || !scripts_fit(monitor, &clients) {
         return None;
     }
     Some(Scripts::of(clients))

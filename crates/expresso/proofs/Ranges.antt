@@ -1,17 +1,17 @@
 -- The numbers of a command that words ask for are in range.
 use Rattle.std.proofs.Common.{◌≡◌, ℕ, ◌≤◌, List, Option, Some, None, arith}
-use Rattle.mon_base.specs.Limits.{MOST_EXTRA, WORKERS}
+use Rattle.mon_base.specs.Limits.{MOST_SPURIOUS, WORKERS}
 use Rattle.mon_command.specs.declared.schedule.Schedule.{Schedule}
 use Rattle.mon_command.specs.declared.schedule.Schedule.TheVariants.{Rounds, Drawn}
 use Rattle.mon_command.specs.CommandLine.{Command, check, turns, compile, simulate, run, stress, IsSchedule, IsSpurious, IsWorkers, Takes}
 use Rattle.expresso.specs.Simulations.{most_spurious}
 use Rattle.expresso.specs.inner.Ranges.{IsInRange}
 
-few_spurious : (word : Option (List ℕ)) (number : ℕ) → IsSpurious word number → number ≤ MOST_EXTRA
+few_spurious : (word : Option (List ℕ)) (number : ℕ) → IsSpurious word number → number ≤ MOST_SPURIOUS
 few_spurious None number is = omega (arith, is)
 few_spurious (Some word) number is = is.within
 
-few_of_schedule : (seed spurious : Option (List ℕ)) (schedule : Schedule) → IsSchedule seed spurious schedule → most_spurious schedule ≤ MOST_EXTRA
+few_of_schedule : (seed spurious : Option (List ℕ)) (schedule : Schedule) → IsSchedule seed spurious schedule → most_spurious schedule ≤ MOST_SPURIOUS
 few_of_schedule seed spurious Rounds is = omega arith
 few_of_schedule seed spurious (Drawn number extra) (word, seed_is, seed_number, extra_is) = few_spurious spurious extra extra_is
 

@@ -9,7 +9,8 @@ use Rattle.mon_events.specs.declared.plan.Plan.{Plan}
 use Rattle.mon_events.specs.Configurations.{System, Configuration}
 use Rattle.mon_events.specs.Logs.{IsClosed, commits_of}
 use Rattle.mon_text.specs.LogText.{are_done}
-use Rattle.mon_text.specs.Laws.{plan_and_log_text, system_under}
+use Rattle.mon_events.specs.Configurations.{system_under}
+use Rattle.mon_text.specs.Laws.{plan_and_log_text}
 use Rattle.mon_command.specs.declared.schedule.Schedule.{Schedule}
 use Rattle.mon_command.specs.CommandLine.{simulate}
 use Rattle.expresso.specs.declared.status.Status.{Status}

@@ -13,7 +13,8 @@ use Rattle.mon_command.specs.declared.schedule.Schedule.{Schedule}
 use Rattle.expresso.specs.Placements.{IsPlacement}
 use Rattle.expresso.specs.Simulations.{IsScheduled, IsSimulation, most_spurious}
 use Rattle.expresso.proofs.Placed.{placed_run}
-use Rattle.mon_text.specs.Laws.{plan_and_log_text, system_under}
+use Rattle.mon_events.specs.Configurations.{system_under}
+use Rattle.mon_text.specs.Laws.{plan_and_log_text}
 
 -- all that is known of a monitor at the end of a schedule
 pub record IsRunOut (schedule : Schedule) (before next : FreeMachine) : Type 0 where

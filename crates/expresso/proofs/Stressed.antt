@@ -10,7 +10,7 @@ use Rattle.mon_events.specs.Configurations.{System, Configuration}
 use Rattle.mon_events.specs.Logs.{IsClosed, commits_of}
 use Rattle.mon_explicit.specs.Sections.{spurious_in}
 use Rattle.mon_text.specs.LogText.{are_done}
-use Rattle.mon_text.specs.Laws.{system_under}
+use Rattle.mon_events.specs.Configurations.{system_under}
 use Rattle.mon_text.specs.SummaryText.{summary_text}
 use Rattle.mon_command.specs.CommandLine.{stress}
 use Rattle.mon_stress.specs.LargeInput.{buffer_of, capacity_of, producers_and_consumers}

@@ -10,7 +10,8 @@ use Rattle.mon_events.specs.Configurations.{System, Configuration}
 use Rattle.mon_events.specs.Logs.{IsClosed, commits_of}
 use Rattle.mon_explicit.specs.Sections.{spurious_in}
 use Rattle.mon_text.specs.LogText.{are_done}
-use Rattle.mon_text.specs.Laws.{plan_and_log_text, system_under}
+use Rattle.mon_events.specs.Configurations.{system_under}
+use Rattle.mon_text.specs.Laws.{plan_and_log_text}
 use Rattle.mon_command.specs.CommandLine.{run}
 use Rattle.expresso.specs.declared.status.Status.{Status}
 use Rattle.expresso.specs.PlacedRuns.{IsPlacedRun}

@@ -26,7 +26,8 @@ use Rattle.mon_stress.specs.LargeInput.{buffer_of, capacity_of, producers_and_co
 use Rattle.expresso.specs.Placements.{IsPlacement}
 use Rattle.expresso.specs.PlacedRuns.{IsPlacedRun}
 use Rattle.expresso.specs.Simulations.{IsSimulation}
-use Rattle.mon_text.specs.Laws.{plan_and_log_text, system_under}
+use Rattle.mon_events.specs.Configurations.{system_under}
+use Rattle.mon_text.specs.Laws.{plan_and_log_text}
 use Rattle.mon_text.specs.SummaryText.{summary_text}
 use Rattle.expresso.specs.SourceFaults.{source_fault_text}
 use Rattle.expresso.specs.MonitorFiles.{IsAccepted, IsFirstFault}

@@ -17,7 +17,7 @@ use Rattle.mon_wp.specs.Hardness.{IsSmall}
 use Rattle.mon_place.specs.Backing.{IsBacked}
 use Rattle.mon_place.specs.Exact.{IsExact, IsLicensed}
 use Rattle.mon_text.specs.LogText.{log_text}
-use Rattle.mon_text.specs.Laws.{system_under}
+use Rattle.mon_events.specs.Configurations.{system_under}
 use Rattle.mon_command.specs.CommandLine.{Takes, run}
 use Rattle.expresso.specs.declared.status.Status.{Status}
 use Rattle.expresso.specs.declared.status.Status.TheVariants.{Done, Stalled}

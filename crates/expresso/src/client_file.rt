@@ -4,7 +4,8 @@ ghost use Rattle.std.specs.Prelude.{◌≡◌, IfErr, IfOk};
 ghost use Rattle.mon_implicit.specs.Scripted.{FitsScripts};
 ghost use Rattle.expresso.specs.ClientFiles.{AreAccepted, HasClientsCause};
 
-use crate::source_fault::{LONGEST_FILE, SourceFault};
+use crate::source_fault::SourceFault;
+use mon_base::limits::FILE_BYTES;
 use mon_implicit::Scripts;
 use mon_monitor::Monitor;
 use mon_script::clients;
@@ -26,7 +27,7 @@ pub(crate) fn read_clients(
     ensures fits { IfOk result (λ scripts. FitsScripts monitor.now scripts) }
     ensures fault { IfErr result (λ fault. HasClientsCause bytes.now monitor.now fault) }
 {
-    if bytes.len() as u64 > LONGEST_FILE {
+    if bytes.len() > FILE_BYTES {
         return Err(SourceFault::TooLong);
     }
     let tokens = tokens(alloc, bytes)?;

@@ -27,4 +27,4 @@ mod turns;
 mod work;
 
 pub use program::expresso;
-pub use status::{Status, number};
+pub use status::{Status, exit_status};

@@ -3,7 +3,8 @@
 ghost use Rattle.std.specs.Prelude.{◌≡◌, IfErr, IfOk};
 ghost use Rattle.expresso.specs.MonitorFiles.{HasMonitorCause, IsAccepted};
 
-use crate::source_fault::{LONGEST_FILE, SourceFault};
+use crate::source_fault::SourceFault;
+use mon_base::limits::FILE_BYTES;
 use mon_monitor::Monitor;
 use mon_syntax::parse_monitor;
 use mon_tokens::tokens;
@@ -27,7 +28,7 @@ pub(crate) fn read_monitor(alloc: Global, bytes: &[u8]) -> Result<MonitorFile, S
     ensures accepted { IfOk result (λ file. IsAccepted bytes.now file.tree file.monitor) }
     ensures fault { IfErr result (λ fault. HasMonitorCause bytes.now fault) }
 {
-    if bytes.len() as u64 > LONGEST_FILE {
+    if bytes.len() > FILE_BYTES {
         return Err(SourceFault::TooLong);
     }
     let tokens = tokens(alloc, bytes)?;

@@ -14,7 +14,7 @@ use crate::text::show_usage;
 use crate::work::work;
 use mon_command::{CommandFault, command_of, one_command};
 use mon_io::{Files, Sink};
-use mon_lock::Gate;
+use mon_pool::Gate;
 use std::alloc::Global;
 use std::sync::Wait;
 use std::thread::Threads;

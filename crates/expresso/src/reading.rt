@@ -5,9 +5,9 @@ ghost use Rattle.mon_base.specs.Limits.{FILE_BYTES};
 ghost use Rattle.mon_io.specs.Outside.{IsRead};
 ghost use Rattle.expresso.specs.inner.Ending.{IsUnread};
 
-use crate::source_fault::LONGEST_FILE;
 use crate::status::Status;
 use crate::text::show_unread;
+use mon_base::limits::FILE_BYTES;
 use mon_io::{FileFault, Files, Sink};
 use std::alloc::Global;
 
@@ -33,7 +33,7 @@ pub(crate) fn bytes_of<F: Files, S: Sink>(
     ensures held { (name : List ℕ) → (F.seen files.new).held name ≡ (F.seen files.old).held name }
     ensures may_read { (name : List ℕ) → F.may_read files.new name ↔ F.may_read files.old name }
 {
-    match files.read_up_to(alloc, file, LONGEST_FILE) {
+    match files.read_up_to(alloc, file, FILE_BYTES as u64) {
         Ok(bytes) => Ok(bytes),
         Err(FileFault::Failed) => Err(show_unread(file, out)),
         Err(FileFault::OutOfMemory) => Err(Status::OutOfMemory),

@@ -3,11 +3,11 @@
 ghost use Rattle.std.specs.Prelude.{◌≡◌, ◌≢◌, ◌≤◌, ◌+◌, ◌↔◌, ℕ, List, IfOk};
 ghost use Rattle.mon_implicit.specs.Scripted.{FitsScripts};
 ghost use Rattle.mon_events.specs.Logs.{IsClosed};
-ghost use Rattle.mon_explicit.specs.Sections.{MOST_EXTRA, HasEnded, HoldsAlways, spurious_in};
+ghost use Rattle.mon_explicit.specs.Sections.{MOST_SPURIOUS, HasEnded, HoldsAlways, spurious_in};
 ghost use Rattle.mon_simulate.specs.Schedules.{Extends};
 ghost use Rattle.mon_command.specs.CommandLine.{simulate};
 ghost use Rattle.expresso.specs.Simulations.{IsScheduled, IsSimulation, most_spurious};
-ghost use Rattle.mon_text.specs.Laws.{system_under};
+ghost use Rattle.mon_events.specs.Configurations.{system_under};
 ghost use Rattle.expresso.specs.inner.Ending.{CommandEnds};
 
 use crate::input::{Input, input_of};
@@ -50,7 +50,7 @@ fn run(free: &mut FreeMonitor, schedule: Schedule)
 /// The clients run on their monitor by the schedule, under a plan that it is compiled to. All memory is taken here.
 fn simulation(alloc: Global, input: Input, schedule: Schedule) -> Result<FreeMonitor, AllocError>
     requires fits { FitsScripts input.monitor input.scripts }
-    requires few { most_spurious schedule ≤ MOST_EXTRA }
+    requires few { most_spurious schedule ≤ MOST_SPURIOUS }
     ensures system { IfOk result (λ free.
         free.system ≡ system_under input.monitor input.scripts free.system.plan) }
     ensures simulation { IfOk result (λ free. IsSimulation
@@ -75,7 +75,7 @@ pub(crate) fn simulate_files<F: Files, S: Sink>(
 ) -> Status
     requires monitor { F.may_read files.old monitor.now }
     requires clients { F.may_read files.old clients.now }
-    requires few { most_spurious schedule ≤ MOST_EXTRA }
+    requires few { most_spurious schedule ≤ MOST_SPURIOUS }
     ensures ended { CommandEnds (simulate monitor.now clients.now schedule)
         (F.seen files.old) (F.seen files.new) result (S.seen out.old) (S.seen out.new) }
     ensures handed_on { result ≢ Status.WriteFault

@@ -5,7 +5,6 @@ ghost use Rattle.expresso.specs.ClientFiles.{fault_of_script};
 ghost use Rattle.expresso.specs.MonitorFiles.{fault_of};
 ghost use Rattle.expresso.specs.SourceFaults.{fault_of_lexer, fault_of_parser};
 
-use mon_base::limits::FILE_BYTES;
 use mon_script::ScriptFault;
 use mon_syntax::SyntaxFault;
 use mon_text::Refusal;
@@ -13,13 +12,10 @@ use mon_tokens::LexFault;
 use mon_types::TypeFault;
 use thiserror::Error;
 
-/// The greatest length of a file, in bytes.
-pub(crate) const LONGEST_FILE: u64 = FILE_BYTES as u64;
-
 /// Why bytes are refused, with the offset of the place where they are.
 #[derive(Clone, Copy, Debug, Drop, Error)]
 pub(crate) enum SourceFault {
-    #[error("more than 65536 bytes")]
+    #[error("too long")]
     TooLong,
     #[error("{what:?} at {at}")]
     At { at: u32, what: Refusal },

@@ -23,7 +23,7 @@ pub enum Status {
 }
 
 /// The exit status of the program, from 0 to 6.
-pub fn number(status: Status) -> u8
+pub fn exit_status(status: Status) -> u8
     ensures { result ≡ exit_status status }
 {
     match status {

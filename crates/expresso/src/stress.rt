@@ -10,7 +10,7 @@ use crate::run::worked;
 use crate::status::Status;
 use crate::text::show_summary;
 use mon_io::Sink;
-use mon_lock::Gate;
+use mon_pool::Gate;
 use mon_stress::{LargeInput, every_large_run_ends_done, large_input};
 use std::alloc::{AllocError, Global};
 use std::sync::Wait;

@@ -15,7 +15,7 @@ use crate::stress::stress;
 use crate::turns::take_turns;
 use mon_command::Command;
 use mon_io::{Files, Sink};
-use mon_lock::Gate;
+use mon_pool::Gate;
 use std::alloc::Global;
 use std::sync::Wait;
 use std::thread::Threads;

@@ -4,9 +4,9 @@
 //! call, [`expresso::expresso`], and gives the number of its status.
 #![tactic(auto)]
 
-use expresso::{Status, expresso, number};
+use expresso::{Status, exit_status, expresso};
 use mon_io::{RealFiles, StdSink};
-use mon_lock::OpenGate;
+use mon_pool::OpenGate;
 use std::process::ExitCode;
 use std::{env, io};
 
@@ -23,10 +23,10 @@ fn main(rt: HostRuntime) -> ExitCode {
             let mut files = RealFiles::new(&rt);
             let mut out = StdSink::new(&rt);
             let status = expresso(&rt, rt.alloc(), &words, &mut files, &mut out, &OpenGate);
-            ExitCode::from(number(status))
+            ExitCode::from(exit_status(status))
         }
         Err(error) if error.kind() == io::ErrorKind::OutOfMemory => {
-            ExitCode::from(number(Status::OutOfMemory))
+            ExitCode::from(exit_status(Status::OutOfMemory))
         }
         Err(_) => ExitCode::from(UNREADABLE_WORDS),
     }

@@ -13,7 +13,7 @@ use mon_io::{Sink, SinkFailed, write_piece, write_pieces};
 /// Writes the text of a certificate. It takes no memory, and calls itself once for each level of splits in one
 /// another.
 ///
-/// After `SinkFailed` some of the first bytes were taken, and not all.
+/// After `SinkFailed` the first bytes were taken, fewer than all and maybe none.
 #[cycle(print_cert)]
 pub fn print_cert<S: Sink>(cert: &Cert, out: &mut S) -> Result<(), SinkFailed>
     ensures { Wrote (S.seen out.old) (S.seen out.new) result (cert_text cert.now) }

@@ -3,7 +3,7 @@ use Rattle.std.proofs.Common.{◌≡◌, ℕ, zero, suc, ◌≤◌, Bool, true, 
 use Rattle.std.proofs.lemmas.Option.{none-some, same_Some, option_and_then_some}
 use Rattle.std.proofs.lemmas.Slice.Eq.{bytes_eq-Decides}
 use Rattle.std.proofs.Math.Dec.{eqb-suc-zero}
-use Rattle.mon_base.specs.Limits.{MOST_EXTRA, WORKERS}
+use Rattle.mon_base.specs.Limits.{MOST_SPURIOUS, WORKERS}
 use Rattle.mon_command.specs.declared.schedule.Schedule.{Schedule}
 use Rattle.mon_command.specs.declared.schedule.Schedule.TheVariants.{Rounds, Drawn}
 use Rattle.mon_command.specs.CommandLine.{Command, check, turns, compile, simulate, run, stress, Given, GREATEST_UNSIGNED, HasNoSchedule, IsSpurious, IsSchedule, IsWorkers, Asks}
@@ -21,11 +21,11 @@ map_is f (Some x) y e next = next x refl (same_Some (f x) y e)
 
 spurious_found : (word : Option Text) (extra : ℕ) → IsSpurious word extra → spurious_if word ≡ Some extra
 spurious_found None extra is = ap Some (sym is)
-spurious_found (Some word) extra is = number_found MOST_EXTRA word extra is
+spurious_found (Some word) extra is = number_found MOST_SPURIOUS word extra is
 
 spurious_is : (word : Option Text) (extra : ℕ) → spurious_if word ≡ Some extra → IsSpurious word extra
 spurious_is None extra e = sym (same_Some 0 extra e)
-spurious_is (Some word) extra e = number_is MOST_EXTRA word extra e
+spurious_is (Some word) extra e = number_is MOST_SPURIOUS word extra e
 
 schedule_found : (seed spurious : Option Text) (schedule : Schedule) → IsSchedule seed spurious schedule → schedule_if seed spurious ≡ Some schedule
 schedule_found seed spurious Rounds (no_seed, no_spurious) = λ i. schedule_if (no_seed i) (no_spurious i)

@@ -4,7 +4,7 @@ use Rattle.std.specs.Prelude.{Result, Ok, Err, IfOk, ok_or}
 use Rattle.std.proofs.lemmas.Option.{none-some, same_Some}
 use Rattle.clap.specs.Words.{fault_of}
 use Rattle.clap.specs.declared.error.kind.ErrorKind.{ErrorKind}
-use Rattle.mon_base.specs.Limits.{MOST_EXTRA, WORKERS}
+use Rattle.mon_base.specs.Limits.{MOST_SPURIOUS, WORKERS}
 use Rattle.mon_command.specs.declared.schedule.Schedule.TheVariants.{Drawn}
 use Rattle.mon_command.specs.CommandLine.{Command, simulate, run, stress, Given, IsGiven, IsSpurious, IsWorkers, Takes, TakesNone, program}
 use Rattle.mon_command.specs.inner.Asked.{command_if}
@@ -64,7 +64,7 @@ refused words kind fault command (given, is, asks) = some_fault kind (fault_of p
 
 -- ---- how much words may ask for
 
-few_asked : (word : Option (List ℕ)) (extra : ℕ) → IsSpurious word extra → extra ≤ MOST_EXTRA
+few_asked : (word : Option (List ℕ)) (extra : ℕ) → IsSpurious word extra → extra ≤ MOST_SPURIOUS
 few_asked None extra is = omega (arith, is)
 few_asked (Some word) extra is = is.within
 
@@ -72,7 +72,7 @@ some_asked : (word : Option (List ℕ)) (workers : ℕ) → IsWorkers word worke
 some_asked None workers is = (omega (arith, is), omega (arith, is))
 some_asked (Some word) workers (is, some) = (some, is.within)
 
-pub few_spurious : (words : List (List ℕ)) (monitor clients : List ℕ) (seed extra : ℕ) → Takes words (simulate monitor clients (Drawn seed extra)) → extra ≤ MOST_EXTRA
+pub few_spurious : (words : List (List ℕ)) (monitor clients : List ℕ) (seed extra : ℕ) → Takes words (simulate monitor clients (Drawn seed extra)) → extra ≤ MOST_SPURIOUS
 few_spurious words monitor clients seed extra (given, is, asks) =
     let (schedule, no_workers) = asks.has_options in
     let (word, seed_is, number, made) = schedule in

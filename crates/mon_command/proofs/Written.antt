@@ -6,7 +6,7 @@ use Rattle.std.proofs.lemmas.List.Sums.{AllPass-from_list_all, list_all-from_All
 use Rattle.std.proofs.lemmas.Option.{none-some, cond_some}
 use Rattle.mon_base.specs.Identifiers.{is_digit}
 use Rattle.mon_tokens.specs.Spelling.{IsDecimal}
-use Rattle.mon_tokens.specs.Words.{number_of_digits}
+use Rattle.mon_tokens.specs.Words.{decimal_value}
 use Rattle.mon_command.specs.CommandLine.{IsNumber, MOST_DIGITS}
 use Rattle.mon_command.specs.inner.Asked.{is_written, within, number_if}
 
@@ -68,14 +68,14 @@ written_found word most number is =
 pub number_found : (most : ℕ) (word : List ℕ) (number : ℕ) → IsNumber most word number → number_if most word ≡ Some number
 number_found most word number is =
     let fits : nat_le number most ≡ true = le-leb number most is.within in
-    ap (λ (b : Bool). cond b (within most (number_of_digits word)) None) (written_found word most number is)
+    ap (λ (b : Bool). cond b (within most (decimal_value word)) None) (written_found word most number is)
     ∙ ap (within most) is.value
     ∙ ap (λ (b : Bool). cond b (Some number) None) fits
 
 pub number_is : (most : ℕ) (word : List ℕ) (number : ℕ) → number_if most word ≡ Some number → IsNumber most word number
 number_is most word number e =
-    let (written, found) = cond_first (is_written word) (within most (number_of_digits word)) number e in
-    let (fits, value) = cond_some (nat_le (number_of_digits word) most) (number_of_digits word) number found in
+    let (written, found) = cond_first (is_written word) (within most (decimal_value word)) number e in
+    let (fits, value) = cond_some (nat_le (decimal_value word) most) (decimal_value word) number found in
     let is = written_is word written in
     record {
       some = is.some;

@@ -4,8 +4,8 @@ use Rattle.clap.specs.Words.{App, Rule, Text, new_app, new_rule, with_rule, faul
 use Rattle.clap.specs.Lexer.{usize_max}
 use Rattle.clap.specs.declared.builder.action.ArgAction.TheVariants.{Set, Append}
 use Rattle.mon_base.specs.Identifiers.{is_digit}
-use Rattle.mon_base.specs.Limits.{MOST_EXTRA, WORKERS}
-use Rattle.mon_tokens.specs.Words.{number_of_digits}
+use Rattle.mon_base.specs.Limits.{MOST_SPURIOUS, WORKERS}
+use Rattle.mon_tokens.specs.Words.{decimal_value}
 use Rattle.mon_command.specs.declared.schedule.Schedule.{Schedule}
 use Rattle.mon_command.specs.declared.schedule.Schedule.TheVariants.{Rounds, Drawn}
 
@@ -83,7 +83,7 @@ pub record IsNumber (most : ℕ) (word : List ℕ) (number : ℕ) : Type 0 where
   pub some : 0 < length word
   pub short : length word ≤ MOST_DIGITS
   pub digits : All (λ b. is_digit b ≡ true) word
-  pub value : number_of_digits word ≡ number
+  pub value : decimal_value word ≡ number
   pub within : number ≤ most
 
 -- ---- options
@@ -91,7 +91,7 @@ pub record IsNumber (most : ℕ) (word : List ℕ) (number : ℕ) : Type 0 where
 -- no spurious wake-ups are made where none are asked for
 abbrev pub IsSpurious : Option Text → ℕ → Type 0
 IsSpurious None number = number ≡ 0
-IsSpurious (Some word) number = IsNumber MOST_EXTRA word number
+IsSpurious (Some word) number = IsNumber MOST_SPURIOUS word number
 
 -- the schedule that `--seed` and `--spurious` ask for: rounds where neither is given, and no spurious wake-ups without a seed
 abbrev pub IsSchedule : Option Text → Option Text → Schedule → Type 0

@@ -8,6 +8,7 @@ use crate::arguments::given_of;
 use crate::asked::command_asked;
 use crate::schedule::Schedule;
 use std::alloc::Global;
+use thiserror::Error;
 
 /// A command, with the words that name its files.
 #[derive(Clone, Copy, Debug)]
@@ -25,13 +26,15 @@ pub enum Command<'a> {
     Compile {
         monitor: &'a str,
     },
-    /// Runs them by sections, under that plan and a schedule.
+    /// Runs the clients of a file on the monitor of another by sections, under the plan that is placed for it and a
+    /// schedule.
     Simulate {
         monitor: &'a str,
         clients: &'a str,
         schedule: Schedule,
     },
-    /// Runs them under that plan in workers, from 1 to `WORKERS`.
+    /// Runs the clients of a file on the monitor of another in workers, from 1 to `WORKERS`, under the plan that is
+    /// placed for it.
     Run {
         monitor: &'a str,
         clients: &'a str,
@@ -45,14 +48,19 @@ pub enum Command<'a> {
 }
 
 /// Why words gave no command.
-#[derive(Clone, Copy, Debug)]
+#[derive(Clone, Copy, Debug, PartialEq, Eq, Error)]
 pub enum CommandFault {
     /// They are no command, or ask for help.
+    #[error("the words are no command")]
     Usage,
+    /// No memory was found, whatever the words are.
+    #[error("out of memory")]
     OutOfMemory,
 }
 
 /// The command that the words, the program's name first, ask for.
+///
+/// `Usage` comes only where they ask for no command, and `OutOfMemory` only for want of memory.
 pub fn command_of<'a>(alloc: Global, words: &'a [String]) -> Result<Command<'a>, CommandFault>
     ensures taken { IfOk result
         (λ command. Takes (map string_bytes words.now) (command_meant command)) }

@@ -6,7 +6,7 @@ ghost use Rattle.mon_base.specs.Identifiers.{is_digit};
 ghost use Rattle.mon_command.specs.inner.Asked.{is_written, number_if, within};
 
 use mon_base::is_digit;
-use mon_tokens::number_of_digits;
+use mon_tokens::decimal_value;
 
 /// The most digits of a number of the command line: as many as 2^64 - 1 has.
 const MOST_DIGITS: usize = 20;
@@ -18,7 +18,7 @@ pub(crate) fn number_of(word: &str, most: u64) -> Option<u64>
 {
     let digits = word.as_bytes();
     if is_written(digits) {
-        within(number_of_digits(digits), most)
+        within(decimal_value(digits), most)
     } else {
         None
     }

@@ -4,14 +4,14 @@ ghost use Rattle.std.specs.Prelude.{◌≡◌, None, Some, if◌then◌else◌, 
 ghost use Rattle.mon_command.specs.inner.Asked.{schedule_if, spurious_if};
 
 use crate::numbers::number_of;
-use mon_base::limits::MOST_EXTRA;
+use mon_base::limits::MOST_SPURIOUS;
 
 /// Which client acts next in a simulation.
 #[derive(Clone, Copy, Debug)]
 pub enum Schedule {
     /// Clients act by rounds, and no wake-up is spurious.
     Rounds,
-    /// Clients are drawn by the words of a seed, with at most so many spurious wake-ups, from 0 to `MOST_EXTRA`.
+    /// Clients are drawn by the words of a seed, with at most so many spurious wake-ups, from 0 to `MOST_SPURIOUS`.
     Drawn { seed: u64, spurious: u32 },
 }
 
@@ -47,7 +47,7 @@ fn spurious_of(word: Option<&str>) -> Option<u32>
 {
     match word {
         Some(word) => {
-            let spurious = number_of(word, MOST_EXTRA)?;
+            let spurious = number_of(word, MOST_SPURIOUS)?;
             Some(spurious as u32)
         }
         None => Some(0),

@@ -29,7 +29,7 @@ use Rattle.mon_events.proofs.Bounds.{log_bounded, spurious_more}
 use Rattle.mon_events.proofs.Facing.{at_index, is_some_and}
 use Rattle.mon_events.proofs.Standings.{one_phase, stands_within, put_same, put_length}
 use Rattle.mon_explicit.specs.Machines.{Machine, Happened, NotAllowed, opened, stage_of}
-use Rattle.mon_explicit.specs.Sections.{FreeMachine, HoldsAlways, HasEnded, is_between, MOST_EXTRA, room_of, spurious_in, spurious_entry, Rests, MadeSection, NotMade, WokenByNothing}
+use Rattle.mon_explicit.specs.Sections.{FreeMachine, HoldsAlways, HasEnded, is_between, MOST_SPURIOUS, room_of, spurious_in, spurious_entry, Rests, MadeSection, NotMade, WokenByNothing}
 use Rattle.mon_explicit.specs.inner.Waiting.{CanStart, NotStarted, MakesSection, MakesSectionOf, KeepsWaits, IsSettled, IsKept, free_of, since_after, stage_condition}
 use Rattle.mon_explicit.specs.inner.Rings.{line_of, without, IsLine, AreLines, AreBefore}
 use Rattle.mon_explicit.proofs.Came.{came_put}
@@ -53,7 +53,7 @@ between_sections system c sound settled client past (Woken condition) at = refl
 between_sections system c sound settled client past Inside at = absurd (locked_not c client settled.free (sound.lock.only client past Inside at refl))
 between_sections system c sound settled client past (Notifying notes) at = absurd (locked_not c client settled.free (sound.lock.only client past (Notifying notes) at refl))
 
-pub always : (machine : FreeMachine) → IsSystem machine.system → IsLegal machine.system machine.log machine.now → IsSettled machine.now → spurious_in machine.log ≤ machine.extra → machine.extra ≤ MOST_EXTRA → HoldsAlways machine
+pub always : (machine : FreeMachine) → IsSystem machine.system → IsLegal machine.system machine.log machine.now → IsSettled machine.now → spurious_in machine.log ≤ machine.extra → machine.extra ≤ MOST_SPURIOUS → HoldsAlways machine
 always machine is legal settled few most =
     let system = machine.system in
     let sound = sound_of system machine.log machine.now is legal in
@@ -247,7 +247,7 @@ keeps_early log clients since keeps client = by_test (nat_le (length since) clie
             omega (arith, at, slice_get_within log place waits.entry waits.there)
 
 pub opened_kept : (monitor : MonitorParts) (plan : Plan) (clients : List Client) (extra : ℕ) (machine : Machine) (capacity : ℕ) (log : List Entry) (rings : List (List ℕ))
-    → IsMonitor monitor → AreClients clients → FitsScripts monitor clients → FitsPlan monitor plan → extra ≤ MOST_EXTRA → machine ≡ opened monitor plan clients → log ≡ [] → rings ≡ replicate (length monitor.conditions + 1) []
+    → IsMonitor monitor → AreClients clients → FitsScripts monitor clients → FitsPlan monitor plan → extra ≤ MOST_SPURIOUS → machine ≡ opened monitor plan clients → log ≡ [] → rings ≡ replicate (length monitor.conditions + 1) []
     → sum_by (λ client. length client.calls) clients * length clients + 2 * extra ≤ capacity → IsKept (free_of machine log extra) capacity rings 0
 opened_kept monitor plan clients extra machine capacity log rings rule few scripts fits most is empty_log empty_rings room =
     subst (λ (one : Machine). IsKept (free_of one log extra) capacity rings 0) (sym is)

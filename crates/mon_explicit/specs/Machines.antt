@@ -8,7 +8,7 @@ use Rattle.mon_events.specs.declared.event.Event.{Event}
 use Rattle.mon_events.specs.declared.event.Stage.{Stage}
 use Rattle.mon_events.specs.declared.event.Stage.TheVariants as stages
 use Rattle.mon_events.specs.Plans.{IsLawful}
-use Rattle.mon_events.specs.Configurations.{System, Phase, Configuration, initial}
+use Rattle.mon_events.specs.Configurations.{System, Phase, Configuration, initial, system_under}
 use Rattle.mon_events.specs.Configurations.Phase.{Idle, Entering, Waiting, Woken, Inside, Notifying}
 use Rattle.mon_events.specs.Events.{IsEvent}
 use Rattle.mon_events.specs.Pending.{IsSystem, IsSound, IsCovered, WakePending, IsStuck}
@@ -36,8 +36,8 @@ KeepsWakeUps machine = IsLawful machine.system.monitor machine.system.plan → L
 -- the machine at the start
 abbrev pub opened : MonitorParts → Plan → List Client → Machine
 opened monitor plan clients = record {
-  system = record { monitor = monitor; plan = plan; clients = clients };
-  now = initial (record { monitor = monitor; plan = plan; clients = clients });
+  system = system_under monitor clients plan;
+  now = initial (system_under monitor clients plan);
 }
 
 -- the event may not happen now

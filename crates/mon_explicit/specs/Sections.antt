@@ -1,7 +1,7 @@
 -- A monitor that runs by sections, and what its calls do.
 use Rattle.std.specs.Prelude.{◌≡◌, ◌<◌, ◌≤◌, ◌+◌, ◌*◌, ◌^◌, ◌++◌, ◌∷◌, [], ℕ, Bool, true, false, nat_lt, List, None, Result, MatchResult, length, count_by, slice_get}
 use Rattle.std.specs.Option.{option_map_or}
-pub use Rattle.mon_base.specs.Limits.{MOST_EXTRA}
+pub use Rattle.mon_base.specs.Limits.{MOST_SPURIOUS}
 use Rattle.mon_monitor.specs.MonitorParts.{MonitorParts}
 use Rattle.mon_implicit.specs.declared.script.Client.{Client}
 use Rattle.mon_implicit.specs.Scripted.{calls_of}
@@ -10,7 +10,7 @@ use Rattle.mon_events.specs.declared.plan.Plan.{Plan}
 use Rattle.mon_events.specs.declared.log.Entry.{Entry}
 use Rattle.mon_events.specs.declared.log.Outcome.TheVariants as outcomes
 use Rattle.mon_events.specs.Plans.{IsLawful}
-use Rattle.mon_events.specs.Configurations.{System, Phase, Standing, Configuration, StandsAt, initial}
+use Rattle.mon_events.specs.Configurations.{System, Phase, Standing, Configuration, StandsAt, initial, system_under}
 use Rattle.mon_events.specs.Configurations.Phase.{Idle, Waiting, Woken}
 use Rattle.mon_events.specs.Events.{WakesSpuriously}
 use Rattle.mon_events.specs.Pending.{IsSystem, IsSound, IsCovered, WakePending}
@@ -47,7 +47,7 @@ pub record IsFree (machine : FreeMachine) : Type 0 where
   pub free : machine.now.owner ≡ None
   pub commits : machine.now.commits ≡ commits_of machine.log
   pub spurious : spurious_in machine.log ≤ machine.extra
-  pub extra : machine.extra ≤ MOST_EXTRA
+  pub extra : machine.extra ≤ MOST_SPURIOUS
   pub bounded : length machine.log ≤ room_of machine
   pub covered : HasLawful machine.system → IsCovered machine.system machine.now
 
@@ -76,8 +76,8 @@ HasEnded machine = HasLawful machine.system → Ends machine.system.monitor mach
 -- the monitor at the start: its log is empty, and each client is idle at its first call
 abbrev pub opened_free : MonitorParts → Plan → List Client → ℕ → FreeMachine
 opened_free monitor plan clients extra = record {
-  system = record { monitor = monitor; plan = plan; clients = clients };
-  now = initial (record { monitor = monitor; plan = plan; clients = clients });
+  system = system_under monitor clients plan;
+  now = initial (system_under monitor clients plan);
   log = [];
   extra = extra;
 }

@@ -1,31 +1,23 @@
 //! The calls of clients, and their blocks.
 
 ghost use Rattle.std.specs.Prelude.{◌≡◌, ◌<◌, ◌≤◌, length, sum_by};
+ghost use Rattle.mon_base.specs.Limits.{CALLS};
 ghost use Rattle.mon_implicit.specs.Scripted.{AreClients, FitsCall, calls_of};
 ghost use Rattle.mon_implicit.specs.Steps.{FitsState, guard_truth};
 ghost use Rattle.mon_events.specs.Configurations.{block_condition};
 
-use mon_implicit::{Call, Client, Scripts, State, guard_holds};
+use mon_implicit::{Call, Client, Scripts, State, first_block, guard_holds};
 use mon_monitor::Monitor;
 
 /// The calls of a client.
 pub fn calls(scripts: &Scripts, client: u32) -> &[Call]
     ensures calls { result.now ≡ calls_of scripts.now client }
-    ensures few { length result.now ≤ 16384 }
+    ensures few { length result.now ≤ CALLS }
 {
     match scripts.clients().get(client as usize) {
         Some(one) => one.calls.items(),
         None => &[],
     }
-}
-
-/// The block of the method that a call names.
-pub fn first_block(monitor: &Monitor, call: &Call) -> u32
-    requires { call.now.method < length monitor.now.methods }
-    ensures block { result ≡ call.now.method }
-    ensures within { result < length monitor.now.blocks }
-{
-    monitor.methods()[call.method as usize].first
 }
 
 /// Whether the guard of a call's block is true.

@@ -13,20 +13,22 @@ ghost use Rattle.mon_explicit.specs.inner.Waiting.{CannotRun, CountsNotes, EachR
 ghost use Rattle.mon_explicit.specs.inner.Waiting.{HasCommit, LastReplies};
 ghost use Rattle.mon_explicit.specs.inner.Waiting.{IsFired, IsNotFired, Passes, WaitsOn};
 
-use super::calls::{all_calls, calls, first_block, holds, waited_condition};
+use super::calls::{all_calls, calls, holds, waited_condition};
 use super::notes::{count_notes, doing_after, finished, fires, next_note};
 use super::position::{
     Doing, Position, idle, inside, ready, some_waits, waiting, waiting_on, wake_all,
 };
 use super::waiting::{all_rest, starts};
 use mon_events::{Event, Note, Plan, Stage};
-use mon_implicit::{Client, Commit, Reply, Scripts, State, run_block, start};
+use mon_implicit::{Client, Commit, Reply, Scripts, State, first_block, run_block, start};
 use mon_monitor::Monitor;
 use std::alloc::{AllocError, Global};
 use std::marker::Model;
+use thiserror::Error;
 
 /// The event isn't allowed now.
-#[derive(Debug, Drop)]
+#[derive(Clone, Copy, Debug, Drop, PartialEq, Eq, Error)]
+#[error("the event isn't allowed now")]
 pub struct NotEnabled;
 
 /// A configuration of the explicit machine, and what it runs: a monitor, a plan for it, and what its clients call.

@@ -6,7 +6,7 @@ ghost use Rattle.mon_implicit.specs.Scripted.{AreClients, FitsScripts};
 ghost use Rattle.mon_events.specs.Plans.{FitsPlan};
 ghost use Rattle.mon_events.specs.Logs.{IsClosed};
 ghost use Rattle.mon_explicit.specs.Machines.{stage_of};
-ghost use Rattle.mon_explicit.specs.Sections.{MOST_EXTRA, HoldsAlways, HasEnded, Sections};
+ghost use Rattle.mon_explicit.specs.Sections.{MOST_SPURIOUS, HoldsAlways, HasEnded, Sections};
 ghost use Rattle.mon_explicit.specs.Sections.{WakesByNothing, is_ready, opened_free};
 ghost use Rattle.mon_explicit.specs.inner.Waiting.{stage_condition};
 
@@ -29,8 +29,9 @@ pub struct FreeMonitor {
     log: Vec<Entry>,
     /// For each condition the clients that wait on it, in the order of their last `waits` entries.
     rings: Rings,
-    /// How many spurious entries the log has, and how many it may have.
+    /// How many spurious entries the log has.
     spurious: u64,
+    /// How many spurious entries it may have.
     extra: u64,
 }
 
@@ -66,7 +67,7 @@ impl FreeMonitor {
     ) -> Result<FreeMonitor, AllocError>
         requires scripts { FitsScripts monitor scripts }
         requires plan { FitsPlan monitor plan }
-        requires extra { extra ≤ MOST_EXTRA }
+        requires extra { extra ≤ MOST_SPURIOUS }
         ensures opened { IfOk result (λ free. free ≡ opened_free monitor plan scripts extra) }
         ensures always { IfOk result HoldsAlways }
     {
@@ -86,7 +87,7 @@ impl FreeMonitor {
     ) -> Result<FreeMonitor, AllocError>
         requires scripts { FitsScripts monitor scripts }
         requires plan { FitsPlan monitor plan }
-        requires extra { extra ≤ MOST_EXTRA }
+        requires extra { extra ≤ MOST_SPURIOUS }
         ensures { IfOk result (λ free. free ≡ opened_free monitor plan scripts extra) }
     {
         // Conditions are numbered from 1; the ring of 0 stays empty.
@@ -250,7 +251,7 @@ impl FreeMonitor {
 /// The most entries of a log.
 fn room(clients: &[Client], extra: u64) -> usize
     requires clients { AreClients clients.now }
-    requires extra { extra ≤ MOST_EXTRA }
+    requires extra { extra ≤ MOST_SPURIOUS }
     ensures { result ≡ sum_by (λ client. length client.calls) clients.now * length clients.now
         + 2 * extra }
 {

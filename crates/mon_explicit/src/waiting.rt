@@ -1,6 +1,7 @@
 //! Who rests, and who can start.
 
 ghost use Rattle.std.specs.Prelude.{◌≡◌, ◌≤◌, ◌↔◌, IsTrue, length};
+ghost use Rattle.mon_base.specs.Limits.{CLIENTS};
 ghost use Rattle.mon_explicit.specs.inner.Waiting.{AllRest};
 ghost use Rattle.mon_explicit.specs.inner.Waiting.{position_rests, position_starts};
 
@@ -10,7 +11,7 @@ use mon_implicit::Scripts;
 
 /// Whether each client waits, or is idle with no call left.
 pub fn all_rest(scripts: &Scripts, positions: &[Position]) -> bool
-    requires few { length positions.now ≤ 32 }
+    requires few { length positions.now ≤ CLIENTS }
     ensures { IsTrue result ↔ AllRest scripts.now positions.now (length positions.now) }
 {
     for client in 0..positions.len() {

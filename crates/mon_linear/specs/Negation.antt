@@ -12,7 +12,7 @@ use Rattle.mon_linear.specs.Linear.{Linear}
 abbrev pub negative_term : Term → Term
 negative_term term = record { place = term.place; times = neg_ℤ term.times }
 
--- One less the form.
+-- 1 minus the form.
 abbrev pub one_less : Linear → Linear
 one_less linear = record {
   terms = map negative_term linear.terms;

@@ -20,7 +20,7 @@ use statements::write_block;
 
 /// Writes a monitor in canonical form, piece by piece. It takes no memory.
 ///
-/// After `SinkFailed` some of the first bytes were taken, and not all.
+/// After `SinkFailed` the first bytes were taken, fewer than all and maybe none.
 pub fn print_monitor<S: Sink>(tree: &MonitorTree, out: &mut S) -> Result<(), SinkFailed>
     ensures { Wrote (S.seen out.old) (S.seen out.new) result (tree_text tree.now) }
 {

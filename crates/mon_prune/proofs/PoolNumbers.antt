@@ -15,7 +15,7 @@ use Rattle.mon_linear.specs.declared.formula.Formula.TheFolds.{fold-roll-Formula
 use Rattle.mon_linear.specs.Linear.{Linear}
 use Rattle.mon_linear.specs.Places.{rows_layer, rows_of}
 use Rattle.mon_monitor.specs.declared.monitor.Block.{Block}
-use Rattle.mon_monitor.specs.Candidates.{around, bound_of, distinct, guard_bounds, pool, pool_limit}
+use Rattle.mon_monitor.specs.Candidates.{around, bound_of, distinct, guard_bounds, pool, MOST_BOUNDS}
 use Rattle.mon_prune.proofs.ListSteps.{one_more}
 use Rattle.mon_prune.specs.inner.Numbers.{formula_numbers, row_numbers, with_number}
 
@@ -141,20 +141,20 @@ limited limit numbers number = by_length (cases_lt (length numbers) limit)
     by_length (inr high) =
         full (nat_lt (length (take limit numbers)) limit) (length-take-le limit numbers high) refl ∙ sym (take-append-le limit numbers (added number numbers) high)
 
-pub pool_push : (numbers : List ℤ) (number : ℤ) → with_number (take pool_limit (distinct numbers)) number ≡ take pool_limit (distinct (numbers ++ number ∷ []))
+pub pool_push : (numbers : List ℤ) (number : ℤ) → with_number (take MOST_BOUNDS (distinct numbers)) number ≡ take MOST_BOUNDS (distinct (numbers ++ number ∷ []))
 pool_push numbers number =
-    limited pool_limit (distinct numbers) number ∙ ap (take pool_limit) (sym (distinct_push numbers number))
+    limited MOST_BOUNDS (distinct numbers) number ∙ ap (take MOST_BOUNDS) (sym (distinct_push numbers number))
 
 -- one more number of a list, and all of them
 pub noted : (numbers before after : List ℤ) (i : ℕ) (number : ℤ) → i < length numbers → number ≡ get_or numbers i (pos 0)
-    → before ≡ take pool_limit (distinct (take i numbers)) → after ≡ with_number before number → after ≡ take pool_limit (distinct (take (i + 1) numbers))
+    → before ≡ take MOST_BOUNDS (distinct (take i numbers)) → after ≡ with_number before number → after ≡ take MOST_BOUNDS (distinct (take (i + 1) numbers))
 noted numbers before after i number low at is made =
     made
     ∙ ap (λ (held : List ℤ). with_number held number) is
     ∙ pool_push (take i numbers) number
-    ∙ ap (λ (some : List ℤ). take pool_limit (distinct some)) (ap (λ (one : ℤ). take i numbers ++ one ∷ []) at ∙ sym (take_more numbers i (pos 0) low))
+    ∙ ap (λ (some : List ℤ). take MOST_BOUNDS (distinct some)) (ap (λ (one : ℤ). take i numbers ++ one ∷ []) at ∙ sym (take_more numbers i (pos 0) low))
 
 pub all_noted : (blocks : List Block) (field : ℕ) (start passed : ℤ) (numbers gathered made : List ℤ) (i : ℕ) → length numbers ≤ i → numbers ≡ gathered
-    → gathered ≡ pos 0 ∷ passed ∷ flat_map (guard_bounds field) blocks → made ≡ take pool_limit (distinct (take i numbers)) → passed ≡ start → made ≡ pool blocks field start
+    → gathered ≡ pos 0 ∷ passed ∷ flat_map (guard_bounds field) blocks → made ≡ take MOST_BOUNDS (distinct (take i numbers)) → passed ≡ start → made ≡ pool blocks field start
 all_noted blocks field start passed numbers gathered made i long same are is begins =
-    is ∙ ap (λ (some : List ℤ). take pool_limit (distinct some)) (take_all i numbers long ∙ same ∙ are ∙ ap (λ (one : ℤ). pos 0 ∷ one ∷ flat_map (guard_bounds field) blocks) begins)
+    is ∙ ap (λ (some : List ℤ). take MOST_BOUNDS (distinct some)) (take_all i numbers long ∙ same ∙ are ∙ ap (λ (one : ℤ). pos 0 ∷ one ∷ flat_map (guard_bounds field) blocks) begins)

@@ -9,13 +9,13 @@ use mon_monitor::Block;
 use std::alloc::{AllocError, Global};
 
 /// A field is compared with at most so many numbers.
-const POOL: usize = 12;
+const MOST_BOUNDS: usize = 12;
 
 /// Takes the number into the pool, unless the pool is full or has it.
 fn note(pool: &mut Vec<i128>, number: i128) -> Result<(), AllocError>
     ensures { OnOk result (pool.new.items ≡ with_number pool.old.items number) }
 {
-    if pool.len() >= POOL {
+    if pool.len() >= MOST_BOUNDS {
         return Ok(());
     }
     if pool.contains(&number) {

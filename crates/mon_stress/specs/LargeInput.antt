@@ -1,5 +1,5 @@
 -- The large input that a number names: a buffer, with clients that put and clients that get.
-use Rattle.std.specs.Prelude.{ℕ, ◌+◌, ◌%◌, ℤ, pos, neg_ℤ, ◌-ℤ◌, false, List, [], ◌∷◌, ◌++◌, map, replicate, codes, decimal}
+use Rattle.std.specs.Prelude.{ℕ, ◌+◌, ◌*◌, ◌%◌, ℤ, pos, neg_ℤ, ◌-ℤ◌, false, List, [], ◌∷◌, ◌++◌, map, replicate, codes, decimal}
 use Rattle.std.specs.List.{range_with_len}
 use Rattle.mon_base.specs.declared.kind.Kind.TheVariants as kinds
 use Rattle.mon_base.specs.declared.value.Value.TheVariants as values
@@ -36,7 +36,7 @@ CALLS_EACH = 512
 
 -- calls of all clients
 abbrev pub ALL_CALLS : ℕ
-ALL_CALLS = 16384
+ALL_CALLS = (PRODUCERS + CONSUMERS) * CALLS_EACH
 
 -- a buffer has room for 1 to so many
 abbrev pub MOST_ROOM : ℕ

@@ -1,6 +1,7 @@
 //! The clients: those that put, and those that get.
 
-ghost use Rattle.std.specs.Prelude.{◌≡◌, ◌^◌, ◌<◌, ◌++◌, IfOk, OnOk, replicate};
+ghost use Rattle.std.specs.Prelude.{◌≡◌, ◌≤◌, ◌++◌, IfOk, OnOk, replicate};
+ghost use Rattle.mon_base.specs.Limits.{CLIENTS};
 ghost use Rattle.mon_stress.specs.LargeInput.{caller, callers, clients_of, plain_call, producers_and_consumers};
 
 use crate::buffer::{GET, PUT};
@@ -33,8 +34,8 @@ fn clients_of(
     consumers: u32,
     calls: usize,
 ) -> Result<Vec<Client>, AllocError>
-    requires producers { producers < 2 ^ 16 }
-    requires consumers { consumers < 2 ^ 16 }
+    requires producers { producers ≤ CLIENTS }
+    requires consumers { consumers ≤ CLIENTS }
     ensures { IfOk result (λ clients. clients.items ≡ clients_of producers consumers calls) }
 {
     let mut clients = Vec::new(alloc);
@@ -52,7 +53,7 @@ fn push_callers(
     calls: usize,
     count: u32,
 ) -> Result<(), AllocError>
-    requires { count < 2 ^ 16 }
+    requires { count ≤ CLIENTS }
     ensures { OnOk result (clients.new.items
         ≡ clients.old.items ++ callers letter.now method calls count) }
 {

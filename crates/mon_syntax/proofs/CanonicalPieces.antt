@@ -18,7 +18,7 @@ use Rattle.mon_tokens.specs.Shapes as shapes
 use Rattle.mon_tokens.proofs.Identifiers.{name_piece}
 use Rattle.mon_tokens.specs.Spelling.{is_word_byte, is_letter, is_digit, IsShape, IsIdentifier, Starts, Piece, AreCut, Spells, token, tokens_from, kind_of_word}
 use Rattle.mon_tokens.specs.inner.Pieces.{class_of, longest_at, limited, meant, sign_at}
-use Rattle.mon_tokens.specs.Words.{Word, ident, numeral, mark, word_of, word, words, number_of_digits}
+use Rattle.mon_tokens.specs.Words.{Word, ident, numeral, mark, word_of, word, words, decimal_value}
 use Rattle.mon_syntax.proofs.CanonicalWords.{bare}
 use Rattle.mon_tokens.proofs.Classes.{letter_class, digit_class}
 use Rattle.mon_tokens.proofs.Pieces.{starts_from, looked_up}
@@ -29,7 +29,7 @@ use Rattle.mon_tokens.proofs.Numerals.{text_at}
 -- what a piece says, without its offset
 abbrev pub said : Shape → List ℕ → List Word
 said shapes.Word text = word_of (kind_of_word text) text 0 ∷ []
-said shapes.Number text = numeral (number_of_digits text) 0 ∷ []
+said shapes.Number text = numeral (decimal_value text) 0 ∷ []
 said (shapes.Sign kind) text = word_of kind text 0 ∷ []
 said shape text = []
 
@@ -70,7 +70,7 @@ token_says whole before shapes.Word text after at parts is =
     ap (λ (x : List ℕ). bare (word_of (kind_of_word text) x at) ∷ []) (text_at whole before text after t parts is refl).0 ∙ ap (λ (w : Word). w ∷ []) (bare-word_of (kind_of_word text) text at)
 token_says whole before shapes.Number text after at parts is =
     let t : Token = record { kind = kinds.Number; at = at; len = length text } in
-    ap (λ (x : List ℕ). numeral (number_of_digits x) 0 ∷ []) (text_at whole before text after t parts is refl).0
+    ap (λ (x : List ℕ). numeral (decimal_value x) 0 ∷ []) (text_at whole before text after t parts is refl).0
 token_says whole before (shapes.Sign kind) text after at parts is =
     let t : Token = record { kind = kind; at = at; len = length text } in
     ap (λ (x : List ℕ). bare (word_of kind x at) ∷ []) (text_at whole before text after t parts is refl).0 ∙ ap (λ (w : Word). w ∷ []) (bare-word_of kind text at)
@@ -254,7 +254,7 @@ digit_test d h = grind arith
 -- what is asked of a number's digits
 pub record Written (n : ℕ) (digits : List ℕ) : Type 0 where
   pub spelled : IsShape shapes.Number digits
-  pub value : number_of_digits digits ≡ n
+  pub value : decimal_value digits ≡ n
 
 one_digit : (n : ℕ) → n < 10 → Written n ((48 + n) ∷ [])
 one_digit n h = record { spelled = (48 + n, [], digit_test n h, All-nil (λ b. is_digit b ≡ true), refl); value = omega arith }
@@ -266,7 +266,7 @@ pushed digits d h (first, more, c, all, is) =
 next_digit : (n : ℕ) (digits : List ℕ) → 10 ≤ n → Written (n / 10) digits → Written n (digits ++ ((48 + n % 10) ∷ []))
 next_digit n digits h w = record {
   spelled = pushed digits (n % 10) (omega arith) w.spelled;
-  value = fold-append (λ (value digit : ℕ). value * 10 + (digit - 48)) 0 digits ((48 + n % 10) ∷ []) ∙ last (number_of_digits digits) w.value;
+  value = fold-append (λ (value digit : ℕ). value * 10 + (digit - 48)) 0 digits ((48 + n % 10) ∷ []) ∙ last (decimal_value digits) w.value;
 }
   where
     last : (front : ℕ) → front ≡ n / 10 → front * 10 + (48 + n % 10 - 48) ≡ n
@@ -282,5 +282,5 @@ pub number : (n : ℕ) → n < 10 ^ 32 → Says true false (decimal n) (numeral 
 number n h =
     let w = written n h in
     let short : length (decimal n) ≤ 32 = length-decimal-le_wide 32 n (omega arith) h (wide n h) in
-    let digits : Says true false (decimal n) (numeral (number_of_digits (decimal n)) 0 ∷ []) = record { before = λ rest more r. reads_piece (decimal n) rest coded.Number more (number_at (decimal n) rest w.spelled short r.0) r.1 } in
+    let digits : Says true false (decimal n) (numeral (decimal_value (decimal n)) 0 ∷ []) = record { before = λ rest more r. reads_piece (decimal n) rest coded.Number more (number_at (decimal n) rest w.spelled short r.0) r.1 } in
     subst (λ (k : ℕ). Says true false (decimal n) (numeral k 0 ∷ [])) w.value digits

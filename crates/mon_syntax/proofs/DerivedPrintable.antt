@@ -27,7 +27,7 @@ use Rattle.mon_tree.specs.declared.tree.StmtTree.TheFolds.{fold-roll-StmtTree}
 use Rattle.mon_tree.specs.declared.tree.MethodTree.{MethodTree}
 use Rattle.mon_tree.specs.declared.tree.MonitorTree.{MonitorTree}
 use Rattle.mon_tokens.specs.Spelling.{is_digit, IsToken, IsDecimal, IsIdentifier, Spells, text_of}
-use Rattle.mon_tokens.specs.Words.{Word, mark, word_of, words, number_of_digits}
+use Rattle.mon_tokens.specs.Words.{Word, mark, word_of, words, decimal_value}
 use Rattle.mon_syntax.specs.Grammar.{Rule, ◌⌢◌, Each, IsIdent, IsNumeral, IsMarkAt, IsMark, chain, IsFactor, IsProduct, IsAddend, IsSum, comparison, IsCompared, IsComparison, both, IsConjunction, either, IsDisjunction, Maybe, IsAtom, IsOpened, IsUnary, IsExpression, IsBlock, IsElse, IsSimple, IsIf, IsStatement, after_minus, IsLiteral, IsDeclaration, IsInput, AreInputs, IsMethod, IsMonitorFile, Derives, truth_word, op_sign, sum_sign, kind_word}
 use Rattle.mon_syntax.proofs.CanonicalWords.{Spelled, spelled, spelled_step, words_at, in_parentheses, addend_words, factor_words, expression_words, else_words, statement_words, statement_words_step, literal_words, declaration_words, input_words, inputs_words, method_words}
 use Rattle.mon_tokens.proofs.Digits.{digit_is}
@@ -49,10 +49,10 @@ decimal_from (d ∷ ds) value i below all =
     let here = with_digit-below value d i below (All-head (λ b. is_digit b ≡ true) d ds all) in
     rw same (decimal_from ds (value * 10 + (d - 48)) (suc i) here (All-tail (λ b. is_digit b ≡ true) d ds all))
 
-decimal_below : (text : List ℕ) → IsDecimal text → number_of_digits text < 10 ^ 32
+decimal_below : (text : List ℕ) → IsDecimal text → decimal_value text < 10 ^ 32
 decimal_below text is =
     let ten : 0 < 10 = omega arith in
-    let whole : number_of_digits text < 10 ^ (0 + length text) = decimal_from text 0 0 (omega arith) is.digits in
+    let whole : decimal_value text < 10 ^ (0 + length text) = decimal_from text 0 0 (omega arith) is.digits in
     let grows : 10 ^ (0 + length text) ≤ 10 ^ 32 = let short = is.short in let len : 0 + length text ≤ 32 = omega arith in pow-le-pow_right ten len in
     omega arith
 

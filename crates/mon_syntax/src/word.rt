@@ -2,12 +2,12 @@
 
 ghost use Rattle.std.specs.Prelude.{◌≡◌, IfOk};
 ghost use Rattle.mon_tokens.specs.Spelling.{IsDecimal, text_of};
-ghost use Rattle.mon_tokens.specs.Words.{number_of_digits};
+ghost use Rattle.mon_tokens.specs.Words.{decimal_value};
 ghost use Rattle.mon_syntax.specs.ClientGrammar.{plain};
 ghost use Rattle.mon_syntax.specs.inner.Reading.{is_kind, kind_of, minus_of, op_of, truth_of};
 
 use mon_base::Name;
-use mon_tokens::{Token, TokenKind, number_of_digits};
+use mon_tokens::{Token, TokenKind, decimal_value};
 use mon_tree::{Arg, Expr, InputKind, Lit, Op};
 use std::alloc::{AllocError, Global};
 
@@ -101,9 +101,9 @@ pub fn name_of(alloc: Global, bytes: &[u8], token: &Token) -> Result<Name, Alloc
 /// The number that a token's text stands for.
 pub fn number_of(bytes: &[u8], token: &Token) -> u128
     requires { IsDecimal (text_of bytes.now token.now) }
-    ensures { result ≡ number_of_digits (text_of bytes.now token.now) }
+    ensures { result ≡ decimal_value (text_of bytes.now token.now) }
 {
-    number_of_digits(text_of(bytes, token))
+    decimal_value(text_of(bytes, token))
 }
 
 // ---- atoms
@@ -117,7 +117,7 @@ pub fn named(alloc: Global, bytes: &[u8], token: &Token) -> Result<Expr, AllocEr
 
 pub fn number(bytes: &[u8], token: &Token) -> Expr
     requires { IsDecimal (text_of bytes.now token.now) }
-    ensures { result ≡ Expr.Number token.now.at (number_of_digits (text_of bytes.now token.now)) }
+    ensures { result ≡ Expr.Number token.now.at (decimal_value (text_of bytes.now token.now)) }
 {
     Expr::Number {
         at: token.at,
@@ -138,7 +138,7 @@ pub fn truth(token: &Token, value: bool) -> Expr
 
 pub fn plain_argument(bytes: &[u8], token: &Token) -> Arg
     requires { IsDecimal (text_of bytes.now token.now) }
-    ensures { result ≡ plain token.now.at (number_of_digits (text_of bytes.now token.now)) }
+    ensures { result ≡ plain token.now.at (decimal_value (text_of bytes.now token.now)) }
 {
     Arg::Int {
         at: token.at,

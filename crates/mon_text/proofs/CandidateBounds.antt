@@ -23,7 +23,7 @@ use Rattle.mon_monitor.specs.declared.monitor.Method.{Method}
 use Rattle.mon_monitor.specs.declared.monitor.Block.{Block}
 use Rattle.mon_monitor.specs.Bodies.{number_of_value}
 use Rattle.mon_monitor.specs.MonitorParts.{MonitorParts, IsMonitor, Places, AreBlocks, kinds_of, fits_term, fits_formula_step, fits_formula, fits_statement, fits_result}
-use Rattle.mon_monitor.specs.Candidates.{once, opposite, bound_of, around, guard_bounds, distinct, pool_limit, pool, bounded, kind_candidates, field_candidates, int_fields, pair_candidates, candidates_of}
+use Rattle.mon_monitor.specs.Candidates.{once, opposite, bound_of, around, guard_bounds, distinct, MOST_BOUNDS, pool, bounded, kind_candidates, field_candidates, int_fields, pair_candidates, candidates_of}
 use Rattle.mon_events.specs.Plans.{AreSomeOf}
 use Rattle.mon_text.proofs.Numerals.{SMALL, IsNear}
 
@@ -134,7 +134,7 @@ distinct_each P (x ∷ xs) each = (each.0, filter_each P (λ other. not (int_eq 
 pool_near : (blocks : List Block) (field : ℕ) (start : ℤ) → Each HasBlockRows blocks → Each (IsNear start) (pool blocks field start)
 pool_near blocks field start rows =
     let numbers : List ℤ = pos 0 ∷ start ∷ flat_map (guard_bounds field) blocks in
-    take_each (IsNear start) pool_limit (distinct numbers) (distinct_each (IsNear start) numbers
+    take_each (IsNear start) MOST_BOUNDS (distinct numbers) (distinct_each (IsNear start) numbers
     (inr refl, (inl refl, each_flat HasBlockRows (IsNear start) (guard_bounds field) (guard_near start field) blocks rows)))
 
 -- ---- candidates

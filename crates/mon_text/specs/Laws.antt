@@ -6,7 +6,7 @@ use Rattle.mon_events.specs.declared.log.Entry.{Entry}
 use Rattle.mon_events.specs.declared.plan.Plan.{Plan}
 use Rattle.mon_events.specs.Plans.{FitsPlan}
 use Rattle.mon_events.specs.PlanText.{plan_text}
-use Rattle.mon_events.specs.Configurations.{System, Configuration}
+use Rattle.mon_events.specs.Configurations.{System, Configuration, system_under}
 use Rattle.mon_events.specs.Logs.{IsLegal}
 use Rattle.mon_events.specs.Pending.{IsSystem}
 use Rattle.mon_text.specs.LogText.{log_text}
@@ -15,10 +15,6 @@ use Rattle.mon_text.specs.LogText.{log_text}
 abbrev pub PlanTextNamesPlan : Type 0
 PlanTextNamesPlan = (monitor : MonitorParts) (plan other : Plan) → IsMonitor monitor → FitsPlan monitor plan → FitsPlan monitor other
     → plan_text monitor plan ≡ plan_text monitor other → plan ≡ other
-
--- a monitor and its clients, under a plan
-abbrev pub system_under : MonitorParts → List Client → Plan → System
-system_under monitor clients plan = record { monitor = monitor; plan = plan; clients = clients }
 
 -- the clients' calls and the plan fit the monitor, and the log is legal
 pub record HasLegalLog (system : System) (log : List Entry) (last : Configuration) : Type 0 where

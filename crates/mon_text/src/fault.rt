@@ -33,7 +33,7 @@ pub enum Fault<'a> {
 
 /// Writes the line of a fault, with the line and the column of its place, and takes no memory.
 ///
-/// After `SinkFailed` some of the first bytes of the line were taken, and not all.
+/// After `SinkFailed` the first bytes of the line were taken, fewer than all and maybe none.
 pub fn write_fault<S: Sink>(fault: &Fault, out: &mut S) -> Result<(), SinkFailed>
     ensures { Wrote (S.seen out.old) (S.seen out.new) result (fault_text fault.now) }
 {

@@ -2,7 +2,7 @@
 
 ghost use Rattle.std.specs.Prelude.{◌≡◌, ◌<◌, ◌≤◌, IsSomeAnd, length, slice_get};
 ghost use Rattle.std.specs.List.{flat_map};
-ghost use Rattle.mon_base.specs.Limits.{CLIENTS as MOST_CLIENTS};
+ghost use Rattle.mon_base.specs.Limits.{CLIENTS};
 ghost use Rattle.mon_io.specs.Writing.{Wrote};
 ghost use Rattle.mon_events.specs.Logs.{IsClosed, commits_of};
 ghost use Rattle.mon_text.specs.LogText.{are_done, ended_log_text, entry_text, has_done, is_woken};
@@ -22,7 +22,7 @@ use mon_monitor::Monitor;
 /// Writes the log of a monitor that ran by sections and is closed: a line for each entry, then how the log ended,
 /// then the state. It takes no memory.
 ///
-/// After `SinkFailed` some of the first bytes of the text were taken, and not all.
+/// After `SinkFailed` the first bytes of the text were taken, fewer than all and maybe none.
 pub fn write_log<S: Sink>(free: &FreeMonitor, out: &mut S) -> Result<(), SinkFailed>
     requires { IsClosed free.now.system free.now.now }
     ensures { Wrote (S.seen out.old) (S.seen out.new) result
@@ -66,7 +66,7 @@ fn write_entries<S: Sink>(
     log: &[Entry],
     out: &mut S,
 ) -> Result<(), SinkFailed>
-    requires { length clients.now ≤ MOST_CLIENTS }
+    requires { length clients.now ≤ CLIENTS }
     ensures { Wrote (S.seen out.old) (S.seen out.new) result
         (flat_map (entry_text monitor.now clients.now) log.now) }
 {
@@ -83,7 +83,7 @@ fn write_entry<S: Sink>(
     entry: Entry,
     out: &mut S,
 ) -> Result<(), SinkFailed>
-    requires { length clients.now ≤ MOST_CLIENTS }
+    requires { length clients.now ≤ CLIENTS }
     ensures { Wrote (S.seen out.old) (S.seen out.new) result
         (entry_text monitor.now clients.now entry) }
 {
@@ -108,7 +108,7 @@ fn write_reply<S: Sink>(
     woken: u32,
     out: &mut S,
 ) -> Result<(), SinkFailed>
-    requires { length clients.now ≤ MOST_CLIENTS }
+    requires { length clients.now ≤ CLIENTS }
     ensures { Wrote (S.seen out.old) (S.seen out.new) result
         (replied_text clients.now reply woken) }
 {
@@ -122,7 +122,7 @@ fn write_reply<S: Sink>(
 
 // ` wakes B C`, or nothing where no client was woken.
 fn write_wakes<S: Sink>(clients: &[Client], woken: u32, out: &mut S) -> Result<(), SinkFailed>
-    requires { length clients.now ≤ MOST_CLIENTS }
+    requires { length clients.now ≤ CLIENTS }
     ensures { Wrote (S.seen out.old) (S.seen out.new) result (wakes_text clients.now woken) }
 {
     if woken == 0 {
@@ -134,7 +134,7 @@ fn write_wakes<S: Sink>(clients: &[Client], woken: u32, out: &mut S) -> Result<(
 
 // A blank and a name for each client that was woken, in file order.
 fn write_woken<S: Sink>(clients: &[Client], woken: u32, out: &mut S) -> Result<(), SinkFailed>
-    requires { length clients.now ≤ MOST_CLIENTS }
+    requires { length clients.now ≤ CLIENTS }
     ensures { Wrote (S.seen out.old) (S.seen out.new) result (woken_names woken clients.now) }
 {
     for (number, client) in clients.iter().enumerate() {
@@ -150,7 +150,7 @@ fn write_if_woken<S: Sink>(
     client: &Client,
     out: &mut S,
 ) -> Result<(), SinkFailed>
-    requires { number < MOST_CLIENTS }
+    requires { number < CLIENTS }
     ensures { Wrote (S.seen out.old) (S.seen out.new) result
         (woken_name woken number client.now) }
 {
@@ -162,7 +162,7 @@ fn write_if_woken<S: Sink>(
 
 // Whether the client's bit is set.
 fn is_woken(woken: u32, client: u32) -> bool
-    requires { client < MOST_CLIENTS }
+    requires { client < CLIENTS }
     ensures { result ≡ is_woken woken client }
 {
     woken & (1 << client) != 0

@@ -2,7 +2,7 @@
 
 ghost use Rattle.std.specs.Prelude.{◌≡◌, ◌≤◌, ◌++◌, codes, length, slice_get};
 ghost use Rattle.std.specs.List.{flat_map};
-ghost use Rattle.mon_base.specs.Limits.{CONDITIONS as MOST_CONDITIONS};
+ghost use Rattle.mon_base.specs.Limits.{CONDITIONS};
 ghost use Rattle.mon_io.specs.Writing.{Wrote};
 ghost use Rattle.mon_events.specs.PlanText.{block_text, blocks_text, condition_text, conditions_text};
 ghost use Rattle.mon_events.specs.PlanText.{field_name, flag_mark, kept_text, kind_text, note_kind};
@@ -17,7 +17,7 @@ use mon_printer::write_around;
 
 /// Writes a plan of a monitor: its name, then a line for each kept candidate, condition and block. It takes no memory.
 ///
-/// After `SinkFailed` some of the first bytes of the text were taken, and not all.
+/// After `SinkFailed` the first bytes of the text were taken, fewer than all and maybe none.
 pub fn write_plan<S: Sink>(monitor: &Monitor, plan: &Plan, out: &mut S) -> Result<(), SinkFailed>
     ensures { Wrote (S.seen out.old) (S.seen out.new) result (plan_text monitor.now plan.now) }
 {
@@ -107,7 +107,7 @@ fn write_conditions<S: Sink>(
     kinds: &[CondKind],
     out: &mut S,
 ) -> Result<(), SinkFailed>
-    requires { length conditions.now ≤ MOST_CONDITIONS }
+    requires { length conditions.now ≤ CONDITIONS }
     ensures { Wrote (S.seen out.old) (S.seen out.new) result
         (conditions_text conditions.now kinds.now) }
 {

@@ -20,7 +20,7 @@ use mon_monitor::Monitor;
 /// Writes what sums up a monitor that ran by sections and is closed: how many calls replied, then how the log ended,
 /// then the state. It takes no memory.
 ///
-/// After `SinkFailed` some of the first bytes of the text were taken, and not all.
+/// After `SinkFailed` the first bytes of the text were taken, fewer than all and maybe none.
 pub fn write_summary<S: Sink>(free: &FreeMonitor, out: &mut S) -> Result<(), SinkFailed>
     requires { IsClosed free.now.system free.now.now }
     ensures { Wrote (S.seen out.old) (S.seen out.new) result

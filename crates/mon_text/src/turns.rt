@@ -18,7 +18,7 @@ use mon_monitor::{Field, Monitor};
 
 /// Writes a run: a line for each commit, then how it ended, then the last state. It takes no memory.
 ///
-/// After `SinkFailed` some of the first bytes of the text were taken, and not all.
+/// After `SinkFailed` the first bytes of the text were taken, fewer than all and maybe none.
 pub fn write_turns<S: Sink>(
     monitor: &Monitor,
     scripts: &Scripts,

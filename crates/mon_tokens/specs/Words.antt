@@ -6,8 +6,8 @@ use Rattle.mon_tokens.specs.declared.token.Token.{Token}
 use Rattle.mon_tokens.specs.Spelling.{text_of}
 
 -- the number that decimal digits stand for
-abbrev pub number_of_digits : List ℕ → ℕ
-number_of_digits digits = fold (λ value digit. value * 10 + (digit - 48)) 0 digits
+abbrev pub decimal_value : List ℕ → ℕ
+decimal_value digits = fold (λ value digit. value * 10 + (digit - 48)) 0 digits
 
 -- a token with what it says: a name, a number, or a keyword or sign; the last number is the offset
 -- (`word_of` makes no mark of a name or number)
@@ -19,7 +19,7 @@ pub data Word : Type 0 where
 -- what a token of this kind, with this text, at this offset, says
 abbrev pub word_of : TokenKind → List ℕ → ℕ → Word
 word_of kinds.Ident text at = ident text at
-word_of kinds.Number text at = numeral (number_of_digits text) at
+word_of kinds.Number text at = numeral (decimal_value text) at
 word_of kind text at = mark kind at
 
 abbrev pub word : List ℕ → Token → Word

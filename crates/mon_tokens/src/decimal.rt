@@ -2,12 +2,12 @@
 
 ghost use Rattle.std.specs.Prelude.{◌≡◌};
 ghost use Rattle.mon_tokens.specs.Spelling.{IsDecimal};
-ghost use Rattle.mon_tokens.specs.Words.{number_of_digits};
+ghost use Rattle.mon_tokens.specs.Words.{decimal_value};
 
 /// The number that 1 to 32 decimal digits stand for, the most significant first: from 0 to 10^32 - 1.
-pub fn number_of_digits(digits: &[u8]) -> u128
+pub fn decimal_value(digits: &[u8]) -> u128
     requires { IsDecimal digits.now }
-    ensures { result ≡ number_of_digits digits.now }
+    ensures { result ≡ decimal_value digits.now }
 {
     let mut value: u128 = 0;
     for digit in digits {

@@ -1,7 +1,7 @@
 //! Tokens: what the bytes of a file spell.
 //!
 //! [`tokens`] cuts a file's bytes into the one list of tokens that they spell, or answers the first place where
-//! nothing starts (`specs/Spelling`). [`is_identifier`] tells whether a text is one name, and [`number_of_digits`] gives
+//! nothing starts (`specs/Spelling`). [`is_identifier`] tells whether a text is one name, and [`decimal_value`] gives
 //! the number that a text of digits stands for. `specs/Words` says what tokens say, each with its offset; grammars speak
 //! of these words. The laws are functions of `laws`.
 #![tactic(auto)]
@@ -12,7 +12,7 @@ mod lexing;
 mod piece;
 mod token;
 
-pub use decimal::number_of_digits;
+pub use decimal::decimal_value;
 pub use laws::{each_is_token, one_spelling};
 pub use lexing::{LexFault, tokens};
 pub use mon_base::is_identifier;

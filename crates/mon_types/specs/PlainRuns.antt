@@ -143,7 +143,7 @@ BlockRunsAsWritten tree monitor method block =
     → AreOfKinds (kinds_of monitor.fields) state → AreOfKinds (kinds_taken method) inputs
     → RunsAsWritten monitor block state inputs (method_run tree.decls method state inputs)
 
--- each method's block
+-- from each state and inputs that fit, each method's block ends as a plain run of its statements
 abbrev pub MonitorRunsAsWritten : MonitorTree → MonitorParts → Type 0
 MonitorRunsAsWritten tree monitor =
     (index : ℕ) (method : MethodTree) (block : Block)

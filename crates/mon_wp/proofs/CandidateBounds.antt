@@ -24,7 +24,7 @@ use Rattle.mon_monitor.specs.declared.monitor.Method.{Method}
 use Rattle.mon_monitor.specs.declared.monitor.Block.{Block}
 use Rattle.mon_monitor.specs.Bodies.{number_of_value, fits_64}
 use Rattle.mon_monitor.specs.MonitorParts.{MonitorParts, IsMonitor, Places, AreBlocks, kinds_of, fits_term, fits_formula_step, fits_formula, fits_statement, fits_result}
-use Rattle.mon_monitor.specs.Candidates.{once, opposite, bound_of, around, guard_bounds, distinct, pool_limit, pool, bounded, kind_candidates, field_candidates, int_fields, pair_candidates, candidates_of}
+use Rattle.mon_monitor.specs.Candidates.{once, opposite, bound_of, around, guard_bounds, distinct, MOST_BOUNDS, pool, bounded, kind_candidates, field_candidates, int_fields, pair_candidates, candidates_of}
 use Rattle.mon_wp.specs.Expressible.{is_expressible}
 
 both_hold : (a b : Bool) → a ≡ true → b ≡ true → (a && b) ≡ true
@@ -146,7 +146,7 @@ pool_small blocks field start e f =
     let each : list_all (is_within (2 ^ 65)) numbers ≡ true =
     both_hold (is_within (2 ^ 65) (pos 0)) (is_within (2 ^ 65) start && list_all (is_within (2 ^ 65)) guards) refl
     (both_hold (is_within (2 ^ 65) start) (list_all (is_within (2 ^ 65)) guards) f small) in
-    take_all (is_within (2 ^ 65)) pool_limit (distinct numbers) (distinct_all (is_within (2 ^ 65)) numbers each)
+    take_all (is_within (2 ^ 65)) MOST_BOUNDS (distinct numbers) (distinct_all (is_within (2 ^ 65)) numbers each)
 
 -- ---- candidates
 

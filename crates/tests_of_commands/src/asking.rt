@@ -4,7 +4,7 @@ use expresso::{Status, expresso};
 use mon_base::Name;
 use mon_io::{MemFile, MemFiles, MemSink};
 use mon_list::Seq;
-use mon_lock::{Gate, OpenGate};
+use mon_pool::{Gate, OpenGate};
 use std::alloc::{AllocError, Global};
 use std::process::Abort;
 use std::sync::Wait;

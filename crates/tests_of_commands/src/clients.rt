@@ -2,7 +2,7 @@
 
 use super::asking::{answers, begins_and_ends, turns};
 use expresso::Status;
-use mon_lock::OpenGate;
+use mon_pool::OpenGate;
 use samples::monitors::{ACCUMULATOR, BUFFER, LEVEL};
 use std::alloc::{AllocError, Global};
 use std::process::Abort;

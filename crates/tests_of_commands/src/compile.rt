@@ -3,7 +3,7 @@
 use super::asking::{answers, compile, outcome_of};
 use super::readme::{BARRIER, READERS_WRITERS};
 use expresso::Status;
-use mon_lock::OpenGate;
+use mon_pool::OpenGate;
 use samples::monitors::{BUFFER, GATE, LEVEL, LOCK, READERS_AND_WRITERS, SUM};
 use std::alloc::AllocError;
 use std::process::Abort;

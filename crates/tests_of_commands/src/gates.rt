@@ -3,7 +3,7 @@
 
 use super::asking::{Call, answers_through, asked, begins_and_ends};
 use expresso::Status;
-use mon_lock::Gate;
+use mon_pool::Gate;
 use samples::monitors::{BUFFER, LEVEL};
 use std::sync::Wait;
 use std::sync::atomic::{AtomicU64, Ordering};

@@ -7,7 +7,7 @@ use super::asking::{
 use super::runs::TWO_RUN;
 use expresso::{Status, expresso};
 use mon_io::StdSink;
-use mon_lock::OpenGate;
+use mon_pool::OpenGate;
 use samples::clients::TWO;
 use samples::monitors::BUFFER;
 use std::alloc::AllocError;

@@ -2,7 +2,7 @@
 
 use super::asking::{RUN, answers, asked, begins_and_ends};
 use expresso::Status;
-use mon_lock::OpenGate;
+use mon_pool::OpenGate;
 use samples::clients::{TWO, TWO_LOCKS};
 use samples::monitors::{BUFFER, LOCK};
 use std::test::Fail;

@@ -2,7 +2,7 @@
 
 use super::asking::{answers, begins_and_ends, turns};
 use expresso::Status;
-use mon_lock::OpenGate;
+use mon_pool::OpenGate;
 use samples::clients::{TWO, TWO_LOCKS};
 use samples::monitors::{BUFFER, LEVEL, LOCK, UP};
 use std::alloc::{AllocError, Global};

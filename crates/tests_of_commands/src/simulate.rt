@@ -2,7 +2,7 @@
 
 use super::asking::{Call, Outcome, SIMULATE, answers, asked, begins_and_ends, outcome_of};
 use expresso::Status;
-use mon_lock::OpenGate;
+use mon_pool::OpenGate;
 use samples::clients::{TWO_LOCKS, TWO_TAKE};
 use samples::monitors::{BUFFER, GATE, LEVEL, LOCK};
 use std::alloc::AllocError;

@@ -2,7 +2,7 @@
 //! ones by a model of the machine in another language, whose generator gives the first word of PCG's C code.
 
 ghost use Rattle.std.specs.Prelude.{◌≡◌, ◌≤◌, IfOk, []};
-ghost use Rattle.mon_explicit.specs.Sections.{MOST_EXTRA};
+ghost use Rattle.mon_explicit.specs.Sections.{MOST_SPURIOUS};
 
 use mon_events::{Entry, Outcome, Plan};
 use mon_explicit::FreeMonitor;
@@ -20,7 +20,7 @@ client C { acquire(); release(); }
 
 /// The monitor at the start, under the plan that wakes everyone, with so many spurious entries to come.
 fn opened(alloc: Global, monitor: &[u8], clients: &[u8], extra: u64) -> Result<FreeMonitor, Fail>
-    requires { extra ≤ MOST_EXTRA }
+    requires { extra ≤ MOST_SPURIOUS }
     ensures log { IfOk result (λ free. free.log ≡ []) }
     ensures extra { IfOk result (λ free. free.extra ≡ extra) }
 {

@@ -1,7 +1,7 @@
 //! Scripts that are put together by hand.
 
 use mon_base::Name;
-use mon_implicit::{Call, Client, Scripts, are_clients, fit, turns};
+use mon_implicit::{Call, Client, Scripts, are_clients, scripts_fit, turns};
 use mon_list::Seq;
 use samples::checked;
 use std::alloc::{AllocError, Global};
@@ -34,7 +34,7 @@ fn scripts_made_by_hand_have_16384_calls_at_most(rt: HostRuntime) -> Result<(), 
     let clients = many_calls(rt.alloc(), 512)?;
     assert!(rt; are_clients(clients.as_slice()));
     let scripts = Scripts::of(clients);
-    assert!(rt; fit(&monitor, scripts.clients()));
+    assert!(rt; scripts_fit(&monitor, scripts.clients()));
     let run = turns(rt.alloc(), &monitor, &scripts)?;
     assert!(rt; run.finished);
     assert_eq!(rt; run.history.items().len(), 16384);

@@ -1,7 +1,7 @@
 //! The bytes of logs, taken by hand from the rules of the text.
 
 ghost use Rattle.std.specs.Prelude.{◌≤◌, ◌<◌, ◌↔◌, IsTrue, length};
-ghost use Rattle.mon_explicit.specs.Sections.{MOST_EXTRA};
+ghost use Rattle.mon_explicit.specs.Sections.{MOST_SPURIOUS};
 
 use super::texts::{Called, clients_of, scripts_of};
 use mon_base::Value;
@@ -54,7 +54,7 @@ fn opened(
     clients: &[(&str, &[Called])],
     extra: u64,
 ) -> Result<FreeMonitor, Fail>
-    requires { extra ≤ MOST_EXTRA }
+    requires { extra ≤ MOST_SPURIOUS }
 {
     let monitor = checked(alloc, monitor).ok_or("a monitor")?;
     let scripts = scripts_of(&monitor, clients_of(alloc, clients)?).ok_or("scripts")?;

@@ -4,7 +4,7 @@ ghost use Rattle.std.specs.Prelude.{IfSome};
 ghost use Rattle.mon_implicit.specs.Scripted.{FitsScripts};
 
 use mon_base::{Name, Value};
-use mon_implicit::{Call, Client, Scripts, are_clients, fit, turns};
+use mon_implicit::{Call, Client, Scripts, are_clients, scripts_fit, turns};
 use mon_io::MemSink;
 use mon_list::Seq;
 use mon_monitor::Monitor;
@@ -53,7 +53,7 @@ fn client(alloc: Global, name: &str, called: &[Called]) -> Result<Client, AllocE
 pub(crate) fn scripts_of(monitor: &Monitor, clients: Vec<Client>) -> Option<Scripts>
     ensures { IfSome result (FitsScripts monitor.now) }
 {
-    if are_clients(clients.as_slice()) && fit(monitor, clients.as_slice()) {
+    if are_clients(clients.as_slice()) && scripts_fit(monitor, clients.as_slice()) {
         Some(Scripts::of(clients))
     } else {
         None

@@ -2,8 +2,8 @@
 use Rattle.std.specs.Prelude.{ℕ, ◌&&◌, ◌||◌, ◌==◌, List, [], ◌∷◌, Option, Some, None, Bool, bytes_eq, codes, is_some, cond, length, nat_le, nat_lt, option_and_then, option_map}
 use Rattle.std.specs.List.{list_all}
 use Rattle.mon_base.specs.Identifiers.{is_digit}
-use Rattle.mon_base.specs.Limits.{MOST_EXTRA, WORKERS}
-use Rattle.mon_tokens.specs.Words.{number_of_digits}
+use Rattle.mon_base.specs.Limits.{MOST_SPURIOUS, WORKERS}
+use Rattle.mon_tokens.specs.Words.{decimal_value}
 use Rattle.mon_command.specs.declared.schedule.Schedule.{Schedule}
 use Rattle.mon_command.specs.declared.schedule.Schedule.TheVariants.{Rounds, Drawn}
 use Rattle.mon_command.specs.CommandLine.{Given, Command, check, turns, compile, simulate, run, stress, GREATEST_UNSIGNED, DEFAULT_WORKERS, MOST_DIGITS}
@@ -17,11 +17,11 @@ within most number = cond (nat_le number most) (Some number) None
 
 -- the number that the word is, at most so much
 abbrev pub number_if : ℕ → List ℕ → Option ℕ
-number_if most word = cond (is_written word) (within most (number_of_digits word)) None
+number_if most word = cond (is_written word) (within most (decimal_value word)) None
 
 abbrev pub spurious_if : Option (List ℕ) → Option ℕ
 spurious_if None = Some 0
-spurious_if (Some word) = number_if MOST_EXTRA word
+spurious_if (Some word) = number_if MOST_SPURIOUS word
 
 abbrev pub schedule_if : Option (List ℕ) → Option (List ℕ) → Option Schedule
 schedule_if None None = Some Rounds

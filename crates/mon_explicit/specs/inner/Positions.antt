@@ -6,7 +6,7 @@ use Rattle.mon_implicit.specs.declared.commit.Commit.{Commit}
 use Rattle.mon_implicit.specs.declared.commit.Reply.{Reply}
 use Rattle.mon_implicit.specs.declared.commit.Reply.TheVariants as replies
 use Rattle.mon_implicit.specs.declared.script.Client.{Client}
-use Rattle.mon_implicit.specs.Steps.{condition_truth, IsAlone}
+use Rattle.mon_implicit.specs.Steps.{condition_truth, ReadsNoInputs}
 use Rattle.mon_events.specs.declared.plan.Note.{Note}
 use Rattle.mon_events.specs.declared.plan.Plan.{Plan}
 use Rattle.mon_explicit.specs.declared.position.Doing.{Doing}
@@ -80,7 +80,7 @@ fires_in monitor state note = not note.tested || condition_truth monitor state n
 
 -- the note's condition is one that there is, and reads no inputs
 abbrev pub CanTest : MonitorParts → Note → Type 0
-CanTest monitor note = (1 ≤ note.condition) × IsAlone (slice_get monitor.conditions (note.condition - 1))
+CanTest monitor note = (1 ≤ note.condition) × ReadsNoInputs (slice_get monitor.conditions (note.condition - 1))
 
 -- the client has no note to come
 abbrev pub HasNoNext : Plan → List Position → ℕ → Type 0

@@ -6,7 +6,7 @@ use Rattle.mon_linear.specs.declared.form.Term.{Term}
 use Rattle.mon_linear.specs.declared.formula.Formula.{Formula}
 use Rattle.mon_linear.specs.Linear.{Linear, same_term}
 use Rattle.mon_linear.specs.Places.{rows_of}
-use Rattle.mon_monitor.specs.Candidates.{around, bound_of, once, opposite, pool_limit}
+use Rattle.mon_monitor.specs.Candidates.{around, bound_of, once, opposite, MOST_BOUNDS}
 
 -- the bound that a row of one term and this constant sets on the field
 abbrev pub bound_of_term : ℕ → Term → ℤ → List ℤ
@@ -26,5 +26,5 @@ formula_numbers field formula = flat_map (row_numbers field) (rows_of formula)
 -- the pool with one more number, unless it is full or has the number
 abbrev pub with_number : List ℤ → ℤ → List ℤ
 with_number pool number =
-    if nat_lt (length pool) pool_limit && not (list_any (λ other. int_eq other number) pool)
+    if nat_lt (length pool) MOST_BOUNDS && not (list_any (λ other. int_eq other number) pool)
     then pool ++ number ∷ [] else pool

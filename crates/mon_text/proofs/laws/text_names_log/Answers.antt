@@ -1,4 +1,4 @@
-use Rattle.mon_text.specs.Laws.{system_under}
+use Rattle.mon_events.specs.Configurations.{system_under}
 use Rattle.mon_text.proofs.NamedPlans.{plan_text_names}
 use Rattle.mon_text.proofs.NamedLogs.{plan_and_log_named}
 use Rattle.mon_text.proofs.LegalEntries.{legal_entries}

@@ -1,6 +1,6 @@
 use Rattle.std.proofs.Common.{arith, get_or}
 use Rattle.mon_tokens.proofs.Digits.{has_room, digit_is}
-use Rattle.mon_tokens.proofs.decimal.number_of_digits.Goals as goal
+use Rattle.mon_tokens.proofs.decimal.decimal_value.Goals as goal
 
 pub overflow_mul-value : goal.overflow_mul-value
 overflow_mul-value c = omega (arith, has_room _ _ _ c.loop-digit.invariant.1 c.loop-digit-test.true c.requires.short)
