@@ -8,7 +8,6 @@
 
 mod bell;
 mod ends;
-mod gate;
 mod lock;
 mod pass;
 mod receipt;
@@ -16,7 +15,6 @@ mod rule;
 mod shared;
 mod view;
 
-pub use gate::{Gate, OpenGate};
 pub use pass::Pass;
 pub use receipt::Receipt;
 pub use shared::SharedMonitor;

@@ -2,17 +2,19 @@
 //!
 //! [`run_pool`] shares a monitor among so many threads. The tickets of its clients go round in a
 //! [`ReadyQueue`](mon_queue::ReadyQueue), so each client is tried by one worker at a time. Which clients are worth a
-//! try, and which workers doze, no clause rests on. Definitions: `Follows` of `mon_lock` (what stays) and those of
+//! try, and which workers doze, no clause rests on. A [`Gate`] is called ahead of each section that a worker tries,
+//! with no lock held. Definitions: `Follows` of `mon_lock` (what stays) and those of
 //! `mon_explicit` (what a closed monitor is); `specs/inner/Workers` (what a worker keeps between two turns).
 #![tactic(auto)]
 
 mod bench;
 mod crew;
+mod gate;
 mod hints;
 mod pool;
 mod shop;
 mod worker;
 
-pub use mon_lock::{Gate, OpenGate};
+pub use gate::{Gate, OpenGate};
 pub use mon_queue::{QueuePass, ReadyQueue, Ticket};
 pub use pool::run_pool;
