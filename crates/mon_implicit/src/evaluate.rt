@@ -5,7 +5,7 @@
 
 ghost use Rattle.std.specs.Prelude.{◌≡◌, ◌≤◌, ◌+◌, ◌*◌, ◌^◌, IsTrue, All, length};
 ghost use Rattle.mon_linear.specs.Truth.{sum_of, value_of, truth_of};
-ghost use Rattle.mon_base.specs.Limits.{FIELDS, INPUTS};
+ghost use Rattle.mon_base.specs.Limits.{FIELDS, INPUTS, MOST_TIMES};
 ghost use Rattle.mon_base.specs.Numbers.{is_within};
 ghost use Rattle.mon_monitor.specs.MonitorParts.{fits_form, fits_formula};
 ghost use Rattle.mon_monitor.specs.Bodies.{value_at, number_of_value, truth_of_value, valuation};
@@ -56,7 +56,7 @@ fn truth_at(state: &[Value], inputs: &[Value], place: u32) -> bool
 
 /// The value of a term.
 fn term_number(term: &Term, state: &[Value], inputs: &[Value]) -> i128
-    requires { IsTrue (is_within (2 ^ 31) term.now.times) }
+    requires { IsTrue (is_within MOST_TIMES term.now.times) }
     ensures value { result ≡ term_value state.now inputs.now term.now }
     ensures small { IsTrue (is_within (2 ^ 94) result) }
 {
@@ -66,7 +66,7 @@ fn term_number(term: &Term, state: &[Value], inputs: &[Value]) -> i128
 /// The sum of the values of terms.
 fn terms_number(terms: &[Term], state: &[Value], inputs: &[Value]) -> i128
     requires few { length terms.now ≤ FIELDS + INPUTS }
-    requires small { All (λ term. IsTrue (is_within (2 ^ 31) term.times)) terms.now }
+    requires small { All (λ term. IsTrue (is_within MOST_TIMES term.times)) terms.now }
     ensures sum { result ≡ sum_of (valuation state.now inputs.now) terms.now }
     ensures small { IsTrue (is_within ((FIELDS + INPUTS) * 2 ^ 94) result) }
 {

@@ -6,7 +6,7 @@ use Rattle.mon_linear.specs.Linear.{Linear}
 use Rattle.mon_linear.specs.declared.formula.Formula.{Formula}
 use Rattle.mon_linear.specs.declared.formula.Formula.TheOpen.{Formula-F, Row, Flag, All as Every, Any as Some_of}
 use Rattle.mon_linear.specs.declared.formula.Formula.TheFolds.{fold-Formula}
-use Rattle.mon_base.specs.Limits.{FIELDS, METHODS, INPUTS, BLOCKS, CONDITIONS}
+use Rattle.mon_base.specs.Limits.{FIELDS, METHODS, INPUTS, BLOCKS, CONDITIONS, MOST_TIMES}
 use Rattle.mon_base.specs.Identifiers.{IsIdentifier}
 use Rattle.mon_base.specs.Numbers.{is_within}
 use Rattle.mon_base.specs.declared.kind.Kind.{Kind}
@@ -68,9 +68,9 @@ is_kind kinds.Int (Some kinds.Int) = true
 is_kind kinds.Bool (Some kinds.Bool) = true
 is_kind wanted kind = false
 
--- the place of an int, at most 2^31 times
+-- the place of an int, at most `MOST_TIMES` times
 abbrev pub fits_term : Places → Term → Bool
-fits_term places term = is_kind kinds.Int (kind_at places term.place) && is_within (2 ^ 31) term.times
+fits_term places term = is_kind kinds.Int (kind_at places term.place) && is_within MOST_TIMES term.times
 
 abbrev pub fits_form : Places → Linear → Bool
 fits_form places form = list_all (fits_term places) form.terms && is_within (2 ^ 64) form.constant
