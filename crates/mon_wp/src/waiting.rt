@@ -6,15 +6,13 @@ ghost use Rattle.mon_linear.specs.Negation.{can_negate, negation};
 ghost use Rattle.mon_monitor.specs.Queries.{for_waiting, waiting_form, waiting_guard, waiting_place, waiting_term};
 ghost use Rattle.mon_wp.specs.inner.Movable.{is_movable, is_movable_term};
 
+use mon_base::limits::FIRST_INPUT;
 use mon_linear::{Formula, Lin, Term};
 use mon_list::Seq;
 use mon_monitor::Monitor;
 use std::alloc::{AllocError, Global};
 
-/// The place of a block's first input. Those of a waiting client are as many places further.
-const FIRST_INPUT: u32 = 16;
-
-/// The place of a waiting client's input in the place of a block's. A field stays where it is.
+/// The place of a waiting client's input, `FIRST_INPUT` places further than a block's. A field stays where it is.
 fn waiting_place(place: u32) -> u32
     requires { place < 64 }
     ensures { result ≡ waiting_place place }

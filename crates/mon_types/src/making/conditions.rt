@@ -2,10 +2,11 @@
 
 ghost use Rattle.std.specs.Prelude.{◌≡◌, ◌≤◌, All, IfNone, IfOk, IfSome, IsSomeAnd, length, map, nat_le, slice_get};
 ghost use Rattle.std.specs.List.{list_any};
-ghost use Rattle.mon_base.specs.Limits.{CONDITIONS};
+ghost use Rattle.mon_base.specs.Limits.{CONDITIONS, FIRST_INPUT};
 ghost use Rattle.mon_types.specs.inner.Making.{HasGuard, IsNumbered, LacksGuard};
 ghost use Rattle.mon_monitor.specs.Inputs.{reads_inputs, reads_term};
 
+use mon_base::limits::FIRST_INPUT;
 use mon_linear::{Formula, Lin, Term, copy_formula, same_formula};
 use mon_monitor::Condition;
 use mon_tree::{Expr, copy_expression};
@@ -88,7 +89,7 @@ fn is_of_input(term: &Term) -> bool
 
 /// Whether a place is an input's.
 fn is_input(place: u32) -> bool
-    ensures { result ≡ nat_le 16 place }
+    ensures { result ≡ nat_le FIRST_INPUT place }
 {
-    16 <= place
+    FIRST_INPUT <= place
 }
