@@ -1,9 +1,10 @@
 //! The numbers with which guards compare a field.
 
-ghost use Rattle.std.specs.Prelude.{◌≡◌, ◌++◌, ◌^◌, ◌∷◌, pos, IfOk, IfSome, OnOk, true};
+ghost use Rattle.std.specs.Prelude.{◌≡◌, ◌++◌, ◌∷◌, pos, IfOk, IfSome, OnOk, true};
 ghost use Rattle.std.specs.List.{flat_map};
 ghost use Rattle.std.specs.Option.{option_to_list};
 ghost use Rattle.mon_base.specs.Numbers.{is_within};
+ghost use Rattle.mon_linear.specs.Linear.{FORM_BOUND};
 ghost use Rattle.mon_monitor.specs.Candidates.{around, bound_of, guard_bounds};
 ghost use Rattle.mon_prune.specs.inner.Numbers.{bound_of_term, formula_numbers, row_numbers};
 
@@ -13,9 +14,9 @@ use std::alloc::{AllocError, Global};
 
 /// The bound that a row of this one term and this constant sets on the field.
 fn bound_of_term(field: u32, term: Term, constant: i128) -> Option<i128>
-    requires { is_within (2 ^ 95) constant ≡ true }
+    requires { is_within FORM_BOUND constant ≡ true }
     ensures bound { option_to_list result ≡ bound_of_term field term constant }
-    ensures small { IfSome result (λ bound. is_within (2 ^ 95) bound ≡ true) }
+    ensures small { IfSome result (λ bound. is_within FORM_BOUND bound ≡ true) }
 {
     if term.place != field {
         return None;
@@ -32,7 +33,7 @@ fn bound_of_term(field: u32, term: Term, constant: i128) -> Option<i128>
 /// The `d` of a row that says `field <= d` or `field >= d`, and nothing else.
 fn bound_of(field: u32, form: &Lin) -> Option<i128>
     ensures bound { option_to_list result ≡ bound_of field form.now }
-    ensures small { IfSome result (λ bound. is_within (2 ^ 95) bound ≡ true) }
+    ensures small { IfSome result (λ bound. is_within FORM_BOUND bound ≡ true) }
 {
     let constant = form.constant();
     match form.terms() {
@@ -43,7 +44,7 @@ fn bound_of(field: u32, form: &Lin) -> Option<i128>
 
 /// Appends a bound, and the numbers beside it.
 fn push_around(numbers: &mut Vec<i128>, bound: i128) -> Result<(), AllocError>
-    requires { is_within (2 ^ 95) bound ≡ true }
+    requires { is_within FORM_BOUND bound ≡ true }
     ensures { OnOk result (numbers.new.items ≡ numbers.old.items ++ around bound) }
 {
     numbers.push(bound - 1)?;
