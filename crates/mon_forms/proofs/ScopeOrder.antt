@@ -3,8 +3,8 @@ use Rattle.std.proofs.Common.{◌≡◌, ℕ, zero, suc, ◌+◌, ◌<◌, ◌�
 use Rattle.std.specs.List.Sorted.{IsStrictlyIncreasing}
 use Rattle.mon_tree.specs.declared.tree.Decl.{Decl}
 use Rattle.mon_tree.specs.declared.tree.Decl.TheVariants as decls
-use Rattle.mon_tree.specs.declared.tree.InputKind.{InputKind}
-use Rattle.mon_tree.specs.declared.tree.InputKind.TheVariants as inputs
+use Rattle.mon_base.specs.declared.kind.Kind.{Kind}
+use Rattle.mon_base.specs.declared.kind.Kind.TheVariants as kinds
 use Rattle.mon_tree.specs.declared.tree.InputTree.{InputTree}
 use Rattle.mon_forms.specs.declared.scope.Entry.{Entry}
 use Rattle.mon_forms.specs.Scope.{declared_from, field_count, input_meaning, inputs_from, scope_of}
@@ -29,9 +29,9 @@ increasing : (low : ℕ) (places : List ℕ) → RiseFrom low places → IsStric
 increasing low places rise k h = rw add-one (next_above low places k rise (omega arith))
 
 -- an input of either kind has its place
-input_place : (kind : InputKind) (place : ℕ) (more : List ℕ) → meaning_places (input_meaning kind place) more ≡ place ∷ more
-input_place inputs.Int place more = refl
-input_place inputs.Bool place more = refl
+input_place : (kind : Kind) (place : ℕ) (more : List ℕ) → meaning_places (input_meaning kind place) more ≡ place ∷ more
+input_place kinds.Int place more = refl
+input_place kinds.Bool place more = refl
 
 inputs_rise : (place : ℕ) (taken : List InputTree) → RiseFrom place (places_of (inputs_from place taken))
 inputs_rise place [] = tt

@@ -6,8 +6,8 @@ use Rattle.std.proofs.lemmas.Bool.Decides.{nat_tests}
 use Rattle.mon_tree.specs.declared.tree.Lit.{Lit}
 use Rattle.mon_tree.specs.declared.tree.Decl.{Decl}
 use Rattle.mon_tree.specs.declared.tree.Decl.TheVariants as decls
-use Rattle.mon_tree.specs.declared.tree.InputKind.{InputKind}
-use Rattle.mon_tree.specs.declared.tree.InputKind.TheVariants as inputs
+use Rattle.mon_base.specs.declared.kind.Kind.{Kind}
+use Rattle.mon_base.specs.declared.kind.Kind.TheVariants as kinds
 use Rattle.mon_tree.specs.declared.tree.InputTree.{InputTree}
 use Rattle.mon_base.specs.Limits.{GREATEST_NUMBER}
 use Rattle.mon_forms.specs.Scope.{constant_value, declared_from, input_meaning, inputs_from, scope_of, signed}
@@ -25,9 +25,9 @@ value_small false minus digits is = refl
 constant_small : (literal : Lit) → is_within (2 ^ 63) (constant_value literal) ≡ true
 constant_small literal = value_small (nat_le literal.digits GREATEST_NUMBER) literal.minus literal.digits refl
 
-input_small : (kind : InputKind) (place : ℕ) → has_small_number (input_meaning kind place) ≡ true
-input_small inputs.Int place = refl
-input_small inputs.Bool place = refl
+input_small : (kind : Kind) (place : ℕ) → has_small_number (input_meaning kind place) ≡ true
+input_small kinds.Int place = refl
+input_small kinds.Bool place = refl
 
 inputs_small : (place : ℕ) (taken : List InputTree) → has_small_numbers (inputs_from place taken) ≡ true
 inputs_small place [] = refl

@@ -5,8 +5,8 @@ use Rattle.mon_base.specs.Limits.{FIRST_INPUT, GREATEST_NUMBER}
 use Rattle.mon_tree.specs.declared.tree.Lit.{Lit}
 use Rattle.mon_tree.specs.declared.tree.Decl.{Decl}
 use Rattle.mon_tree.specs.declared.tree.Decl.TheVariants as decls
-use Rattle.mon_tree.specs.declared.tree.InputKind.{InputKind}
-use Rattle.mon_tree.specs.declared.tree.InputKind.TheVariants as inputs
+use Rattle.mon_base.specs.declared.kind.Kind.{Kind}
+use Rattle.mon_base.specs.declared.kind.Kind.TheVariants as kinds
 use Rattle.mon_tree.specs.declared.tree.InputTree.{InputTree}
 use Rattle.mon_forms.specs.declared.scope.Meaning.{Meaning}
 use Rattle.mon_forms.specs.declared.scope.Meaning.TheVariants as meanings
@@ -51,9 +51,9 @@ field_count (decls.Const at name value ∷ more) = field_count more
 field_count (decls.Int at name value ∷ more) = 1 + field_count more
 field_count (decls.Flag at name value ∷ more) = 1 + field_count more
 
-abbrev pub input_meaning : InputKind → ℕ → Meaning
-input_meaning inputs.Int place = meanings.Int place
-input_meaning inputs.Bool place = meanings.Flag place
+abbrev pub input_meaning : Kind → ℕ → Meaning
+input_meaning kinds.Int place = meanings.Int place
+input_meaning kinds.Bool place = meanings.Flag place
 
 abbrev pub input_entry : ℕ → InputTree → Entry
 input_entry place input = record {

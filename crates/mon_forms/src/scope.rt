@@ -6,9 +6,9 @@ ghost use Rattle.mon_base.specs.Limits.{FILE_BYTES};
 ghost use Rattle.mon_forms.specs.Forms.{meaning_place};
 ghost use Rattle.mon_forms.specs.Scope.{constant_value, declared_from, index_of, input_entries, input_meaning, scope_of};
 
-use mon_base::{Name, limits};
+use mon_base::{Kind, Name, limits};
 use mon_list::Seq;
-use mon_tree::{Decl, InputKind, InputTree, Lit};
+use mon_tree::{Decl, InputTree, Lit};
 use std::alloc::{AllocError, Global};
 
 /// What a name stands for: a constant's number, or the place of an int or a bool.
@@ -107,12 +107,12 @@ fn push_inputs(scope: &mut Vec<Entry>, inputs: &[InputTree]) -> Result<(), Alloc
     Ok(())
 }
 
-fn input_meaning(kind: InputKind, place: u32) -> Meaning
+fn input_meaning(kind: Kind, place: u32) -> Meaning
     ensures { result ≡ input_meaning kind place }
 {
     match kind {
-        InputKind::Int => Meaning::Int { place },
-        InputKind::Bool => Meaning::Flag { place },
+        Kind::Int => Meaning::Int { place },
+        Kind::Bool => Meaning::Flag { place },
     }
 }
 

@@ -7,8 +7,8 @@ use Rattle.mon_tokens.specs.declared.token.Token.{Token}
 use Rattle.mon_tree.specs.declared.tree.Lit.{Lit}
 use Rattle.mon_tree.specs.declared.tree.Decl.{Decl}
 use Rattle.mon_tree.specs.declared.tree.Decl.TheVariants as decls
-use Rattle.mon_tree.specs.declared.tree.InputKind.{InputKind}
-use Rattle.mon_tree.specs.declared.tree.InputKind.TheVariants as inputs
+use Rattle.mon_base.specs.declared.kind.Kind.{Kind}
+use Rattle.mon_base.specs.declared.kind.Kind.TheVariants as inputs
 use Rattle.mon_tree.specs.declared.tree.InputTree.{InputTree}
 use Rattle.mon_tree.specs.declared.tree.StmtTree.{StmtTree, roll-StmtTree}
 use Rattle.mon_tree.specs.declared.tree.StmtTree.TheOpen.{StmtTree-F, Set, If, Return}
@@ -139,7 +139,7 @@ declarations (d ∷ ds) ok = less (declaration d (printable_front (declaration_w
 
 -- ---- methods
 
-kind : (k : InputKind) → Says false false (kind_text k) (mark (kind_word k) 0 ∷ [])
+kind : (k : Kind) → Says false false (kind_text k) (mark (kind_word k) 0 ∷ [])
 kind inputs.Int = keyword 105 (codes "nt") refl refl (omega arith) ▶ space
 kind inputs.Bool = keyword 98 (codes "ool") refl refl (omega arith) ▶ space
 

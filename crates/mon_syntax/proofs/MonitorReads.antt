@@ -8,8 +8,8 @@ use Rattle.mon_tokens.specs.declared.token.Token.{Token}
 use Rattle.mon_tree.specs.declared.tree.Lit.{Lit}
 use Rattle.mon_tree.specs.declared.tree.Decl.{Decl}
 use Rattle.mon_tree.specs.declared.tree.Decl.TheVariants as decls
-use Rattle.mon_tree.specs.declared.tree.InputKind.{InputKind}
-use Rattle.mon_tree.specs.declared.tree.InputKind.TheVariants as inputs
+use Rattle.mon_base.specs.declared.kind.Kind.{Kind}
+use Rattle.mon_base.specs.declared.kind.Kind.TheVariants as inputs
 use Rattle.mon_tree.specs.declared.tree.InputTree.{InputTree}
 use Rattle.mon_tree.specs.declared.tree.Expr.{Expr}
 use Rattle.mon_tree.specs.declared.tree.StmtTree.{StmtTree}
@@ -183,7 +183,7 @@ declarations_read = before (Each IsDeclaration) declarations_at (λ ws. NoDeclar
 pub input_reads : Reads IsInput input_at Anything
 unfolding input_at
 input_reads =
-    made_reads (Both (λ (kind : InputKind). IsMark (kind_word kind)) IsPlacedName) (listed_at kind_of ⊗ ident_at) Anything input_of IsInput
+    made_reads (Both (λ (kind : Kind). IsMark (kind_word kind)) IsPlacedName) (listed_at kind_of ⊗ ident_at) Anything input_of IsInput
     (pair_reads (λ kind. IsMark (kind_word kind)) (listed_at kind_of) Anything IsPlacedName ident_at Anything kind_reads ident_reads (λ y taken rest is after. tt))
     (λ x ws p. p)
     (λ y ws p. ((y.kind, record { at = y.at; name = y.name }), refl, p))
@@ -220,7 +220,7 @@ some_inputs_read =
     (each_reads (begins kinds.Comma) IsLaterInput later_input_at Anything (begins_heads kinds.Comma) (begins_none kinds.Comma) later_input_reads later_input_begins (λ ws h. tt)))
     (λ y taken rest is after. tt))
 
-begins_input : (kind : InputKind) → At (kind_word kind) (λ ws. begins_listed kind_of ws ≡ true)
+begins_input : (kind : Kind) → At (kind_word kind) (λ ws. begins_listed kind_of ws ≡ true)
 unfolding begins_listed
 begins_input inputs.Int at rest = refl
 begins_input inputs.Bool at rest = refl

@@ -4,8 +4,8 @@ use Rattle.std.specs.Prelude.{◌⊎◌}
 use Rattle.std.proofs.lemmas.Bool.{eqb-true, eq-eqb}
 use Rattle.mon_tokens.specs.declared.token.TokenKind.{TokenKind}
 use Rattle.mon_tokens.specs.declared.token.TokenKind.TheVariants as kinds
-use Rattle.mon_tree.specs.declared.tree.InputKind.{InputKind}
-use Rattle.mon_tree.specs.declared.tree.InputKind.TheVariants as inputs
+use Rattle.mon_base.specs.declared.kind.Kind.{Kind}
+use Rattle.mon_base.specs.declared.kind.Kind.TheVariants as inputs
 use Rattle.mon_tree.specs.declared.tree.Op.{Op}
 use Rattle.mon_tree.specs.declared.tree.Op.TheVariants as ops
 use Rattle.mon_tree.specs.declared.tree.Expr.{Expr}
@@ -250,7 +250,7 @@ is_input_kind kinds.KeyInt = refl
 is_input_kind kinds.KeyBool = refl
 is_input_kind k = tt
 
-pub input_kind_is : (kind : InputKind) → kind_of (kind_word kind) ≡ Some kind
+pub input_kind_is : (kind : Kind) → kind_of (kind_word kind) ≡ Some kind
 input_kind_is inputs.Int = refl
 input_kind_is inputs.Bool = refl
 

@@ -7,8 +7,8 @@ use Rattle.mon_tokens.specs.declared.token.Token.{Token}
 use Rattle.mon_tree.specs.declared.tree.Lit.{Lit}
 use Rattle.mon_tree.specs.declared.tree.Decl.{Decl}
 use Rattle.mon_tree.specs.declared.tree.Decl.TheVariants as decls
-use Rattle.mon_tree.specs.declared.tree.InputKind.{InputKind}
-use Rattle.mon_tree.specs.declared.tree.InputKind.TheVariants as inputs
+use Rattle.mon_base.specs.declared.kind.Kind.{Kind}
+use Rattle.mon_base.specs.declared.kind.Kind.TheVariants as inputs
 use Rattle.mon_tree.specs.declared.tree.InputTree.{InputTree}
 use Rattle.mon_tree.specs.declared.tree.Op.{Op}
 use Rattle.mon_tree.specs.declared.tree.Op.TheVariants as ops
@@ -195,7 +195,7 @@ IsDeclaration (decls.Int at name value) = IsMark kinds.KeyInt ⌢ IsIdent name a
 IsDeclaration (decls.Flag at name value) = IsMark kinds.KeyBool ⌢ IsIdent name at ⌢ IsMark kinds.Assign ⌢ IsMark (truth_word value) ⌢ IsMark kinds.Semicolon
 
 -- input = ("int" | "bool") ID
-abbrev pub kind_word : InputKind → TokenKind
+abbrev pub kind_word : Kind → TokenKind
 kind_word inputs.Int = kinds.KeyInt
 kind_word inputs.Bool = kinds.KeyBool
 

@@ -10,8 +10,9 @@ use super::word::{
     PlacedName, PlacedNumber, is_kind, kind_of, minus_of, name_of, named, number, number_of, op_of,
     plain_argument, truth, truth_argument, truth_of,
 };
+use mon_base::Kind;
 use mon_tokens::{Token, TokenKind};
-use mon_tree::{Arg, Expr, InputKind, Op};
+use mon_tree::{Arg, Expr, Op};
 use std::alloc::Global;
 use std::marker::Model;
 
@@ -238,7 +239,7 @@ impl<'a> Cursor<'a> {
 
     /// "int" | "bool"
     #[tactic(auto, unfolding(crate::specs::inner::Reading::listed_at, crate::specs::inner::Reading::AreTokens))]
-    pub fn input_kind(&mut self) -> Result<InputKind, Stop>
+    pub fn input_kind(&mut self) -> Result<Kind, Stop>
         ensures { Takes result self.new (listed_at kind_of self.old) }
     {
         listed!(self, kind_of)

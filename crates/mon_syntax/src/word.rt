@@ -6,9 +6,9 @@ ghost use Rattle.mon_tokens.specs.Words.{decimal_value};
 ghost use Rattle.mon_syntax.specs.ClientGrammar.{plain};
 ghost use Rattle.mon_syntax.specs.inner.Reading.{is_kind, kind_of, minus_of, op_of, truth_of};
 
-use mon_base::Name;
+use mon_base::{Kind, Name};
 use mon_tokens::{Token, TokenKind, decimal_value};
-use mon_tree::{Arg, Expr, InputKind, Lit, Op};
+use mon_tree::{Arg, Expr, Lit, Op};
 use std::alloc::{AllocError, Global};
 
 /// An identifier and its offset.
@@ -71,12 +71,12 @@ pub fn truth_of(kind: TokenKind) -> Option<bool>
 }
 
 /// What a parameter of this keyword takes.
-pub fn kind_of(kind: TokenKind) -> Option<InputKind>
+pub fn kind_of(kind: TokenKind) -> Option<Kind>
     ensures { result ≡ kind_of kind }
 {
     match kind {
-        TokenKind::KeyInt => Some(InputKind::Int),
-        TokenKind::KeyBool => Some(InputKind::Bool),
+        TokenKind::KeyInt => Some(Kind::Int),
+        TokenKind::KeyBool => Some(Kind::Bool),
         _ => None,
     }
 }

@@ -18,7 +18,7 @@ use Rattle.mon_monitor.specs.declared.monitor.Condition.{Condition}
 use Rattle.mon_types.specs.inner.Making.{IsMethodScope, IsNumbered}
 use Rattle.mon_base.specs.declared.kind.Kind.{Kind}
 use Rattle.mon_monitor.specs.declared.monitor.Method.{Method}
-use Rattle.mon_types.specs.Typed.{AreBlocksOf, AreConditions, IsBlockOf, condition_of, input_kind, methods_from}
+use Rattle.mon_types.specs.Typed.{AreBlocksOf, AreConditions, IsBlockOf, condition_of, methods_from}
 use Rattle.mon_types.proofs.StatementsFit.{value_fine}
 use Rattle.mon_types.proofs.StatementSteps.{fine_statements}
 use Rattle.mon_types.proofs.MonitorMade.{fine_method}
@@ -26,12 +26,12 @@ use Rattle.mon_types.proofs.MonitorMade.{fine_method}
 abbrev made_method : MethodTree → List Kind → ℕ → Method
 made_method tree kinds number = record { name = tree.name; inputs = kinds; first = number; count = 1 }
 
-methods_suc : (number last : ℕ) (trees : List MethodTree) (i : ℕ) (tree : MethodTree) → i < length trees → tree ≡ get_or trees i tree → last ≡ number + i → methods_from number (take (suc i) trees) ≡ methods_from number (take i trees) ++ made_method tree (map (λ input. input_kind input.kind) tree.inputs) last ∷ []
+methods_suc : (number last : ℕ) (trees : List MethodTree) (i : ℕ) (tree : MethodTree) → i < length trees → tree ≡ get_or trees i tree → last ≡ number + i → methods_from number (take (suc i) trees) ≡ methods_from number (take i trees) ++ made_method tree (map (λ input. input.kind) tree.inputs) last ∷ []
 methods_suc number last [] i tree lt is at = absurd (omega arith)
 methods_suc number last (t ∷ trees) zero tree lt is at = let here : last ≡ number = omega arith in rw (is, here) refl
-methods_suc number last (t ∷ trees) (suc i) tree lt is at = ap (λ methods. made_method t (map (λ input. input_kind input.kind) t.inputs) number ∷ methods) (methods_suc (number + 1) last trees i tree (omega arith) is (omega arith))
+methods_suc number last (t ∷ trees) (suc i) tree lt is at = ap (λ methods. made_method t (map (λ input. input.kind) t.inputs) number ∷ methods) (methods_suc (number + 1) last trees i tree (omega arith) is (omega arith))
 
-pub methods_more : (trees : List MethodTree) (i : ℕ) (tree : MethodTree) → i < length trees → tree ≡ get_or trees i tree → methods_from 0 (take (i + 1) trees) ≡ methods_from 0 (take i trees) ++ record { name = tree.name; inputs = map (λ input. input_kind input.kind) tree.inputs; first = i; count = 1 } ∷ []
+pub methods_more : (trees : List MethodTree) (i : ℕ) (tree : MethodTree) → i < length trees → tree ≡ get_or trees i tree → methods_from 0 (take (i + 1) trees) ≡ methods_from 0 (take i trees) ++ record { name = tree.name; inputs = map (λ input. input.kind) tree.inputs; first = i; count = 1 } ∷ []
 methods_more trees i tree lt is = rw (add-one i) (methods_suc 0 i trees i tree lt is (omega arith))
 
 -- the blocks of some methods, and their conditions

@@ -9,8 +9,6 @@ use Rattle.std.proofs.lemmas.Option.{slice_get_past}
 use Rattle.std.proofs.lemmas.Slice.Eq.{bytes_eq-Decides}
 use Rattle.mon_tree.specs.declared.tree.Decl.{Decl}
 use Rattle.mon_tree.specs.declared.tree.Decl.TheVariants as decls
-use Rattle.mon_tree.specs.declared.tree.InputKind.{InputKind}
-use Rattle.mon_tree.specs.declared.tree.InputKind.TheVariants as inputs
 use Rattle.mon_tree.specs.declared.tree.InputTree.{InputTree}
 use Rattle.mon_base.specs.declared.kind.Kind.{Kind}
 use Rattle.mon_base.specs.declared.kind.Kind.TheVariants as kinds
@@ -150,17 +148,17 @@ each_misses : (place : ℕ) (scope : List Entry) → AreAbove (place + 1) scope 
 each_misses place [] above = tt
 each_misses place (entry ∷ scope) above = (one_misses place entry.meaning above.0, each_misses place scope above.1)
 
-input_above : (place : ℕ) (kind : InputKind) → IsAbove place (input_meaning kind place)
-input_above place inputs.Int = omega arith
-input_above place inputs.Bool = omega arith
+input_above : (place : ℕ) (kind : Kind) → IsAbove place (input_meaning kind place)
+input_above place kinds.Int = omega arith
+input_above place kinds.Bool = omega arith
 
 inputs_above : (place : ℕ) (taken : List InputTree) → AreAbove place (inputs_from place taken)
 inputs_above place [] = tt
 inputs_above place (input ∷ more) = (input_above place input.kind, each_lower place (place + 1) (inputs_from (place + 1) more) (omega arith) (inputs_above (place + 1) more))
 
-input_apart : (place : ℕ) (kind : InputKind) (scope : List Entry) → AllMiss place scope → IsApart (input_meaning kind place) scope
-input_apart place inputs.Int scope miss = miss
-input_apart place inputs.Bool scope miss = miss
+input_apart : (place : ℕ) (kind : Kind) (scope : List Entry) → AllMiss place scope → IsApart (input_meaning kind place) scope
+input_apart place kinds.Int scope miss = miss
+input_apart place kinds.Bool scope miss = miss
 
 inputs_apart : (place : ℕ) (taken : List InputTree) → AreApart (inputs_from place taken)
 inputs_apart place [] = tt

@@ -12,13 +12,12 @@ use Rattle.std.proofs.lemmas.Option.{get_or_from_slice_get}
 use Rattle.mon_tree.specs.declared.tree.Lit.{Lit}
 use Rattle.mon_tree.specs.declared.tree.Decl.{Decl}
 use Rattle.mon_tree.specs.declared.tree.Decl.TheVariants as decls
-use Rattle.mon_tree.specs.declared.tree.InputKind.{InputKind}
-use Rattle.mon_tree.specs.declared.tree.InputKind.TheVariants as input_kinds
 use Rattle.mon_tree.specs.declared.tree.InputTree.{InputTree}
 use Rattle.mon_tree.specs.declared.tree.MethodTree.{MethodTree}
 use Rattle.mon_tree.specs.declared.tree.MonitorTree.{MonitorTree}
 use Rattle.mon_linear.specs.Truth.{Valuation}
 use Rattle.mon_base.specs.Limits.{GREATEST_NUMBER}
+use Rattle.mon_base.specs.declared.kind.Kind.{Kind}
 use Rattle.mon_base.specs.declared.kind.Kind.TheVariants as kinds
 use Rattle.mon_base.specs.declared.value.Value.{Value}
 use Rattle.mon_base.specs.declared.value.Value.TheVariants as values
@@ -31,7 +30,7 @@ use Rattle.mon_rules.specs.Rules.{PlacedName, constant_place, declared_name, fau
 use Rattle.mon_monitor.specs.declared.monitor.Block.{Block}
 use Rattle.mon_monitor.specs.MonitorParts.{AreOfKinds, IsOfKind, MonitorParts, kinds_of}
 use Rattle.mon_monitor.specs.Bodies.{after, number_of_value, result_value, truth_of_value, valuation, value_at}
-use Rattle.mon_types.specs.Typed.{AreBlocksOf, IsTyped, field_of, input_kind, literal_value, result_of, statement_of}
+use Rattle.mon_types.specs.Typed.{AreBlocksOf, IsTyped, field_of, literal_value, result_of, statement_of}
 use Rattle.mon_types.specs.PlainRuns.{Environment, MonitorRunsAsWritten, NamedValue, PlainState, declared_values, environment_of, input_values, kinds_taken, method_environment, method_run, plain_of, plain_run}
 use Rattle.mon_types.proofs.KeptMeanings.{IsFine, append_none, fine_at, no_fault, tree_fine}
 use Rattle.mon_types.proofs.MonitorMade.{as_many_fields, few}
@@ -70,13 +69,13 @@ one_alike : (here : Valuation) (test : Bool) (entry : Entry) (rest : Option Entr
 one_alike here true entry rest own others this that = this
 one_alike here false entry rest own others this that = that
 
-input_alike : (state inputs : List Value) (place : ℕ) (kind : InputKind) (value : Value) → value_at state inputs place ≡ value → IsOfKind (input_kind kind) value
+input_alike : (state inputs : List Value) (place : ℕ) (kind : Kind) (value : Value) → value_at state inputs place ≡ value → IsOfKind kind value
     → meaning_value (valuation state inputs) (input_meaning kind place) ≡ plain_of value
-input_alike state inputs place input_kinds.Int value is own = ap (λ x. number (number_of_value x)) is ∙ int_is value own
-input_alike state inputs place input_kinds.Bool value is own = ap (λ x. truth (truth_of_value x)) is ∙ bool_is value own
+input_alike state inputs place kinds.Int value is own = ap (λ x. number (number_of_value x)) is ∙ int_is value own
+input_alike state inputs place kinds.Bool value is own = ap (λ x. truth (truth_of_value x)) is ∙ bool_is value own
 
 inputs_alike : (state inputs : List Value) (place index : ℕ) (taken : List InputTree) (rest : List Value) → place ≡ 16 + index → drop index inputs ≡ rest
-    → AreOfKinds (map (λ input. input_kind input.kind) taken) rest → Alike (valuation state inputs) (inputs_from place taken) (input_values taken rest)
+    → AreOfKinds (map (λ input. input.kind) taken) rest → Alike (valuation state inputs) (inputs_from place taken) (input_values taken rest)
 inputs_alike state inputs place index [] [] at is fit name = refl
 inputs_alike state inputs place index [] (first ∷ rest) at is fit name = absurd fit
 inputs_alike state inputs place index (input ∷ taken) [] at is fit name = absurd fit

@@ -6,8 +6,6 @@ use Rattle.std.proofs.lemmas.Bool.Decides.{nat_tests}
 use Rattle.std.proofs.lemmas.List.Folds.{list_all-append}
 use Rattle.mon_tree.specs.declared.tree.Decl.{Decl}
 use Rattle.mon_tree.specs.declared.tree.Decl.TheVariants as decls
-use Rattle.mon_tree.specs.declared.tree.InputKind.{InputKind}
-use Rattle.mon_tree.specs.declared.tree.InputKind.TheVariants as inputs
 use Rattle.mon_tree.specs.declared.tree.InputTree.{InputTree}
 use Rattle.mon_base.specs.declared.kind.Kind.{Kind}
 use Rattle.mon_base.specs.declared.kind.Kind.TheVariants as kinds
@@ -17,7 +15,7 @@ use Rattle.mon_forms.specs.declared.scope.Entry.{Entry}
 use Rattle.mon_forms.specs.Scope.{declared_from, entry_at, entry_named, index_of, input_meaning, inputs_from, scope_of}
 use Rattle.mon_forms.proofs.LimitedForms.{both_true}
 use Rattle.mon_monitor.specs.MonitorParts.{Places, is_kind, kind_at, kinds_of}
-use Rattle.mon_types.specs.Typed.{field_of, input_kind}
+use Rattle.mon_types.specs.Typed.{field_of}
 
 -- ---- what fits
 
@@ -90,17 +88,17 @@ bool_field : (places : Places) (place : ℕ) → place < 16 → slice_get places
 bool_field places place low is = rw (at_field places place low, is) refl
 
 -- an input of either kind
-input_fits : (places : Places) (kind : InputKind) (place k : ℕ) → place ≡ 16 + k → slice_get places.inputs k ≡ Some (input_kind kind) → fits_meaning places (input_meaning kind place) ≡ true
-input_fits places inputs.Int place k at is = rw (at_input places place k at, is) refl
-input_fits places inputs.Bool place k at is = rw (at_input places place k at, is) refl
+input_fits : (places : Places) (kind : Kind) (place k : ℕ) → place ≡ 16 + k → slice_get places.inputs k ≡ Some kind → fits_meaning places (input_meaning kind place) ≡ true
+input_fits places kinds.Int place k at is = rw (at_input places place k at, is) refl
+input_fits places kinds.Bool place k at is = rw (at_input places place k at, is) refl
 
 -- ---- scopes
 
-inputs_fit : (places : Places) (place k : ℕ) (taken : List InputTree) → place ≡ 16 + k → drop k places.inputs ≡ map (λ input. input_kind input.kind) taken → fits_scope places (inputs_from place taken) ≡ true
+inputs_fit : (places : Places) (place k : ℕ) (taken : List InputTree) → place ≡ 16 + k → drop k places.inputs ≡ map (λ input. input.kind) taken → fits_scope places (inputs_from place taken) ≡ true
 inputs_fit places place k [] at rest = refl
 inputs_fit places place k (input ∷ more) at rest =
-    let here = first_of_rest places.inputs k (input_kind input.kind) (map (λ input. input_kind input.kind) more) rest in
-    let next = after_rest places.inputs k (input_kind input.kind) (map (λ input. input_kind input.kind) more) rest in
+    let here = first_of_rest places.inputs k input.kind (map (λ input. input.kind) more) rest in
+    let next = after_rest places.inputs k input.kind (map (λ input. input.kind) more) rest in
     rw (input_fits places input.kind place k at here, inputs_fit places (place + 1) (k + 1) more (omega arith) next) refl
 
 declared_fit : (places : Places) (place : ℕ) (declared : List Decl) → length places.fields ≤ 16 → drop place places.fields ≡ kinds_of (flat_map field_of declared) → fits_scope places (declared_from place declared) ≡ true
@@ -119,7 +117,7 @@ declared_fit places place (decls.Flag at name value ∷ more) few rest =
 
 -- the kinds of a method's fields and inputs
 abbrev pub scope_places : List Decl → List InputTree → Places
-scope_places declared taken = record { fields = kinds_of (flat_map field_of declared); inputs = map (λ input. input_kind input.kind) taken }
+scope_places declared taken = record { fields = kinds_of (flat_map field_of declared); inputs = map (λ input. input.kind) taken }
 
 -- With at most 16 fields each entry of a scope has a place of its kind.
 pub scope_fits : (declared : List Decl) (taken : List InputTree) → length (kinds_of (flat_map field_of declared)) ≤ 16 → fits_scope (scope_places declared taken) (scope_of declared taken) ≡ true

@@ -21,7 +21,7 @@ use Rattle.mon_forms.specs.Plain.{Plain, number, truth, truth_in, plain_step, ad
 use Rattle.mon_monitor.specs.declared.monitor.Block.{Block}
 use Rattle.mon_monitor.specs.MonitorParts.{MonitorParts, AreOfKinds, kinds_of}
 use Rattle.mon_monitor.specs.Bodies.{after, result_value}
-use Rattle.mon_types.specs.Typed.{input_kind, literal_value}
+use Rattle.mon_types.specs.Typed.{literal_value}
 
 -- ---- what names stand for
 
@@ -129,7 +129,7 @@ pub record RunsAsWritten (monitor : MonitorParts) (block : Block) (state inputs 
       ≡ end.returned
 
 abbrev pub kinds_taken : MethodTree → List Kind
-kinds_taken method = map (λ input. input_kind input.kind) method.inputs
+kinds_taken method = map (λ input. input.kind) method.inputs
 
 -- what a method's statements do to a state
 abbrev pub method_run : List Decl → MethodTree → List Value → List Value → PlainState

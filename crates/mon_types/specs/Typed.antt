@@ -4,8 +4,6 @@ use Rattle.std.specs.List.{flat_map}
 use Rattle.mon_tree.specs.declared.tree.Lit.{Lit}
 use Rattle.mon_tree.specs.declared.tree.Decl.{Decl}
 use Rattle.mon_tree.specs.declared.tree.Decl.TheVariants as decls
-use Rattle.mon_tree.specs.declared.tree.InputKind.{InputKind}
-use Rattle.mon_tree.specs.declared.tree.InputKind.TheVariants as inputs
 use Rattle.mon_tree.specs.declared.tree.StmtTree.{StmtTree, out-StmtTree}
 use Rattle.mon_tree.specs.declared.tree.StmtTree.TheOpen.{StmtTree-F, Set, If, Return}
 use Rattle.mon_tree.specs.declared.tree.StmtTree.TheFolds.{fold-StmtTree}
@@ -42,14 +40,10 @@ field_of (decls.Const at name value) = []
 field_of (decls.Int at name value) = record { name = name; kind = kinds.Int; start = values.Int (literal_value value) } ∷ []
 field_of (decls.Flag at name value) = record { name = name; kind = kinds.Bool; start = values.Bool value } ∷ []
 
-abbrev pub input_kind : InputKind → Kind
-input_kind inputs.Int = kinds.Int
-input_kind inputs.Bool = kinds.Bool
-
 -- each method has one block, in the order of the file
 abbrev pub methods_from : ℕ → List MethodTree → List Method
 methods_from number [] = []
-methods_from number (method ∷ methods) = record { name = method.name; inputs = map (λ input. input_kind input.kind) method.inputs; first = number; count = 1 } ∷ methods_from (number + 1) methods
+methods_from number (method ∷ methods) = record { name = method.name; inputs = map (λ input. input.kind) method.inputs; first = number; count = 1 } ∷ methods_from (number + 1) methods
 
 -- ---- statements and results
 

@@ -7,8 +7,8 @@ use Rattle.mon_tokens.specs.declared.token.Token.{Token}
 use Rattle.mon_tree.specs.declared.tree.Lit.{Lit}
 use Rattle.mon_tree.specs.declared.tree.Decl.{Decl}
 use Rattle.mon_tree.specs.declared.tree.Decl.TheVariants as decls
-use Rattle.mon_tree.specs.declared.tree.InputKind.{InputKind}
-use Rattle.mon_tree.specs.declared.tree.InputKind.TheVariants as inputs
+use Rattle.mon_base.specs.declared.kind.Kind.{Kind}
+use Rattle.mon_base.specs.declared.kind.Kind.TheVariants as inputs
 use Rattle.mon_tree.specs.declared.tree.InputTree.{InputTree}
 use Rattle.mon_tree.specs.declared.tree.Op.{Op}
 use Rattle.mon_tree.specs.declared.tree.Op.TheVariants as ops
@@ -215,7 +215,7 @@ minus_of kinds.Plus = Some false
 minus_of kinds.Minus = Some true
 minus_of kind = None
 
-abbrev pub kind_of : TokenKind → Option InputKind
+abbrev pub kind_of : TokenKind → Option Kind
 kind_of kinds.KeyInt = Some inputs.Int
 kind_of kinds.KeyBool = Some inputs.Bool
 kind_of kind = None
@@ -449,7 +449,7 @@ declaration_at = choice_at (begins kinds.KeyConst) constant_at (choice_at (begin
 unfoldable pub declarations_at : List Word → Read (List Decl)
 declarations_at = each_at begins_declaration declaration_at
 
-abbrev pub input_of : InputKind × PlacedName → InputTree
+abbrev pub input_of : Kind × PlacedName → InputTree
 input_of (kind, name) = record { at = name.at; kind = kind; name = name.name }
 
 unfoldable pub input_at : List Word → Read InputTree

@@ -2,12 +2,12 @@
 
 ghost use Rattle.std.specs.Prelude.{◌≡◌, ◌≤◌, IfOk, length, map};
 ghost use Rattle.mon_base.specs.Limits.{METHODS};
-ghost use Rattle.mon_types.specs.Typed.{input_kind, methods_from};
+ghost use Rattle.mon_types.specs.Typed.{methods_from};
 
 use mon_base::Kind;
 use mon_list::Seq;
 use mon_monitor::Method;
-use mon_tree::{InputKind, InputTree, MethodTree};
+use mon_tree::{InputTree, MethodTree};
 use std::alloc::{AllocError, Global};
 
 /// The methods of these trees, each with one block.
@@ -29,20 +29,11 @@ pub(crate) fn methods_of(alloc: Global, trees: &[MethodTree]) -> Result<Vec<Meth
 
 /// The kinds of these inputs.
 fn kinds_of(alloc: Global, inputs: &[InputTree]) -> Result<Vec<Kind>, AllocError>
-    ensures { IfOk result (λ kinds. kinds.items ≡ map (λ input. input_kind input.kind) inputs.now) }
+    ensures { IfOk result (λ kinds. kinds.items ≡ map (λ input. input.kind) inputs.now) }
 {
     let mut kinds = Vec::new(alloc);
     for input in inputs {
-        kinds.push(input_kind(input.kind))?;
+        kinds.push(input.kind)?;
     }
     Ok(kinds)
-}
-
-fn input_kind(kind: InputKind) -> Kind
-    ensures { result ≡ input_kind kind }
-{
-    match kind {
-        InputKind::Int => Kind::Int,
-        InputKind::Bool => Kind::Bool,
-    }
 }

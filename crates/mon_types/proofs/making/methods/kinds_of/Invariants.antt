@@ -1,6 +1,5 @@
 use Rattle.std.proofs.Common.{◌≡◌, map, take}
-use Rattle.mon_types.specs.Typed.{input_kind}
 use Rattle.mon_types.proofs.making.methods.kinds_of.Given as goal
 
 abbrev pub invariant-loop-input : goal.invariant-loop-input
-invariant-loop-input l = l.kinds.items ≡ map (λ input. input_kind input.kind) (take l.input-index l.inputs)
+invariant-loop-input l = l.kinds.items ≡ map (λ input. input.kind) (take l.input-index l.inputs)
