@@ -1,5 +1,5 @@
 -- How a command that works on the monitor of one file ends.
-use Rattle.std.proofs.Common.{◌≡◌, ◌≢◌, ℕ, true, List, [], ◌∷◌, Option, refl, sym, subst, arith}
+use Rattle.std.proofs.Common.{◌≡◌, ◌≢◌, ℕ, true, List, Option, refl, sym, subst, arith}
 use Rattle.std.specs.Prelude.{Any}
 use Rattle.mon_io.specs.Outside.{FilesSeen, SinkSeen, IsRead}
 use Rattle.mon_tree.specs.declared.tree.MonitorTree.{MonitorTree}
@@ -12,7 +12,7 @@ use Rattle.expresso.specs.declared.status.Status.{Status}
 use Rattle.expresso.specs.declared.status.Status.TheVariants as statuses
 use Rattle.expresso.specs.declared.source_fault.SourceFault.{SourceFault}
 use Rattle.expresso.specs.declared.source_fault.SourceFault.TheVariants as faults
-use Rattle.mon_command.specs.CommandLine.{Command, check, compile, files_of}
+use Rattle.mon_command.specs.CommandLine.{Command, check, compile}
 use Rattle.expresso.specs.Placements.{IsPlacement}
 use Rattle.expresso.specs.SourceFaults.{source_fault_text}
 use Rattle.expresso.specs.MonitorFiles.{HasMonitorCause, IsAccepted, IsFirstFault}

@@ -1,5 +1,5 @@
 -- Texts that aren't empty, and a text that was written to a sink that was silent before.
-use Rattle.std.proofs.Common.{◌≡◌, ◌≢◌, ℕ, suc, ◌<◌, ◌++◌, ◌∷◌, [], List, length, length-append, refl, subst, arith}
+use Rattle.std.proofs.Common.{◌≡◌, ◌≢◌, ℕ, suc, ◌<◌, ◌++◌, ◌∷◌, List, length, length-append, refl, subst, arith}
 use Rattle.mon_io.specs.Outside.{SinkSeen}
 use Rattle.mon_tree.specs.declared.tree.MonitorTree.{MonitorTree}
 use Rattle.mon_monitor.specs.MonitorParts.{MonitorParts}

@@ -1,5 +1,5 @@
 -- How a command that runs the clients of one file on the monitor of another ends before they are run.
-use Rattle.std.proofs.Common.{◌≡◌, ℕ, List, [], ◌∷◌, Option, Some, None, refl, sym, subst, inl, inr, arith}
+use Rattle.std.proofs.Common.{◌≡◌, ℕ, List, Option, Some, None, refl, sym, subst, inl, inr, arith}
 use Rattle.std.specs.Prelude.{Any}
 use Rattle.std.specs.Io.KnownBytes.{Keeps}
 use Rattle.mon_io.specs.Outside.{FilesSeen, SinkSeen, IsRead, Rises}
@@ -13,10 +13,10 @@ use Rattle.mon_command.specs.declared.schedule.Schedule.{Schedule}
 use Rattle.expresso.specs.declared.input.Input.{Input}
 use Rattle.expresso.specs.declared.input.InputFault.{InputFault}
 use Rattle.expresso.specs.declared.input.InputFault.TheVariants as input_faults
-use Rattle.mon_command.specs.CommandLine.{Command, turns, simulate, run, files_of}
+use Rattle.mon_command.specs.CommandLine.{Command, turns, simulate, run}
 use Rattle.expresso.specs.MonitorFiles.{IsAccepted, IsFirstFault}
 use Rattle.expresso.specs.SourceFaults.{source_fault_text}
-use Rattle.expresso.specs.Answers.{AcceptsFiles, AcceptsRun, RejectsRun, HoldRun, IsUnreadText}
+use Rattle.expresso.specs.Answers.{AcceptsRun, RejectsRun, HoldRun, IsUnreadText}
 use Rattle.expresso.specs.ClientFiles.{AreAccepted, IsFirstOfClients}
 use Rattle.expresso.specs.inner.Ending.{CommandEnds, IsUnread, IsWritten}
 use Rattle.expresso.specs.inner.Input.{HasInputCause, RunsEnd, IsInput, RunsFiles}

@@ -1,7 +1,7 @@
 -- Branches of a refutation that are still to follow.
-use Rattle.std.proofs.Common.{◌≡◌, Bor, sum, ℕ, zero, suc, ◌+◌, ◌-◌, ◌<◌, ◌≤◌, Bool, true, false, ◌&&◌, length, get_or, take, drop, List, [], ◌∷◌, ◌++◌, map, Option, Some, None, sym, arith, ap, refl, ◌∙◌, length-take}
+use Rattle.std.proofs.Common.{◌≡◌, Bor, sum, ℕ, suc, ◌+◌, ◌-◌, ◌<◌, ◌≤◌, Bool, true, false, ◌&&◌, length, get_or, take, drop, List, [], ◌∷◌, ◌++◌, map, sym, arith, ap, refl, ◌∙◌, length-take}
 use Rattle.std.specs.Global.{Vec}
-use Rattle.std.specs.List.{fold, list_all}
+use Rattle.std.specs.List.{fold}
 use Rattle.std.proofs.lemmas.List.{at_drop_more, take_more}
 use Rattle.std.proofs.lemmas.List.Folds.{list_all-append}
 use Rattle.mon_linear.specs.declared.formula.Formula.{Formula}

@@ -1,5 +1,5 @@
 -- The test decides whether a certificate refutes a formula.
-use Rattle.std.proofs.Common.{◌≡◌, ℕ, zero, suc, Bool, true, false, ◌&&◌, length, List, [], ◌∷◌, ◌++◌, map, Option, Some, Result, Ok, Err, sym, subst, arith, ap, refl, ◌∙◌}
+use Rattle.std.proofs.Common.{◌≡◌, ℕ, zero, suc, Bool, true, length, List, [], ◌∷◌, ◌++◌, map, Some, Result, Ok, Err, sym, subst, arith, ap, refl, ◌∙◌}
 use Rattle.std.specs.Prelude.{slice_get, IsTrue, IfOk, ◌↔◌}
 use Rattle.std.specs.declared.alloc.AllocError.{AllocError}
 use Rattle.std.proofs.lemmas.Bool.{and_parts}

@@ -1,10 +1,10 @@
 -- Rows that are made of rows.
-use Rattle.std.proofs.Common.{◌≡◌, Option, Some, None, ℤ, pos, negsuc, ◌+ℤ◌, ◌*ℤ◌, Bool, true, false, cond, List, sym, subst, arith, ap, refl, ◌∙◌}
-use Rattle.std.specs.Prelude.{int_le, ◌&&◌, FitsSigned, SomeIff}
+use Rattle.std.proofs.Common.{◌≡◌, Option, Some, None, ℤ, ◌+ℤ◌, ◌*ℤ◌, Bool, true, false, cond, List, ap, refl, ◌∙◌}
+use Rattle.std.specs.Prelude.{◌&&◌, FitsSigned, SomeIff}
 use mir.Syntax.{w128}
 use Rattle.mon_linear.specs.declared.form.Term.{Term}
 use Rattle.mon_linear.specs.Linear.{Linear, IsRising}
-use Rattle.mon_linear.specs.Sums.{fits_128, combined_terms, sum_of_multiples, terms_fit, constants_fit, sum_fits, fitting_sum}
+use Rattle.mon_linear.specs.Sums.{fits_128, sum_of_multiples, terms_fit, constants_fit, fitting_sum}
 use Rattle.mon_linear.proofs.MergeLemmas.{signed_fits, fits_signed}
 use Rattle.mon_cert.specs.declared.cert.Combine.{Combine}
 use Rattle.mon_cert.specs.Refutes.{are_factors, made_of}

@@ -1,19 +1,17 @@
 -- A refuted formula is true nowhere.
-use Rattle.std.proofs.Common.{◌≡◌, ◌⊎◌, inl, inr, ⊎_elim, ℕ, zero, suc, ℤ, pos, neg_ℤ, ◌+ℤ◌, ◌*ℤ◌, ◌≤ℤ◌, Bool, true, false, not, cond, ◌&&◌, ◌||◌, List, [], ◌∷◌, ◌++◌, map, Option, Some, None, Result, Ok, Err, sym, subst, arith, ap, refl, ◌∙◌}
+use Rattle.std.proofs.Common.{◌≡◌, ◌⊎◌, inl, inr, ⊎_elim, ℕ, zero, suc, ℤ, pos, ◌+ℤ◌, ◌*ℤ◌, ◌≤ℤ◌, Bool, true, false, not, cond, ◌&&◌, ◌||◌, List, [], ◌∷◌, ◌++◌, map, Option, Some, None, Result, Ok, Err, sym, subst, arith, ap, refl, ◌∙◌}
 use Rattle.std.specs.Prelude.{int_le, int_lt, ◌==◌, slice_get, IsTrue, IfOk}
 use Rattle.std.specs.declared.alloc.AllocError.{AllocError}
-use Rattle.std.specs.List.{list_all, list_any, flat_map}
+use Rattle.std.specs.List.{list_all, list_any}
 use Rattle.std.proofs.lemmas.Bool.{and_parts}
 use Rattle.std.proofs.lemmas.Int.{ints}
-use Rattle.std.proofs.lemmas.List.Folds.{list_all-append}
-use borrow.Author.Differences.{up, down, product_is}
 use Rattle.mon_linear.specs.declared.form.Term.{Term}
 use Rattle.mon_linear.specs.declared.formula.Formula.{Formula}
 use Rattle.mon_linear.specs.declared.formula.Formula.TheOpen.{Formula-F, Row as RowLayer, Flag as FlagLayer, All as Every, Any as Some_of}
 use Rattle.mon_linear.specs.declared.formula.Formula.TheViews.{roll-Formula}
 use Rattle.mon_linear.specs.declared.formula.Formula.TheFolds.{ind-Formula, map-Formula, fold-roll-Formula}
 use Rattle.mon_linear.specs.Linear.{Linear}
-use Rattle.mon_linear.specs.Truth.{Valuation, layer_truth, truth_of, value_of, sum_of}
+use Rattle.mon_linear.specs.Truth.{Valuation, layer_truth, truth_of, value_of}
 use Rattle.mon_linear.specs.Sums.{sum_of_multiples, sum_fits}
 use Rattle.mon_linear.proofs.SumLemmas.{sum_value}
 use Rattle.mon_cert.specs.declared.cert.Combine.{Combine}
@@ -21,7 +19,7 @@ use Rattle.mon_cert.specs.declared.cert.Literal.{Literal}
 use Rattle.mon_cert.specs.declared.cert.Literal.TheVariants.{Row, Flag}
 use Rattle.mon_cert.specs.declared.cert.Cert.{Cert, out-Cert}
 use Rattle.mon_cert.specs.declared.cert.Cert.TheOpen.{Cert-F, Split, Clash, Chain}
-use Rattle.mon_cert.specs.Refutes.{literal_truth, row_of, are_opposite, are_factors, made_of, made, is_absurd, chain_goes, is_nil, chain_closes, closes, Refutes}
+use Rattle.mon_cert.specs.Refutes.{literal_truth, row_of, are_opposite, made_of, made, is_absurd, chain_goes, is_nil, chain_closes, closes, Refutes}
 use Rattle.mon_cert.specs.inner.Deciding.{Todo, done, in_order, each_way, at_any, before_layer, before, refutes}
 use Rattle.mon_cert.proofs.DecidingLemmas.{decides}
 

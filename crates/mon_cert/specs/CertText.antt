@@ -1,5 +1,5 @@
 -- The text of a certificate: words with one blank between them, and numbers in decimal.
-use Rattle.std.specs.Prelude.{ℕ, ℤ, List, [], ◌∷◌, ◌++◌, length, codes, decimal}
+use Rattle.std.specs.Prelude.{ℕ, ℤ, List, ◌++◌, length, codes, decimal}
 use Rattle.std.specs.Fmt.{signed_decimal}
 use Rattle.std.specs.List.{flat_map}
 use Rattle.mon_cert.specs.declared.cert.Combine.{Combine}

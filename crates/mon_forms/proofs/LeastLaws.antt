@@ -1,5 +1,5 @@
 -- The least of faults: what holds of the least of any list, at faults.
-use Rattle.std.proofs.Common.{◌≡◌, List, [], ◌∷◌, Option, Some, None, refl, sym}
+use Rattle.std.proofs.Common.{◌≡◌, List, [], ◌∷◌, Some, None, refl, sym}
 use Rattle.std.specs.Option.{option_or}
 use Rattle.mon_forms.specs.declared.fault.TypeFault.{TypeFault}
 use Rattle.mon_base.proofs.Least as lemmas

@@ -1,7 +1,7 @@
 -- What is found of an expression keeps its plain meaning, by induction on its layers.
-use Rattle.std.proofs.Common.{◌≡◌, ℕ, Bool, true, false, ◌||◌, cond, ℤ, pos, neg_ℤ, ◌+ℤ◌, ◌-ℤ◌, ◌*ℤ◌, List, [], ◌∷◌, ◌++◌, map, length, Option, Some, None, refl, sym, ap, subst, ◌∙◌, arith}
+use Rattle.std.proofs.Common.{◌≡◌, ℕ, Bool, true, false, ◌||◌, cond, ℤ, pos, neg_ℤ, ◌+ℤ◌, ◌-ℤ◌, ◌*ℤ◌, List, [], ◌∷◌, map, length, Option, Some, None, refl, sym, ap, subst, ◌∙◌, arith}
 use Rattle.std.specs.Prelude.{fold, int_le, int_lt, not, slice_get}
-use Rattle.std.specs.List.{flat_map, list_all, list_any}
+use Rattle.std.specs.List.{list_all, list_any}
 use Rattle.std.specs.Ordering.{int_eq}
 use Rattle.std.proofs.lemmas.Int.{ints}
 use Rattle.std.proofs.lemmas.List.Folds.{list_all-map}
@@ -20,7 +20,6 @@ use Rattle.mon_linear.specs.Linear.{Linear}
 use Rattle.mon_linear.specs.Negation.{negation}
 use Rattle.mon_linear.specs.Truth.{Valuation, layer_truth, truth_of, value_of}
 use Rattle.mon_linear.proofs.NegationLemmas.{negation_flips}
-use Rattle.mon_base.specs.declared.kind.Kind.{Kind}
 use Rattle.mon_base.specs.declared.kind.Kind.TheVariants as kinds
 use Rattle.mon_forms.specs.declared.fault.TypeFault.{TypeFault}
 use Rattle.mon_forms.specs.declared.fault.TypeFault.TheVariants as faults
@@ -31,7 +30,7 @@ use Rattle.mon_forms.specs.Scope.{signed, index_of, entry_at, entry_named}
 use Rattle.mon_forms.specs.Forms.{Form, number_form, entry_form, plus, minus, scaled, raised, product, is_constant, linear_of}
 use Rattle.mon_forms.specs.Faults.{◌or_else◌}
 use Rattle.mon_forms.specs.Sense as senses
-use Rattle.mon_forms.specs.Sense.{Sense, AddendSense, FactorSense, is_other, wrong_type, part_faults, product_faults, large_form, product_form, sum_form, signed_form, sense_step, addend_step, factor_step, sense, truth_formula, entry_kind, entry_formula, unknown}
+use Rattle.mon_forms.specs.Sense.{Sense, AddendSense, FactorSense, is_other, part_faults, product_faults, large_form, product_form, sum_form, signed_form, sense_step, addend_step, factor_step, sense, truth_formula, entry_kind, entry_formula, unknown}
 use Rattle.mon_forms.specs.Plain as plains
 use Rattle.mon_forms.specs.Plain.{Plain, number_in, truth_in, plain_step, addend_value, factor_value, plain_value, entry_value}
 use Rattle.mon_forms.proofs.FineParts.{IsFine, AreFine, or_else_none, parts_fine}

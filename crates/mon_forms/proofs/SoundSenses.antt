@@ -1,7 +1,7 @@
 -- What is found of every expression: forms of the scope, of limited numbers where no rule is broken, and formulas that can be negated.
-use Rattle.std.proofs.Common.{◌≡◌, ℕ, ◌^◌, ◌≤◌, pos, neg_ℤ, Bool, true, false, List, [], ◌∷◌, ◌++◌, map, refl, sym, subst, ◌∙◌, arith}
+use Rattle.std.proofs.Common.{◌≡◌, ℕ, ◌^◌, ◌≤◌, pos, neg_ℤ, Bool, true, false, List, [], ◌∷◌, map, refl, sym, subst, ◌∙◌, arith}
 use Rattle.std.specs.Prelude.{nat_lt, ◌||◌, if◌then◌else◌}
-use Rattle.std.specs.List.{flat_map, list_all}
+use Rattle.std.specs.List.{list_all}
 use Rattle.std.proofs.lemmas.Int.{ints}
 use Rattle.std.proofs.lemmas.Bool.Decides.{nat_tests}
 use Rattle.mon_tree.specs.declared.tree.Expr.{Expr, roll-Expr}
@@ -9,7 +9,6 @@ use Rattle.mon_tree.specs.declared.tree.Addend.{Addend, roll-Addend}
 use Rattle.mon_tree.specs.declared.tree.Factor.{Factor, roll-Factor}
 use Rattle.mon_tree.specs.declared.tree.Expr.TheOpen.{Expr-F, Addend-F, Factor-F, Number, Truth, Named, Minus, Not, Product, Sum, Compare, Both, Either}
 use Rattle.mon_tree.specs.declared.tree.Expr.TheFolds.{fold-roll-Expr, fold-roll-Addend, fold-roll-Factor, map-Expr, ind-Expr}
-use Rattle.mon_base.specs.declared.kind.Kind.{Kind}
 use Rattle.mon_base.specs.declared.kind.Kind.TheVariants as kinds
 use Rattle.mon_forms.specs.declared.fault.TypeFault.{TypeFault}
 use Rattle.mon_forms.specs.declared.scope.Entry.{Entry}
@@ -19,7 +18,7 @@ use Rattle.mon_forms.specs.Forms.{Form, scaled, plus, minus, product, is_constan
 use Rattle.mon_forms.specs.inner.FormBounds.{IsFormOf}
 use Rattle.mon_base.specs.Numbers.{is_within}
 use Rattle.mon_forms.specs.Faults.{◌or_else◌}
-use Rattle.mon_forms.specs.Sense.{Sense, AddendSense, FactorSense, is_other, part_faults, wrong_type, large_number, large_form, product_faults, product_form, signed_form, sum_form, sense, sense_step, addend_step, factor_step}
+use Rattle.mon_forms.specs.Sense.{Sense, AddendSense, FactorSense, is_other, part_faults, large_number, large_form, product_faults, product_form, signed_form, sum_form, sense, sense_step, addend_step, factor_step}
 use Rattle.mon_forms.specs.Making.{has_small_numbers}
 use Rattle.mon_forms.proofs.SenseLayers.{found_addend, found_factor}
 use Rattle.mon_forms.proofs.FormShapes.{name_is_form, number_is_form, plus_is_form, product_is_form, scaled_is_form}

@@ -1,6 +1,6 @@
 -- Rows found by their buckets.
 use Rattle.std.specs.Global.{Global}
-use Rattle.std.proofs.Common.{◌≡◌, ℕ, zero, suc, ◌+◌, ◌<◌, ◌≤◌, Bool, true, false, cond, ◌||◌, List, [], ◌∷◌, ◌++◌, length, get_or, sym, subst, arith, ap, refl, ◌∙◌}
+use Rattle.std.proofs.Common.{◌≡◌, ℕ, zero, suc, ◌+◌, ◌<◌, Bool, true, false, cond, ◌||◌, List, [], ◌∷◌, ◌++◌, length, get_or, sym, subst, arith, ap, refl, ◌∙◌}
 use Rattle.std.specs.Prelude.{Vec, ◌==◌, slice_get, slice_set, Option, Some, None}
 use Rattle.std.specs.List.{find, list_any, AllByRecursion as Each}
 use Rattle.std.proofs.lemmas.List.{append-nil}

@@ -1,5 +1,5 @@
 -- Fewer kept candidates make no query harder, and more of them leave each query valid.
-use Rattle.std.proofs.Common.{◌≡◌, inl, inr, ℕ, zero, suc, ◌+◌, ◌*◌, ◌≤◌, sum, Bool, true, false, ◌&&◌, List, [], ◌∷◌, ◌++◌, map, Option, Some, None, sym, subst, arith, ap, refl, ◌∙◌}
+use Rattle.std.proofs.Common.{◌≡◌, inl, inr, ℕ, suc, ◌+◌, ◌≤◌, sum, Bool, true, ◌&&◌, List, [], ◌∷◌, ◌++◌, map, Option, Some, None, sym, subst, arith, ap, refl, ◌∙◌}
 use Rattle.std.specs.Prelude.{nat_le, slice_get}
 use Rattle.std.specs.List.{All, Contains, list_all, flat_map}
 use Rattle.std.specs.Option.{IsSomeAnd}
@@ -24,7 +24,6 @@ use Rattle.mon_monitor.specs.declared.candidate.Candidate.TheVariants as candida
 use Rattle.mon_monitor.specs.declared.claim.Claim.{Claim}
 use Rattle.mon_monitor.specs.declared.claim.Claim.TheVariants as claims
 use Rattle.mon_monitor.specs.declared.monitor.Block.{Block}
-use Rattle.mon_monitor.specs.declared.query.Query.{Query}
 use Rattle.mon_monitor.specs.Bodies.{IsValid}
 use Rattle.mon_monitor.specs.Candidates.{AreSomeOf, candidate_formula}
 use Rattle.mon_monitor.specs.MonitorParts.{MonitorParts}
@@ -33,7 +32,7 @@ use Rattle.mon_monitor.specs.Queries.{hypotheses, query_of}
 use Rattle.mon_monitor.specs.Triples.{IsValidQuery, places_of}
 use Rattle.mon_wp.specs.Hardness.{has_few_cubes, is_easy}
 use Rattle.mon_wp.specs.Limits.{has_few_nodes, has_few_paths, is_path_within}
-use Rattle.mon_wp.specs.NegatedQueries.{path_part, query_of_parts, some_part}
+use Rattle.mon_wp.specs.NegatedQueries.{path_part, some_part}
 use Rattle.mon_wp.specs.Paths.{body_paths}
 use Rattle.mon_wp.proofs.QueryLaws.{all_truth}
 

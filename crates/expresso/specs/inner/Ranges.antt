@@ -1,7 +1,7 @@
 -- The ranges of the numbers of commands.
 use Rattle.std.specs.Prelude.{◌≤◌}
 use Rattle.mon_base.specs.Limits.{MOST_SPURIOUS, WORKERS}
-use Rattle.mon_command.specs.CommandLine.{Command, check, turns, compile, simulate, run, stress}
+use Rattle.mon_command.specs.CommandLine.{Command, simulate, run, stress}
 use Rattle.expresso.specs.Simulations.{most_spurious}
 
 -- no more workers and no more spurious wake-ups than there may be, and at least one worker

@@ -1,6 +1,6 @@
 -- For private contracts: the buckets by which kept rows are found.
 use Rattle.std.specs.Global.{Global}
-use Rattle.std.specs.Prelude.{Vec, ◌≡◌, ◌<◌, ℕ, ◌+◌, ◌*◌, ◌%◌, ◌==◌, ◌&&◌, Bool, false, if◌then◌else◌, List, [], ◌∷◌, length, Option, Some, None}
+use Rattle.std.specs.Prelude.{Vec, ◌≡◌, ◌<◌, ℕ, ◌+◌, ◌*◌, ◌%◌, ◌==◌, Bool, false, if◌then◌else◌, List, [], ◌∷◌, length, Option, Some, None}
 use Rattle.mon_linear.specs.declared.form.Term.{Term}
 use Rattle.mon_linear.specs.Linear.{Linear}
 use Rattle.mon_solve.specs.declared.rows.Numbered.{Numbered}

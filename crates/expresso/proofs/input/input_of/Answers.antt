@@ -2,7 +2,7 @@ use Rattle.std.proofs.Common.{◌≡◌, ap, sym, ◌∙◌}
 use Rattle.expresso.specs.declared.status.Status.TheVariants.{Refused}
 use Rattle.expresso.specs.SourceFaults.{source_fault_text}
 use Rattle.expresso.proofs.Outcomes.{written_since}
-use Rattle.expresso.proofs.RunFiles.{AreRead, both_read, monitor_unread, clients_unread, monitor_refused, clients_refused, input_held, run_unmade}
+use Rattle.expresso.proofs.RunFiles.{AreRead, both_read, monitor_unread, clients_unread, monitor_refused, clients_refused, input_held}
 use Rattle.expresso.proofs.input.input_of.Given.{Over}
 use Rattle.expresso.proofs.input.input_of.Goals as goal
 use Rattle.expresso.proofs.input.input_of.Goals.{After-read_input}

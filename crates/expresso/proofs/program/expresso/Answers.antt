@@ -1,4 +1,4 @@
-use Rattle.std.proofs.Common.{◌≡◌, All, List, map, rules}
+use Rattle.std.proofs.Common.{All, map, rules}
 use Rattle.std.specs.Global.{Global}
 use Rattle.std.specs.String.{string_bytes}
 use Rattle.mon_command.specs.CommandLine.{Takes, TakesNone, files_of}
