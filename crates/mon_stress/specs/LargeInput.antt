@@ -109,7 +109,7 @@ buffer_of capacity = record {
   conditions = shown_condition (has_room capacity) room_shown ∷ shown_condition has_some some_shown ∷ [];
 }
 
--- ---- the clients: `client P1 { repeat 512 { put(); } }` to `P16`, then `client G1 { repeat 512 { get(); } }` to `G16`
+-- ---- the clients: those that put, each `client P.. { repeat 512 { put(); } }` with its number from 1 on, and then those that get, `client G.. { repeat 512 { get(); } }`
 
 -- a call of a method of no inputs
 abbrev pub plain_call : ℕ → Call
