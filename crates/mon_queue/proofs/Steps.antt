@@ -87,24 +87,27 @@ takes port v live x items views rule at =
         let far : rule.clients ≤ x → ⊥ = λ le. let none = times_after 0 rule.clients x (omega arith) in absurd (omega arith) in
         lt_from_not x v.clients (λ le. far (omega arith))
 
+set_at : (hands : List Hand) (port : ℕ) (v w : Hand) → get_elem? hands port ≡ some v → get_elem? (set hands port w) port ≡ some w
+set_at [] port v w at = absurd (some-ne-none v (sym at))
+set_at (x ∷ xs) zero v w at = refl
+set_at (x ∷ xs) (suc port) v w at = set_at xs port v w at
+
 pub gives : (n port : ℕ) (v : Hand) (x : ℕ) → 0 < v.parts → Contains v.tickets x → Pushes EachHasOneHolder n port v x (Gave v x)
 gives n port v x live has items views room rule at =
-    let w : Hand = without_ticket x v in (
-      w,
-      record {
-        clients = rule.clients;
-        passes = rule.passes;
-        tickets = λ h.
-            let change = sum_set (λ (u : Hand). sum_by h u.tickets) views port v w at in
-            let before = rule.tickets h in
-            let was = sum_without h v.tickets x has in
-            let now = sum_by_push h items x in
-            omega arith;
-        parts = (let change = sum_set (λ (u : Hand). u.parts) views port v w at in let before = rule.parts in omega arith);
-        each = each_set (IsHand rule.clients rule.passes) views port w (live_is rule.clients rule.passes v w (rule.each port v at) live live refl refl) rule.each;
-      },
-      refl,
-    )
+    let w : Hand = without_ticket x v in
+    let all : EachHasOneHolder (items ++ x ∷ []) (set views port w) = record {
+      clients = rule.clients;
+      passes = rule.passes;
+      tickets = λ h.
+          let change = sum_set (λ (u : Hand). sum_by h u.tickets) views port v w at in
+          let before = rule.tickets h in
+          let was = sum_without h v.tickets x has in
+          let now = sum_by_push h items x in
+          omega arith;
+      parts = (let change = sum_set (λ (u : Hand). u.parts) views port v w at in let before = rule.parts in omega arith);
+      each = each_set (IsHand rule.clients rule.passes) views port w (live_is rule.clients rule.passes v w (rule.each port v at) live live refl refl) rule.each;
+    } in
+    (w, all, (refl, (items, record { hands = set views port w; place = port; own = set_at views port v w at; all = all })))
 
 -- a hand becomes another of the same parts and tickets, and a spent one comes beside it
 pub counts : (port : ℕ) (v : Hand) → 0 < v.parts → Forks EachHasOneHolder port v (found_empty v) spent

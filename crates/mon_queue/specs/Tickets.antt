@@ -1,5 +1,5 @@
 -- What the queue and its passes show, and what each call does.
-use Rattle.std.specs.Prelude.{◌≡◌, ◌+◌, ◌<◌, ◌≤◌, ◌==◌, ℕ, List, [], ◌∷◌, Option, MatchOption, count_by, if◌then◌else◌}
+use Rattle.std.specs.Prelude.{◌≡◌, ◌+◌, ◌<◌, ◌≤◌, ◌==◌, ℕ, List, [], ◌∷◌, ◌++◌, Option, MatchOption, count_by, if◌then◌else◌}
 use Rattle.std.specs.List.{flat_map}
 use mathlib.Core.Option.{some}
 use lib.ListN.{get_elem?}
@@ -62,6 +62,14 @@ Takes before after result =
     MatchOption result
     (WasEmpty before × (after ≡ record before { empties = before.empties + 1 }))
     (λ ticket. (ticket < before.queue.clients) × (after ≡ record before { tickets = ticket ∷ before.tickets }))
+
+-- At one moment the ticket was the last of the queue, and the passes had all that the queue had not, this one its own.
+pub record IsQueued (ticket : ℕ) (pass : QueuePassView) : Type 0 where
+  pub earlier : List ℕ
+  pub hands : List Hand
+  pub place : ℕ
+  pub own : get_elem? hands place ≡ some (hand_of pass)
+  pub all : EachHasOneHolder (earlier ++ ticket ∷ []) hands
 
 -- the pass has the ticket no more
 abbrev pub put_back : ℕ → QueuePassView → QueuePassView

@@ -3,8 +3,9 @@
 ghost use Rattle.std.specs.Prelude.{◌≡◌, ◌<◌, ◌≤◌, [], ℕ, List, IfOk, MatchOption, Contains};
 ghost use Rattle.crossbeam_queue.specs.Fifo.{Held};
 ghost use Rattle.crossbeam_queue.specs.Passes.{view, IsPassOf, IsSamePass, ruled_capacity};
-ghost use Rattle.mon_queue.specs.inner.Moves.{AreAll, Stands, begun, found_empty, one_less};
-ghost use Rattle.mon_queue.specs.inner.Moves.{one_part, together, with_ticket, without_ticket};
+ghost use Rattle.mon_queue.specs.inner.Moves.{AreAll, Stands, StandsLast, begun, found_empty};
+ghost use Rattle.mon_queue.specs.inner.Moves.{one_less, one_part, together};
+ghost use Rattle.mon_queue.specs.inner.Moves.{with_ticket, without_ticket};
 ghost use Rattle.mon_queue.specs.Hands.{unset};
 
 use super::rule::{Begin, CountEmpty, OnePart, Place, Put, Take, Terms, Tickets, Whole};
@@ -42,7 +43,7 @@ fn count_empty(line: &Tickets, place: &mut Place)
     let _spent = line.another::<CountEmpty>(place);
 }
 
-/// Puts a ticket back. There is always room.
+/// Puts a ticket back, behind those in the queue. There is always room.
 pub fn put<R: Wait>(rt: &R, line: &Tickets, place: &mut Place, ticket: Ticket)
     requires own { IsPassOf line.now place.old }
     requires live { 0 < (view place.old).parts }
@@ -50,6 +51,7 @@ pub fn put<R: Wait>(rt: &R, line: &Tickets, place: &mut Place, ticket: Ticket)
     requires has { Contains (view place.old).tickets ticket }
     ensures own { IsSamePass place.old place.new }
     ensures put { view place.new ≡ without_ticket ticket (view place.old) }
+    ensures queued { StandsLast ticket (view place.new) }
 {
     match line.push_as::<Put, R>(rt, place, ticket) {
         Ok(()) => {}

@@ -4,7 +4,8 @@ ghost use Rattle.std.specs.Prelude.{◌≡◌, ◌<◌, ◌≤◌, ◌++◌, [],
 ghost use Rattle.std.specs.List.{All, range_with_len};
 ghost use Rattle.crossbeam_queue.specs.Passes.{view, IsPassOf, IsSamePass, ruled_capacity};
 ghost use Rattle.mon_base.specs.Limits.{CLIENTS};
-ghost use Rattle.mon_queue.specs.Tickets.{IsEachOnce, Takes, new_pass, put_back, tickets_of};
+ghost use Rattle.mon_queue.specs.Tickets.{IsEachOnce, IsQueued, Takes};
+ghost use Rattle.mon_queue.specs.Tickets.{new_pass, put_back, tickets_of};
 ghost use Rattle.mon_queue.specs.inner.Gathered.{Gathered, pass_of};
 ghost use Rattle.mon_queue.specs.inner.Moves.{begun};
 ghost use Rattle.mon_queue.specs.Hands.{unset};
@@ -82,11 +83,13 @@ impl ReadyQueue {
         line::take(rt, &self.line, &mut pass.place)
     }
 
-    /// Puts a ticket of a pass of this queue back: there is always room. It takes no memory.
+    /// Puts a ticket of a pass of this queue back, behind those that the queue has: there is always room. At the moment
+    /// when it is put back the queue has it again. It takes no memory.
     pub fn put<R: Wait>(&self, rt: &R, pass: &mut QueuePass, ticket: Ticket)
         requires own { pass.old.queue ≡ self.now }
         requires has { Contains pass.old.tickets ticket }
         ensures put { pass.new ≡ put_back ticket pass.old }
+        ensures queued { IsQueued ticket pass.new }
     {
         line::put(rt, &self.line, &mut pass.place, ticket);
     }

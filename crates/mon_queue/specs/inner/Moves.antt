@@ -35,15 +35,19 @@ together hand other = record hand { parts = hand.parts + other.parts; tickets = 
 abbrev pub Took : Hand → ℕ → Hand → Type 0
 Took before ticket after = (ticket < before.clients) × (after ≡ with_ticket ticket before)
 
-abbrev pub Gave : Hand → ℕ → Hand → Type 0
-Gave before ticket after = after ≡ without_ticket ticket before
-
 -- the queue holds these, and the passes the rest
 pub record Stands (hand : Hand) (queued : List ℕ) : Type 0 where
   pub hands : List Hand
   pub place : ℕ
   pub own : get_elem? hands place ≡ some hand
   pub all : EachHasOneHolder queued hands
+
+-- the queue holds the ticket behind others, and the passes the rest
+abbrev pub StandsLast : ℕ → Hand → Type 0
+StandsLast ticket hand = (earlier : List ℕ) × Stands hand (earlier ++ ticket ∷ [])
+
+abbrev pub Gave : Hand → ℕ → Hand → Type 0
+Gave before ticket after = (after ≡ without_ticket ticket before) × StandsLast ticket after
 
 -- there is room in the queue for the tickets of the hand
 abbrev pub Fit : Hand → List ℕ → Type 0
