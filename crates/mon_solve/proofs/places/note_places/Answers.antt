@@ -1,6 +1,0 @@
-use Rattle.std.proofs.Common.{sym, ◌∙◌}
-use Rattle.mon_solve.proofs.PlaceLemmas.{noted_more}
-use Rattle.mon_solve.proofs.places.note_places.Goals as goal
-
-pub loop-term-preserved : goal.loop-term-preserved
-loop-term-preserved c = c.in_ok-note_place.ensures ∙ rw c.loop-term.invariant (sym (noted_more _ _ _ _ c.loop-term-test.true))

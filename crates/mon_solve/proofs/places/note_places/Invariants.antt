@@ -1,6 +1,0 @@
-use Rattle.std.proofs.Common.{◌≡◌, take}
-use Rattle.mon_solve.specs.inner.Literals.{noted}
-use Rattle.mon_solve.proofs.places.note_places.Given as goal
-
-abbrev pub invariant-loop-term : goal.invariant-loop-term
-invariant-loop-term l = l.places.items ≡ noted l.initial.places.items (take l.term-index l.terms)
