@@ -15,7 +15,7 @@ use Rattle.mon_lock.specs.Passes.{IsKnown, Looks, Reaches, SectionsShared}
 use Rattle.mon_lock.specs.inner.Queueing.{holds}
 use Rattle.mon_lock.specs.inner.Steps.{HasTurn, has_at, receipt_at, told}
 use Rattle.mon_lock.specs.inner.Turns.{HasMonitor, IsHolding, IsMade, IsNotMade, IsWaiting, MakesOne, MakesShared, TurnComes, TurnIsHere}
-use Rattle.mon_lock.proofs.Readiness.{made_works}
+use Rattle.mon_lock.proofs.Readiness.{made_works, section_follows}
 use Rattle.mon_lock.proofs.Knowing.{known_looked, known_receipted}
 
 pub turn_comes : (ticket found t : ℕ) (m n : Me FreeMachine View) → ticket ≡ t % 2 ^ 64 → (found ≡ t % 2 ^ 64 → HasTurn t m n) × (found ≢ t % 2 ^ 64 → n ≡ m) → TurnComes ticket m n (eqb found ticket)
@@ -94,7 +94,7 @@ count_gives client number me mid next section h known is tells = subst (λ n. Co
   turn = (refl, refl);
   parts = refl;
   made = record { next = y; receipt = receipt_at t me.0 section.entry; made = subst (λ place. MadeSection client me.0.known.front y (record { place = place; entry = section.entry })) made.place made; known = refl; told_is = (made.place, refl, h.1) };
-  known = known_receipted me.0.known y (receipt_at t me.0 section.entry) known (record { system = made.appends.system; extra = made.appends.extra; log = (section.entry ∷ [], made.appends.log) }) is.always made.appends.log refl;
+  known = known_receipted me.0.known y (receipt_at t me.0 section.entry) known (section_follows client me.0.known.front y section made) is.always made.appends.log refl;
 }
   where
     t : ℕ

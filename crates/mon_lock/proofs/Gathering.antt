@@ -128,7 +128,7 @@ closes_all start top me next ps p same g ends =
     let count : (k : ℕ) → times k (receipts_of (ps ++ p ∷ [])) ≡ times k ends.history = λ k.
     let a = receipts_push k ps p in let b = g.receipts k in let c = ends.receipts k in let d = ap (λ (l : Knowledge). times k l.receipts) same in omega arith in
     let long : length top.log ≡ length start.log + length ends.history = ap length h.log ∙ (length-append start.log (map (λ (q : Receipt). q.entry) ends.history) ∙ ap (λ n. length start.log + n) (mapped ends.history)) in record {
-      follows = record { system = h.system; extra = h.extra; log = (map (λ (q : Receipt). q.entry) ends.history, h.log) };
+      follows = h.follows;
       covers = All-weaker (λ (q : PassView). Agrees ends.history top q.known) (λ (q : PassView). Covers top q.known) (λ q a. covers_one start ends.history ends.limit top q.known h a) (ps ++ p ∷ []) all;
       once = record {
         once = λ k ge lt. count k ∙ times_once (length start.log) 0 ends.history ends.limit h.in_turn k ge (omega arith);

@@ -3,17 +3,23 @@ use Rattle.std.proofs.Common.{◌≡◌, ℕ, zero, suc, ◌≤◌, List, [], �
 use Rattle.std.specs.Prelude.{slice_get}
 use Rattle.std.proofs.lemmas.List.{append_assoc, append-nil}
 use Rattle.mon_events.specs.declared.log.Entry.{Entry}
+use Rattle.mon_events.specs.Logs.{IsClosed}
 use Rattle.mon_explicit.specs.Sections.{FreeMachine}
 use Rattle.mon_lock.specs.Growth.{IsFront, Follows}
 
+pub front_same : (xs : List Entry) → IsFront xs xs
+front_same xs = ([], sym (append-nil xs))
+
 pub follows_same : (x : FreeMachine) → Follows x x
-follows_same x = record { system = refl; extra = refl; log = ([], sym (append-nil x.log)) }
+follows_same x = record { system = refl; extra = refl; log = front_same x.log; spurious = refl; closed = λ _. refl }
 
 pub follows_on : (x y z : FreeMachine) → Follows x y → Follows y z → Follows x z
 follows_on x y z f g = record {
   system = g.system ∙ f.system;
   extra = g.extra ∙ f.extra;
   log = (f.log.0 ++ g.log.0, g.log.1 ∙ (ap (λ l. l ++ g.log.0) f.log.1 ∙ append_assoc x.log f.log.0 g.log.0));
+  spurious = g.spurious ∙ f.spurious;
+  closed = λ is. let same = f.closed is in g.closed (subst (λ (m : FreeMachine). IsClosed m.system m.now) (sym same) is) ∙ same;
 }
 
 pub front_length : (xs ys : List Entry) → IsFront xs ys → length xs ≤ length ys
@@ -32,12 +38,8 @@ split_heads (x ∷ xs) (y ∷ ys) bs cs e le =
     first_same : (x y : Entry) (xs ys : List Entry) → x ∷ xs ≡ y ∷ ys → x ≡ y
     first_same x y xs ys e = cc
 
-pub follows_between : (x y top : FreeMachine) → Follows x top → Follows y top → length x.log ≤ length y.log → Follows x y
-follows_between x y top f g le = record {
-  system = sym g.system ∙ f.system;
-  extra = sym g.extra ∙ f.extra;
-  log = split_heads x.log y.log f.log.0 g.log.0 (sym f.log.1 ∙ g.log.1) le;
-}
+pub front_between : (xs ys top : List Entry) → IsFront xs top → IsFront ys top → length xs ≤ length ys → IsFront xs ys
+front_between xs ys top f g le = split_heads xs ys f.0 g.0 (sym f.1 ∙ g.1) le
 
 get_front : (xs ys : List Entry) (k : ℕ) (p : Entry) → slice_get xs k ≡ Some p → slice_get (xs ++ ys) k ≡ Some p
 get_front [] ys k p e = absurd (cc)

@@ -12,7 +12,7 @@ use Rattle.mon_lock.specs.Growth.{IsFront, Follows}
 use Rattle.mon_lock.specs.Passes.{StandsIn, IsKnown, looked, observed, receipted}
 use Rattle.mon_lock.specs.Closing.{times}
 use Rattle.mon_lock.specs.inner.Queueing.{Agrees, joined, longer, merged}
-use Rattle.mon_lock.proofs.Growing.{follows_same, follows_on, follows_between, front_length, stands_on, last_stands}
+use Rattle.mon_lock.proofs.Growing.{follows_same, follows_on, front_same, front_between, front_length, stands_on, last_stands}
 use Rattle.mon_lock.proofs.Merging.{all_merged, all_unmerged, rising_merged, rising_push}
 
 -- ---- the rule of what is known
@@ -78,16 +78,16 @@ module _ (v w top : FreeMachine) (f : Follows v top) (g : Follows w top) where
 
   -- both fronts are fronts of the longer one, which is one of them
   record IsLonger (x : FreeMachine) : Type 1 where
-    pub first : Follows v x
-    pub second : Follows w x
+    pub first : IsFront v.log x.log
+    pub second : IsFront w.log x.log
     pub same : (P : FreeMachine → Type 0) → P v → P w → P x
 
   is_longer : IsLonger (longer v w)
   is_longer = which (nat_lt (length v.log) (length w.log)) refl
     where
       which : (b : Bool) → nat_lt (length v.log) (length w.log) ≡ b → IsLonger (either b)
-      which true is = record { first = follows_between v w top f g (grind arith); second = follows_same w; same = λ P p q. q }
-      which false is = record { first = follows_same v; second = follows_between w v top g f (grind arith); same = λ P p q. p }
+      which true is = record { first = front_between v.log w.log top.log f.log g.log (grind arith); second = front_same w.log; same = λ P p q. q }
+      which false is = record { first = front_same v.log; second = front_between w.log v.log top.log g.log f.log (grind arith); same = λ P p q. p }
 
 pub known_joined : (history : List Receipt) (top : FreeMachine) (k l : Knowledge) → IsKnown k → IsKnown l → Agrees history top k → Agrees history top l → ((place : ℕ) → times place (merged k.receipts l.receipts) ≤ 1)
     → IsKnown (joined k l)
@@ -95,8 +95,8 @@ known_joined history top k l known other a b once = record {
   always = h.same HoldsAlways known.always other.always;
   seen = h.same (λ x. length x.log ≤ max k.seen l.seen) (let e = known.seen in grind arith) (let e = other.seen in grind arith);
   stand = all_merged (StandsIn (longer k.front l.front).log) k.receipts l.receipts
-      (all_stand_on k.front.log (longer k.front l.front).log k.receipts h.first.log known.stand)
-      (all_stand_on l.front.log (longer k.front l.front).log l.receipts h.second.log other.stand);
+      (all_stand_on k.front.log (longer k.front l.front).log k.receipts h.first known.stand)
+      (all_stand_on l.front.log (longer k.front l.front).log l.receipts h.second other.stand);
   rising = rising_merged k.receipts l.receipts known.rising other.rising once;
 }
   where

@@ -13,6 +13,7 @@ use Rattle.mon_lock.specs.declared.receipt.Receipt.{Receipt}
 use Rattle.mon_lock.specs.declared.view.Stage.TheVariants.{Idle}
 use Rattle.mon_lock.specs.declared.view.View.{View}
 use Rattle.mon_lock.specs.declared.view.Terms.{Terms}
+use Rattle.mon_lock.specs.Growth.{Follows}
 use Rattle.mon_lock.specs.Passes.{IsKnown, newly_known}
 use Rattle.mon_lock.specs.Closing.{times}
 use Rattle.mon_lock.specs.inner.Queueing.{ticket_of, holds, queued, total, AreInTurn, Agrees, Fits, AreApart, IsFree, IsTaken, Kept, merged, one_less, one_part, together, spent, newcomer}
@@ -43,7 +44,7 @@ module _ (key : Terms) where
     words = ap (λ z. 0 ∷ 0 ∷ z ∷ []) count;
     few = few;
     whole = omega arith;
-    made = record { system = ap (λ (z : FreeMachine). z.system) (sym same); extra = ap (λ (z : FreeMachine). z.extra) (sym same); log = ap (λ (z : FreeMachine). z.log) (sym same) ∙ sym (append-nil key.start.value.log); in_turn = omega arith; always = always };
+    made = record { follows = subst (Follows key.start.value) same (follows_same key.start.value); log = ap (λ (z : FreeMachine). z.log) (sym same) ∙ sym (append-nil key.start.value.log); in_turn = omega arith; always = always };
     receipts = λ place. refl;
     each = one;
     queue = record { out = refl; apart = alone; had = λ t ge lt. absurd (omega arith) };

@@ -20,7 +20,7 @@ use Rattle.mon_lock.specs.Passes.{IsKnown, observed}
 use Rattle.mon_lock.specs.Closing.{times}
 use Rattle.mon_lock.specs.inner.Queueing.{view, ticket_of, holds, queued, limit_of, IsHistory, Agrees, Fits, IsQueue, IsFree, IsTaken, Kept}
 use Rattle.mon_lock.specs.inner.Steps.{staged, Drew, has_at, HasTurn, Called, receipt_at, told, Published, Released, Observed}
-use Rattle.mon_lock.proofs.Growing.{last_same}
+use Rattle.mon_lock.proofs.Growing.{follows_on, last_same}
 use Rattle.mon_lock.proofs.Receipts.{times_push, turn_push}
 use Rattle.mon_lock.proofs.Knowing.{known_looked, known_observed, known_receipted, agrees_same, agrees_on, agrees_receipted}
 use Rattle.mon_lock.proofs.Views.{within, total_set, total_same, total_le, each_set, not_true, both_not, queued_le, holder_queued, idle_has, same_waiting, same_holding, apart_set, had_set, queue_same, lock_set, its_turn}
@@ -194,8 +194,7 @@ module _ (key : Terms) where
   history_on : (start : FreeMachine) (history : List Receipt) (limit : ℕ) (top y : FreeMachine) (r : Receipt) → IsHistory start history limit top → Follows top y → HoldsAlways y → y.log ≡ top.log ++ r.entry ∷ [] → r.place ≡ length top.log → limit ≤ r.ticket
       → IsHistory start (history ++ r ∷ []) (r.ticket + 1) y
   history_on start history limit top y r h grew always grown at bound = record {
-    system = grew.system ∙ h.system;
-    extra = grew.extra ∙ h.extra;
+    follows = follows_on start top y h.follows grew;
     log = grown ∙ (ap (λ l. l ++ r.entry ∷ []) h.log ∙ (append_assoc start.log (map entry_of history) (r.entry ∷ []) ∙ ap (λ l. start.log ++ l) (sym (map_push history r))));
     in_turn = turn_push (length start.log) 0 history limit r h.in_turn (let a = ap length h.log in let b = length-append start.log (map entry_of history) in let c = map_length history in omega arith) bound;
     always = always;

@@ -1,17 +1,22 @@
--- What follows from a schedule follows from before.
-use Rattle.std.proofs.Common.{◌++◌, List, ap, ◌∙◌}
-use Rattle.std.proofs.lemmas.List.{append_assoc}
-use Rattle.mon_events.specs.declared.log.Entry.{Entry}
-use Rattle.mon_explicit.specs.Sections.{FreeMachine}
-use Rattle.mon_lock.specs.Growth.{Follows}
-use Rattle.mon_simulate.specs.Schedules.{Extends}
+-- What all workers knew when they ended is so.
+use Rattle.std.proofs.Common.{◌≡◌, ◌↔◌, ◌<◌, Bool, IsTrue, List, [], ◌∷◌, length, sym, subst, arith}
+use Rattle.std.specs.List.{All}
+use Rattle.std.proofs.lemmas.List.Elements.{All-head}
+use Rattle.mon_events.specs.Logs.{IsClosed}
+use Rattle.mon_explicit.specs.Sections.{FreeMachine, HasEnded}
+use Rattle.mon_lock.specs.Closing.{Covers}
+use Rattle.mon_lock.specs.Passes.{PassView}
+use Rattle.mon_pool.specs.inner.Workers.{KnowsClosed}
 
-pub follows_extended : (first middle last : FreeMachine) → Follows first middle → Extends middle last → Follows first last
-follows_extended first middle last follows extends =
-    let before = follows.log in
-    let more = extends.entries in
-    record {
-      system = extends.system ∙ follows.system;
-      extra = extends.extra ∙ follows.extra;
-      log = (before.0 ++ more.0, more.1 ∙ (ap (λ (log : List Entry). log ++ more.0) before.1 ∙ append_assoc first.log before.0 more.0));
-    }
+-- the first pass knew a closed monitor, and a closed monitor takes no further section
+pub is_closed : (top : FreeMachine) (passes : List PassView) → 0 < length passes → All KnowsClosed passes → All (λ pass. Covers top pass.known) passes → IsClosed top.system top.now
+is_closed top [] some closed covers = absurd (omega arith)
+is_closed top (pass ∷ passes) some closed covers =
+    let knew = All-head KnowsClosed pass passes closed in
+    let front = (All-head (λ (p : PassView). Covers top p.known) pass passes covers).front in
+    subst (λ (m : FreeMachine). IsClosed m.system m.now) (sym (front.closed knew)) knew
+
+-- a closed monitor says so, and has ended
+pub has_ended : (top : FreeMachine) (passes : List PassView) (says : Bool) → 0 < length passes → All KnowsClosed passes → All (λ pass. Covers top pass.known) passes
+    → IsTrue says ↔ IsClosed top.system top.now → (IsTrue says → HasEnded top) → HasEnded top
+has_ended top passes says some closed covers is ends = ends (is.1 (is_closed top passes some closed covers))

@@ -1,3 +1,3 @@
-pub mod Following
+pub mod Closing
 pub mod Hiring
 pub mod Crossing

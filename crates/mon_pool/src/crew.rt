@@ -3,7 +3,7 @@
 ghost use Rattle.std.specs.Prelude.{◌≡◌, ◌≤◌, [], vec_capacity, vec_len};
 ghost use Rattle.std.specs.List.{All};
 ghost use Rattle.mon_queue.specs.Tickets.{new_pass};
-ghost use Rattle.mon_pool.specs.inner.Workers.{IsPlace, IsWorker};
+ghost use Rattle.mon_pool.specs.inner.Workers.{HasFinished, IsPlace, IsWorker, KnowsClosed};
 
 use super::shop::Shop;
 use super::worker::Worker;
@@ -27,12 +27,13 @@ pub fn hire(shop: &Shop, places: Vec<Pass>, mut tickets: Vec<QueuePass>, crew: &
     }
 }
 
-/// The workers' passes of the shared monitor.
+/// The workers' passes of the shared monitor, once all have ended.
 pub fn dismiss(shop: &Shop, crew: Vec<Worker>, places: &mut Vec<Pass>)
-    requires own { All (IsWorker shop.now) crew.items }
+    requires own { All (HasFinished shop.now) crew.items }
     requires room { (places.old.items ≡ []) × (vec_len crew ≤ vec_capacity places.old) }
     ensures len { vec_len places.new ≡ vec_len crew }
     ensures own { All (λ pass. pass.lock ≡ shop.now.monitor.lock) places.new.items }
+    ensures closed { All KnowsClosed places.new.items }
 {
     for worker in crew {
         places.push_reserved(worker.into_place(shop));

@@ -1,12 +1,12 @@
 //! A monitor is run by workers.
 
-ghost use Rattle.std.specs.Prelude.{◌≡◌, ◌≤◌, ◌<◌, IfOk, length};
+ghost use Rattle.std.specs.Prelude.{◌≡◌, ◌≤◌, ◌<◌, IfOk, length, vec_len};
 ghost use Rattle.std.specs.List.{All};
 ghost use Rattle.mon_base.specs.Limits.{WORKERS};
 ghost use Rattle.mon_events.specs.Logs.{IsClosed};
 ghost use Rattle.mon_explicit.specs.Sections.{HasEnded, HoldsAlways};
 ghost use Rattle.mon_lock.specs.Growth.{Follows};
-ghost use Rattle.mon_pool.specs.inner.Workers.{IsWorker};
+ghost use Rattle.mon_pool.specs.inner.Workers.{HasFinished, IsWorker, KnowsClosed};
 
 use super::bench::Bench;
 use super::crew::{dismiss, hire};
@@ -15,18 +15,17 @@ use super::shop::Shop;
 use super::worker::{Worker, work};
 use crate::gate::Gate;
 use mon_explicit::FreeMonitor;
-use mon_lock::SharedMonitor;
+use mon_lock::{Pass, SharedMonitor};
 use mon_queue::ReadyQueue;
-use mon_simulate::rounds;
 use std::alloc::{AllocError, Global};
 use std::sync::Wait;
 use std::thread;
 use std::thread::Threads;
 
 /// Runs a monitor by so many workers, from 1 to 16, each in a thread of its own, until it is closed. The gate is called
-/// ahead of each section that a worker tries, with no lock held. The answer is closed for every schedule of the
-/// threads. It takes all memory first, and fails only for want of memory; the monitor is dropped then.
-#[tactic(auto, using(crate::proofs::Following::follows_extended))]
+/// ahead of each section that a worker tries, with no lock held. Workers alone make sections, and each ends when it was
+/// told that the monitor is closed: so the answer is closed for every schedule of the threads, and has no spurious entry
+/// more than before. It takes all memory first, and fails only for want of memory; the monitor is dropped then.
 pub fn run_pool<R: Threads + Wait + Sync, G: Gate>(
     rt: &R,
     alloc: Global,
@@ -40,23 +39,6 @@ pub fn run_pool<R: Threads + Wait + Sync, G: Gate>(
     ensures closed { IfOk result (λ last. IsClosed last.system last.now) }
     ensures ends { IfOk result HasEnded }
     ensures always { IfOk result HoldsAlways }
-{
-    let mut last = share(rt, alloc, free, workers, gate)?;
-    rounds(&mut last);
-    Ok(last)
-}
-
-/// Shares a monitor among workers, and takes it back when they have ended.
-fn share<R: Threads + Wait + Sync, G: Gate>(
-    rt: &R,
-    alloc: Global,
-    free: FreeMonitor,
-    workers: u32,
-    gate: &G,
-) -> Result<FreeMonitor, AllocError>
-    requires some { 1 ≤ workers }
-    requires few { workers ≤ WORKERS }
-    ensures { IfOk result (Follows free) }
 {
     let clients = free.scripts().clients().len() as u32;
     let hints = Hints::open(alloc, clients)?;
@@ -74,15 +56,33 @@ fn share<R: Threads + Wait + Sync, G: Gate>(
     hire(&shop, places, tickets, &mut crew);
     work_all(rt, &shop, gate, crew.as_mut_slice());
     dismiss(&shop, crew, &mut back);
-    Ok(shop.into_monitor().close(back))
+    Ok(end(shop.into_monitor(), back))
 }
 
-/// Each worker works in a thread of its own.
+/// The monitor, once all workers have ended. Each was told that it is closed, and so it is.
+#[tactic(auto, using(crate::proofs::Closing::is_closed, crate::proofs::Closing::has_ended))]
+fn end(monitor: SharedMonitor, places: Vec<Pass>) -> FreeMonitor
+    requires some { 0 < monitor.passes }
+    requires all { vec_len places ≡ monitor.passes }
+    requires own { All (λ pass. pass.lock ≡ monitor.lock) places.items }
+    requires closed { All KnowsClosed places.items }
+    ensures follows { Follows monitor.start result }
+    ensures closed { IsClosed result.system result.now }
+    ensures ends { HasEnded result }
+    ensures always { HoldsAlways result }
+{
+    let last = monitor.close(places);
+    // A reading call says what follows of a closed monitor.
+    let _closed = last.closed();
+    last
+}
+
+/// Each worker works in a thread of its own, until it was told that the monitor is closed.
 fn work_all<R: Threads + Wait + Sync, G: Gate>(rt: &R, shop: &Shop, gate: &G, crew: &mut [Worker])
     requires some { 0 < length crew.old }
     requires own { All (IsWorker shop.now) crew.old }
     ensures len { length crew.new ≡ length crew.old }
-    ensures own { All (IsWorker shop.now) crew.new }
+    ensures own { All (HasFinished shop.now) crew.new }
 {
     let threads = crew.len();
     thread::for_each_mut(
@@ -91,7 +91,7 @@ fn work_all<R: Threads + Wait + Sync, G: Gate>(rt: &R, shop: &Shop, gate: &G, cr
         threads,
         &|_, worker: &mut Worker|
             requires { IsWorker shop.now worker.now }
-            ensures { IsWorker shop.entry.now worker.exit.now }
+            ensures { HasFinished shop.entry.now worker.exit.now }
         { work(rt, shop, gate, worker) },
     );
 }

@@ -1,8 +1,8 @@
 //! A worker, and what it does at its turns.
 
-ghost use Rattle.std.specs.Prelude.{◌≡◌, ◌<◌};
+ghost use Rattle.std.specs.Prelude.{◌≡◌, ◌<◌, IsTrue};
 ghost use Rattle.mon_queue.specs.Tickets.{new_pass};
-ghost use Rattle.mon_pool.specs.inner.Workers.{IsPlace, IsWorker};
+ghost use Rattle.mon_pool.specs.inner.Workers.{HasFinished, IsPlace, IsWorker, KnowsClosed};
 
 use super::shop::Shop;
 use crate::gate::Gate;
@@ -37,11 +37,12 @@ impl Worker {
         }
     }
 
-    /// Its pass of the shared monitor.
+    /// Its pass of the shared monitor, once it has ended.
     #[tactic(auto, using(crate::proofs::Hiring::has_place))]
     pub fn into_place(self, shop: &Shop) -> Pass
-        requires own { IsWorker shop.now self }
+        requires own { HasFinished shop.now self }
         ensures own { result.lock ≡ shop.now.monitor.lock }
+        ensures closed { KnowsClosed result }
     {
         let _shop = shop;
         let Worker {
@@ -66,10 +67,11 @@ enum Turn {
     Crowded,
 }
 
-/// Makes sections until the monitor is closed.
+/// Makes sections until it is told that the monitor is closed. Nothing else ends it.
 pub fn work<R: Threads + Wait + Sync, G: Gate>(rt: &R, shop: &Shop, gate: &G, worker: &mut Worker)
     requires own { IsWorker shop.now worker.old }
     ensures own { IsWorker shop.now worker.new }
+    ensures closed { KnowsClosed worker.new.place }
 {
     let backoff = Backoff::new();
     let mut idle = 0u32;
@@ -190,6 +192,7 @@ fn try_section<R: Wait>(rt: &R, shop: &Shop, place: &mut Pass, client: u32) -> b
 fn ends<R: Wait>(rt: &R, shop: &Shop, place: &mut Pass) -> bool
     requires own { IsPlace shop.now place.old }
     ensures own { IsPlace shop.now place.new }
+    ensures closed { IsTrue result → KnowsClosed place.new }
 {
     shop.monitor.is_closed(rt, place)
 }

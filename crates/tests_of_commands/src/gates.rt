@@ -1,5 +1,5 @@
 //! Runs whose workers pass a gate that holds some of its calls until others have come: only workers that run side by side,
-//! take clients of any number, and are as many as were asked for come through.
+//! take clients of any number, are as many as were asked for, and each make sections come through.
 
 use super::asking::{Call, answers_through, asked, begins_and_ends};
 use expresso::Status;
@@ -14,11 +14,12 @@ use std::thread::Threads;
 /// The most turns for which a call is held.
 const MOST_TURNS: u64 = 10_000_000;
 
-/// Calls that were held, and those among them that were held in vain.
+/// Calls that were held, those among them that were held in vain, and the most sections that a call was told of.
 #[derive(Drop)]
 struct Holds {
     begun: AtomicU64,
     in_vain: AtomicU64,
+    most_sections: AtomicU64,
 }
 
 impl Holds {
@@ -26,7 +27,13 @@ impl Holds {
         Holds {
             begun: AtomicU64::new(0),
             in_vain: AtomicU64::new(0),
+            most_sections: AtomicU64::new(0),
         }
+    }
+
+    /// A call is told of so many sections of its worker.
+    fn told(&self, sections: u64) {
+        self.most_sections.fetch_max(sections, Ordering::SeqCst);
     }
 
     /// Holds a call until the count has come to so much.
@@ -41,9 +48,11 @@ impl Holds {
         self.in_vain.fetch_add(1, Ordering::SeqCst);
     }
 
-    /// So many holds began, and none was in vain.
+    /// So many holds began, none was in vain, and some worker told of a section.
     fn all_ended(&self, begun: u64) -> bool {
-        self.begun.load(Ordering::SeqCst) == begun && self.in_vain.load(Ordering::SeqCst) == 0
+        self.begun.load(Ordering::SeqCst) == begun
+            && self.in_vain.load(Ordering::SeqCst) == 0
+            && self.most_sections.load(Ordering::SeqCst) > 0
     }
 }
 
@@ -74,7 +83,7 @@ impl Meeting {
 impl Gate for Meeting {
     fn before<R: Threads + Wait + Sync>(&self, rt: &R, client: u32, sections: u64) {
         let _rt = rt;
-        let _sections = sections;
+        self.holds.told(sections);
         if client == 0 {
             self.meet(&self.first, &self.second);
         } else {
@@ -108,7 +117,7 @@ struct Waiting {
 impl Gate for Waiting {
     fn before<R: Threads + Wait + Sync>(&self, rt: &R, client: u32, sections: u64) {
         let _rt = rt;
-        let _sections = sections;
+        self.holds.told(sections);
         if client == 0 {
             self.first.fetch_add(1, Ordering::SeqCst);
         } else if self.second.fetch_add(1, Ordering::SeqCst) == 0 {
@@ -167,7 +176,7 @@ impl Others {
 impl Gate for Others {
     fn before<R: Threads + Wait + Sync>(&self, rt: &R, client: u32, sections: u64) {
         let _rt = rt;
-        let _sections = sections;
+        self.holds.told(sections);
         match client {
             0 => {
                 if self.first.fetch_add(1, Ordering::SeqCst) == 0 {
@@ -196,11 +205,81 @@ fn clients_are_not_shared_out_by_their_numbers(rt: HostRuntime) -> Result<(), Fa
     Ok(())
 }
 
-/// Holds each worker's call ahead of its first section until 16 such calls have begun, and counts all calls.
+/// Holds each worker's call after its first section until both have come so far.
+#[derive(Drop)]
+struct Makers {
+    after_one: AtomicU64,
+    holds: Holds,
+}
+
+impl Gate for Makers {
+    fn before<R: Threads + Wait + Sync>(&self, rt: &R, client: u32, sections: u64) {
+        let _rt = rt;
+        let _client = client;
+        self.holds.told(sections);
+        if sections == 1 {
+            self.after_one.fetch_add(1, Ordering::SeqCst);
+            self.holds.until(&self.after_one, 2);
+        }
+    }
+}
+
+#[test]
+fn both_of_two_workers_make_sections(rt: HostRuntime) -> Result<(), Fail> {
+    let gate = Makers {
+        after_one: AtomicU64::new(0),
+        holds: Holds::new(),
+    };
+    let clients =
+        b"client A { add(); add(); } client B { add(); add(); } client C { add(); add(); }";
+    let end = b"\ndone\nstate count=6\n";
+    begins_and_ends(&rt, by_two(LEVEL, clients), &gate, Status::Done, (b"", end))?;
+    assert!(rt; gate.holds.begun.load(Ordering::SeqCst) >= 2);
+    assert_eq!(rt; gate.holds.in_vain.load(Ordering::SeqCst), 0);
+    Ok(())
+}
+
+/// Keeps the number of sections that the last call was told, and counts calls that were told another than that or one more.
+#[derive(Drop)]
+struct Counting {
+    last: AtomicU64,
+    wrong: AtomicU64,
+}
+
+impl Gate for Counting {
+    fn before<R: Threads + Wait + Sync>(&self, rt: &R, client: u32, sections: u64) {
+        let _rt = rt;
+        let _client = client;
+        let last = self.last.swap(sections, Ordering::SeqCst);
+        if sections != last && sections != last.saturating_add(1) {
+            self.wrong.fetch_add(1, Ordering::SeqCst);
+        }
+    }
+}
+
+#[test]
+fn one_worker_tells_how_many_sections_it_has_made(rt: HostRuntime) -> Result<(), Fail> {
+    let gate = Counting {
+        last: AtomicU64::new(0),
+        wrong: AtomicU64::new(0),
+    };
+    let words = ["expresso", "run", "m.mon", "c.cl", "--workers", "1"];
+    let clients = b"client A { add(); } client B { add(); add(); }";
+    let alone = asked(words.as_slice(), LEVEL, clients);
+    let end = b"\ndone\nstate count=3\n";
+    begins_and_ends(&rt, alone, &gate, Status::Done, (b"", end))?;
+    assert_eq!(rt; gate.last.load(Ordering::SeqCst), 3);
+    assert_eq!(rt; gate.wrong.load(Ordering::SeqCst), 0);
+    Ok(())
+}
+
+/// Holds each worker's call ahead of its first section until 16 such calls have begun, and each worker's call after its
+/// first section until each worker has made one. Counts all calls.
 #[derive(Drop)]
 struct Crowd {
     calls: AtomicU64,
     starting: AtomicU64,
+    after_one: AtomicU64,
     holds: Holds,
 }
 
@@ -215,6 +294,9 @@ impl Gate for Crowd {
         if sections == 0 {
             self.starting.fetch_add(1, Ordering::SeqCst);
             self.holds.until(&self.starting, CROWD);
+        } else if sections == 1 {
+            self.after_one.fetch_add(1, Ordering::SeqCst);
+            self.holds.until(&self.after_one, CROWD);
         }
     }
 }
@@ -224,13 +306,14 @@ fn sixteen_workers_run_the_large_input(rt: HostRuntime) -> Result<(), Fail> {
     let gate = Crowd {
         calls: AtomicU64::new(0),
         starting: AtomicU64::new(0),
+        after_one: AtomicU64::new(0),
         holds: Holds::new(),
     };
     let words = ["expresso", "stress", "3", "--workers", "16"];
     let stress = asked(words.as_slice(), b"", b"");
     let summary = b"calls 16384\ndone\nstate count=0\n";
     answers_through(&rt, stress, &gate, Status::Done, summary)?;
-    assert!(rt; gate.holds.begun.load(Ordering::SeqCst) >= CROWD);
+    assert!(rt; gate.holds.begun.load(Ordering::SeqCst) >= 2 * CROWD);
     assert_eq!(rt; gate.holds.in_vain.load(Ordering::SeqCst), 0);
     assert!(rt; gate.calls.load(Ordering::SeqCst) >= 16_384);
     Ok(())

@@ -59,8 +59,7 @@ AreInTurn place ticket (receipt ∷ receipts) last = (receipt.place ≡ place) �
 
 -- The monitor has come from the start by the sections of the history, whose tickets are below the limit.
 pub record IsHistory (start : FreeMachine) (history : List Receipt) (limit : ℕ) (top : FreeMachine) : Type 0 where
-  pub system : top.system ≡ start.system
-  pub extra : top.extra ≡ start.extra
+  pub follows : Follows start top
   pub log : top.log ≡ start.log ++ map (λ receipt. receipt.entry) history
   pub in_turn : AreInTurn (length start.log) 0 history limit
   pub always : HoldsAlways top

@@ -1,5 +1,6 @@
--- What a worker keeps between two turns.
+-- What a worker keeps between two turns, and what it knows when it ends.
 use Rattle.std.specs.Prelude.{◌≡◌, []}
+use Rattle.mon_events.specs.Logs.{IsClosed}
 use Rattle.mon_lock.specs.Passes.{PassView}
 use Rattle.mon_pool.specs.declared.shop.Shop.{Shop}
 use Rattle.mon_pool.specs.declared.worker.Worker.{Worker}
@@ -14,3 +15,11 @@ pub record IsWorker (shop : Shop) (worker : Worker) : Type 0 where
   pub place : IsPlace shop worker.place
   pub queue : worker.tickets.queue ≡ shop.queue
   pub idle : worker.tickets.tickets ≡ []
+
+-- the monitor was closed when the pass last held the lock
+abbrev pub KnowsClosed : PassView → Type 0
+KnowsClosed pass = IsClosed pass.known.front.system pass.known.front.now
+
+-- a worker that ends was told that the monitor is closed
+abbrev pub HasFinished : Shop → Worker → Type 0
+HasFinished shop worker = IsWorker shop worker × KnowsClosed worker.place

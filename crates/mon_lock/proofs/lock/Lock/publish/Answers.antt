@@ -1,5 +1,6 @@
 use Rattle.std.proofs.Common.{[], ◌∷◌, length, rules, arith, ap, ◌∙◌, length-append}
 use Rattle.mon_lock.specs.Growth.{Follows}
+use Rattle.mon_lock.proofs.Readiness.{section_follows}
 use Rattle.mon_lock.proofs.Stepping.{publishes}
 use Rattle.mon_lock.proofs.lock.Lock.publish.Goals as goal
 
@@ -10,7 +11,7 @@ store-requires c =
     let front = c.args.place.now.me.0.known.front in
     let made = y.3 in
     let entry = c.args.section.entry in
-    let grew : Follows front y.0 = record { system = made.appends.system; extra = made.appends.extra; log = (entry ∷ [], made.appends.log) } in
+    let grew : Follows front y.0 = section_follows _ front y.0 c.args.section made in
     let longer = ap length made.appends.log ∙ length-append front.log (entry ∷ []) in
     let at = made.place in
     (search rules, search rules, publishes _ _ _ _ t.0 y.0 entry _ t.1 y.1 made.appends.log grew y.2 (omega arith))
