@@ -1,4 +1,6 @@
 pub mod Choosing
 pub mod Closing
+pub mod OneLog
+pub mod OneSection
 pub mod Rounding
 pub mod Turning
