@@ -114,9 +114,14 @@ one_of_tree tree a b p q = same_parts a b (p.name ∙ sym q.name) (p.fields ∙ 
 one_typed : (s t : MonitorTree) (a b : MonitorParts) → s ≡ t → IsTyped s a → IsTyped t b → a ≡ b
 one_typed s t a b same p q = one_of_tree t a b (subst (λ (tree : MonitorTree). IsTyped tree a) same p) q
 
+-- bytes have one tree at most
+pub one_tree_of : OneSpelling → OneTree → (bytes : List ℕ) (s t : MonitorTree) (a b : MonitorParts) → IsAccepted bytes s a → IsAccepted bytes t b → s ≡ t
+one_tree_of one_spelling one_tree bytes s t a b p q =
+    let tokens = one_spelling bytes p.tokens q.tokens p.spelled q.spelled in
+    let derived : Derives bytes q.tokens s = subst (λ (t : List Token). Derives bytes t s) tokens p.derived in
+    one_tree bytes q.tokens s t derived q.derived
+
 -- bytes stand for one monitor at most
 pub one_monitor : OneSpelling → OneTree → (bytes : List ℕ) (s t : MonitorTree) (a b : MonitorParts) → IsAccepted bytes s a → IsAccepted bytes t b → a ≡ b
 one_monitor one_spelling one_tree bytes s t a b p q =
-    let tokens = one_spelling bytes p.tokens q.tokens p.spelled q.spelled in
-    let derived : Derives bytes q.tokens s = subst (λ (t : List Token). Derives bytes t s) tokens p.derived in
-    one_typed s t a b (one_tree bytes q.tokens s t derived q.derived) p.typed q.typed
+    one_typed s t a b (one_tree_of one_spelling one_tree bytes s t a b p q) p.typed q.typed

@@ -6,13 +6,15 @@
 //! the clients by a schedule in place of threads, and `stress` runs a large input.
 //!
 //! Its clause `headline` is `specs/Headline`: what `run` promises. `specs/Answers` says what each command prints, and
-//! `specs/Exit` which number stands for a [`Status`].
+//! `specs/Exit` which number stands for a [`Status`]. That bytes stand for one monitor and one list of clients are the
+//! laws of `laws`.
 #![tactic(auto)]
 
 mod check;
 mod client_file;
 mod compile;
 mod input;
+mod laws;
 mod monitor_file;
 mod placement;
 mod program;
@@ -26,5 +28,6 @@ mod text;
 mod turns;
 mod work;
 
+pub use laws::{accepts_one_client_list, accepts_one_monitor};
 pub use program::expresso;
 pub use status::{Status, exit_status};

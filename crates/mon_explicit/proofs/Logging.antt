@@ -248,7 +248,7 @@ keeps_early log clients since keeps client = by_test (nat_le (length since) clie
 
 pub opened_kept : (monitor : MonitorParts) (plan : Plan) (clients : List Client) (extra : ℕ) (machine : Machine) (capacity : ℕ) (log : List Entry) (rings : List (List ℕ))
     → IsMonitor monitor → AreClients clients → FitsScripts monitor clients → FitsPlan monitor plan → extra ≤ MOST_SPURIOUS → machine ≡ opened monitor plan clients → log ≡ [] → rings ≡ replicate (length monitor.conditions + 1) []
-    → sum_by (λ client. length client.calls) clients * length clients + 2 * extra ≤ capacity → IsKept (free_of machine log extra) capacity rings 0
+    → sum_by (λ client. length client.calls) clients * length clients + 2 * extra ≡ capacity → IsKept (free_of machine log extra) capacity rings 0
 opened_kept monitor plan clients extra machine capacity log rings rule few scripts fits most is empty_log empty_rings room =
     subst (λ (one : Machine). IsKept (free_of one log extra) capacity rings 0) (sym is)
     (subst (λ (entries : List Entry). IsKept (free_of (opened monitor plan clients) entries extra) capacity rings 0) (sym empty_log)
@@ -304,7 +304,7 @@ pub sectioned_kept : (before : Machine) (log : List Entry) (extra capacity clien
 sectioned_kept before log extra capacity client rings spurious next next_rings entry kept within makes = record {
   always = always (free_of next (log ++ entry ∷ []) extra) (subst IsSystem (sym made.system) kept.always.rule.is) legal settled (omega (arith, none_more log entry not_spurious, kept.always.rule.spurious)) kept.always.rule.extra;
   settled = settled.none_enters;
-  room = subst (λ (system : System). room_of (record { system = system; now = next.now; log = log ++ entry ∷ []; extra = extra }) ≤ capacity) (sym made.system) kept.room;
+  room = subst (λ (system : System). room_of (record { system = system; now = next.now; log = log ++ entry ∷ []; extra = extra }) ≡ capacity) (sym made.system) kept.room;
   since = since_after kept.since entry (length log);
   waits = subst (λ (system : System). KeepsWaits (log ++ entry ∷ []) system.clients (since_after kept.since entry (length log))) (sym made.system)
       (keeps_after log before.system.clients kept.since entry kept.waits (omega (arith, within, kept.waits.one_each, made.who)));
@@ -352,7 +352,7 @@ pub woken_kept : (before : Machine) (log : List Entry) (extra capacity client ca
 woken_kept before log extra capacity client call condition rings spurious next kept left waits told within happened = record {
   always = always (free_of next (log ++ entry ∷ []) extra) (subst IsSystem (sym happened.0) kept.always.rule.is) legal settled (omega (arith, one_more log entry refl, kept.counted, left)) kept.always.rule.extra;
   settled = settled.none_enters;
-  room = subst (λ (system : System). room_of (record { system = system; now = next.now; log = log ++ entry ∷ []; extra = extra }) ≤ capacity) (sym happened.0) kept.room;
+  room = subst (λ (system : System). room_of (record { system = system; now = next.now; log = log ++ entry ∷ []; extra = extra }) ≡ capacity) (sym happened.0) kept.room;
   since = kept.since;
   waits = subst (λ (system : System). KeepsWaits (log ++ entry ∷ []) system.clients kept.since) (sym happened.0)
       (keeps_after log before.system.clients kept.since entry kept.waits (omega (arith, within, kept.waits.one_each)));

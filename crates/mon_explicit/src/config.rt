@@ -4,6 +4,7 @@ ghost use Rattle.std.specs.Prelude.{◌≡◌, ◌<◌, ◌↔◌, IfErr, IfOk, 
 ghost use Rattle.std.specs.Prelude.{length, map};
 ghost use Rattle.std.specs.Prelude.{slice_get};
 ghost use Rattle.mon_implicit.specs.Scripted.{FitsScripts};
+ghost use Rattle.mon_events.specs.Logs.{all_calls};
 ghost use Rattle.mon_events.specs.Plans.{FitsPlan};
 ghost use Rattle.mon_explicit.specs.Machines.{Happened, IsMachine, KeepsWakeUps, Steps};
 ghost use Rattle.mon_explicit.specs.Machines.{opened, stage_of};
@@ -65,7 +66,7 @@ impl Model for Config {
 
 impl Config {
     /// The configuration at the start: no owner, no commits, and every client idle at its first call. It makes room
-    /// for each commit, so no later call takes memory. It fails only for want of memory.
+    /// for a commit of each call and no more, so no later call takes memory. It fails only for want of memory.
     pub fn open(
         alloc: Global,
         monitor: Monitor,
@@ -75,6 +76,7 @@ impl Config {
         requires scripts { FitsScripts monitor scripts }
         requires plan { FitsPlan monitor plan }
         ensures opened { IfOk result (λ config. config ≡ opened monitor plan scripts) }
+        ensures rule { IfOk result IsMachine }
         ensures wakes { IfOk result KeepsWakeUps }
     {
         let config = Config::starting(alloc, monitor, plan, scripts)?;
@@ -114,6 +116,7 @@ impl Config {
     /// lawful plan no wake-up is lost, whatever events come. It takes no memory.
     pub fn step(&mut self, event: Event) -> Result<(), NotEnabled>
         ensures steps { Steps event self.old self.new result }
+        ensures rule { IsMachine self.new }
         ensures wakes { KeepsWakeUps self.new }
     {
         let outcome = self.make(event);
@@ -152,8 +155,10 @@ impl Config {
     /// The stage of a client.
     pub fn stage(&self, client: u32) -> Stage
         requires { client < length self.now.system.clients }
-        ensures { IsSomeAnd (slice_get self.now.now.standings client)
+        ensures stage { IsSomeAnd (slice_get self.now.now.standings client)
             (λ standing. result ≡ stage_of standing.phase) }
+        ensures rule { IsMachine self.now }
+        ensures wakes { KeepsWakeUps self.now }
     {
         match self.positions[client as usize].doing {
             Doing::Idle => Stage::Idle,
@@ -174,6 +179,15 @@ impl Config {
         ensures wakes { KeepsWakeUps self.now }
     {
         &self.commits
+    }
+
+    /// For how many commits there is room: one of each call.
+    pub fn room(&self) -> usize
+        ensures room { result ≡ all_calls self.now.system }
+        ensures rule { IsMachine self.now }
+        ensures wakes { KeepsWakeUps self.now }
+    {
+        self.commits.capacity()
     }
 
     /// The state.

@@ -7,7 +7,7 @@ ghost use Rattle.mon_events.specs.Plans.{FitsPlan};
 ghost use Rattle.mon_events.specs.Logs.{IsClosed};
 ghost use Rattle.mon_explicit.specs.Machines.{stage_of};
 ghost use Rattle.mon_explicit.specs.Sections.{MOST_SPURIOUS, HoldsAlways, HasEnded, Sections};
-ghost use Rattle.mon_explicit.specs.Sections.{WakesByNothing, is_ready, opened_free};
+ghost use Rattle.mon_explicit.specs.Sections.{WakesByNothing, is_ready, opened_free, room_of};
 ghost use Rattle.mon_explicit.specs.inner.Waiting.{stage_condition};
 
 use super::calls::all_calls;
@@ -56,8 +56,8 @@ impl Model for FreeMonitor {
 
 impl FreeMonitor {
     /// The monitor at the start: an empty log, and every client idle at its first call. The log may have so many
-    /// spurious entries, at most 16,384. It makes room for the whole log, so no later call takes memory. It fails
-    /// only for want of memory.
+    /// spurious entries, at most 16,384. It makes room for the longest log and no more, so no later call takes
+    /// memory. It fails only for want of memory.
     pub fn open(
         alloc: Global,
         monitor: Monitor,
@@ -237,6 +237,14 @@ impl FreeMonitor {
         ensures always { HoldsAlways self.now }
     {
         self.config.scripts()
+    }
+
+    /// For how many entries there is room: exactly the most that its log may have.
+    pub fn room(&self) -> usize
+        ensures room { result ≡ room_of self.now }
+        ensures always { HoldsAlways self.now }
+    {
+        self.log.capacity()
     }
 
     /// How many spurious entries its log may have.

@@ -1,5 +1,5 @@
 -- How the code keeps a configuration.
-use Rattle.std.specs.Prelude.{◌≡◌, ◌==◌, ◌⊎◌, Bool, true, false, not, ◌||◌, if◌then◌else◌, ℕ, ◌+◌, ◌-◌, ◌≤◌, List, [], ◌∷◌, map, drop, length, slice_get, Option, Some}
+use Rattle.std.specs.Prelude.{◌≡◌, ◌==◌, ◌⊎◌, Bool, true, false, not, ◌||◌, if◌then◌else◌, ℕ, ◌+◌, ◌-◌, ◌≤◌, List, [], ◌∷◌, map, sum_by, drop, length, slice_get, Option, Some}
 use Rattle.mon_base.specs.declared.value.Value.{Value}
 use Rattle.mon_monitor.specs.MonitorParts.{MonitorParts}
 use Rattle.mon_implicit.specs.declared.commit.Commit.{Commit}
@@ -65,8 +65,9 @@ calls_left [] positions = 0
 calls_left (client ∷ clients) [] = 0
 calls_left (client ∷ clients) (one ∷ positions) = (length client.calls - done_in one) + calls_left clients positions
 
+-- there is room for a commit of each call, and no more; those that are left find theirs
 abbrev pub HasRoom : List Client → ℕ → ℕ → List Position → Type 0
-HasRoom clients commits capacity positions = commits + calls_left clients positions ≤ capacity
+HasRoom clients commits capacity positions = (commits + calls_left clients positions ≤ capacity) × (capacity ≡ sum_by (λ client. length client.calls) clients)
 
 -- ---- notes
 

@@ -265,7 +265,7 @@ free_of machine log extra = record { system = machine.system; now = machine.now;
 pub record IsKept (machine : FreeMachine) (capacity : ℕ) (rings : List (List ℕ)) (spurious : ℕ) : Type 0 where
   pub always : HoldsAlways machine
   pub settled : NoneEnters machine.now.standings
-  pub room : room_of machine ≤ capacity
+  pub room : room_of machine ≡ capacity
   pub since : List ℕ
   pub waits : KeepsWaits machine.log machine.system.clients since
   pub lines : AreLines since machine.system machine.now.standings rings

@@ -82,7 +82,7 @@ push_reserved-requires c =
     let left = left_here i.monitor i.plan i.scripts i.state i.owner i.commits.items i.positions.items c.args.client c.in-Some.past c.calls.result.now c.self.invariant.0 here c.calls.ensures.calls in
     let falls = left_falls i.scripts i.positions.items c.args.client (record { past = c.in-Some.past; doing = doings.Inside }) (record { past = c.in-Some.past + 1; doing = doings.Inside }) here
     (omega (arith, left, ap length c.calls.ensures.calls)) (omega arith) in
-    omega (arith, falls, c.self.invariant.1)
+    omega (arith, falls, c.self.invariant.1.0)
 
 pub index_mut-requires : goal.index_mut-requires
 index_mut-requires c = omega (arith, c.deref.ensures.len, position_within c.deref.result.now c.args.client c.in-Some.past doings.Inside c.in-Some.ensures)
@@ -102,7 +102,7 @@ invariant_of-self c =
       event_keeps_machine (events.Run c.args.client) before _ c.self.invariant.0
           (runs i.monitor i.plan i.scripts i.state i.owner i.commits.items i.positions.items c.args.client c.in-Some.past c.first_block-block.result c.waited_condition-condition.result c.index-calls-past.result
           c.run_block-reply.result c.run_block-reply.new.state here at_call step c.first_block-block.ensures.block c.waited_condition-condition.ensures),
-      omega (arith, falls, c.self.invariant.1),
+      (omega (arith, falls, c.self.invariant.1.0), c.self.invariant.1.1),
     )
 
 pub returns-clause-steps : goal.returns-clause-steps

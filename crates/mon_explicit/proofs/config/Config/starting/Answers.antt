@@ -1,4 +1,4 @@
-use Rattle.std.proofs.Common.{ap, sym, subst, arith}
+use Rattle.std.proofs.Common.{ap, sym, subst, ◌∙◌, arith}
 use Rattle.mon_explicit.specs.Machines.{IsMachine}
 use Rattle.mon_explicit.specs.inner.Positions.{calls_left}
 use Rattle.mon_explicit.proofs.Opening.{opened_is, opened_meets, all_left}
@@ -12,7 +12,7 @@ invariant_of-result c =
       subst IsMachine
           (sym (opened_is c.args.monitor c.args.plan c.args.scripts c.start-state.result c.in_ok-commits.commits.items c.in_ok-positions.positions.items c.start-state.ensures.start c.in_ok-commits.ensures.items idle))
           (opened_meets c.args.monitor c.args.plan c.args.scripts rule c.clients-clients.ensures.rule c.requires.scripts c.requires.plan),
-      omega (arith, all_left c.args.scripts, c.in_ok-commits.ensures.len, c.in_ok-commits.ensures.capacity, room, ap (calls_left c.args.scripts) idle),
+      (omega (arith, all_left c.args.scripts, c.in_ok-commits.ensures.len, c.in_ok-commits.ensures.exact, room, ap (calls_left c.args.scripts) idle), c.in_ok-commits.ensures.exact ∙ room),
     )
 
 pub returns : goal.returns

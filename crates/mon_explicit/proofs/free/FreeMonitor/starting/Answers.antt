@@ -7,4 +7,4 @@ invariant_of-result c =
     let rule = rw c.monitor.view_is at c.monitor.invariant in
     opened_kept c.args.monitor c.args.plan c.args.scripts c.args.extra c.in_ok-config.config _ c.in_ok-log.log.items c.in_ok-rings.rings rule c.clients.ensures.rule c.requires.scripts c.requires.plan c.requires.extra
     c.in_ok-config.ensures.opened c.in_ok-log.ensures.items (rw c.conditions.ensures.conditions at c.in_ok-rings.ensures)
-    (omega (arith, c.in_ok-log.ensures.capacity, rw c.clients.ensures.clients at c.room.ensures))
+    (omega (arith, c.in_ok-log.ensures.exact, rw c.clients.ensures.clients at c.room.ensures))

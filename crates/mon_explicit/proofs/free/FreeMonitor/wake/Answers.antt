@@ -12,34 +12,34 @@ pub returns-in_default : goal.returns-in_default
 returns-in_default c =
     let i = c.self.inside in
     rw (← c.self.view_is) (record {
-      why = (c.len-entries.ensures ∙ i.log.ok.0, λ waits. stage_denies i.config.now.standings c.args.client c.stage.result c.stage.ensures (sym c.waited.ensures ∙ c.in_default.is) waits.0 waits.1 waits.2);
+      why = (c.len-entries.ensures ∙ i.log.ok.0, λ waits. stage_denies i.config.now.standings c.args.client c.stage.result c.stage.ensures.stage (sym c.waited.ensures ∙ c.in_default.is) waits.0 waits.1 waits.2);
       same = refl;
     })
 
 pub returns-then-self : goal.returns-then-self
 returns-then-self c =
     let i = c.self.inside in
-    let waits = stage_tells i.config.now.standings c.args.client c.in-Some.condition c.stage.result c.stage.ensures (sym c.in-Some.ensures) in
+    let waits = stage_tells i.config.now.standings c.args.client c.in-Some.condition c.stage.result c.stage.ensures.stage (sym c.in-Some.ensures) in
     rw (← c.self.view_is) (record { why = (omega (arith, c.if-self.true, c.self.invariant.counted, c.self.invariant.always.rule.spurious), (waits.0, c.in-Some.condition, waits.1)); same = refl })
 
 pub overflow_add-call : goal.overflow_add-call
 overflow_add-call c =
     let i = c.self.inside in
-    let waits = stage_tells i.config.now.standings c.args.client c.in-Some.condition c.stage.result c.stage.ensures (sym c.in-Some.ensures) in
+    let waits = stage_tells i.config.now.standings c.args.client c.in-Some.condition c.stage.result c.stage.ensures.stage (sym c.in-Some.ensures) in
     let same = past_read i.config.now.standings c.args.client waits.0 c.past-call.result (Waiting c.in-Some.condition) waits.1 c.past-call.ensures.past in
     omega (arith, same, past_small i.config c.args.client waits.0 (Waiting c.in-Some.condition) c.past-call.ensures.rule waits.1 refl)
 
 pub unreachable-requires : goal.unreachable-requires
 unreachable-requires c =
     let i = c.self.inside in
-    let waits = stage_tells i.config.now.standings c.args.client c.in-Some.condition c.stage.result c.stage.ensures (sym c.in-Some.ensures) in
+    let waits = stage_tells i.config.now.standings c.args.client c.in-Some.condition c.stage.result c.stage.ensures.stage (sym c.in-Some.ensures) in
     can_wake i.config c.args.client c.in-Some.condition waits (refused_when (events.Spurious c.args.client) i.config c.spurious.new.self c.spurious.result (sym c.is_err.ensures.value ∙ c.if-is_err.true) c.spurious.ensures)
 
 pub push_reserved-requires : goal.push_reserved-requires
 push_reserved-requires c =
     let i = c.self.inside in
     let within : c.args.client < length i.config.system.clients = omega (arith, c.requires, ap (λ (m : FreeMachine). length m.system.clients) c.self.view_is) in
-    let waits = stage_tells i.config.now.standings c.args.client c.in-Some.condition c.stage.result c.stage.ensures (sym c.in-Some.ensures) in
+    let waits = stage_tells i.config.now.standings c.args.client c.in-Some.condition c.stage.result c.stage.ensures.stage (sym c.in-Some.ensures) in
     let happened = happened_when (events.Spurious c.args.client) i.config c.spurious.new.self c.spurious.result (sym c.is_err.ensures.value ∙ c.if-is_err.false) c.spurious.ensures in
     omega (
       arith,
@@ -51,7 +51,7 @@ pub invariant_of-self : goal.invariant_of-self
 invariant_of-self c =
     let i = c.self.inside in
     let within : c.args.client < length i.config.system.clients = omega (arith, c.requires, ap (λ (m : FreeMachine). length m.system.clients) c.self.view_is) in
-    let waits = stage_tells i.config.now.standings c.args.client c.in-Some.condition c.stage.result c.stage.ensures (sym c.in-Some.ensures) in
+    let waits = stage_tells i.config.now.standings c.args.client c.in-Some.condition c.stage.result c.stage.ensures.stage (sym c.in-Some.ensures) in
     let happened = happened_when (events.Spurious c.args.client) i.config c.spurious.new.self c.spurious.result (sym c.is_err.ensures.value ∙ c.if-is_err.false) c.spurious.ensures in
     rw (c.push_reserved.ensures.items, c.push_reserved.ensures.capacity, c.remove.ensures)
     (woken_kept i.config i.log.items i.extra i.log.cap c.args.client c.past-call.result c.in-Some.condition i.rings i.spurious c.spurious.new.self c.self.invariant c.if-self.false waits c.past-call.ensures.past within happened)

@@ -1,0 +1,32 @@
+//! What follows from the definitions alone.
+
+ghost use Rattle.std.specs.Prelude.{◌≡◌, ℕ, List};
+ghost use Rattle.mon_tree.specs.declared.tree.MonitorTree.{MonitorTree};
+ghost use Rattle.mon_monitor.specs.MonitorParts.{MonitorParts};
+ghost use Rattle.mon_implicit.specs.declared.script.Client.{Client};
+ghost use Rattle.expresso.specs.MonitorFiles.{IsAccepted};
+ghost use Rattle.expresso.specs.ClientFiles.{AreAccepted};
+
+use mon_syntax::derives_one_tree;
+use mon_tokens::one_spelling;
+
+/// Bytes are accepted as one tree at most, and as one monitor.
+pub fn accepts_one_monitor()
+    ensures trees { (bytes : List ℕ) (tree other : MonitorTree) (monitor also : MonitorParts)
+        → IsAccepted bytes tree monitor → IsAccepted bytes other also → tree ≡ other }
+    ensures monitors { (bytes : List ℕ) (tree other : MonitorTree) (monitor also : MonitorParts)
+        → IsAccepted bytes tree monitor → IsAccepted bytes other also → monitor ≡ also }
+{
+    one_spelling();
+    derives_one_tree();
+}
+
+/// Of one monitor's clients, bytes are accepted as one list at most.
+pub fn accepts_one_client_list()
+    ensures { (bytes : List ℕ) (monitor : MonitorParts) (clients others : List Client)
+        → AreAccepted bytes monitor clients → AreAccepted bytes monitor others
+        → clients ≡ others }
+{
+    one_spelling();
+    derives_one_tree();
+}
