@@ -62,9 +62,10 @@ pub fn none_needed(
     ensures post { IfOk result (λ it. IsTrue (can_negate it.post)) }
 {
     let guard = waiting_guard(alloc, monitor, condition)?;
+    let waits = negate(alloc, &guard)?;
     let mut hyps = formulas_of(alloc, kept)?;
     hyps.push(block_guard(alloc, monitor, block)?)?;
-    hyps.push(negate(alloc, &guard)?)?;
+    hyps.push(waits)?;
     Ok(Query {
         hyps: Seq::of(hyps),
         block,

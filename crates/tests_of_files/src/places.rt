@@ -40,9 +40,10 @@ fn a_fault_stands_at_the_first_token_that_does_not_fit(rt: HostRuntime) {
 }
 
 /// Texts that are no client files, and where each stops to be one.
-const CLIENTS: [(&[u8], u32); 8] = [
+const CLIENTS: [(&[u8], u32); 9] = [
     (b"client A { put() }", 17),
     (b"client A { put(3 4); }", 17),
+    (b"client A { put(3 + 4); }", 17),
     (b"client A { put(3, ); }", 18),
     (b"client A { put(-true); }", 16),
     (b"client A { put(n); }", 15),

@@ -14,6 +14,8 @@ mod machine;
 #[cfg(test)]
 mod plans;
 #[cfg(test)]
+mod room;
+#[cfg(test)]
 mod schedules;
 #[cfg(test)]
 mod scripts;

@@ -10,6 +10,8 @@ mod certificates;
 #[cfg(test)]
 mod checker;
 #[cfg(test)]
+mod elimination;
+#[cfg(test)]
 mod forms;
 #[cfg(test)]
 mod invariants;
