@@ -13,6 +13,7 @@ use Rattle.mon_monitor.specs.Triples.{IsValidQuery}
 use Rattle.mon_cert.specs.declared.cert.Cert.{Cert}
 use Rattle.mon_cert.specs.Refutes.{Refutes}
 use Rattle.mon_solve.specs.Refutation.{IsAnswer}
+use Rattle.mon_solve.proofs.CubeLemmas.{decided}
 use Rattle.mon_wp.specs.Hardness.{has_few_cubes, is_decidable}
 use Rattle.mon_wp.specs.Limits.{is_query_within, query_within, value_if}
 use Rattle.mon_wp.specs.NegatedQueries.{negated_query}
@@ -31,7 +32,7 @@ answer_decides monitor query None few fails is = λ easy valid.
     let formula = negated_query monitor query in
     let parts = and_parts (is_query_within monitor query) (is_decidable formula) easy in
     let both = and_parts (has_difference_rows formula) (has_few_cubes formula) parts.1 in
-    let somewhere = is (record { differences = both.0; few_cubes = leb-true (cubes_of formula) MOST_CUBES both.1; few_places = few }) in
+    let somewhere = decided formula (record { differences = both.0; few_cubes = leb-true (cubes_of formula) MOST_CUBES both.1; few_places = few }) is in
     fails somewhere.0 somewhere.1 valid
 
 pub negated_decides : (monitor : MonitorParts) (query : Query) (formula : Formula) (answer : Option Cert) → Some formula ≡ query_within monitor query
