@@ -1,7 +1,7 @@
 //! What the prover refutes.
 
 use super::shapes::{Shape, level, made, nested};
-use mon_cert::accepts;
+use mon_cert::{Cert, accepts};
 use mon_linear::{Formula, MOST_NODES, nodes};
 use mon_solve::{has_few_places, refute};
 use std::alloc::{AllocError, Global};
@@ -90,6 +90,33 @@ fn rows_that_are_no_difference_rows_are_tried(rt: HostRuntime) -> Result<(), Fai
         Shape::Row(&[(0, -4), (1, -6)], 9),
     ];
     assert!(rt; refutes(rt.alloc(), &Shape::All(&multiples))?);
+    Ok(())
+}
+
+/// How many sums the chain has that refutes the formula, and none where no chain does.
+fn sums_made(alloc: Global, formula: &Formula) -> Result<Option<usize>, AllocError> {
+    if nodes(formula) > MOST_NODES {
+        return Ok(None);
+    }
+    match refute(alloc, formula)? {
+        Some(Cert::Chain(combines)) => Ok(Some(combines.items().len())),
+        _ => Ok(None),
+    }
+}
+
+#[test]
+fn only_sums_that_are_needed_are_kept(rt: HostRuntime) -> Result<(), Fail> {
+    let rows = [
+        Shape::Row(&[(0, 2), (1, -3)], 0),
+        Shape::Row(&[(0, 1), (1, 1)], -100),
+        Shape::Row(&[(0, -1), (1, -2)], -100),
+        Shape::Flag(0, true),
+        Shape::Row(&[(1, 3), (2, -2)], 0),
+        Shape::Row(&[(0, -2), (2, 2)], 1),
+    ];
+    let formula = made(rt.alloc(), &Shape::All(&rows))?;
+    assert!(rt; is_refuted(rt.alloc(), &formula)?);
+    assert_eq!(rt; sums_made(rt.alloc(), &formula)?, Some(2));
     Ok(())
 }
 
