@@ -1,10 +1,10 @@
 -- Sums that are left out of a chain.
-use Rattle.std.proofs.Common.{◌≡◌, ℕ, zero, suc, ◌+◌, ◌-◌, ◌<◌, ◌≤◌, Bool, true, false, ◌&&◌, ◌||◌, if◌then◌else◌, List, [], ◌∷◌, ◌++◌, length, map, set, take, drop, get_or, add-one, Option, Some, None, sym, subst, arith, ap, refl, ◌∙◌, ◌⊎◌, inl, inr}
+use Rattle.std.proofs.Common.{◌≡◌, ℕ, zero, suc, ◌+◌, ◌-◌, ◌<◌, ◌≤◌, Bool, true, false, ◌||◌, if◌then◌else◌, List, [], ◌∷◌, ◌++◌, length, map, set, take, drop, get_or, add-one, Option, Some, None, sym, subst, arith, ap, refl, ◌∙◌}
 use Rattle.std.specs.Prelude.{◌==◌, nat_lt, slice_get}
 use Rattle.std.specs.List.{list_any}
 use Rattle.mon_linear.specs.Linear.{Linear}
 use Rattle.mon_cert.specs.declared.cert.Combine.{Combine}
-use Rattle.mon_cert.specs.Refutes.{chain_closes, chain_goes, is_absurd, is_nil, made, made_of}
+use Rattle.mon_cert.specs.Refutes.{chain_closes, chain_goes, is_nil, made, made_of}
 use Rattle.mon_elim.specs.LeanChains.{is_needed, uses, IsLean}
 use Rattle.mon_elim.specs.inner.Leaving.{renumbered, with_sum, without, IsLeanPart, IsLeanSoFar}
 use Rattle.mon_elim.proofs.Lists.{append_assoc, append_length, append_none, map_length}

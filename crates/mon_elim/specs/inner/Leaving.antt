@@ -1,5 +1,5 @@
 -- For private contracts: how a sum is left out of a chain.
-use Rattle.std.specs.Prelude.{◌≡◌, ℕ, ◌+◌, ◌-◌, nat_lt, if◌then◌else◌, true, List, [], ◌∷◌, ◌++◌, length, map, Option}
+use Rattle.std.specs.Prelude.{◌≡◌, ℕ, ◌+◌, ◌-◌, nat_lt, if◌then◌else◌, true, List, ◌∷◌, ◌++◌, length, map, Option}
 use Rattle.mon_linear.specs.Linear.{Linear}
 use Rattle.mon_cert.specs.declared.cert.Combine.{Combine}
 use Rattle.mon_cert.specs.Refutes.{chain_closes, is_nil}

@@ -1,4 +1,4 @@
-use Rattle.std.proofs.Common.{◌+◌, arith, length}
+use Rattle.std.proofs.Common.{◌+◌, arith}
 use Rattle.mon_elim.proofs.LeanLemmas.{all_sums, no_sums, none_left, one_sum}
 use Rattle.mon_elim.proofs.lean.lean_chain.Goals as goal
 
