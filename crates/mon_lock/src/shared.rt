@@ -124,9 +124,9 @@ impl SharedMonitor {
         count
     }
 
-    /// The monitor, once all passes are back. Its log begins with all that the passes knew, and has each receipt's entry
-    /// at its place; no two receipts are of one place, and the places are in the order of the tickets. It takes no
-    /// memory.
+    /// The monitor, once all passes are back. Its log begins with all that the passes knew, has each receipt's entry at
+    /// its place, and no spurious entry more than at the start; no two receipts are of one place, and the places are in
+    /// the order of the tickets. Where a pass knew a closed monitor, it is that one. It takes no memory.
     pub fn close(self, mut passes: Vec<Pass>) -> FreeMonitor
         requires all { vec_len passes ≡ self.passes }
         requires own { All (λ pass. pass.lock ≡ self.lock) passes.items }
