@@ -2,6 +2,7 @@ pub mod Answering
 pub mod MonitorFaults
 pub mod OneMonitor
 pub mod OneClientList
+pub mod OneSimulation
 pub mod Completeness
 pub mod Telling
 pub mod RunFiles

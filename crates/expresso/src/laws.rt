@@ -4,9 +4,14 @@ ghost use Rattle.std.specs.Prelude.{◌≡◌, ℕ, List};
 ghost use Rattle.mon_tree.specs.declared.tree.MonitorTree.{MonitorTree};
 ghost use Rattle.mon_monitor.specs.MonitorParts.{MonitorParts};
 ghost use Rattle.mon_implicit.specs.declared.script.Client.{Client};
+ghost use Rattle.mon_events.specs.declared.log.Entry.{Entry};
+ghost use Rattle.mon_events.specs.Configurations.{System, Configuration};
+ghost use Rattle.mon_command.specs.declared.schedule.Schedule.{Schedule};
 ghost use Rattle.expresso.specs.MonitorFiles.{IsAccepted};
 ghost use Rattle.expresso.specs.ClientFiles.{AreAccepted};
+ghost use Rattle.expresso.specs.Simulations.{IsSimulation};
 
+use mon_simulate::{one_drawn_log, one_log_by_rounds};
 use mon_syntax::derives_one_tree;
 use mon_tokens::one_spelling;
 
@@ -29,4 +34,19 @@ pub fn accepts_one_client_list()
 {
     one_spelling();
     derives_one_tree();
+}
+
+/// Under one plan, clients of one monitor have one simulation by a schedule: one log, and one configuration at its end.
+pub fn one_simulation()
+    ensures logs { (system : System) (schedule : Schedule)
+        (log other : List Entry) (last also : Configuration)
+        → IsSimulation system schedule log last → IsSimulation system schedule other also
+        → log ≡ other }
+    ensures ends { (system : System) (schedule : Schedule)
+        (log other : List Entry) (last also : Configuration)
+        → IsSimulation system schedule log last → IsSimulation system schedule other also
+        → last ≡ also }
+{
+    one_log_by_rounds();
+    one_drawn_log();
 }

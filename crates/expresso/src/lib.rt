@@ -6,8 +6,8 @@
 //! the clients by a schedule in place of threads, and `stress` runs a large input.
 //!
 //! Its clause `headline` is `specs/Headline`: what `run` promises. `specs/Answers` says what each command prints, and
-//! `specs/Exit` which number stands for a [`Status`]. That bytes stand for one monitor and one list of clients are the
-//! laws of `laws`.
+//! `specs/Exit` which number stands for a [`Status`]. That bytes stand for one monitor and one list of clients, and that a
+//! schedule has one simulation, are the laws of `laws`.
 #![tactic(auto)]
 
 mod check;
@@ -28,6 +28,6 @@ mod text;
 mod turns;
 mod work;
 
-pub use laws::{accepts_one_client_list, accepts_one_monitor};
+pub use laws::{accepts_one_client_list, accepts_one_monitor, one_simulation};
 pub use program::expresso;
 pub use status::{Status, exit_status};

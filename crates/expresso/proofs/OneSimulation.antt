@@ -1,0 +1,37 @@
+-- A schedule has one simulation under a plan.
+use Rattle.std.proofs.Common.{◌≡◌, ℕ, List, ap}
+use Rattle.mon_events.specs.declared.log.Entry.{Entry}
+use Rattle.mon_events.specs.Configurations.{System, Configuration}
+use Rattle.mon_explicit.specs.Sections.{FreeMachine, opened_free}
+use Rattle.mon_simulate.specs.Schedules.{IsByRounds, IsDrawn}
+use Rattle.mon_command.specs.declared.schedule.Schedule.{Schedule}
+use Rattle.mon_command.specs.declared.schedule.Schedule.TheVariants.{Rounds, Drawn}
+use Rattle.expresso.specs.Simulations.{IsScheduled, IsSimulation, most_spurious}
+
+abbrev OneByRounds : Type 0
+OneByRounds = (before one other : FreeMachine) → IsByRounds 0 before one → IsByRounds 0 before other → one ≡ other
+
+abbrev OneDrawn : Type 0
+OneDrawn = (seed spurious : ℕ) (before one other : FreeMachine) → IsDrawn seed spurious before one → IsDrawn seed spurious before other → one ≡ other
+
+one_end : OneByRounds → OneDrawn → (schedule : Schedule) (before one other : FreeMachine) → IsScheduled schedule before one → IsScheduled schedule before other → one ≡ other
+one_end by_rounds drawn Rounds before one other are also = by_rounds before one other are also
+one_end by_rounds drawn (Drawn seed spurious) before one other are also = drawn seed spurious before one other are also
+
+-- where a simulation ends
+abbrev ending : System → Schedule → List Entry → Configuration → FreeMachine
+ending system schedule log last = record { system = system; now = last; log = log; extra = most_spurious schedule }
+
+same_end : OneByRounds → OneDrawn → (system : System) (schedule : Schedule) (log other : List Entry) (last also : Configuration) → IsSimulation system schedule log last → IsSimulation system schedule other also
+    → ending system schedule log last ≡ ending system schedule other also
+same_end by_rounds drawn system schedule log other last also one two =
+    one_end by_rounds drawn schedule (opened_free system.monitor system.plan system.clients (most_spurious schedule))
+    (ending system schedule log last) (ending system schedule other also) one.scheduled two.scheduled
+
+pub one_log : OneByRounds → OneDrawn → (system : System) (schedule : Schedule) (log other : List Entry) (last also : Configuration) → IsSimulation system schedule log last → IsSimulation system schedule other also → log ≡ other
+one_log by_rounds drawn system schedule log other last also one two =
+    ap (λ (machine : FreeMachine). machine.log) (same_end by_rounds drawn system schedule log other last also one two)
+
+pub one_last : OneByRounds → OneDrawn → (system : System) (schedule : Schedule) (log other : List Entry) (last also : Configuration) → IsSimulation system schedule log last → IsSimulation system schedule other also → last ≡ also
+one_last by_rounds drawn system schedule log other last also one two =
+    ap (λ (machine : FreeMachine). machine.now) (same_end by_rounds drawn system schedule log other last also one two)
