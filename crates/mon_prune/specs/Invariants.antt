@@ -1,5 +1,5 @@
 -- Invariants: candidates that are true at the start and that each block keeps, with certificates.
-use Rattle.std.specs.Prelude.{◌≡◌, ◌↔◌, ℕ, ◌<◌, true, List, map, length, All, Option, Some, None}
+use Rattle.std.specs.Prelude.{◌≡◌, ◌↔◌, ℕ, ◌<◌, List, map, length, All, Option, Some, None}
 use Rattle.std.specs.List.{Contains, flat_map, range_with_len}
 use Rattle.mon_cert.specs.declared.cert.Cert.{Cert}
 use Rattle.mon_cert.specs.Refutes.{Refutes}
@@ -11,16 +11,16 @@ use Rattle.mon_monitor.specs.Candidates.{AreSomeOf, candidates_of}
 use Rattle.mon_monitor.specs.MonitorParts.{MonitorParts}
 use Rattle.mon_monitor.specs.Queries.{query_of}
 use Rattle.mon_monitor.specs.Triples.{IsInductive, IsValidQuery}
-use Rattle.mon_wp.specs.Hardness.{IsHard, is_easy}
 use Rattle.mon_wp.specs.NegatedQueries.{negated_query}
 use Rattle.mon_prune.specs.declared.kept.Kept.{Kept}
+use Rattle.mon_prune.specs.Hardness.{IsHard, MayStayOpen}
 
 -- ---- certificates
 
--- a certificate refutes the negated query; there is none only where the query is not easy or not valid
+-- a certificate refutes the negated query; there is none only where the query may stay open or is not valid
 abbrev pub IsDecision : MonitorParts → Query → Option Cert → Type 0
 IsDecision monitor query (Some cert) = Refutes (negated_query monitor query) cert
-IsDecision monitor query None = is_easy monitor query ≡ true → IsValidQuery monitor query → ⊥
+IsDecision monitor query None = IsValidQuery monitor query → MayStayOpen monitor query
 
 -- ---- the proofs of an invariant
 

@@ -1,2 +1,3 @@
+pub mod Hardness
 pub mod Invariants
 pub mod inner

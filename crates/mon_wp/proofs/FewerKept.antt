@@ -30,9 +30,9 @@ use Rattle.mon_monitor.specs.MonitorParts.{MonitorParts}
 use Rattle.mon_monitor.specs.Paths.{block_body}
 use Rattle.mon_monitor.specs.Queries.{hypotheses, query_of}
 use Rattle.mon_monitor.specs.Triples.{IsValidQuery, places_of}
-use Rattle.mon_wp.specs.Hardness.{has_few_cubes, is_easy}
+use Rattle.mon_wp.specs.Hardness.{has_few_cubes, is_easy, is_within_limits}
 use Rattle.mon_wp.specs.Limits.{has_few_nodes, has_few_paths, is_path_within}
-use Rattle.mon_wp.specs.NegatedQueries.{path_part, some_part}
+use Rattle.mon_wp.specs.NegatedQueries.{negated_query, path_part, some_part}
 use Rattle.mon_wp.specs.Paths.{body_paths}
 use Rattle.mon_wp.proofs.QueryLaws.{all_truth}
 
@@ -137,18 +137,16 @@ differences_of parts others fewer e =
     ap (list_all is_difference) (fold-roll-Formula (List Linear) rows_layer (Every parts))
     ∙ fewer (ap (list_all is_difference) (sym (fold-roll-Formula (List Linear) rows_layer (Every others))) ∙ e)
 
-easy_by_parts : (paths within nodes differences cubes fewer_nodes fewer_differences fewer_cubes : Bool)
-    → (nodes ≡ true → fewer_nodes ≡ true) → (differences ≡ true → fewer_differences ≡ true) → (cubes ≡ true → fewer_cubes ≡ true)
-    → ((paths && (within && nodes)) && (differences && cubes)) ≡ true
-    → ((paths && (within && fewer_nodes)) && (fewer_differences && fewer_cubes)) ≡ true
-easy_by_parts paths within nodes differences cubes fewer_nodes fewer_differences fewer_cubes f g h e =
-    let both = and_parts (paths && (within && nodes)) (differences && cubes) e in
+within_by_parts : (paths within nodes cubes fewer_nodes fewer_cubes : Bool)
+    → (nodes ≡ true → fewer_nodes ≡ true) → (cubes ≡ true → fewer_cubes ≡ true)
+    → ((paths && (within && nodes)) && cubes) ≡ true
+    → ((paths && (within && fewer_nodes)) && fewer_cubes) ≡ true
+within_by_parts paths within nodes cubes fewer_nodes fewer_cubes f g e =
+    let both = and_parts (paths && (within && nodes)) cubes e in
     let limits = and_parts paths (within && nodes) both.0 in
     let more = and_parts within nodes limits.1 in
-    let last = and_parts differences cubes both.1 in
-    and_from (paths && (within && fewer_nodes)) (fewer_differences && fewer_cubes)
-    (and_from paths (within && fewer_nodes) limits.0 (and_from within fewer_nodes more.0 (f more.1)))
-    (and_from fewer_differences fewer_cubes (g last.0) (h last.1))
+    and_from (paths && (within && fewer_nodes)) fewer_cubes
+    (and_from paths (within && fewer_nodes) limits.0 (and_from within fewer_nodes more.0 (f more.1))) (g both.1)
 
 -- the hypotheses, and some part of the body's
 abbrev parts_with : List Candidate → List Formula → Formula → List Formula
@@ -157,33 +155,54 @@ parts_with kept more some = hypotheses kept (more ++ some ∷ [])
 parts_are : (kept : List Candidate) (more : List Formula) (some : Formula) → hypotheses kept more ++ some ∷ [] ≡ parts_with kept more some
 parts_are kept more some = append_assoc (map candidate_formula kept) more (some ∷ [])
 
-abbrev IsEasyWith : MonitorParts → ℕ → Formula → List Formula → List Formula → Type 0
-IsEasyWith monitor block post hyps parts =
+abbrev IsWithinWith : MonitorParts → ℕ → Formula → List Formula → Type 0
+IsWithinWith monitor block post parts =
     ((has_few_paths (body_paths (block_body monitor block)) && (list_all (is_path_within post) (body_paths (block_body monitor block)) && has_few_nodes (whole parts)))
-    && (has_difference_rows (whole parts) && has_few_cubes (whole parts))) ≡ true
+    && has_few_cubes (whole parts)) ≡ true
 
-easy_with : (monitor : MonitorParts) (block : ℕ) (post : Formula) (kept all : List Candidate) (more : List Formula) (some : Formula) → AreSomeOf kept all
-    → IsEasyWith monitor block post (hypotheses all more) (hypotheses all more ++ some ∷ [])
-    → IsEasyWith monitor block post (hypotheses kept more) (hypotheses kept more ++ some ∷ [])
-easy_with monitor block post kept all more some are e =
-    subst (IsEasyWith monitor block post (hypotheses kept more)) (sym (parts_are kept more some))
-    (easy_by_parts (has_few_paths (body_paths (block_body monitor block))) (list_all (is_path_within post) (body_paths (block_body monitor block)))
-    (has_few_nodes (whole (parts_with all more some))) (has_difference_rows (whole (parts_with all more some))) (has_few_cubes (whole (parts_with all more some)))
-    (has_few_nodes (whole (parts_with kept more some))) (has_difference_rows (whole (parts_with kept more some))) (has_few_cubes (whole (parts_with kept more some)))
+within_with : (monitor : MonitorParts) (block : ℕ) (post : Formula) (kept all : List Candidate) (more : List Formula) (some : Formula) → AreSomeOf kept all
+    → IsWithinWith monitor block post (hypotheses all more ++ some ∷ [])
+    → IsWithinWith monitor block post (hypotheses kept more ++ some ∷ [])
+within_with monitor block post kept all more some are e =
+    subst (IsWithinWith monitor block post) (sym (parts_are kept more some))
+    (within_by_parts (has_few_paths (body_paths (block_body monitor block))) (list_all (is_path_within post) (body_paths (block_body monitor block)))
+    (has_few_nodes (whole (parts_with all more some))) (has_few_cubes (whole (parts_with all more some)))
+    (has_few_nodes (whole (parts_with kept more some))) (has_few_cubes (whole (parts_with kept more some)))
     (few_nodes_of (parts_with kept more some) (parts_with all more some) (fewer_nodes kept all (more ++ some ∷ []) are))
-    (differences_of (parts_with kept more some) (parts_with all more some) (fewer_rows kept all (more ++ some ∷ []) are))
     (few_cubes_of (parts_with kept more some) (parts_with all more some) (same_cubes kept (more ++ some ∷ []) ∙ sym (same_cubes all (more ++ some ∷ []))))
-    (subst (IsEasyWith monitor block post (hypotheses all more)) (parts_are all more some) e))
+    (subst (IsWithinWith monitor block post) (parts_are all more some) e))
+
+differences_with : (kept all : List Candidate) (more : List Formula) (some : Formula) → AreSomeOf kept all
+    → has_difference_rows (whole (hypotheses all more ++ some ∷ [])) ≡ true → has_difference_rows (whole (hypotheses kept more ++ some ∷ [])) ≡ true
+differences_with kept all more some are e =
+    subst (λ (parts : List Formula). has_difference_rows (whole parts) ≡ true) (sym (parts_are kept more some))
+    (differences_of (parts_with kept more some) (parts_with all more some) (fewer_rows kept all (more ++ some ∷ []) are)
+    (subst (λ (parts : List Formula). has_difference_rows (whole parts) ≡ true) (parts_are all more some) e))
 
 abbrev some_of_body : MonitorParts → ℕ → Formula → Formula
 some_of_body monitor block post = some_part (map (path_part post) (body_paths (block_body monitor block)))
 
+pub fewer_within : (monitor : MonitorParts) (claim : Claim) (kept all : List Candidate) → AreSomeOf kept all
+    → is_within_limits monitor (query_of monitor all claim) ≡ true → is_within_limits monitor (query_of monitor kept claim) ≡ true
+fewer_within monitor (claims.Keeps candidate block) kept all are e = within_with monitor block _ kept all _ (some_of_body monitor block _) are e
+fewer_within monitor (claims.NoNote block condition) kept all are e = within_with monitor block _ kept all _ (some_of_body monitor block _) are e
+fewer_within monitor (claims.One condition block) kept all are e = within_with monitor block _ kept all _ (some_of_body monitor block _) are e
+fewer_within monitor (claims.NoTest block condition) kept all are e = within_with monitor block _ kept all _ (some_of_body monitor block _) are e
+
+fewer_differences : (monitor : MonitorParts) (claim : Claim) (kept all : List Candidate) → AreSomeOf kept all
+    → has_difference_rows (negated_query monitor (query_of monitor all claim)) ≡ true → has_difference_rows (negated_query monitor (query_of monitor kept claim)) ≡ true
+fewer_differences monitor (claims.Keeps candidate block) kept all are e = differences_with kept all _ (some_of_body monitor block _) are e
+fewer_differences monitor (claims.NoNote block condition) kept all are e = differences_with kept all _ (some_of_body monitor block _) are e
+fewer_differences monitor (claims.One condition block) kept all are e = differences_with kept all _ (some_of_body monitor block _) are e
+fewer_differences monitor (claims.NoTest block condition) kept all are e = differences_with kept all _ (some_of_body monitor block _) are e
+
 pub fewer_no_harder : (monitor : MonitorParts) (claim : Claim) (kept all : List Candidate) → AreSomeOf kept all
     → is_easy monitor (query_of monitor all claim) ≡ true → is_easy monitor (query_of monitor kept claim) ≡ true
-fewer_no_harder monitor (claims.Keeps candidate block) kept all are e = easy_with monitor block _ kept all _ (some_of_body monitor block _) are e
-fewer_no_harder monitor (claims.NoNote block condition) kept all are e = easy_with monitor block _ kept all _ (some_of_body monitor block _) are e
-fewer_no_harder monitor (claims.One condition block) kept all are e = easy_with monitor block _ kept all _ (some_of_body monitor block _) are e
-fewer_no_harder monitor (claims.NoTest block condition) kept all are e = easy_with monitor block _ kept all _ (some_of_body monitor block _) are e
+fewer_no_harder monitor claim kept all are e =
+    let every = query_of monitor all claim in
+    let some = query_of monitor kept claim in
+    let both = and_parts (is_within_limits monitor every) (has_difference_rows (negated_query monitor every)) e in
+    and_from (is_within_limits monitor some) (has_difference_rows (negated_query monitor some)) (fewer_within monitor claim kept all are both.0) (fewer_differences monitor claim kept all are both.1)
 
 -- ---- more hypotheses
 

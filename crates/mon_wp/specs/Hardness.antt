@@ -1,5 +1,4 @@
--- Hard queries, where all candidates are kept, and small monitors, whose claims have none: a prover has to decide those,
--- since the variables of every query have few places.
+-- Queries within the limits of a prover, easy ones among them, simple blocks, and the claims of a monitor.
 use Rattle.std.specs.Prelude.{◌≡◌, ◌<◌, ◌≤◌, ℕ, ◌-◌, pos, Bool, true, false, ◌&&◌, nat_le, List, [], ◌∷◌, length, slice_get}
 use Rattle.std.specs.List.{list_all, Contains}
 use Rattle.std.specs.Option.{IsSomeAnd}
@@ -17,29 +16,25 @@ use Rattle.mon_monitor.specs.declared.monitor.Stmt.TheOpen.{Stmt-F, SetInt, SetB
 use Rattle.mon_monitor.specs.declared.monitor.Stmt.TheFolds.{fold-Stmt}
 use Rattle.mon_monitor.specs.MonitorParts.{MonitorParts}
 use Rattle.mon_monitor.specs.Candidates.{candidates_of}
-use Rattle.mon_monitor.specs.Queries.{query_of}
 use Rattle.mon_wp.specs.NegatedQueries.{negated_query}
 use Rattle.mon_wp.specs.Limits.{is_query_within}
 
--- ---- hard queries
+-- ---- queries
 
 abbrev pub has_few_cubes : Formula → Bool
 has_few_cubes formula = nat_le (cubes_of formula) MOST_CUBES
 
--- difference rows alone, and few cubes
-abbrev pub is_decidable : Formula → Bool
-is_decidable formula = has_difference_rows formula && has_few_cubes formula
+-- the query is negated within the limits, to a formula of few cubes
+abbrev pub is_within_limits : MonitorParts → Query → Bool
+is_within_limits monitor query =
+    is_query_within monitor query && has_few_cubes (negated_query monitor query)
 
--- the query is negated within the limits, to such a formula
+-- and of difference rows alone
 abbrev pub is_easy : MonitorParts → Query → Bool
 is_easy monitor query =
-    is_query_within monitor query && is_decidable (negated_query monitor query)
+    is_within_limits monitor query && has_difference_rows (negated_query monitor query)
 
--- the query of a claim is not easy, with all candidates in the place of those that are kept
-abbrev pub IsHard : MonitorParts → Claim → Type 0
-IsHard monitor claim = is_easy monitor (query_of monitor (candidates_of monitor) claim) ≡ false
-
--- ---- small monitors
+-- ---- simple blocks
 
 -- a constant, or the variable of one place and a constant
 abbrev pub are_simple_terms : List Term → Bool
@@ -59,6 +54,8 @@ is_simple_statement = fold-Stmt Bool simple_step
 
 abbrev pub is_simple_block : Block → Bool
 is_simple_block block = has_difference_rows block.guard && list_all is_simple_statement block.body
+
+-- ---- claims
 
 -- a block of the monitor
 abbrev pub IsBlockNumber : MonitorParts → ℕ → Type 0
@@ -89,8 +86,3 @@ IsClaimOf monitor (claims.One condition block) =
     ReadsNone monitor condition × WaitsAt monitor block condition
 IsClaimOf monitor (claims.NoTest block condition) =
     IsBlockNumber monitor block × ReadsNone monitor condition
-
--- blocks are simple, and no query is hard
-pub record IsSmall (monitor : MonitorParts) : Type 0 where
-  pub simple : list_all is_simple_block monitor.blocks ≡ true
-  pub easy : (claim : Claim) → IsClaimOf monitor claim → IsHard monitor claim → ⊥

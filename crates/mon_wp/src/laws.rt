@@ -17,7 +17,7 @@ ghost use Rattle.mon_monitor.specs.Paths.{path_count};
 ghost use Rattle.mon_monitor.specs.Queries.{for_waiting, keeps_query, no_test_query, none_needed_query, one_enough_query, query_of};
 ghost use Rattle.mon_monitor.specs.Triples.{IsValidQuery};
 ghost use Rattle.mon_wp.specs.Expressible.{is_expressible};
-ghost use Rattle.mon_wp.specs.Hardness.{is_easy};
+ghost use Rattle.mon_wp.specs.Hardness.{is_easy, is_within_limits};
 ghost use Rattle.mon_wp.specs.Limits.{query_within};
 ghost use Rattle.mon_wp.specs.NegatedQueries.{negated_query, query_fails};
 ghost use Rattle.mon_wp.specs.Paths.{body_paths};
@@ -98,10 +98,13 @@ pub fn placed_queries_have_few_places()
         → IfSome (query_within monitor query) HasFewPlaces }
 {}
 
-/// Under fewer candidates no query is harder: where the query of a claim is easy under some candidates, it is so under
-/// some of them.
+/// Under fewer candidates no query is harder: where the query of a claim is within the limits, or easy, under some
+/// candidates, it is so under some of them.
 pub fn fewer_kept_are_no_harder()
-    ensures { (monitor : MonitorParts) (claim : Claim) (kept all : List Candidate)
+    ensures within { (monitor : MonitorParts) (claim : Claim) (kept all : List Candidate)
+        → AreSomeOf kept all → is_within_limits monitor (query_of monitor all claim) ≡ true
+        → is_within_limits monitor (query_of monitor kept claim) ≡ true }
+    ensures easy { (monitor : MonitorParts) (claim : Claim) (kept all : List Candidate)
         → AreSomeOf kept all → is_easy monitor (query_of monitor all claim) ≡ true
         → is_easy monitor (query_of monitor kept claim) ≡ true }
 {}

@@ -4,7 +4,7 @@
 //! [`keeps`], [`none_needed`], [`one_enough`] and [`no_test`] make the query of each claim on which a plan rests;
 //! [`paths_of`] lists the paths of a body (`specs/Paths`), and [`negated`] makes, within limits (`specs/Limits`), the
 //! formula that is true exactly where a query's triple fails (`specs/NegatedQueries`, `laws`). Which queries are
-//! hard and which monitors are small: `specs/Hardness`. Candidates that have a formula: `specs/Expressible`.
+//! within a prover's limits, and which claims a monitor has: `specs/Hardness`. Candidates that have a formula: `specs/Expressible`.
 #![tactic(auto)]
 
 mod candidates;

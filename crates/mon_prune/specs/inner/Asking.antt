@@ -7,9 +7,9 @@ use Rattle.mon_monitor.specs.MonitorParts.{MonitorParts}
 use Rattle.mon_monitor.specs.Queries.{keeps_query}
 use Rattle.mon_monitor.specs.Triples.{Keeps}
 use Rattle.mon_wp.specs.Expressible.{is_expressible}
-use Rattle.mon_wp.specs.Hardness.{is_easy}
 use Rattle.mon_wp.specs.QueryPlaces.{is_of_fields}
 use Rattle.mon_prune.specs.declared.kept.Kept.{Kept}
+use Rattle.mon_prune.specs.Hardness.{MayStayOpen}
 use Rattle.mon_prune.specs.Invariants.{Proves, claim_of}
 
 -- ---- what may be asked
@@ -25,8 +25,9 @@ pub record AreAskable (hyps : List Candidate) : Type 0 where
 
 -- ---- of one block
 
+-- the query may not stay open
 abbrev pub IsEasyAt : MonitorParts → List Candidate → Candidate → ℕ → Type 0
-IsEasyAt monitor hyps candidate block = is_easy monitor (keeps_query monitor hyps candidate block) ≡ true
+IsEasyAt monitor hyps candidate block = MayStayOpen monitor (keeps_query monitor hyps candidate block) → ⊥
 
 -- the proof that the block keeps the candidate under the others
 pub record IsProofAt (monitor : MonitorParts) (hyps : List Candidate) (candidate : Candidate) (block : ℕ) (proof : Kept) : Type 0 where
@@ -34,7 +35,7 @@ pub record IsProofAt (monitor : MonitorParts) (hyps : List Candidate) (candidate
   pub proves : Proves monitor hyps proof
   pub keeps : Keeps monitor hyps candidate block
 
--- there is none only where the query is not easy, or the block does not keep the candidate
+-- there is none only where the query may stay open, or the block does not keep the candidate
 abbrev pub IsFoundAt : MonitorParts → List Candidate → Candidate → ℕ → Option Kept → Type 0
 IsFoundAt monitor hyps candidate block (Some proof) = IsProofAt monitor hyps candidate block proof
 IsFoundAt monitor hyps candidate block None =
@@ -53,7 +54,7 @@ abbrev pub AllKeep : MonitorParts → List Candidate → Candidate → Type 0
 AllKeep monitor hyps candidate =
     (block : ℕ) → block < length monitor.blocks → Keeps monitor hyps candidate block
 
--- each block keeps the candidate, and its query is easy
+-- each block keeps the candidate, and its query may not stay open
 pub record MustStay (monitor : MonitorParts) (hyps : List Candidate) (candidate : Candidate) : Type 0 where
   pub keep : AllKeep monitor hyps candidate
   pub easy : (block : ℕ) → block < length monitor.blocks → IsEasyAt monitor hyps candidate block
