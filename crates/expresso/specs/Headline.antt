@@ -13,7 +13,7 @@ use Rattle.mon_events.specs.Pending.{IsSystem}
 use Rattle.mon_events.specs.Plans.{IsLawful}
 use Rattle.mon_events.specs.PlanText.{plan_text}
 use Rattle.mon_explicit.specs.Sections.{spurious_in}
-use Rattle.mon_wp.specs.Hardness.{IsSmall}
+use Rattle.mon_prune.specs.Hardness.{IsSmall}
 use Rattle.mon_place.specs.Backing.{IsBacked}
 use Rattle.mon_place.specs.Exact.{IsExact, IsLicensed}
 use Rattle.mon_text.specs.LogText.{log_text}

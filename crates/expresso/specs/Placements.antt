@@ -2,7 +2,7 @@
 use Rattle.mon_monitor.specs.MonitorParts.{MonitorParts, IsMonitor}
 use Rattle.mon_events.specs.declared.plan.Plan.{Plan}
 use Rattle.mon_events.specs.Plans.{FitsPlan, IsLawful}
-use Rattle.mon_wp.specs.Hardness.{IsSmall}
+use Rattle.mon_prune.specs.Hardness.{IsSmall}
 use Rattle.mon_place.specs.Backing.{IsBacked}
 use Rattle.mon_place.specs.Exact.{IsExact, IsLicensed}
 

@@ -22,7 +22,8 @@ use Rattle.mon_events.specs.declared.plan.Plan.{Plan}
 use Rattle.mon_events.specs.PlanText.{note_kind}
 use Rattle.mon_events.specs.Plans.{IsCondition as IsThere, FitsNote, FitsNotes, FitsPlan, IsLawful, IsUntestedBroadcast, condition_kind, has_note, notes_at}
 use Rattle.mon_events.proofs.Facing.{at_index, all_at, is_some_and}
-use Rattle.mon_wp.specs.Hardness.{is_easy, IsBlockNumber, IsClaimOf, IsConditionNumber, IsHard, IsSmall, ReadsNone, WaitsAt}
+use Rattle.mon_wp.specs.Hardness.{IsBlockNumber, IsClaimOf, IsConditionNumber, ReadsNone, WaitsAt}
+use Rattle.mon_prune.specs.Hardness.{IsHard, IsSmall}
 use Rattle.mon_place.specs.Backing.{HasCertificate}
 use Rattle.mon_place.specs.Exact.{HasHardBlock, HaveTheirKinds, IsExact, IsLicensed, MaySignal, NeedsTest}
 use Rattle.mon_place.specs.inner.Answers.{AreNotes, IsAnswered, IsKindOf, IsNote, IsUnproved}
@@ -186,11 +187,7 @@ plan_lawful laws monitor plan rule answered = record {
 -- ---- the plan is licensed
 
 hard_from : Laws → (monitor : MonitorParts) (plan : Plan) (claim : Claim) → IsAnswered monitor plan → IsUnproved monitor plan.kept claim → Holds monitor plan.kept claim → IsHard monitor claim
-hard_from laws monitor plan claim answered unproved holds = by_test (is_easy monitor (query_of monitor (candidates_of monitor) claim)) refl
-  where
-    by_test : (easy : Bool) → is_easy monitor (query_of monitor (candidates_of monitor) claim) ≡ easy → easy ≡ false
-    by_test false is = refl
-    by_test true is = absurd (unproved (laws.fewer_are_no_harder monitor claim plan.kept (candidates_of monitor) answered.invariant.candidates is) holds)
+hard_from laws monitor plan claim answered unproved holds = laws.open_are_hard monitor claim plan.kept answered.invariant.candidates (unproved holds)
 
 unneeded_hard : Laws → (monitor : MonitorParts) (plan : Plan) (block condition : ℕ) → IsAnswered monitor plan → has_note (notes_at plan block) condition ≡ true
     → NoneNeeded monitor plan.kept block condition → IsHard monitor (claims.NoNote block condition)

@@ -15,6 +15,7 @@ use Rattle.mon_monitor.specs.declared.claim.Claim.TheVariants as claims
 use Rattle.mon_monitor.specs.declared.query.Query.{Query}
 use Rattle.mon_monitor.specs.declared.monitor.Block.{Block}
 use Rattle.mon_monitor.specs.declared.monitor.Condition.{Condition}
+use Rattle.mon_monitor.specs.Candidates.{candidates_of}
 use Rattle.mon_monitor.specs.MonitorParts.{MonitorParts, IsMonitor}
 use Rattle.mon_monitor.specs.Queries.{query_of}
 use Rattle.mon_monitor.specs.Triples.{Holds, IsValidQuery}
@@ -24,7 +25,8 @@ use Rattle.mon_events.specs.declared.plan.Note.{Note}
 use Rattle.mon_events.specs.declared.plan.Plan.{Plan}
 use Rattle.mon_events.specs.Plans.{AreSomeOf, condition_kind, has_note}
 use Rattle.mon_wp.specs.NegatedQueries.{negated_query}
-use Rattle.mon_wp.specs.Hardness.{is_easy, ReadsNone, WaitsAt}
+use Rattle.mon_wp.specs.Hardness.{ReadsNone, WaitsAt}
+use Rattle.mon_prune.specs.Hardness.{IsHard, MayStayOpen}
 use Rattle.mon_prune.specs.Invariants.{keeps_claims}
 use Rattle.mon_place.specs.declared.placed.Proof.{Proof}
 use Rattle.mon_place.specs.Backing.{AreProofs, HasCertificate, IsBacked, kind_claims, reads_none, unnoted_claims, untested_claims, waits_at}
@@ -37,8 +39,8 @@ pub record Laws : Type 0 where
   pub refuted_is_false : (formula : Formula) (cert : Cert) (v : Valuation) → Refutes formula cert → truth_of v formula ≡ false
   pub refuted_is_valid : (monitor : MonitorParts) (query : Query) → IsMonitor monitor → query.block < length monitor.blocks
       → ((v : Valuation) → truth_of v (negated_query monitor query) ≡ false) → IsValidQuery monitor query
-  pub fewer_are_no_harder : (monitor : MonitorParts) (claim : Claim) (kept every : List Candidate) → AreSomeOf kept every
-      → is_easy monitor (query_of monitor every claim) ≡ true → is_easy monitor (query_of monitor kept claim) ≡ true
+  pub open_are_hard : (monitor : MonitorParts) (claim : Claim) (kept : List Candidate) → AreSomeOf kept (candidates_of monitor)
+      → MayStayOpen monitor (query_of monitor kept claim) → IsHard monitor claim
 
 pub held : Laws → (monitor : MonitorParts) (kept : List Candidate) (claim : Claim) → IsMonitor monitor → (query_of monitor kept claim).block < length monitor.blocks
     → HasCertificate monitor kept claim → Holds monitor kept claim

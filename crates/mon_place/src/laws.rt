@@ -3,12 +3,13 @@
 ghost use Rattle.mon_events.specs.declared.plan.Plan.{Plan};
 ghost use Rattle.mon_events.specs.Plans.{FitsPlan, IsLawful};
 ghost use Rattle.mon_monitor.specs.MonitorParts.{MonitorParts, IsMonitor};
-ghost use Rattle.mon_wp.specs.Hardness.{IsSmall};
+ghost use Rattle.mon_prune.specs.Hardness.{IsSmall};
 ghost use Rattle.mon_place.specs.Exact.{IsExact, IsLicensed};
 ghost use Rattle.mon_place.specs.inner.Answers.{IsAnswered};
 
 use mon_cert::refuted_formula_is_false;
-use mon_wp::{fewer_kept_are_no_harder, refuted_query_is_valid};
+use mon_prune::open_claims_are_hard;
+use mon_wp::refuted_query_is_valid;
 
 /// A plan that the prover's answers make fits, is lawful and licensed, and exact where the monitor is small.
 pub(crate) fn answered_plans_are_placed()
@@ -23,5 +24,5 @@ pub(crate) fn answered_plans_are_placed()
 {
     refuted_formula_is_false();
     refuted_query_is_valid();
-    fewer_kept_are_no_harder();
+    open_claims_are_hard();
 }

@@ -2,7 +2,7 @@
 
 ghost use Rattle.std.specs.Prelude.{◌≡◌, ◌++◌, IfOk, map};
 ghost use Rattle.mon_events.specs.Plans.{FitsPlan, IsLawful};
-ghost use Rattle.mon_wp.specs.Hardness.{IsSmall};
+ghost use Rattle.mon_prune.specs.Hardness.{IsSmall};
 ghost use Rattle.mon_place.specs.Backing.{AreProofs, IsBacked, backed_claims};
 ghost use Rattle.mon_place.specs.Exact.{IsExact, IsLicensed};
 ghost use Rattle.mon_place.specs.inner.Answers.{AreAskable, IsAnswered, proof_of_kept};

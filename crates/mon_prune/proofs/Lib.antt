@@ -1,5 +1,7 @@
-mod Decisions
+mod Cubes
+mod HardClaims
 mod ListSteps
+mod OpenQueries
 mod PoolNumbers
 mod Pruned
 mod RoundSteps

@@ -1,20 +1,19 @@
 -- What is left after rounds, and that it is an invariant, with few limits the greatest.
 use Rattle.std.proofs.Common.{◌≡◌, true, List, length, get_or, sym, subst}
 use Rattle.std.specs.List.{All, Contains, filter}
-use Rattle.std.proofs.lemmas.Bool.{true_from_ne_false}
 use Rattle.std.proofs.lemmas.List.Elements.{All-contains, Contains-get_or, filter_passes}
 use Rattle.mon_monitor.specs.declared.candidate.Candidate.{Candidate}
 use Rattle.mon_monitor.specs.declared.claim.Claim.TheVariants as claims
 use Rattle.mon_monitor.specs.Candidates.{AreSomeOf, candidate_truth, candidates_of}
 use Rattle.mon_monitor.specs.MonitorParts.{MonitorParts, start_of}
-use Rattle.mon_monitor.specs.Queries.{query_of}
 use Rattle.mon_monitor.specs.Triples.{Keeps}
-use Rattle.mon_wp.specs.Hardness.{IsSmall, is_easy}
-use Rattle.mon_wp.proofs.FewerKept.{fewer_no_harder, more_keep_valid, some_contained}
+use Rattle.mon_wp.proofs.FewerKept.{more_keep_valid, some_contained}
 use Rattle.mon_prune.specs.declared.kept.Kept.{Kept}
+use Rattle.mon_prune.specs.Hardness.{IsSmall}
 use Rattle.mon_prune.specs.Invariants.{ContainsEasy, IsGreatest, IsInvariant, NoneIsHard}
 use Rattle.mon_prune.specs.inner.Asking.{MustStay}
 use Rattle.mon_prune.specs.inner.Pruning.{IsLeft, IsRoundOf}
+use Rattle.mon_prune.proofs.HardClaims.{open_hard}
 use Rattle.mon_prune.proofs.SomeOf.{filter_contains, some_filter, some_hold, some_same, some_trans}
 
 -- ---- at the start
@@ -38,9 +37,7 @@ stays monitor kept other one some invariant none within is = record {
   keep = λ block low.
       more_keep_valid monitor (claims.Keeps one block) other kept within
       (All-contains (λ candidate. Keeps monitor other candidate block) other one (invariant.inductive.keeps block low) is);
-  easy = λ block low.
-      fewer_no_harder monitor (claims.Keeps one block) kept (candidates_of monitor) some
-      (true_from_ne_false (is_easy monitor (query_of monitor (candidates_of monitor) (claims.Keeps one block))) (none one block is low));
+  easy = λ block low open_query. none one block is low (open_hard monitor (claims.Keeps one block) kept some open_query);
 }
 
 pub left_after : (monitor : MonitorParts) (kept next : List Candidate) (proofs : List Kept)

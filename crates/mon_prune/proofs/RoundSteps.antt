@@ -28,7 +28,8 @@ use Rattle.mon_prune.proofs.SomeOf.{some_more, some_pass, some_push}
 pub found_none : (monitor : MonitorParts) (hyps : List Candidate) (candidate : Candidate) (block : ℕ) (query : Query) (found : Option Cert)
     → query ≡ keeps_query monitor hyps candidate block → found ≡ None → IsDecision monitor query found → IsFoundAt monitor hyps candidate block None
 found_none monitor hyps candidate block query found made none decided =
-    subst (λ (asked : Query). IsDecision monitor asked None) made (subst (IsDecision monitor query) none decided)
+    let told = subst (λ (asked : Query). IsDecision monitor asked None) made (subst (IsDecision monitor query) none decided) in
+    λ easy keeps. easy (told keeps)
 
 pub found_some : (monitor : MonitorParts) (hyps : List Candidate) (candidate : Candidate) (block : ℕ) (found : Option Kept) (proof : Kept)
     → found ≡ Some proof → IsFoundAt monitor hyps candidate block found → IsProofAt monitor hyps candidate block proof

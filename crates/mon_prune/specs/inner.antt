@@ -1,4 +1,5 @@
 pub mod Asking
 pub mod Numbers
 pub mod Pruning
+pub mod Smallness
 pub mod Starts

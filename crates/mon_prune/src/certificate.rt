@@ -15,7 +15,9 @@ use mon_wp::{
 use std::alloc::{AllocError, Global};
 
 /// A certificate that refutes the negation of a query, which is then valid. There is none only where the query is not
-/// valid, or is not negated within the limits of [`negated`], to a formula of difference rows with at most 1,024 cubes.
+/// valid, or is not negated within the limits of [`negated`] to a formula of at most 1,024 cubes, or where a cube of
+/// that formula has a row that is no difference row and is not light, or has a solution in fractions and none in whole
+/// numbers (`specs/Hardness`).
 /// The hypotheses and the post formula are over places of fields and inputs, as those of each claim's query are. It
 /// fails only for want of memory.
 pub fn certificate_of(

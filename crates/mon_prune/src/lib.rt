@@ -3,19 +3,25 @@
 //! some block does not keep under the others, until each block keeps each.
 //!
 //! [`candidates`] lists the candidates of a monitor, [`certificate_of`] decides a query, and [`invariant`] prunes the
-//! candidates, with a certificate for each that is kept and each block (`specs/Invariants`).
+//! candidates, with a certificate for each that is kept and each block (`specs/Invariants`). Which queries may stay open,
+//! which claims are hard and which monitors are small: `specs/Hardness`; [`is_small`] tells a small one.
 #![tactic(auto)]
 
 mod bounds;
 mod certificate;
 mod kept;
+mod laws;
 mod listing;
 mod pool;
 mod pruning;
 mod rounds;
+mod simple;
+mod small;
 mod starts;
 
 pub use certificate::certificate_of;
 pub use kept::{Invariant, Kept};
+pub use laws::{easy_claims_are_not_hard, open_claims_are_hard};
 pub use listing::candidates;
 pub use pruning::invariant;
+pub use small::is_small;

@@ -4,8 +4,8 @@ ghost use Rattle.std.specs.Prelude.{◌≡◌, true, IfOk};
 ghost use Rattle.std.specs.List.{list_all};
 ghost use Rattle.mon_monitor.specs.Candidates.{candidates_of};
 ghost use Rattle.mon_wp.specs.Expressible.{is_expressible};
-ghost use Rattle.mon_wp.specs.Hardness.{IsSmall};
 ghost use Rattle.mon_wp.specs.QueryPlaces.{is_of_fields};
+ghost use Rattle.mon_prune.specs.Hardness.{IsSmall};
 ghost use Rattle.mon_prune.specs.Invariants.{AreProofs, ContainsEasy, IsGreatest, IsInvariant};
 ghost use Rattle.mon_prune.specs.inner.Asking.{AreAskable};
 ghost use Rattle.mon_prune.specs.inner.Pruning.{IsLeft, IsPruned};
@@ -35,8 +35,8 @@ fn pruned(alloc: Global, monitor: &Monitor, first: Vec<Candidate>) -> Result<Rou
 }
 
 /// The candidates that are true at the start and that each block keeps under all of them, with a proof for each of them
-/// and each block. It contains every invariant of the monitor's candidates of which the prover can decide each query,
-/// and so for a small monitor it is the greatest invariant of its candidates. The makers of queries take what is kept.
+/// and each block. It contains every invariant of the monitor's candidates none of whose claims is hard, and so for a
+/// small monitor it is the greatest invariant of its candidates. The makers of queries take what is kept.
 /// It fails only for want of memory.
 ///
 /// The candidates that are false at the start are dropped, and then in rounds those that some block is not found to

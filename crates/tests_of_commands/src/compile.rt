@@ -164,6 +164,157 @@ fn the_monitors_to_try_get_their_exact_plans(rt: HostRuntime) -> Result<(), Fail
     Ok(())
 }
 
+// ---- monitors whose guards add variables, or count one of them twice
+
+// Both fields are 0 at the start. `x <= 0` and `x <= y` fail after `step`, and the others stay. After `step` the guard may
+// still hold, so one waiter is not enough. A client that runs `step` found `x + y <= 4`, so nobody waits at that guard,
+// where `x + y <= 4` and `x + y >= 5` have no solution.
+const SUM_PLAN: &[u8] = b"plan Sum
+keep x >= 0
+keep y <= 0
+keep y >= 0
+keep y <= x
+condition 1 broadcast: x + y <= 4
+block step: none
+";
+
+const PAIR: &[u8] = b"monitor Pair {
+  int x = 0;
+  int y = 0;
+  method take() waituntil (x + y > 0) {
+    x = 0;
+    y = 0;
+  }
+  method give() waituntil (x + y <= 0) {
+    x = x + 1;
+  }
+}
+";
+
+// Only `x <= 0` and `x <= y` fail, after `give`. `take` leaves the sum 0, so one waiter is enough there; `give` leaves it
+// at least 1, since `x >= 0` and `y >= 0`, so one is enough there too. Each makes the guard of the other true, whatever
+// was before, so no note needs a test; and each ran where its own guard was true, so nobody waits there.
+const PAIR_PLAN: &[u8] = b"plan Pair
+keep x >= 0
+keep y <= 0
+keep y >= 0
+keep y <= x
+condition 1 signal: x + y > 0
+condition 2 signal: x + y <= 0
+block take: 2 signal
+block give: 1 signal
+";
+
+/// A pool of 8 places for resources of two kinds.
+const POOL: &[u8] = b"monitor Pool {
+  int a = 0;
+  int b = 0;
+  method takeA() waituntil (a + b + 1 <= 8) {
+    a = a + 1;
+  }
+  method takeB() waituntil (a + b + 1 <= 8) {
+    b = b + 1;
+  }
+  method giveA() waituntil (a > 0) {
+    a = a - 1;
+  }
+  method giveB() waituntil (b > 0) {
+    b = b - 1;
+  }
+}
+";
+
+// Upper bounds of a field fail one after the other as it grows, and `a <= b` and `b <= a` at once. `takeA` needs no note
+// on condition 1: it ran where `a + b <= 7`, so nobody waits where `a + b >= 8`. It makes `a > 0` true where `a` was 0 and
+// says nothing of `b`. `giveA` may leave the sum at most 7, and does not where it was above 8, which no candidate excludes:
+// so its note is tested. No block makes its own guard false for sure: all are broadcasts.
+const POOL_PLAN: &[u8] = b"plan Pool
+keep a >= 0
+keep b >= 0
+condition 1 broadcast: a + b + 1 <= 8
+condition 2 broadcast: a > 0
+condition 3 broadcast: b > 0
+block takeA: 2 broadcast
+block takeB: 3 broadcast
+block giveA: 1 broadcast tested
+block giveB: 1 broadcast tested
+";
+
+/// A semaphore that hands out its permits by twos.
+const TWOS: &[u8] = b"monitor Twos {
+  int n = 0;
+  int k = 0;
+  method take() waituntil (2 * k + 2 <= n) {
+    k = k + 1;
+  }
+  method give() waituntil (true) {
+    n = n + 1;
+  }
+}
+";
+
+// `k <= n` stays after `take`: where `2 * k + 2 <= n` and `k >= 0`, `k + 1` is at most `n`. `n <= 0` and `n <= k` fail after
+// `give`, and `k <= 0` after `take`. One more permit makes two only where one was left over: the note of `give` is tested.
+// Four permits serve two: one waiter is not enough. Nobody waits at `true`, nor at the guard where `take` ran.
+const TWOS_PLAN: &[u8] = b"plan Twos
+keep n >= 0
+keep k >= 0
+keep k <= n
+condition 1 broadcast: 2 * k + 2 <= n
+condition 2 broadcast: true
+block take: none
+block give: 1 broadcast tested
+";
+
+/// Molecules of two atoms of hydrogen and one of oxygen.
+const WATER: &[u8] = b"monitor Water {
+  int h = 0;
+  int o = 0;
+  int m = 0;
+  method hydrogen() waituntil (true) {
+    h = h + 1;
+  }
+  method oxygen() waituntil (true) {
+    o = o + 1;
+  }
+  method bond() waituntil (2 * m + 2 <= h && m + 1 <= o) {
+    m = m + 1;
+  }
+}
+";
+
+// `m <= h` and `m <= o` stay: `bond` ran where `2 * m + 2 <= h` and `m + 1 <= o`, and `m >= 0`. The other candidates that are
+// no bounds from below fail as `h`, `o` and `m` grow. Either atom may be the last that a molecule wants, and need not be: both
+// notes are tested. Atoms for two molecules serve two: one waiter is not enough. Nobody waits where `bond` ran, though
+// the negated guard has two sides, `2 * m + 1 >= h` and `m >= o`: each fails.
+const WATER_PLAN: &[u8] = b"plan Water
+keep h >= 0
+keep o >= 0
+keep m >= 0
+keep m <= h
+keep m <= o
+condition 1 broadcast: true
+condition 2 broadcast: 2 * m + 2 <= h && m + 1 <= o
+block hydrogen: 2 broadcast tested
+block oxygen: 2 broadcast tested
+block bond: none
+";
+
+#[test]
+fn monitors_with_sums_get_their_exact_plans(rt: HostRuntime) -> Result<(), Fail> {
+    let table: [(&[u8], &[u8]); 5] = [
+        (SUM, SUM_PLAN),
+        (PAIR, PAIR_PLAN),
+        (POOL, POOL_PLAN),
+        (TWOS, TWOS_PLAN),
+        (WATER, WATER_PLAN),
+    ];
+    for (monitor, plan) in table {
+        answers(&rt, compile(monitor), Status::Done, plan)?;
+    }
+    Ok(())
+}
+
 // ---- other monitors
 
 /// Its block has 65 paths.
@@ -213,8 +364,7 @@ fn compiles_with(
 
 #[test]
 fn monitors_that_are_not_small_get_plans(rt: HostRuntime) -> Result<(), Fail> {
-    let table: [(&[u8], &[u8], &[u8]); 3] = [
-        (SUM, b"plan Sum\n", b"condition 1 broadcast: x + y <= 4"),
+    let table: [(&[u8], &[u8], &[u8]); 2] = [
         (MANY_PATHS, b"plan Paths\n", b"block m: 1 broadcast tested"),
         (MANY_CUBES, b"plan Cubes\n", b"block m: 1 broadcast tested"),
     ];

@@ -15,8 +15,9 @@ use Rattle.mon_events.specs.PlanText.{note_kind}
 use Rattle.mon_events.specs.Plans.{has_note}
 use Rattle.mon_events.specs.Rising.{AreRising}
 use Rattle.mon_wp.specs.Expressible.{is_expressible}
-use Rattle.mon_wp.specs.Hardness.{is_easy, IsBlockNumber, IsConditionNumber, IsSmall, ReadsNone, WaitsAt}
+use Rattle.mon_wp.specs.Hardness.{IsBlockNumber, IsConditionNumber, ReadsNone, WaitsAt}
 use Rattle.mon_wp.specs.QueryPlaces.{is_of_fields}
+use Rattle.mon_prune.specs.Hardness.{IsSmall, MayStayOpen}
 use Rattle.mon_prune.specs.Invariants.{ContainsEasy, IsGreatest, IsInvariant}
 use Rattle.mon_prune.specs.declared.kept.Kept.{Kept}
 use Rattle.mon_place.specs.declared.placed.Proof.{Proof}
@@ -24,10 +25,9 @@ use Rattle.mon_place.specs.Backing.{AreProofs, Certifies, IsBacked, kind_claims}
 
 -- ---- one claim
 
--- where the query of a claim is easy, the claim does not hold
+-- the claim holds only where its query may stay open
 abbrev pub IsUnproved : MonitorParts → List Candidate → Claim → Type 0
-IsUnproved monitor kept claim =
-    is_easy monitor (query_of monitor kept claim) ≡ true → Holds monitor kept claim → ⊥
+IsUnproved monitor kept claim = Holds monitor kept claim → MayStayOpen monitor (query_of monitor kept claim)
 
 -- a proof of the claim, or none
 abbrev pub IsAnswerTo : MonitorParts → List Candidate → Claim → Option Proof → Type 0

@@ -1,8 +1,8 @@
-use Rattle.std.proofs.Common.{◌≡◌, true, sym, subst}
+use Rattle.std.proofs.Common.{sym, subst}
 use Rattle.mon_monitor.specs.declared.query.Query.{Query}
 use Rattle.mon_monitor.specs.Triples.{IsValidQuery}
-use Rattle.mon_wp.specs.Hardness.{is_easy}
 use Rattle.mon_wp.specs.QueryPlaces.{IsPlaced}
+use Rattle.mon_prune.specs.Hardness.{MayStayOpen}
 use Rattle.mon_prune.specs.Invariants.{IsDecision}
 use Rattle.mon_place.proofs.AskedQueries.{query_placed}
 use Rattle.mon_place.proofs.asking.proof_of.Goals as goal
@@ -18,4 +18,4 @@ pub returns : goal.returns
 returns c =
     let monitor = c.args.monitor.now in
     let told = subst (IsDecision monitor c.in_ok-query.query) c.in-None.is c.in_ok-cert.ensures.decided in
-    subst (λ (query : Query). is_easy monitor query ≡ true → IsValidQuery monitor query → ⊥) c.in_ok-query.ensures.made told
+    subst (λ (query : Query). IsValidQuery monitor query → MayStayOpen monitor query) c.in_ok-query.ensures.made told

@@ -1,13 +1,13 @@
 use Rattle.mon_place.proofs.Backed.{Laws}
 use Rattle.mon_place.proofs.Answered.{plan_exact, plan_fits, plan_lawful, plan_licensed}
 use Rattle.mon_place.proofs.laws.answered_plans_are_placed.Goals as goal
-use Rattle.mon_place.proofs.laws.answered_plans_are_placed.Goals.{After-fewer_kept_are_no_harder}
+use Rattle.mon_place.proofs.laws.answered_plans_are_placed.Goals.{After-open_claims_are_hard}
 
-laws : (c : After-fewer_kept_are_no_harder) → Laws
+laws : (c : After-open_claims_are_hard) → Laws
 laws c = record {
   refuted_is_false = c.refuted_formula_is_false.ensures;
   refuted_is_valid = c.refuted_query_is_valid.ensures;
-  fewer_are_no_harder = c.fewer_kept_are_no_harder.ensures;
+  open_are_hard = c.open_claims_are_hard.ensures;
 }
 
 pub returns-clause-fits : goal.returns-clause-fits

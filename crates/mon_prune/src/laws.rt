@@ -1,0 +1,25 @@
+//! What follows from the definitions alone.
+
+ghost use Rattle.std.specs.Prelude.{◌≡◌, true, List};
+ghost use Rattle.mon_monitor.specs.declared.candidate.Candidate.{Candidate};
+ghost use Rattle.mon_monitor.specs.declared.claim.Claim.{Claim};
+ghost use Rattle.mon_monitor.specs.Candidates.{AreSomeOf, candidates_of};
+ghost use Rattle.mon_monitor.specs.MonitorParts.{MonitorParts};
+ghost use Rattle.mon_monitor.specs.Queries.{query_of};
+ghost use Rattle.mon_wp.specs.Hardness.{is_easy};
+ghost use Rattle.mon_prune.specs.Hardness.{IsHard, MayStayOpen};
+
+/// Where the query of a claim may stay open, whichever of the candidates are kept, the claim is hard.
+pub fn open_claims_are_hard()
+    ensures { (monitor : MonitorParts) (claim : Claim) (kept : List Candidate)
+        → AreSomeOf kept (candidates_of monitor)
+        → MayStayOpen monitor (query_of monitor kept claim) → IsHard monitor claim }
+{}
+
+/// A claim is not hard whose query, with all candidates kept, is negated within the limits to a formula of difference
+/// rows alone.
+pub fn easy_claims_are_not_hard()
+    ensures { (monitor : MonitorParts) (claim : Claim)
+        → is_easy monitor (query_of monitor (candidates_of monitor) claim) ≡ true
+        → IsHard monitor claim → ⊥ }
+{}
