@@ -5,5 +5,6 @@ mod OpenQueries
 mod PoolNumbers
 mod Pruned
 mod RoundSteps
+mod Smallness
 pub mod SomeOf
 mod StartTruths
