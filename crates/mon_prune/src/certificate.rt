@@ -9,9 +9,7 @@ ghost use Rattle.mon_prune.specs.Invariants.{IsDecision};
 use mon_cert::{Cert, refuted_formula_is_false};
 use mon_monitor::{Monitor, Query};
 use mon_solve::refute;
-use mon_wp::{
-    negated, placed_queries_have_few_places, refuted_query_is_valid, satisfied_query_is_invalid,
-};
+use mon_wp::{negated, refuted_query_is_valid, satisfied_query_is_invalid};
 use std::alloc::{AllocError, Global};
 
 /// A certificate that refutes the negation of a query, which is then valid. There is none only where the query is not
@@ -34,7 +32,6 @@ pub fn certificate_of(
     refuted_formula_is_false();
     refuted_query_is_valid();
     satisfied_query_is_invalid();
-    placed_queries_have_few_places();
     monitor.blocks();
     match negated(alloc, monitor, query)? {
         None => Ok(None),

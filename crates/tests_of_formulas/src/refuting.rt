@@ -1,9 +1,9 @@
 //! What the prover refutes.
 
-use super::shapes::{Shape, level, made, nested};
+use super::shapes::{Shape, level, made, nested, of_all_pairs};
 use mon_cert::{Cert, accepts};
 use mon_linear::{Formula, MOST_NODES, nodes};
-use mon_solve::{has_few_places, refute};
+use mon_solve::refute;
 use std::alloc::{AllocError, Global};
 use std::test::Fail;
 
@@ -150,8 +150,10 @@ fn a_thousand_levels_are_answered(rt: HostRuntime) -> Result<(), Fail> {
 }
 
 #[test]
-fn two_places_are_few(rt: HostRuntime) -> Result<(), Fail> {
-    let row = made(rt.alloc(), &Shape::Row(&[(0, 1), (1, -1)], 1))?;
-    assert!(rt; has_few_places(rt.alloc(), &row)?);
+fn many_places_and_rows_are_decided(rt: HostRuntime) -> Result<(), Fail> {
+    for (first, refuted) in [(0, false), (1, true)] {
+        let formula = of_all_pairs(rt.alloc(), 66, first)?;
+        assert_eq!(rt; is_refuted(rt.alloc(), &formula)?, refuted, "with {first}");
+    }
     Ok(())
 }

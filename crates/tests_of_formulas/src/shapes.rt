@@ -132,6 +132,24 @@ fn made_parts(alloc: Global, shapes: &[Shape]) -> Result<Vec<Formula>, Fail> {
     Ok(parts)
 }
 
+/// The rows by which the place's variable and that of each place before are at most one another.
+fn push_pairs(alloc: Global, rows: &mut Vec<Formula>, place: u32, first: i128) -> Result<(), Fail> {
+    for other in 0..place {
+        rows.push(made(alloc, &Shape::Row(&[(other, 1), (place, -1)], first))?)?;
+        rows.push(made(alloc, &Shape::Row(&[(other, -1), (place, 1)], 0))?)?;
+    }
+    Ok(())
+}
+
+/// By each row the variable of one of so many places is at most another's, and in a pair's first row this much less.
+pub(crate) fn of_all_pairs(alloc: Global, places: u32, first: i128) -> Result<Formula, Fail> {
+    let mut rows = Vec::new(alloc);
+    for place in 0..places {
+        push_pairs(alloc, &mut rows, place, first)?;
+    }
+    Ok(Formula::All(Seq::of(rows)))
+}
+
 /// The formula in so many alls, or anys, of one part.
 pub(crate) fn nested(
     alloc: Global,

@@ -1,0 +1,13 @@
+-- For private contracts: lists of different things.
+use Rattle.std.specs.Prelude.{◌≡◌, ◌⊎◌, List, [], ◌∷◌}
+use Rattle.std.specs.List.{AllByRecursion as Each}
+
+-- The thing is one of these.
+abbrev pub Among : {X : Type 0} → X → List X → Type 0
+Among x [] = ⊥
+Among x (y ∷ ys) = (y ≡ x) ⊎ Among x ys
+
+-- No two of these are the same.
+abbrev pub Different : {X : Type 0} → List X → Type 0
+Different [] = Unit {0}
+Different {X} (x ∷ xs) = Each (λ (y : X). x ≡ y → ⊥) xs × Different xs
