@@ -22,10 +22,10 @@ whole_answers words files files_now statuses.OutOfMemory text out out_now is app
 -- the text was written whole with its status, or a front of it
 answers_written : (words : List (List ℕ)) (files files_now : FilesSeen) (status : Status) (text : List ℕ) (result : Status) (out out_now : SinkSeen)
     → IsText words files files_now status text → IsWritten status text result out out_now → Answers words files files_now result out out_now
-answers_written words files files_now status text result out out_now is (inl (same, appends)) =
-    subst (λ (s : Status). Answers words files files_now s out out_now) (sym same) (whole_answers words files files_now status text out out_now is appends)
-answers_written words files files_now status text result out out_now is (inr (same, front, rises)) =
-    subst (λ (s : Status). Answers words files files_now s out out_now) (sym same) (status, text, is, front)
+answers_written words files files_now status text result out out_now is (inl (same, whole)) =
+    subst (λ (s : Status). Answers words files files_now s out out_now) (sym same) (whole_answers words files files_now status text out out_now is whole.written)
+answers_written words files files_now status text result out out_now is (inr (same, cut)) =
+    subst (λ (s : Status). Answers words files files_now s out out_now) (sym same) (status, text, is, cut.unfinished)
 
 -- a text of the command is one of the words that ask for it
 command_text : (words : List (List ℕ)) (command : Command) (files files_now : FilesSeen) (status : Status) (text : List ℕ) → Takes words command → IsCommandText command files files_now status text → IsText words files files_now status text
@@ -39,7 +39,7 @@ pub command_answers : (words : List (List ℕ)) (command : Command) (files files
     → Takes words command → AnswersCommand command files files_now result out out_now → Answers words files files_now result out out_now
 command_answers words command files files_now result out out_now taken (inl (status, text, is, written)) =
     answers_written words files files_now status text result out out_now (command_text words command files files_now status text taken is) written
-command_answers words command files files_now result out out_now taken (inr (same, keeps)) = subst (λ (s : Status). Answers words files files_now s out out_now) (sym same) keeps
+command_answers words command files files_now result out out_now taken (inr (same, silent)) = subst (λ (s : Status). Answers words files files_now s out out_now) (sym same) silent
 
 pub usage_answers : (words : List (List ℕ)) (files files_now : FilesSeen) (result : Status) (out out_now : SinkSeen)
     → TakesNone words → IsWritten statuses.Usage usage_text result out out_now → Answers words files files_now result out out_now

@@ -1,6 +1,5 @@
 -- How a command ends, by what was written last.
 use Rattle.std.proofs.Common.{◌≡◌, ℕ, Bool, true, false, List, sym, subst, inl, inr, arith}
-use Rattle.std.specs.Io.KnownBytes.{Keeps}
 use Rattle.mon_io.specs.Outside.{FilesSeen, SinkSeen, Rises}
 use Rattle.mon_text.specs.FaultText.{unread_text}
 use Rattle.expresso.specs.declared.status.Status.{Status}
@@ -10,10 +9,10 @@ use Rattle.expresso.specs.Answers.{AcceptsFiles, RejectsFiles, IsRefusedText, Is
 use Rattle.expresso.specs.inner.Ending.{CommandEnds, IsCommandText, IsUnread, IsWritten, ended}
 
 -- a status that a text came to, where the sink took it whole
-whole_status : (P : Status → Type 0) (status : Status) (text : List ℕ) (result : Status) (out out_now : SinkSeen) → P status → IsWritten status text result out out_now
+pub whole_status : (P : Status → Type 0) (status : Status) (text : List ℕ) (result : Status) (out out_now : SinkSeen) → P status → IsWritten status text result out out_now
     → (Rises out.faults out_now.faults → ⊥) → P result
-whole_status P status text result out out_now holds (inl (same, appends)) no_write = subst P (sym same) holds
-whole_status P status text result out out_now holds (inr (same, front, rises)) no_write = absurd (no_write rises)
+whole_status P status text result out out_now holds (inl (same, whole)) no_write = subst P (sym same) holds
+whole_status P status text result out out_now holds (inr (same, cut)) no_write = absurd (no_write cut.cause)
 
 module _ (command : Command) (files files_now : FilesSeen) (text : List ℕ) (result : Status) (out out_now : SinkSeen) where
   -- a file couldn't be read
@@ -53,10 +52,10 @@ module _ (command : Command) (files files_now : FilesSeen) (text : List ℕ) (re
   }
 
 -- memory ran out
-pub memory_ended : (command : Command) (files files_now : FilesSeen) (result : Status) (out out_now : SinkSeen) → result ≡ statuses.OutOfMemory → Keeps out.written out_now.written
+pub memory_ended : (command : Command) (files files_now : FilesSeen) (result : Status) (out out_now : SinkSeen) → result ≡ statuses.OutOfMemory → out_now ≡ out
     → CommandEnds command files files_now result out out_now
-memory_ended command files files_now result out out_now is keeps = record {
-  answer = inr (is, keeps);
+memory_ended command files files_now result out out_now is silent = record {
+  answer = inr (is, silent);
   accepted = λ accepts no_read no_write. subst IsWorkedOrMemory (sym is) tt;
   rejected = λ rejects no_read no_write. subst IsRefusedOrMemory (sym is) tt;
   stopped = λ rejects no_write. subst IsStoppedOrMemory (sym is) tt;
@@ -66,5 +65,5 @@ memory_ended command files files_now result out out_now is keeps = record {
 -- a file of the command has no bytes
 pub no_bytes_ended : (command : Command) (file : List ℕ) (files files_now : FilesSeen) (result : Status) (out out_now : SinkSeen) → IsUnreadText command (unread_text file)
     → IsUnread file files files_now result out out_now → CommandEnds command files files_now result out out_now
-no_bytes_ended command file files files_now result out out_now line (inl (is, keeps)) = memory_ended command files files_now result out out_now is keeps
+no_bytes_ended command file files files_now result out out_now line (inl (is, silent)) = memory_ended command files files_now result out out_now is silent
 no_bytes_ended command file files files_now result out out_now line (inr (risen, written)) = unread_ended command files files_now (unread_text file) result out out_now line risen written

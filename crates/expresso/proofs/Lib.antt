@@ -21,3 +21,5 @@ pub mod Stressed
 pub mod Promised
 pub mod Ranges
 pub mod GivenWords
+pub mod ProgramEnded
+pub mod Keeping

@@ -22,7 +22,6 @@ use Rattle.expresso.specs.inner.Input.{CommandsEndOn, WorksOn}
 use Rattle.expresso.proofs.Telling.{told, is_told, accepted_told, fault_told, refusal_told, holds_same}
 use Rattle.expresso.proofs.MonitorFaults.{OneSpelling, NoSpelling, OneTree, accepted_faultless, first_fault}
 use Rattle.expresso.proofs.Ending.{memory_ended, no_bytes_ended, refused_ended, work_ended}
-use Rattle.expresso.proofs.RunFiles.{keeps_itself}
 
 -- ---- the commands that work on one file
 
@@ -43,8 +42,7 @@ file_unread file files files_now result out out_now unread command works =
 
 -- memory ran out
 pub monitor_unmade : (file : List ℕ) (files files_now : FilesSeen) (result : Status) (out out_now : SinkSeen) → result ≡ statuses.OutOfMemory → out_now ≡ out → CommandsEndOn file files files_now result out out_now
-monitor_unmade file files files_now result out out_now is silent command works =
-    subst (λ (s : SinkSeen). CommandEnds command files files_now result out s) (sym silent) (memory_ended command files files_now result out out is (keeps_itself out.written))
+monitor_unmade file files files_now result out out_now is silent command works = memory_ended command files files_now result out out_now is silent
 
 -- ---- the bytes that were read have a fault
 

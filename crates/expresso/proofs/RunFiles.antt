@@ -1,7 +1,6 @@
 -- How a command that runs the clients of one file on the monitor of another ends before they are run.
 use Rattle.std.proofs.Common.{◌≡◌, ℕ, List, Option, Some, None, refl, sym, subst, inl, inr, arith}
 use Rattle.std.specs.Prelude.{Any}
-use Rattle.std.specs.Io.KnownBytes.{Keeps}
 use Rattle.mon_io.specs.Outside.{FilesSeen, SinkSeen, IsRead, Rises}
 use Rattle.mon_monitor.specs.MonitorParts.{MonitorParts}
 use Rattle.mon_implicit.specs.declared.script.Client.{Client}
@@ -82,14 +81,9 @@ clients_unread monitor clients files between files_now result out mid out_now st
     later_unread (inl memory) = inl memory
     later_unread (inr (risen, written)) = inr (subst (λ (n : ℕ). Rises n files_now.faults) steady risen, written)
 
-pub keeps_itself : (w : Option (List ℕ)) → Keeps w w
-keeps_itself None = tt
-keeps_itself (Some xs) = refl
-
 -- memory ran out
 pub run_unmade : (monitor clients : List ℕ) (files files_now : FilesSeen) (result : Status) (out out_now : SinkSeen) → result ≡ statuses.OutOfMemory → out_now ≡ out → RunsEnd monitor clients files files_now result out out_now
-run_unmade monitor clients files files_now result out out_now is silent command runs =
-    subst (λ (s : SinkSeen). CommandEnds command files files_now result out s) (sym silent) (memory_ended command files files_now result out out is (keeps_itself out.written))
+run_unmade monitor clients files files_now result out out_now is silent command runs = memory_ended command files files_now result out out_now is silent
 
 -- ---- both files were read
 

@@ -1,6 +1,6 @@
 -- What the program answers.
-use Rattle.std.specs.Prelude.{◌≡◌, ◌⊎◌, ℕ, List, Any, Option, Some, IfSome, codes}
-use Rattle.std.specs.Io.KnownBytes.{Appends, Keeps}
+use Rattle.std.specs.Prelude.{◌≡◌, ◌<◌, ◌⊎◌, ℕ, List, Any, Option, Some, IfSome, codes}
+use Rattle.std.specs.Io.KnownBytes.{Appends}
 use Rattle.mon_io.specs.Outside.{FilesSeen, SinkSeen, AppendsFront, Rises}
 use Rattle.mon_tree.specs.declared.tree.MonitorTree.{MonitorTree}
 use Rattle.mon_printer.specs.Canonical.{tree_text}
@@ -180,11 +180,15 @@ IsText words files files_now ReadFault text = (command : Command) × Takes words
 IsText words files files_now WriteFault text = ⊥
 IsText words files files_now OutOfMemory text = ⊥
 
--- What was written for a status: its whole text; where the sink failed, a proper front of the text whose status this one
--- replaces; where memory ran out, nothing.
+-- Not all of the text was handed on: a proper front of it was written, or all of it, and then bytes are still buffered.
+abbrev pub IsUnfinished : SinkSeen → SinkSeen → List ℕ → Type 0
+IsUnfinished out out_now text = AppendsFront out.written out_now.written text ⊎ (Appends out.written out_now.written text × (0 < out_now.buffered))
+
+-- What was written for a status: its whole text; where the sink failed, the text whose status this one replaces, not all of
+-- which was handed on; where memory ran out, nothing.
 abbrev pub Answers : List (List ℕ) → FilesSeen → FilesSeen → Status → SinkSeen → SinkSeen → Type 0
-Answers words files files_now WriteFault out out_now = (status : Status) × (text : List ℕ) × IsText words files files_now status text × AppendsFront out.written out_now.written text
-Answers words files files_now OutOfMemory out out_now = Keeps out.written out_now.written
+Answers words files files_now WriteFault out out_now = (status : Status) × (text : List ℕ) × IsText words files files_now status text × IsUnfinished out out_now text
+Answers words files files_now OutOfMemory out out_now = out_now ≡ out
 Answers words files files_now status out out_now = (text : List ℕ) × IsText words files files_now status text × Appends out.written out_now.written text
 
 -- ---- completeness: what the status must be where nothing fails

@@ -1,4 +1,5 @@
 pub mod Placements
+pub mod ProgramEnds
 pub mod PlacedRuns
 pub mod Simulations
 pub mod SourceFaults

@@ -1,7 +1,7 @@
 //! `expresso check FILE`.
 
-ghost use Rattle.std.specs.Prelude.{◌≡◌, ◌≢◌, ◌≤◌, ◌↔◌, ℕ, List};
 ghost use Rattle.mon_command.specs.CommandLine.{check};
+ghost use Rattle.expresso.specs.ProgramEnds.{KeepsFiles};
 ghost use Rattle.expresso.specs.inner.Ending.{CommandEnds};
 
 use crate::input::monitor_of;
@@ -20,12 +20,8 @@ pub(crate) fn check_file<F: Files, S: Sink>(
     requires { F.may_read files.old file.now }
     ensures ended { CommandEnds (check file.now)
         (F.seen files.old) (F.seen files.new) result (S.seen out.old) (S.seen out.new) }
-    ensures reads { (F.seen files.old).faults ≤ (F.seen files.new).faults }
-    ensures writes { (S.seen out.old).faults ≤ (S.seen out.new).faults }
-    ensures handed_on { result ≢ Status.WriteFault
-        → (S.seen out.new).faults ≡ (S.seen out.old).faults }
-    ensures held { (name : List ℕ) → (F.seen files.new).held name ≡ (F.seen files.old).held name }
-    ensures may_read { (name : List ℕ) → F.may_read files.new name ↔ F.may_read files.old name }
+    ensures files { KeepsFiles (F.seen files.old) (F.seen files.new)
+        (F.may_read files.old) (F.may_read files.new) }
 {
     match monitor_of(alloc, file, files, out) {
         Ok(found) => show_tree(&found.tree, out),

@@ -1,8 +1,9 @@
 //! A monitor, or a monitor and its clients, from the files that a command names.
 
-ghost use Rattle.std.specs.Prelude.{◌≡◌, ◌≢◌, ◌≤◌, ◌↔◌, ℕ, List, IfErr, IfOk, OnOk};
+ghost use Rattle.std.specs.Prelude.{◌≡◌, IfErr, IfOk, OnOk};
 ghost use Rattle.mon_implicit.specs.Scripted.{FitsScripts};
 ghost use Rattle.expresso.specs.Answers.{HoldRun, HoldsMonitor};
+ghost use Rattle.expresso.specs.ProgramEnds.{KeepsFiles};
 ghost use Rattle.expresso.specs.inner.Input.{CommandsEndOn, RunsEnd, HasInputCause, IsInput, fault_of_input};
 
 use crate::client_file::read_clients;
@@ -34,12 +35,8 @@ pub(crate) fn monitor_of<F: Files, S: Sink>(
     ensures silent { OnOk result (out.new ≡ out.old) }
     ensures ended { IfErr result (λ status. CommandsEndOn file.now
         (F.seen files.old) (F.seen files.new) status (S.seen out.old) (S.seen out.new)) }
-    ensures handed_on { IfErr result (λ status. status ≢ Status.WriteFault
-        → (S.seen out.new).faults ≡ (S.seen out.old).faults) }
-    ensures reads { (F.seen files.old).faults ≤ (F.seen files.new).faults }
-    ensures writes { (S.seen out.old).faults ≤ (S.seen out.new).faults }
-    ensures held { (name : List ℕ) → (F.seen files.new).held name ≡ (F.seen files.old).held name }
-    ensures may_read { (name : List ℕ) → F.may_read files.new name ↔ F.may_read files.old name }
+    ensures files { KeepsFiles (F.seen files.old) (F.seen files.new)
+        (F.may_read files.old) (F.may_read files.new) }
 {
     one_spelling();
     derives_one_tree();
@@ -118,12 +115,8 @@ pub(crate) fn input_of<F: Files, S: Sink>(
     ensures silent { OnOk result (out.new ≡ out.old) }
     ensures ended { IfErr result (λ status. RunsEnd monitor.now clients.now
         (F.seen files.old) (F.seen files.new) status (S.seen out.old) (S.seen out.new)) }
-    ensures handed_on { IfErr result (λ status. status ≢ Status.WriteFault
-        → (S.seen out.new).faults ≡ (S.seen out.old).faults) }
-    ensures reads { (F.seen files.old).faults ≤ (F.seen files.new).faults }
-    ensures writes { (S.seen out.old).faults ≤ (S.seen out.new).faults }
-    ensures held { (name : List ℕ) → (F.seen files.new).held name ≡ (F.seen files.old).held name }
-    ensures may_read { (name : List ℕ) → F.may_read files.new name ↔ F.may_read files.old name }
+    ensures files { KeepsFiles (F.seen files.old) (F.seen files.new)
+        (F.may_read files.old) (F.may_read files.new) }
 {
     one_spelling();
     derives_one_tree();

@@ -5,9 +5,10 @@
 //! form, `turns` a run by rounds of the implicit machine, `compile` the plan alone: whom each block wakes; `simulate` runs
 //! the clients by a schedule in place of threads, and `stress` runs a large input.
 //!
-//! Its clause `headline` is `specs/Headline`: what `run` promises. `specs/Answers` says what each command prints, and
-//! `specs/Exit` which number stands for a [`Status`]. That bytes stand for one monitor and one list of clients, and that a
-//! schedule has one simulation, are the laws of `laws`.
+//! Its clause `headline` is `specs/Headline`: what `run` promises. `specs/ProgramEnds` says what every call promises,
+//! `specs/Answers` what each command prints, and `specs/Exit` which number stands for a [`Status`]. [`without_workers`]
+//! does what needs no threads, with no runtime: so it returns. That bytes stand for one monitor and one list of clients,
+//! and that a schedule has one simulation, are the laws of `laws`.
 #![tactic(auto)]
 
 mod check;
@@ -29,5 +30,5 @@ mod turns;
 mod work;
 
 pub use laws::{accepts_one_client_list, accepts_one_monitor, one_simulation};
-pub use program::expresso;
+pub use program::{expresso, without_workers};
 pub use status::{Status, exit_status};

@@ -1,18 +1,16 @@
 //! The top call.
 
-ghost use Rattle.std.specs.Prelude.{◌≡◌, ◌≢◌, ◌<◌, ◌≤◌, ◌↔◌, ℕ, List, map};
+ghost use Rattle.std.specs.Prelude.{◌≡◌, IfErr, IfOk, OnErr, map};
 ghost use Rattle.std.specs.String.{string_bytes};
-ghost use Rattle.mon_io.specs.Outside.{Rises};
-ghost use Rattle.mon_command.specs.CommandLine.{MayReadFiles, TakesNone};
+ghost use Rattle.mon_command.specs.CommandLine.{MayReadFiles, Takes};
+ghost use Rattle.mon_command.specs.Commands.{command_meant};
 ghost use Rattle.expresso.specs.Headline.{Headline};
-ghost use Rattle.expresso.specs.Answers.{Answers, IsFaultless, Accepts, Rejects, IsUsageOrMemory};
-ghost use Rattle.expresso.specs.Answers.{IsWorkedOrMemory, IsRefusedOrMemory};
-ghost use Rattle.expresso.specs.Answers.{IsStoppedOrMemory, IsUnreadOrMemory};
+ghost use Rattle.expresso.specs.ProgramEnds.{HasWorkers, KeepsFiles, ProgramEnds};
 
 use crate::status::Status;
 use crate::text::show_usage;
-use crate::work::work;
-use mon_command::{CommandFault, command_of, one_command};
+use crate::work::{work, work_in_threads};
+use mon_command::{Command, CommandFault, command_of, one_command};
 use mon_io::{Files, Sink};
 use mon_pool::Gate;
 use std::alloc::Global;
@@ -29,7 +27,8 @@ use std::thread::Threads;
 /// The words begin with the program's name. First the files are read, the monitor first, then all work is
 /// done and all memory taken, and then the text is written, which takes no memory. Of a file that isn't accepted
 /// the line of its first fault is written, the monitor's first. Each worker calls the gate ahead of each section that it
-/// tries. Workers wait for one another, so `run` and `stress` are not said to return.
+/// tries. Workers wait for one another, so `run` and `stress` are not said to return; all else is done by
+/// [`without_workers`], which has no runtime to wait by and returns.
 pub fn expresso<R: Threads + Wait + Sync, F: Files, S: Sink, G: Gate>(
     rt: &R,
     alloc: Global,
@@ -43,41 +42,43 @@ pub fn expresso<R: Threads + Wait + Sync, F: Files, S: Sink, G: Gate>(
     // What `run` promises.
     ensures headline { Headline (map string_bytes words.now.items)
         (F.seen files.old) result (S.seen out.old) (S.seen out.new) }
-    // What was written is what the status says.
-    ensures answer { Answers (map string_bytes words.now.items)
+    // What each status promises.
+    ensures ended { ProgramEnds (map string_bytes words.now.items)
         (F.seen files.old) (F.seen files.new) result (S.seen out.old) (S.seen out.new) }
-    ensures read_fault { result ≡ Status.ReadFault →
-        Rises (F.seen files.old).faults (F.seen files.new).faults }
-    ensures write_fault { result ≡ Status.WriteFault →
-        Rises (S.seen out.old).faults (S.seen out.new).faults }
-    // Where the devices do not fail, the words and the files ask for this status, unless memory ran out.
-    ensures usage { TakesNone (map string_bytes words.now.items)
-        → IsFaultless (S.seen out.old).faults (S.seen out.new).faults → IsUsageOrMemory result }
-    ensures accepted { Accepts (F.seen files.old).held (map string_bytes words.now.items)
-        → IsFaultless (F.seen files.old).faults (F.seen files.new).faults
-        → IsFaultless (S.seen out.old).faults (S.seen out.new).faults → IsWorkedOrMemory result }
-    ensures rejected { Rejects (F.seen files.old).held (map string_bytes words.now.items)
-        → IsFaultless (F.seen files.old).faults (F.seen files.new).faults
-        → IsFaultless (S.seen out.old).faults (S.seen out.new).faults → IsRefusedOrMemory result }
-    // Where a told file is not accepted and the sink is faultless no work is done, at the end of the files' count of faults too.
-    ensures stopped { Rejects (F.seen files.old).held (map string_bytes words.now.items)
-        → IsFaultless (S.seen out.old).faults (S.seen out.new).faults → IsStoppedOrMemory result }
-    // Where the files' count of faults rose and the sink is faultless this must come.
-    ensures unread { (F.seen files.old).faults < (F.seen files.new).faults
-        → IsFaultless (S.seen out.old).faults (S.seen out.new).faults → IsUnreadOrMemory result }
-    // Any other status leaves the sink's count of faults as it was.
-    ensures handed_on { result ≢ Status.WriteFault
-        → (S.seen out.new).faults ≡ (S.seen out.old).faults }
-    // Neither count falls, and no call changes what files hold and which may be read.
-    ensures reads { (F.seen files.old).faults ≤ (F.seen files.new).faults }
-    ensures writes { (S.seen out.old).faults ≤ (S.seen out.new).faults }
-    ensures held { (name : List ℕ) → (F.seen files.new).held name ≡ (F.seen files.old).held name }
-    ensures may_read { (name : List ℕ) → F.may_read files.new name ↔ F.may_read files.old name }
+    ensures files { KeepsFiles (F.seen files.old) (F.seen files.new)
+        (F.may_read files.old) (F.may_read files.new) }
+{
+    one_command();
+    match without_workers(alloc, words, files, out) {
+        Ok(status) => status,
+        Err(command) => work_in_threads(rt, alloc, command, files, out, gate),
+    }
+}
+
+/// The program but for `run` and `stress`: what `check`, `turns`, `compile` and `simulate` do, and what comes of other
+/// words. It starts no thread and waits for none, so it returns. A command that runs in workers is handed back, with
+/// nothing read and nothing written.
+pub fn without_workers<'a, F: Files, S: Sink>(
+    alloc: Global,
+    words: &'a Vec<String>,
+    files: &mut F,
+    out: &mut S,
+) -> Result<Status, Command<'a>>
+    requires { MayReadFiles (F.may_read files.old) (map string_bytes words.now.items) }
+    ensures ended { IfOk result (λ status. ProgramEnds (map string_bytes words.now.items)
+        (F.seen files.old) (F.seen files.new) status (S.seen out.old) (S.seen out.new)) }
+    ensures taken { IfErr result (λ left.
+        Takes (map string_bytes words.now.items) (command_meant left)) }
+    ensures workers { IfErr result (λ left. HasWorkers (command_meant left)) }
+    ensures unread { OnErr result (files.new ≡ files.old) }
+    ensures silent { OnErr result (out.new ≡ out.old) }
+    ensures files { KeepsFiles (F.seen files.old) (F.seen files.new)
+        (F.may_read files.old) (F.may_read files.new) }
 {
     one_command();
     match command_of(alloc, words.as_slice()) {
-        Ok(command) => work(rt, alloc, command, files, out, gate),
-        Err(CommandFault::Usage) => show_usage(out),
-        Err(CommandFault::OutOfMemory) => Status::OutOfMemory,
+        Ok(command) => work(alloc, command, files, out),
+        Err(CommandFault::Usage) => Ok(show_usage(out)),
+        Err(CommandFault::OutOfMemory) => Ok(Status::OutOfMemory),
     }
 }

@@ -1,8 +1,9 @@
 //! The bytes of the files that a command names.
 
-ghost use Rattle.std.specs.Prelude.{◌≡◌, ◌≢◌, ◌≤◌, ◌↔◌, ℕ, List, IfErr, IfOk, OnOk};
+ghost use Rattle.std.specs.Prelude.{◌≡◌, IfErr, IfOk, OnOk};
 ghost use Rattle.mon_base.specs.Limits.{FILE_BYTES};
 ghost use Rattle.mon_io.specs.Outside.{IsRead};
+ghost use Rattle.expresso.specs.ProgramEnds.{KeepsFiles};
 ghost use Rattle.expresso.specs.inner.Ending.{IsUnread};
 
 use crate::status::Status;
@@ -26,12 +27,8 @@ pub(crate) fn bytes_of<F: Files, S: Sink>(
     ensures silent { OnOk result (out.new ≡ out.old) }
     ensures unread { IfErr result (λ status. IsUnread file.now
         (F.seen files.old) (F.seen files.new) status (S.seen out.old) (S.seen out.new)) }
-    ensures reads { (F.seen files.old).faults ≤ (F.seen files.new).faults }
-    ensures writes { (S.seen out.old).faults ≤ (S.seen out.new).faults }
-    ensures handed_on { IfErr result (λ status. status ≢ Status.WriteFault
-        → (S.seen out.new).faults ≡ (S.seen out.old).faults) }
-    ensures held { (name : List ℕ) → (F.seen files.new).held name ≡ (F.seen files.old).held name }
-    ensures may_read { (name : List ℕ) → F.may_read files.new name ↔ F.may_read files.old name }
+    ensures files { KeepsFiles (F.seen files.old) (F.seen files.new)
+        (F.may_read files.old) (F.may_read files.new) }
 {
     match files.read_up_to(alloc, file, FILE_BYTES as u64) {
         Ok(bytes) => Ok(bytes),

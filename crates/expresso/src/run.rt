@@ -1,12 +1,13 @@
 //! `expresso run FILE CLIENTS [--workers N]`.
 
-ghost use Rattle.std.specs.Prelude.{◌≡◌, ◌≢◌, ◌≤◌, ◌↔◌, ℕ, List, IfOk};
+ghost use Rattle.std.specs.Prelude.{◌≡◌, ◌≤◌, IfOk};
 ghost use Rattle.mon_base.specs.Limits.{WORKERS};
 ghost use Rattle.mon_command.specs.CommandLine.{run};
 ghost use Rattle.mon_implicit.specs.Scripted.{FitsScripts};
 ghost use Rattle.mon_explicit.specs.Sections.{spurious_in};
 ghost use Rattle.mon_events.specs.Configurations.{system_under};
 ghost use Rattle.expresso.specs.PlacedRuns.{IsPlacedRun};
+ghost use Rattle.expresso.specs.ProgramEnds.{KeepsFiles};
 ghost use Rattle.expresso.specs.inner.Ending.{CommandEnds};
 
 use crate::input::{Input, input_of};
@@ -64,12 +65,8 @@ pub(crate) fn run_files<R: Threads + Wait + Sync, F: Files, S: Sink, G: Gate>(
     requires few { workers ≤ WORKERS }
     ensures ended { CommandEnds (run monitor.now clients.now workers)
         (F.seen files.old) (F.seen files.new) result (S.seen out.old) (S.seen out.new) }
-    ensures handed_on { result ≢ Status.WriteFault
-        → (S.seen out.new).faults ≡ (S.seen out.old).faults }
-    ensures reads { (F.seen files.old).faults ≤ (F.seen files.new).faults }
-    ensures writes { (S.seen out.old).faults ≤ (S.seen out.new).faults }
-    ensures held { (name : List ℕ) → (F.seen files.new).held name ≡ (F.seen files.old).held name }
-    ensures may_read { (name : List ℕ) → F.may_read files.new name ↔ F.may_read files.old name }
+    ensures files { KeepsFiles (F.seen files.old) (F.seen files.new)
+        (F.may_read files.old) (F.may_read files.new) }
 {
     let Input { monitor, scripts } = match input_of(alloc, monitor, clients, files, out) {
         Ok(input) => input,

@@ -1,6 +1,6 @@
 //! `expresso simulate FILE CLIENTS [--seed N] [--spurious K]`.
 
-ghost use Rattle.std.specs.Prelude.{◌≡◌, ◌≢◌, ◌≤◌, ◌+◌, ◌↔◌, ℕ, List, IfOk};
+ghost use Rattle.std.specs.Prelude.{◌≡◌, ◌≤◌, ◌+◌, IfOk};
 ghost use Rattle.mon_implicit.specs.Scripted.{FitsScripts};
 ghost use Rattle.mon_events.specs.Logs.{IsClosed};
 ghost use Rattle.mon_explicit.specs.Sections.{MOST_SPURIOUS, HasEnded, HoldsAlways, spurious_in};
@@ -8,6 +8,7 @@ ghost use Rattle.mon_simulate.specs.Schedules.{Extends};
 ghost use Rattle.mon_command.specs.CommandLine.{simulate};
 ghost use Rattle.expresso.specs.Simulations.{IsScheduled, IsSimulation, most_spurious};
 ghost use Rattle.mon_events.specs.Configurations.{system_under};
+ghost use Rattle.expresso.specs.ProgramEnds.{KeepsFiles};
 ghost use Rattle.expresso.specs.inner.Ending.{CommandEnds};
 
 use crate::input::{Input, input_of};
@@ -78,12 +79,8 @@ pub(crate) fn simulate_files<F: Files, S: Sink>(
     requires few { most_spurious schedule ≤ MOST_SPURIOUS }
     ensures ended { CommandEnds (simulate monitor.now clients.now schedule)
         (F.seen files.old) (F.seen files.new) result (S.seen out.old) (S.seen out.new) }
-    ensures handed_on { result ≢ Status.WriteFault
-        → (S.seen out.new).faults ≡ (S.seen out.old).faults }
-    ensures reads { (F.seen files.old).faults ≤ (F.seen files.new).faults }
-    ensures writes { (S.seen out.old).faults ≤ (S.seen out.new).faults }
-    ensures held { (name : List ℕ) → (F.seen files.new).held name ≡ (F.seen files.old).held name }
-    ensures may_read { (name : List ℕ) → F.may_read files.new name ↔ F.may_read files.old name }
+    ensures files { KeepsFiles (F.seen files.old) (F.seen files.new)
+        (F.may_read files.old) (F.may_read files.new) }
 {
     let input = match input_of(alloc, monitor, clients, files, out) {
         Ok(input) => input,

@@ -1,6 +1,6 @@
 //! `expresso stress N [--workers N]`.
 
-ghost use Rattle.std.specs.Prelude.{◌≡◌, ◌≢◌, ◌≤◌};
+ghost use Rattle.std.specs.Prelude.{◌≤◌};
 ghost use Rattle.mon_base.specs.Limits.{WORKERS};
 ghost use Rattle.mon_command.specs.CommandLine.{stress};
 ghost use Rattle.mon_io.specs.Outside.{FilesSeen};
@@ -27,11 +27,8 @@ pub(crate) fn stress<R: Threads + Wait + Sync, S: Sink, G: Gate>(
 ) -> Status
     requires some { 1 ≤ workers }
     requires few { workers ≤ WORKERS }
-    ensures ended { (files : FilesSeen) → CommandEnds (stress number workers)
+    ensures { (files : FilesSeen) → CommandEnds (stress number workers)
         files files result (S.seen out.old) (S.seen out.new) }
-    ensures handed_on { result ≢ Status.WriteFault
-        → (S.seen out.new).faults ≡ (S.seen out.old).faults }
-    ensures writes { (S.seen out.old).faults ≤ (S.seen out.new).faults }
 {
     every_large_run_ends_done();
     let Ok(LargeInput { monitor, scripts }) = large_input(alloc, number) else {

@@ -1,7 +1,7 @@
 //! What the program itself prints, written whole to a sink and handed on, with the status that it comes to.
 //! No writer takes memory.
 
-ghost use Rattle.std.specs.Prelude.{◌≡◌, ◌≢◌, ◌<◌, ◌≤◌, ℕ, List, length};
+ghost use Rattle.std.specs.Prelude.{◌≡◌, ◌≢◌, ℕ, List};
 ghost use Rattle.mon_io.specs.Outside.{SinkSeen};
 ghost use Rattle.mon_io.specs.Writing.{Wrote};
 ghost use Rattle.mon_events.specs.Logs.{IsClosed, commits_of};
@@ -29,14 +29,10 @@ use mon_text::{Fault, are_done, write_fault, write_log, write_plan, write_summar
 use mon_tree::MonitorTree;
 
 /// Hands on what was written of a text, and gives the status that the text comes to.
+#[tactic(auto, using(crate::proofs::Outcomes::text_handed_on, crate::proofs::Outcomes::flush_failed, crate::proofs::Outcomes::write_failed))]
 fn finish<S: Sink>(status: Status, outcome: Result<(), SinkFailed>, out: &mut S) -> Status
-    ensures written { (before : SinkSeen) (text : List ℕ) → 0 < length text
-        → Wrote before (S.seen out.old) outcome text
+    ensures { (before : SinkSeen) (text : List ℕ) → Wrote before (S.seen out.old) outcome text
         → IsWritten status text result before (S.seen out.new) }
-    ensures later { (S.seen out.old).faults ≤ (S.seen out.new).faults }
-    ensures handed_on { (before : SinkSeen) (text : List ℕ)
-        → Wrote before (S.seen out.old) outcome text
-        → result ≢ Status.WriteFault → (S.seen out.new).faults ≡ before.faults }
 {
     match outcome {
         Ok(()) => match out.flush() {
@@ -49,10 +45,7 @@ fn finish<S: Sink>(status: Status, outcome: Result<(), SinkFailed>, out: &mut S)
 
 /// Writes the usage.
 pub(crate) fn show_usage<S: Sink>(out: &mut S) -> Status
-    ensures written { IsWritten Status.Usage usage_text result (S.seen out.old) (S.seen out.new) }
-    ensures later { (S.seen out.old).faults ≤ (S.seen out.new).faults }
-    ensures handed_on { result ≢ Status.WriteFault
-        → (S.seen out.new).faults ≡ (S.seen out.old).faults }
+    ensures { IsWritten Status.Usage usage_text result (S.seen out.old) (S.seen out.new) }
 {
     let outcome = write_piece(
         b"usage:\nexpresso check FILE\nexpresso turns FILE CLIENTS\nexpresso compile FILE\nexpresso simulate FILE CLIENTS [--seed N] [--spurious K]\nexpresso run FILE CLIENTS [--workers N]\nexpresso stress N [--workers N]\n",
@@ -63,11 +56,8 @@ pub(crate) fn show_usage<S: Sink>(out: &mut S) -> Status
 
 /// Writes the line of a file that couldn't be read.
 pub(crate) fn show_unread<S: Sink>(file: &str, out: &mut S) -> Status
-    ensures written { IsWritten Status.ReadFault (unread_text file.now) result
+    ensures { IsWritten Status.ReadFault (unread_text file.now) result
         (S.seen out.old) (S.seen out.new) }
-    ensures later { (S.seen out.old).faults ≤ (S.seen out.new).faults }
-    ensures handed_on { result ≢ Status.WriteFault
-        → (S.seen out.new).faults ≡ (S.seen out.old).faults }
 {
     let outcome = write_fault(&Fault::Unread { file }, out);
     finish(Status::ReadFault, outcome, out)
@@ -98,11 +88,8 @@ pub(crate) fn show_fault<S: Sink>(
     out: &mut S,
 ) -> Status
     requires { fault ≢ SourceFault.OutOfMemory }
-    ensures written { IsWritten Status.Refused (source_fault_text file.now bytes.now fault) result
+    ensures { IsWritten Status.Refused (source_fault_text file.now bytes.now fault) result
         (S.seen out.old) (S.seen out.new) }
-    ensures later { (S.seen out.old).faults ≤ (S.seen out.new).faults }
-    ensures handed_on { result ≢ Status.WriteFault
-        → (S.seen out.new).faults ≡ (S.seen out.old).faults }
 {
     let shown = shown_fault(file, bytes, fault);
     let outcome = write_fault(&shown, out);
@@ -111,11 +98,8 @@ pub(crate) fn show_fault<S: Sink>(
 
 /// Writes the canonical form of a tree.
 pub(crate) fn show_tree<S: Sink>(tree: &MonitorTree, out: &mut S) -> Status
-    ensures written { IsWritten Status.Done (tree_text tree.now) result
+    ensures { IsWritten Status.Done (tree_text tree.now) result
         (S.seen out.old) (S.seen out.new) }
-    ensures later { (S.seen out.old).faults ≤ (S.seen out.new).faults }
-    ensures handed_on { result ≢ Status.WriteFault
-        → (S.seen out.new).faults ≡ (S.seen out.old).faults }
 {
     let outcome = print_monitor(tree, out);
     finish(Status::Done, outcome, out)
@@ -123,11 +107,8 @@ pub(crate) fn show_tree<S: Sink>(tree: &MonitorTree, out: &mut S) -> Status
 
 /// Writes a plan of a monitor.
 pub(crate) fn show_plan<S: Sink>(monitor: &Monitor, plan: &Plan, out: &mut S) -> Status
-    ensures written { IsWritten Status.Done (plan_text monitor.now plan.now) result
+    ensures { IsWritten Status.Done (plan_text monitor.now plan.now) result
         (S.seen out.old) (S.seen out.new) }
-    ensures later { (S.seen out.old).faults ≤ (S.seen out.new).faults }
-    ensures handed_on { result ≢ Status.WriteFault
-        → (S.seen out.new).faults ≡ (S.seen out.old).faults }
 {
     let outcome = write_plan(monitor, plan, out);
     finish(Status::Done, outcome, out)
@@ -151,11 +132,8 @@ pub(crate) fn show_turns<S: Sink>(
     turns: &Turns,
     out: &mut S,
 ) -> Status
-    ensures written { IsWritten (ended turns.now.finished)
+    ensures { IsWritten (ended turns.now.finished)
         (turns_text monitor.now scripts.now turns.now) result (S.seen out.old) (S.seen out.new) }
-    ensures later { (S.seen out.old).faults ≤ (S.seen out.new).faults }
-    ensures handed_on { result ≢ Status.WriteFault
-        → (S.seen out.new).faults ≡ (S.seen out.old).faults }
 {
     let outcome = write_turns(monitor, scripts, turns, out);
     finish(run_status(turns.finished), outcome, out)
@@ -164,13 +142,10 @@ pub(crate) fn show_turns<S: Sink>(
 /// Writes the plan and the log of a run by sections. Where a client has calls left it is stalled.
 pub(crate) fn show_plan_and_log<S: Sink>(free: &FreeMonitor, out: &mut S) -> Status
     requires { IsClosed free.now.system free.now.now }
-    ensures written { IsWritten
+    ensures { IsWritten
         (ended (are_done free.now.system.clients (commits_of free.now.log)))
         (plan_and_log_text free.now.system free.now.log free.now.now)
         result (S.seen out.old) (S.seen out.new) }
-    ensures handed_on { result ≢ Status.WriteFault
-        → (S.seen out.new).faults ≡ (S.seen out.old).faults }
-    ensures later { (S.seen out.old).faults ≤ (S.seen out.new).faults }
 {
     let finished = are_done(free);
     let outcome = write_plan_and_log(free, out);
@@ -190,13 +165,10 @@ fn write_plan_and_log<S: Sink>(free: &FreeMonitor, out: &mut S) -> Result<(), Si
 /// Writes the summary of a run by sections. Where a client has calls left it is stalled.
 pub(crate) fn show_summary<S: Sink>(free: &FreeMonitor, out: &mut S) -> Status
     requires { IsClosed free.now.system free.now.now }
-    ensures written { IsWritten
+    ensures { IsWritten
         (ended (are_done free.now.system.clients (commits_of free.now.log)))
         (summary_text free.now.system free.now.log free.now.now)
         result (S.seen out.old) (S.seen out.new) }
-    ensures handed_on { result ≢ Status.WriteFault
-        → (S.seen out.new).faults ≡ (S.seen out.old).faults }
-    ensures later { (S.seen out.old).faults ≤ (S.seen out.new).faults }
 {
     let finished = are_done(free);
     let outcome = write_summary(free, out);

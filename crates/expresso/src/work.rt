@@ -1,8 +1,9 @@
 //! What is done for a command.
 
-ghost use Rattle.std.specs.Prelude.{◌≡◌, ◌≢◌, ◌≤◌, ◌↔◌, ℕ, List, All};
+ghost use Rattle.std.specs.Prelude.{◌≡◌, All, IfErr, IfOk, OnErr};
 ghost use Rattle.mon_command.specs.CommandLine.{files_of};
 ghost use Rattle.mon_command.specs.Commands.{command_meant};
+ghost use Rattle.expresso.specs.ProgramEnds.{HasWorkers, KeepsFiles};
 ghost use Rattle.expresso.specs.inner.Ending.{CommandEnds};
 ghost use Rattle.expresso.specs.inner.Ranges.{IsInRange};
 
@@ -20,8 +21,41 @@ use std::alloc::Global;
 use std::sync::Wait;
 use std::thread::Threads;
 
-/// Does what a command asks for, and writes its text or the line of the first fault of its files.
-pub(crate) fn work<R: Threads + Wait + Sync, F: Files, S: Sink, G: Gate>(
+/// Does what a command asks for, and writes its text or the line of the first fault of its files. A command that runs
+/// in workers is handed back, with nothing done.
+pub(crate) fn work<'a, F: Files, S: Sink>(
+    alloc: Global,
+    command: Command<'a>,
+    files: &mut F,
+    out: &mut S,
+) -> Result<Status, Command<'a>>
+    requires files { All (F.may_read files.old) (files_of (command_meant command)) }
+    requires range { IsInRange (command_meant command) }
+    ensures ended { IfOk result (λ status. CommandEnds (command_meant command.entry)
+        (F.seen files.old) (F.seen files.new) status (S.seen out.old) (S.seen out.new)) }
+    ensures left { IfErr result (λ left. left ≡ command.entry) }
+    ensures workers { IfErr result (λ left. HasWorkers (command_meant left)) }
+    ensures unread { OnErr result (files.new ≡ files.old) }
+    ensures silent { OnErr result (out.new ≡ out.old) }
+    ensures files { KeepsFiles (F.seen files.old) (F.seen files.new)
+        (F.may_read files.old) (F.may_read files.new) }
+{
+    match command {
+        Command::Check { monitor } => Ok(check_file(alloc, monitor, files, out)),
+        Command::Turns { monitor, clients } => Ok(take_turns(alloc, monitor, clients, files, out)),
+        Command::Compile { monitor } => Ok(compile_file(alloc, monitor, files, out)),
+        Command::Simulate {
+            monitor,
+            clients,
+            schedule,
+        } => Ok(simulate_files(alloc, monitor, clients, schedule, files, out)),
+        Command::Run { .. } => Err(command),
+        Command::Stress { .. } => Err(command),
+    }
+}
+
+/// Does what a command asks for that runs in workers.
+pub(crate) fn work_in_threads<R: Threads + Wait + Sync, F: Files, S: Sink, G: Gate>(
     rt: &R,
     alloc: Global,
     command: Command,
@@ -29,31 +63,21 @@ pub(crate) fn work<R: Threads + Wait + Sync, F: Files, S: Sink, G: Gate>(
     out: &mut S,
     gate: &G,
 ) -> Status
+    requires workers { HasWorkers (command_meant command) }
     requires files { All (F.may_read files.old) (files_of (command_meant command)) }
     requires range { IsInRange (command_meant command) }
     ensures ended { CommandEnds (command_meant command.entry)
         (F.seen files.old) (F.seen files.new) result (S.seen out.old) (S.seen out.new) }
-    ensures handed_on { result ≢ Status.WriteFault
-        → (S.seen out.new).faults ≡ (S.seen out.old).faults }
-    ensures reads { (F.seen files.old).faults ≤ (F.seen files.new).faults }
-    ensures writes { (S.seen out.old).faults ≤ (S.seen out.new).faults }
-    ensures held { (name : List ℕ) → (F.seen files.new).held name ≡ (F.seen files.old).held name }
-    ensures may_read { (name : List ℕ) → F.may_read files.new name ↔ F.may_read files.old name }
+    ensures files { KeepsFiles (F.seen files.old) (F.seen files.new)
+        (F.may_read files.old) (F.may_read files.new) }
 {
     match command {
-        Command::Check { monitor } => check_file(alloc, monitor, files, out),
-        Command::Turns { monitor, clients } => take_turns(alloc, monitor, clients, files, out),
-        Command::Compile { monitor } => compile_file(alloc, monitor, files, out),
-        Command::Simulate {
-            monitor,
-            clients,
-            schedule,
-        } => simulate_files(alloc, monitor, clients, schedule, files, out),
         Command::Run {
             monitor,
             clients,
             workers,
         } => run_files(rt, alloc, monitor, clients, workers, files, out, gate),
         Command::Stress { number, workers } => stress(rt, alloc, number, workers, out, gate),
+        _ => unreachable!(),
     }
 }

@@ -26,6 +26,8 @@ mod runs;
 #[cfg(test)]
 mod simulate;
 #[cfg(test)]
+mod standard_output;
+#[cfg(test)]
 mod stress;
 #[cfg(test)]
 mod words;

@@ -19,7 +19,7 @@ use std::sync::Wait;
 use std::test::Fail;
 use std::thread::Threads;
 
-const USAGE: &[u8] = b"usage:
+pub(crate) const USAGE: &[u8] = b"usage:
 expresso check FILE
 expresso turns FILE CLIENTS
 expresso compile FILE

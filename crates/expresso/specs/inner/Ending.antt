@@ -1,23 +1,33 @@
 -- How the work of a command ends.
-use Rattle.std.specs.Prelude.{◌≡◌, ◌<◌, ◌⊎◌, ℕ, Bool, true, false, List}
-use Rattle.std.specs.Io.KnownBytes.{Appends, Keeps}
-use Rattle.mon_io.specs.Outside.{FilesSeen, SinkSeen, AppendsFront, Rises}
+use Rattle.std.specs.Prelude.{◌≡◌, ◌<◌, ◌≤◌, ◌⊎◌, ℕ, Bool, true, false, List}
+use Rattle.std.specs.Io.KnownBytes.{Appends}
+use Rattle.mon_io.specs.Outside.{FilesSeen, SinkSeen, Rises}
 use Rattle.mon_text.specs.FaultText.{unread_text}
 use Rattle.expresso.specs.declared.status.Status.{Status}
 use Rattle.expresso.specs.declared.status.Status.TheVariants as statuses
 use Rattle.mon_command.specs.CommandLine.{Command}
-use Rattle.expresso.specs.Answers.{AcceptsFiles, RejectsFiles, IsDoneText, IsStalledText, IsRefusedText, IsUnreadText, IsWorkedOrMemory, IsRefusedOrMemory, IsStoppedOrMemory, IsUnreadOrMemory}
+use Rattle.expresso.specs.Answers.{AcceptsFiles, RejectsFiles, IsDoneText, IsStalledText, IsRefusedText, IsUnfinished, IsUnreadText, IsWorkedOrMemory, IsRefusedOrMemory, IsStoppedOrMemory, IsUnreadOrMemory}
 
--- A sink was seen `before` a text was written and is seen `now`: the whole text and its status; or a proper front of it, and a fault.
+-- A sink was seen `before` a text was written and is seen `now`. All of the text was written and handed on, and no fault rose.
+pub record IsHandedOn (before now : SinkSeen) (text : List ℕ) : Type 0 where
+  pub written : Appends before.written now.written text
+  pub emptied : now.buffered ≡ 0
+  pub steady : now.faults ≡ before.faults
+
+-- Not all of it was, and a fault rose.
+pub record IsCutShort (before now : SinkSeen) (text : List ℕ) : Type 0 where
+  pub unfinished : IsUnfinished before now text
+  pub cause : Rises before.faults now.faults
+  pub later : before.faults ≤ now.faults
+
+-- the one with the text's status, or the other
 abbrev pub IsWritten : Status → List ℕ → Status → SinkSeen → SinkSeen → Type 0
-IsWritten status text result before now =
-    ((result ≡ status) × Appends before.written now.written text)
-    ⊎ ((result ≡ statuses.WriteFault) × AppendsFront before.written now.written text × Rises before.faults now.faults)
+IsWritten status text result before now = ((result ≡ status) × IsHandedOn before now text) ⊎ ((result ≡ statuses.WriteFault) × IsCutShort before now text)
 
 -- A file has no bytes for its command: memory ran out and nothing was written, or it couldn't be read and its line was written.
 abbrev pub IsUnread : List ℕ → FilesSeen → FilesSeen → Status → SinkSeen → SinkSeen → Type 0
 IsUnread file files files_now status out out_now =
-    ((status ≡ statuses.OutOfMemory) × Keeps out.written out_now.written)
+    ((status ≡ statuses.OutOfMemory) × (out_now ≡ out))
     ⊎ (Rises files.faults files_now.faults × IsWritten statuses.ReadFault (unread_text file) status out out_now)
 
 -- the status of a run
@@ -37,7 +47,7 @@ IsCommandText command files files_now status text = ⊥
 abbrev pub AnswersCommand : Command → FilesSeen → FilesSeen → Status → SinkSeen → SinkSeen → Type 0
 AnswersCommand command files files_now result out out_now =
     ((status : Status) × (text : List ℕ) × IsCommandText command files files_now status text × IsWritten status text result out out_now)
-    ⊎ ((result ≡ statuses.OutOfMemory) × Keeps out.written out_now.written)
+    ⊎ ((result ≡ statuses.OutOfMemory) × (out_now ≡ out))
 
 -- How a command ended, between what was seen of the files and of the sink before it and what is seen now: what was written, and which status
 -- had to come where nothing failed.

@@ -10,7 +10,7 @@ pub returns-in-Ok-clause-ended : goal.returns-in-Ok-clause-ended
 returns-in-Ok-clause-ended g c =
     check_done c.args.file.now c.in-Ok.found.tree c.in-Ok.found.monitor
     (g.F.Files.seen c.args.files.now) (g.F.Files.seen c.monitor_of.new.files) _ (g.S.Sink.seen c.args.out.now) _ c.in-Ok.ensures.holds c.in-Ok.ensures.steady
-    (written_since Done (tree_text c.in-Ok.found.tree) _ _ _ _ (ap g.S.Sink.seen c.in-Ok.ensures.silent) c.show_tree.ensures.written)
+    (written_since Done (tree_text c.in-Ok.found.tree) _ _ _ _ (ap g.S.Sink.seen c.in-Ok.ensures.silent) c.show_tree.ensures)
 
 pub returns-in-Err-clause-ended : goal.returns-in-Err-clause-ended
 returns-in-Err-clause-ended g c = c.in-Err.ensures.ended (check c.args.file.now) (check_works c.args.file.now)

@@ -10,7 +10,7 @@ use Rattle.expresso.proofs.input.input_of.Goals.{After-read_input}
 -- both files were read
 read : (g : Over) (c : After-read_input g) → AreRead (g.F.Files.seen c.args.files.now).held c.args.monitor.now c.args.clients.now c.deref.result.now c.deref-2.result.now
 read g c = both_read (g.F.Files.seen c.args.files.now).held (g.F.Files.seen c.bytes_of.new.files).held c.args.monitor.now c.args.clients.now c.in-Ok.bytes.items c.in-Ok-bytes_of.bytes.items c.deref.result.now c.deref-2.result.now
-    (c.in-Ok.ensures.held c.args.clients.now) c.in-Ok.ensures.told c.in-Ok-bytes_of.ensures.told c.deref.ensures.value c.deref-2.ensures.value
+    (c.in-Ok.ensures.files.held c.args.clients.now) c.in-Ok.ensures.told c.in-Ok-bytes_of.ensures.told c.deref.ensures.value c.deref-2.ensures.value
 
 steady : (g : Over) (c : After-read_input g) → (g.F.Files.seen c.bytes_of-2.new.files).faults ≡ (g.F.Files.seen c.args.files.now).faults
 steady g c = c.in-Ok-bytes_of.ensures.steady ∙ c.in-Ok.ensures.steady
@@ -42,7 +42,7 @@ returns-in-Err-Monitor-clause-ended g c =
     monitor_refused c.one_spelling.ensures.one c.derives_one_tree.ensures.monitors c.args.monitor.now c.args.clients.now c.deref.result.now c.deref-2.result.now
     (g.F.Files.seen c.args.files.now) (g.F.Files.seen c.bytes_of-2.new.files) (read g after) (steady g after) _ (g.S.Sink.seen c.args.out.now) _ c.one_spelling.ensures.stuck
     c.in-Err-Monitor.field-0 c.in-Err-Monitor.fault c.deref-in-Err-Monitor.result.now c.in-Err-Monitor.field-0-is (c.deref-in-Err-Monitor.ensures.value ∙ sym c.deref.ensures.value) c.in-Err-Monitor.ensures.fault
-    (written_since Refused (source_fault_text c.args.monitor.now c.deref-in-Err-Monitor.result.now c.in-Err-Monitor.fault) _ _ _ _ (silent g after) c.show_fault.ensures.written)
+    (written_since Refused (source_fault_text c.args.monitor.now c.deref-in-Err-Monitor.result.now c.in-Err-Monitor.fault) _ _ _ _ (silent g after) c.show_fault.ensures)
 
 pub returns-in-Err-Clients-clause-ended : goal.returns-in-Err-Clients-clause-ended
 returns-in-Err-Clients-clause-ended g c =
@@ -50,4 +50,4 @@ returns-in-Err-Clients-clause-ended g c =
     clients_refused c.one_spelling.ensures.one c.derives_one_tree.ensures.monitors c.args.monitor.now c.args.clients.now c.deref.result.now c.deref-2.result.now
     (g.F.Files.seen c.args.files.now) (g.F.Files.seen c.bytes_of-2.new.files) (read g after) (steady g after) _ (g.S.Sink.seen c.args.out.now) _ c.one_spelling.ensures.stuck c.derives_one_tree.ensures.clients
     c.in-Err-Clients.field-0 c.in-Err-Clients.fault c.deref-in-Err-Clients.result.now c.in-Err-Clients.field-0-is (c.deref-in-Err-Clients.ensures.value ∙ sym c.deref-2.ensures.value) c.in-Err-Clients.ensures.fault
-    (written_since Refused (source_fault_text c.args.clients.now c.deref-in-Err-Clients.result.now c.in-Err-Clients.fault) _ _ _ _ (silent g after) c.show_fault-in-Err-Clients.ensures.written)
+    (written_since Refused (source_fault_text c.args.clients.now c.deref-in-Err-Clients.result.now c.in-Err-Clients.fault) _ _ _ _ (silent g after) c.show_fault-in-Err-Clients.ensures)

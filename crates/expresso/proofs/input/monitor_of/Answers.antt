@@ -22,4 +22,4 @@ returns-clause-ended g c =
     c.args.file.now c.in-Ok.bytes.items c.deref.result.now c.deref-in-Err-read_monitor.result.now c.in-Err-read_monitor.fault
     (g.F.Files.seen c.args.files.now) (g.F.Files.seen c.bytes_of.new.files) _ (g.S.Sink.seen c.args.out.now) _
     c.deref.ensures.value c.deref-in-Err-read_monitor.ensures.value c.in-Ok.ensures.told c.in-Err-read_monitor.ensures.fault other c.in-Ok.ensures.steady
-    (written_since Refused (source_fault_text c.args.file.now c.deref-in-Err-read_monitor.result.now c.in-Err-read_monitor.fault) _ _ _ _ (ap g.S.Sink.seen c.in-Ok.ensures.silent) c.show_fault.ensures.written)
+    (written_since Refused (source_fault_text c.args.file.now c.deref-in-Err-read_monitor.result.now c.in-Err-read_monitor.fault) _ _ _ _ (ap g.S.Sink.seen c.in-Ok.ensures.silent) c.show_fault.ensures)

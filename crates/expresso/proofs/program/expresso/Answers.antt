@@ -1,78 +1,43 @@
-use Rattle.std.proofs.Common.{All, map, rules}
+use Rattle.std.proofs.Common.{◌≡◌, All, map, rules, sym, subst}
 use Rattle.std.specs.Global.{Global}
 use Rattle.std.specs.String.{string_bytes}
-use Rattle.mon_command.specs.CommandLine.{Takes, TakesNone, files_of}
+use Rattle.mon_io.specs.Outside.{FilesSeen, SinkSeen}
+use Rattle.mon_command.specs.CommandLine.{files_of}
 use Rattle.mon_command.specs.Commands.{command_meant}
-use Rattle.expresso.proofs.Answering.{command_answers, usage_answers}
-use Rattle.expresso.proofs.Completeness.{accepted_runs, rejected_refused, rejected_stops}
-use Rattle.expresso.proofs.GivenWords.{none_of, taken_of}
+use Rattle.expresso.specs.ProgramEnds.{ProgramEnds}
+use Rattle.expresso.specs.inner.Ending.{CommandEnds}
+use Rattle.expresso.proofs.ProgramEnded.{command_ended}
 use Rattle.expresso.proofs.Promised.{headline_kept}
+use Rattle.expresso.proofs.program.expresso.Given.{Over}
 use Rattle.expresso.proofs.program.expresso.Goals as goal
+use Rattle.expresso.proofs.program.expresso.Goals.{After-work_in_threads}
 
-pub work-requires-clause-files : goal.work-requires-clause-files
-work-requires-clause-files g c =
-    let command = command_meant c.in-Ok.command in
-    let taken : Takes (map (string_bytes {Z = Global}) c.args.words.now.items) command = taken_of (string_bytes {Z = Global}) c.as_slice.result.now c.args.words.now.items command c.as_slice.ensures.value c.in-Ok.ensures.taken in
-    let every : All (g.F.Files.may_read c.args.files.now) (files_of command) = c.requires command taken in
-    search (rules, every)
+pub work_in_threads-requires-clause-files : goal.work_in_threads-requires-clause-files
+work_in_threads-requires-clause-files g c =
+    let command = command_meant c.in-Err.command in
+    let every : All (g.F.Files.may_read c.args.files.now) (files_of command) = c.requires command c.in-Err.ensures.taken in
+    subst (λ files. All (g.F.Files.may_read files) (files_of command)) (sym c.in-Err.ensures.unread) every
+
+-- the command ended from where the call began
+worked : (g : Over) (c : After-work_in_threads g)
+    → ProgramEnds (map (string_bytes {Z = Global}) c.args.words.now.items) (g.F.Files.seen c.args.files.now) (g.F.Files.seen c.work_in_threads.new.files) c.work_in_threads.result (g.S.Sink.seen c.args.out.now) (g.S.Sink.seen c.work_in_threads.new.out)
+worked g c =
+    let command = command_meant c.in-Err.command in
+    command_ended c.one_command.ensures (map (string_bytes {Z = Global}) c.args.words.now.items) command (g.F.Files.seen c.args.files.now) (g.F.Files.seen c.work_in_threads.new.files) c.work_in_threads.result
+    (g.S.Sink.seen c.args.out.now) (g.S.Sink.seen c.work_in_threads.new.out) c.in-Err.ensures.taken
+    (subst (λ files. CommandEnds command (g.F.Files.seen files) (g.F.Files.seen c.work_in_threads.new.files) c.work_in_threads.result (g.S.Sink.seen c.args.out.now) (g.S.Sink.seen c.work_in_threads.new.out)) c.in-Err.ensures.unread
+    (subst (λ out. CommandEnds command (g.F.Files.seen c.without_workers.new.files) (g.F.Files.seen c.work_in_threads.new.files) c.work_in_threads.result (g.S.Sink.seen out) (g.S.Sink.seen c.work_in_threads.new.out)) c.in-Err.ensures.silent
+    c.work_in_threads.ensures.ended))
+
+pub returns-in-Err-clause-ended : goal.returns-in-Err-clause-ended
+returns-in-Err-clause-ended g c = worked g (goal.at.returns-in-Err-clause-ended g c).After-work_in_threads
+
+pub returns-in-Err-clause-headline : goal.returns-in-Err-clause-headline
+returns-in-Err-clause-headline g c =
+    headline_kept c.one_command.ensures (map (string_bytes {Z = Global}) c.args.words.now.items) (g.F.Files.seen c.args.files.now) (g.F.Files.seen c.work_in_threads.new.files) (g.S.Sink.seen c.args.out.now) (g.S.Sink.seen c.work_in_threads.new.out) c.work_in_threads.result
+    (worked g (goal.at.returns-in-Err-clause-headline g c).After-work_in_threads).answer
 
 pub returns-in-Ok-clause-headline : goal.returns-in-Ok-clause-headline
 returns-in-Ok-clause-headline g c =
-    let command = command_meant c.in-Ok.command in
-    let taken : Takes (map (string_bytes {Z = Global}) c.args.words.now.items) command = taken_of (string_bytes {Z = Global}) c.as_slice.result.now c.args.words.now.items command c.as_slice.ensures.value c.in-Ok.ensures.taken in
-    headline_kept c.one_command.ensures (map (string_bytes {Z = Global}) c.args.words.now.items) (g.F.Files.seen c.args.files.now) (g.F.Files.seen c.work.new.files) (g.S.Sink.seen c.args.out.now) (g.S.Sink.seen c.work.new.out) c.work.result
-    (command_answers (map (string_bytes {Z = Global}) c.args.words.now.items) command (g.F.Files.seen c.args.files.now) (g.F.Files.seen c.work.new.files) c.work.result (g.S.Sink.seen c.args.out.now) (g.S.Sink.seen c.work.new.out) taken c.work.ensures.ended.answer)
-
-pub returns-in-Ok-clause-answer : goal.returns-in-Ok-clause-answer
-returns-in-Ok-clause-answer g c =
-    let command = command_meant c.in-Ok.command in
-    let taken : Takes (map (string_bytes {Z = Global}) c.args.words.now.items) command = taken_of (string_bytes {Z = Global}) c.as_slice.result.now c.args.words.now.items command c.as_slice.ensures.value c.in-Ok.ensures.taken in
-    command_answers (map (string_bytes {Z = Global}) c.args.words.now.items) command (g.F.Files.seen c.args.files.now) (g.F.Files.seen c.work.new.files) c.work.result (g.S.Sink.seen c.args.out.now) (g.S.Sink.seen c.work.new.out) taken c.work.ensures.ended.answer
-
-pub returns-in-Ok-clause-usage : goal.returns-in-Ok-clause-usage
-returns-in-Ok-clause-usage g c =
-    let command = command_meant c.in-Ok.command in
-    let taken : Takes (map (string_bytes {Z = Global}) c.args.words.now.items) command = taken_of (string_bytes {Z = Global}) c.as_slice.result.now c.args.words.now.items command c.as_slice.ensures.value c.in-Ok.ensures.taken in
-    λ none no_write. absurd (none command taken)
-
-pub returns-in-Ok-clause-accepted : goal.returns-in-Ok-clause-accepted
-returns-in-Ok-clause-accepted g c =
-    let command = command_meant c.in-Ok.command in
-    let taken : Takes (map (string_bytes {Z = Global}) c.args.words.now.items) command = taken_of (string_bytes {Z = Global}) c.as_slice.result.now c.args.words.now.items command c.as_slice.ensures.value c.in-Ok.ensures.taken in
-    accepted_runs c.one_command.ensures (map (string_bytes {Z = Global}) c.args.words.now.items) command (g.F.Files.seen c.args.files.now) (g.F.Files.seen c.work.new.files) c.work.result (g.S.Sink.seen c.args.out.now) (g.S.Sink.seen c.work.new.out) taken c.work.ensures.ended
-
-pub returns-in-Ok-clause-rejected : goal.returns-in-Ok-clause-rejected
-returns-in-Ok-clause-rejected g c =
-    let command = command_meant c.in-Ok.command in
-    let taken : Takes (map (string_bytes {Z = Global}) c.args.words.now.items) command = taken_of (string_bytes {Z = Global}) c.as_slice.result.now c.args.words.now.items command c.as_slice.ensures.value c.in-Ok.ensures.taken in
-    rejected_refused c.one_command.ensures (map (string_bytes {Z = Global}) c.args.words.now.items) command (g.F.Files.seen c.args.files.now) (g.F.Files.seen c.work.new.files) c.work.result (g.S.Sink.seen c.args.out.now) (g.S.Sink.seen c.work.new.out) taken c.work.ensures.ended
-
-pub returns-in-Ok-clause-stopped : goal.returns-in-Ok-clause-stopped
-returns-in-Ok-clause-stopped g c =
-    let command = command_meant c.in-Ok.command in
-    let taken : Takes (map (string_bytes {Z = Global}) c.args.words.now.items) command = taken_of (string_bytes {Z = Global}) c.as_slice.result.now c.args.words.now.items command c.as_slice.ensures.value c.in-Ok.ensures.taken in
-    rejected_stops c.one_command.ensures (map (string_bytes {Z = Global}) c.args.words.now.items) command (g.F.Files.seen c.args.files.now) (g.F.Files.seen c.work.new.files) c.work.result (g.S.Sink.seen c.args.out.now) (g.S.Sink.seen c.work.new.out) taken c.work.ensures.ended
-
-pub returns-in-Err-Usage-clause-answer : goal.returns-in-Err-Usage-clause-answer
-returns-in-Err-Usage-clause-answer g c =
-    let none : TakesNone (map (string_bytes {Z = Global}) c.args.words.now.items) =
-    none_of (string_bytes {Z = Global}) c.as_slice.result.now c.args.words.now.items c.as_slice.ensures.value (c.in-Err-Usage.ensures.usage (cc c.in-Err-Usage.field-0-is)) in
-    usage_answers (map (string_bytes {Z = Global}) c.args.words.now.items) (g.F.Files.seen c.args.files.now) (g.F.Files.seen c.args.files.now) c.show_usage.result (g.S.Sink.seen c.args.out.now) (g.S.Sink.seen c.show_usage.new.out) none c.show_usage.ensures.written
-
-pub returns-in-Err-Usage-clause-accepted : goal.returns-in-Err-Usage-clause-accepted
-returns-in-Err-Usage-clause-accepted g c =
-    let none : TakesNone (map (string_bytes {Z = Global}) c.args.words.now.items) =
-    none_of (string_bytes {Z = Global}) c.as_slice.result.now c.args.words.now.items c.as_slice.ensures.value (c.in-Err-Usage.ensures.usage (cc c.in-Err-Usage.field-0-is)) in
-    λ accepts no_read no_write. absurd (none accepts.0 accepts.1)
-
-pub returns-in-Err-Usage-clause-rejected : goal.returns-in-Err-Usage-clause-rejected
-returns-in-Err-Usage-clause-rejected g c =
-    let none : TakesNone (map (string_bytes {Z = Global}) c.args.words.now.items) =
-    none_of (string_bytes {Z = Global}) c.as_slice.result.now c.args.words.now.items c.as_slice.ensures.value (c.in-Err-Usage.ensures.usage (cc c.in-Err-Usage.field-0-is)) in
-    λ rejects no_read no_write. absurd (none rejects.0 rejects.1)
-
-pub returns-in-Err-Usage-clause-stopped : goal.returns-in-Err-Usage-clause-stopped
-returns-in-Err-Usage-clause-stopped g c =
-    let none : TakesNone (map (string_bytes {Z = Global}) c.args.words.now.items) =
-    none_of (string_bytes {Z = Global}) c.as_slice.result.now c.args.words.now.items c.as_slice.ensures.value (c.in-Err-Usage.ensures.usage (cc c.in-Err-Usage.field-0-is)) in
-    λ rejects no_write. absurd (none rejects.0 rejects.1)
+    headline_kept c.one_command.ensures (map (string_bytes {Z = Global}) c.args.words.now.items) (g.F.Files.seen c.args.files.now) (g.F.Files.seen c.without_workers.new.files) (g.S.Sink.seen c.args.out.now) (g.S.Sink.seen c.without_workers.new.out) c.in-Ok.status
+    c.in-Ok.ensures.ended.answer

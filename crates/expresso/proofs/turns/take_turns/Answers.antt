@@ -16,4 +16,4 @@ returns-in-Ok-turns-clause-ended g c =
     let run = c.in-Ok-turns.run' in
     run_ended c.args.monitor.now c.args.clients.now (g.F.Files.seen c.args.files.now) (g.F.Files.seen c.input_of.new.files) input.monitor input.scripts run
     c.in-Ok.ensures.input c.in-Ok-turns.ensures.rounds _ (g.S.Sink.seen c.args.out.now) _ c.in-Ok.ensures.steady
-    (written_since (ended run.finished) (turns_text input.monitor input.scripts run) _ _ _ _ (ap g.S.Sink.seen c.in-Ok.ensures.silent) c.show_turns.ensures.written)
+    (written_since (ended run.finished) (turns_text input.monitor input.scripts run) _ _ _ _ (ap g.S.Sink.seen c.in-Ok.ensures.silent) c.show_turns.ensures)

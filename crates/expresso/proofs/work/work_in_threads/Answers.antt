@@ -3,10 +3,10 @@ use Rattle.mon_command.specs.declared.command.Command.{Command as Words}
 use Rattle.mon_command.specs.declared.command.Command.TheVariants.{Stress}
 use Rattle.mon_command.specs.Commands.{command_meant}
 use Rattle.expresso.specs.inner.Ending.{CommandEnds}
-use Rattle.expresso.proofs.work.work.Goals as goal
+use Rattle.expresso.proofs.work.work_in_threads.Goals as goal
 
 pub returns-in-Stress-clause-ended : goal.returns-in-Stress-clause-ended
 returns-in-Stress-clause-ended g c =
     let files = g.F.Files.seen c.args.files.now in
     let is : c.args.command ≡ Stress c.in-Stress.number c.in-Stress.workers = cc c.in-Stress.is in
-    subst (λ (command : Words). CommandEnds (command_meant command) files files c.stress.result (g.S.Sink.seen c.args.out.now) (g.S.Sink.seen c.stress.new.out)) (sym is) (c.stress.ensures.ended files)
+    subst (λ (command : Words). CommandEnds (command_meant command) files files c.stress.result (g.S.Sink.seen c.args.out.now) (g.S.Sink.seen c.stress.new.out)) (sym is) (c.stress.ensures files)

@@ -1,0 +1,144 @@
+//! The program over a standard output that takes three bytes at a time.
+
+ghost use Rattle.std.specs.Prelude.{◌≤◌, IfOk, length};
+
+use super::asking::{
+    Call, Devices, RUN, SIMULATE, SOUND, asked, check, compile, texts_of, turns, two_files,
+};
+use super::outside::USAGE;
+use super::runs::TWO_RUN;
+use expresso::{Status, expresso, without_workers};
+use mon_io::{MemSink, StdSink};
+use mon_pool::OpenGate;
+use samples::clients::TWO;
+use samples::monitors::BUFFER;
+use std::alloc::{AllocError, Global};
+use std::cell::RefCell;
+use std::fmt::Display;
+use std::io;
+use std::io::Print;
+use std::process::Abort;
+use std::sync::Wait;
+use std::test::Fail;
+use std::thread::Threads;
+
+/// A standard output that keeps what it is given, three bytes at a time.
+#[derive(Drop)]
+struct Slow {
+    taken: RefCell<Vec<u8>>,
+}
+
+impl Slow {
+    fn open(alloc: Global) -> Slow {
+        Slow {
+            taken: RefCell::new(Vec::new(alloc)),
+        }
+    }
+
+    fn holds(&self, bytes: &[u8]) -> bool {
+        match self.taken.try_borrow() {
+            Ok(taken) => taken.as_slice() == bytes,
+            Err(_) => false,
+        }
+    }
+}
+
+impl Print for Slow {
+    fn print<D: Display + Drop>(&self, _value: D) -> io::Result<()> {
+        Ok(())
+    }
+
+    fn println<D: Display + Drop>(&self, _value: D) -> io::Result<()> {
+        Ok(())
+    }
+
+    fn write_all(&self, _bytes: &[u8]) -> io::Result<()> {
+        Ok(())
+    }
+
+    fn write_some(&self, bytes: &[u8]) -> io::Result<usize>
+        ensures bound { IfOk result (λ n. n ≤ length bytes.now) }
+    {
+        let count = bytes.len().min(3);
+        match self.taken.try_borrow_mut() {
+            Ok(mut taken) => taken.extend_from_slice(&bytes[..count])?,
+            Err(_) => return Ok(0),
+        }
+        Ok(count)
+    }
+}
+
+/// Demands of a call that it has this status, and that all of this text has reached standard output.
+fn hands_on(
+    rt: &(impl Abort + Threads + Wait + Sync + AllocGlobal),
+    call: Call<'_>,
+    status: Status,
+    text: &[u8],
+) -> Result<(), AllocError> {
+    let words = texts_of(rt.alloc(), call.words)?;
+    let mut files = two_files(rt.alloc(), &call)?;
+    let output = Slow::open(rt.alloc());
+    let mut out = StdSink::new(&output);
+    let found = expresso(rt, rt.alloc(), &words, &mut files, &mut out, &OpenGate);
+    assert_eq!(rt; found, status);
+    assert!(rt; output.holds(text));
+    Ok(())
+}
+
+#[test]
+fn the_text_of_each_status_reaches_standard_output(rt: HostRuntime) -> Result<(), Fail> {
+    let alone: &[&str] = &["expresso"];
+    let unread = Call {
+        devices: Devices {
+            failing_read: Some(1),
+            ..SOUND
+        },
+        ..turns(BUFFER, TWO)
+    };
+    let table: [(Call<'_>, Status, &[u8]); 5] = [
+        (turns(BUFFER, TWO), Status::Done, TWO_RUN),
+        (
+            turns(BUFFER, b"client A { get(); }"),
+            Status::Stalled,
+            b"stalled\nA.1 get() blocked\nstate count=0\n",
+        ),
+        (unread, Status::ReadFault, b"read fault: m.mon\n"),
+        (
+            check(b"@"),
+            Status::Refused,
+            b"refused: m.mon:1:1: no token starts here\n",
+        ),
+        (asked(alone, b"", TWO), Status::Usage, USAGE),
+    ];
+    for (call, status, text) in table {
+        hands_on(&rt, call, status, text)?;
+    }
+    Ok(())
+}
+
+/// The status of a call that is given no runtime, or none where it runs in workers.
+fn status_alone(alloc: Global, call: &Call<'_>) -> Result<Option<Status>, AllocError> {
+    let words = texts_of(alloc, call.words)?;
+    let mut files = two_files(alloc, call)?;
+    let mut out = MemSink::open(alloc, 1 << 20, Vec::new(alloc))?;
+    Ok(without_workers(alloc, &words, &mut files, &mut out).ok())
+}
+
+#[test]
+fn only_run_and_stress_want_a_runtime(rt: HostRuntime) -> Result<(), Fail> {
+    let alone: &[&str] = &["expresso"];
+    let stress: &[&str] = &["expresso", "stress", "3"];
+    let table = [
+        (check(BUFFER), Some(Status::Done)),
+        (turns(BUFFER, TWO), Some(Status::Done)),
+        (compile(BUFFER), Some(Status::Done)),
+        (asked(SIMULATE, BUFFER, TWO), Some(Status::Done)),
+        (asked(alone, BUFFER, TWO), Some(Status::Usage)),
+        (asked(RUN, BUFFER, TWO), None),
+        (asked(stress, BUFFER, TWO), None),
+    ];
+    for (call, status) in table {
+        assert_eq!(rt; status_alone(rt.alloc(), &call)?, status);
+    }
+    Ok(())
+}
