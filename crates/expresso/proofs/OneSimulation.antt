@@ -1,11 +1,19 @@
--- A schedule has one simulation under a plan.
-use Rattle.std.proofs.Common.{◌≡◌, ℕ, List, ap}
+-- A schedule has one simulation under a plan, and a small monitor one plan.
+use Rattle.std.proofs.Common.{◌≡◌, ℕ, List, sym, ap, subst}
+use Rattle.mon_monitor.specs.MonitorParts.{MonitorParts}
+use Rattle.mon_implicit.specs.declared.script.Client.{Client}
+use Rattle.mon_events.specs.declared.plan.Plan.{Plan}
+use Rattle.mon_events.specs.Plans.{FitsPlan}
 use Rattle.mon_events.specs.declared.log.Entry.{Entry}
-use Rattle.mon_events.specs.Configurations.{System, Configuration}
+use Rattle.mon_events.specs.Configurations.{System, Configuration, system_under}
+use Rattle.mon_wp.specs.Hardness.{IsSmall}
+use Rattle.mon_place.specs.Exact.{IsExact}
+use Rattle.mon_text.specs.Laws.{plan_and_log_text}
 use Rattle.mon_explicit.specs.Sections.{FreeMachine, opened_free}
 use Rattle.mon_simulate.specs.Schedules.{IsByRounds, IsDrawn}
 use Rattle.mon_command.specs.declared.schedule.Schedule.{Schedule}
 use Rattle.mon_command.specs.declared.schedule.Schedule.TheVariants.{Rounds, Drawn}
+use Rattle.expresso.specs.Placements.{IsPlacement}
 use Rattle.expresso.specs.Simulations.{IsScheduled, IsSimulation, most_spurious}
 
 abbrev OneByRounds : Type 0
@@ -35,3 +43,21 @@ one_log by_rounds drawn system schedule log other last also one two =
 pub one_last : OneByRounds → OneDrawn → (system : System) (schedule : Schedule) (log other : List Entry) (last also : Configuration) → IsSimulation system schedule log last → IsSimulation system schedule other also → last ≡ also
 one_last by_rounds drawn system schedule log other last also one two =
     ap (λ (machine : FreeMachine). machine.now) (same_end by_rounds drawn system schedule log other last also one two)
+
+-- ---- small monitors
+
+abbrev OneExactPlan : Type 0
+OneExactPlan = (monitor : MonitorParts) (plan other : Plan) → FitsPlan monitor plan → FitsPlan monitor other → IsExact monitor plan → IsExact monitor other → plan ≡ other
+
+pub one_placement : OneExactPlan → (monitor : MonitorParts) (plan other : Plan) → IsSmall monitor → IsPlacement monitor plan → IsPlacement monitor other → plan ≡ other
+one_placement one_exact monitor plan other small one two = one_exact monitor plan other one.fits two.fits (one.exact small) (two.exact small)
+
+pub one_text : OneExactPlan → OneByRounds → OneDrawn → (monitor : MonitorParts) (clients : List Client) (schedule : Schedule) (plan other : Plan) (log others : List Entry) (last also : Configuration) → IsSmall monitor
+    → IsSimulation (system_under monitor clients plan) schedule log last → IsSimulation (system_under monitor clients other) schedule others also
+    → plan_and_log_text (system_under monitor clients plan) log last ≡ plan_and_log_text (system_under monitor clients other) others also
+one_text one_exact by_rounds drawn monitor clients schedule plan other log others last also small one two =
+    let plans = one_placement one_exact monitor plan other small one.placed.placement two.placed.placement in
+    let moved = subst (λ (placed : Plan). IsSimulation (system_under monitor clients placed) schedule others also) (sym plans) two in
+    let logs = one_log by_rounds drawn (system_under monitor clients plan) schedule log others last also one moved in
+    let ends = one_last by_rounds drawn (system_under monitor clients plan) schedule log others last also one moved in
+    λ i. plan_and_log_text (system_under monitor clients (plans i)) (logs i) (ends i)

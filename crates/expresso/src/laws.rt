@@ -5,12 +5,17 @@ ghost use Rattle.mon_tree.specs.declared.tree.MonitorTree.{MonitorTree};
 ghost use Rattle.mon_monitor.specs.MonitorParts.{MonitorParts};
 ghost use Rattle.mon_implicit.specs.declared.script.Client.{Client};
 ghost use Rattle.mon_events.specs.declared.log.Entry.{Entry};
-ghost use Rattle.mon_events.specs.Configurations.{System, Configuration};
+ghost use Rattle.mon_events.specs.declared.plan.Plan.{Plan};
+ghost use Rattle.mon_events.specs.Configurations.{System, Configuration, system_under};
+ghost use Rattle.mon_wp.specs.Hardness.{IsSmall};
+ghost use Rattle.mon_text.specs.Laws.{plan_and_log_text};
 ghost use Rattle.mon_command.specs.declared.schedule.Schedule.{Schedule};
 ghost use Rattle.expresso.specs.MonitorFiles.{IsAccepted};
 ghost use Rattle.expresso.specs.ClientFiles.{AreAccepted};
+ghost use Rattle.expresso.specs.Placements.{IsPlacement};
 ghost use Rattle.expresso.specs.Simulations.{IsSimulation};
 
+use mon_place::one_exact_plan;
 use mon_simulate::{one_drawn_log, one_log_by_rounds};
 use mon_syntax::derives_one_tree;
 use mon_tokens::one_spelling;
@@ -47,6 +52,22 @@ pub fn one_simulation()
         → IsSimulation system schedule log last → IsSimulation system schedule other also
         → last ≡ also }
 {
+    one_log_by_rounds();
+    one_drawn_log();
+}
+
+/// A small monitor is compiled to one plan, so its clients have one simulation by a schedule, and `simulate` has one text.
+pub fn one_simulated_text()
+    ensures plans { (monitor : MonitorParts) (plan other : Plan) → IsSmall monitor
+        → IsPlacement monitor plan → IsPlacement monitor other → plan ≡ other }
+    ensures texts { (monitor : MonitorParts) (clients : List Client) (schedule : Schedule)
+        (plan other : Plan) (log others : List Entry) (last also : Configuration) → IsSmall monitor
+        → IsSimulation (system_under monitor clients plan) schedule log last
+        → IsSimulation (system_under monitor clients other) schedule others also
+        → plan_and_log_text (system_under monitor clients plan) log last
+        ≡ plan_and_log_text (system_under monitor clients other) others also }
+{
+    one_exact_plan();
     one_log_by_rounds();
     one_drawn_log();
 }

@@ -8,7 +8,7 @@
 //! Its clause `headline` is `specs/Headline`: what `run` promises. `specs/ProgramEnds` says what every call promises,
 //! `specs/Answers` what each command prints, and `specs/Exit` which number stands for a [`Status`]. [`without_workers`]
 //! does what needs no threads, with no runtime: so it returns. That bytes stand for one monitor and one list of clients,
-//! and that a schedule has one simulation, are the laws of `laws`.
+//! and that a schedule has one simulation, which for a small monitor has one text, are the laws of `laws`.
 #![tactic(auto)]
 
 mod check;
@@ -29,6 +29,6 @@ mod text;
 mod turns;
 mod work;
 
-pub use laws::{accepts_one_client_list, accepts_one_monitor, one_simulation};
+pub use laws::{accepts_one_client_list, accepts_one_monitor, one_simulated_text, one_simulation};
 pub use program::{expresso, without_workers};
 pub use status::{Status, exit_status};

@@ -3,3 +3,5 @@ pub mod AskedQueries
 pub mod Backed
 pub mod Answered
 pub mod Placing
+pub mod ApartCandidates
+pub mod OnePlan

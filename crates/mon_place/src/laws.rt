@@ -1,5 +1,6 @@
-//! What follows from the prover's answers.
+//! What follows from the prover's answers, and from the definition of exact plans alone.
 
+ghost use Rattle.std.specs.Prelude.{◌≡◌};
 ghost use Rattle.mon_events.specs.declared.plan.Plan.{Plan};
 ghost use Rattle.mon_events.specs.Plans.{FitsPlan, IsLawful};
 ghost use Rattle.mon_monitor.specs.MonitorParts.{MonitorParts, IsMonitor};
@@ -26,3 +27,11 @@ pub(crate) fn answered_plans_are_placed()
     refuted_query_is_valid();
     open_claims_are_hard();
 }
+
+/// A monitor has one exact plan at most.
+pub fn one_exact_plan()
+    ensures { (monitor : MonitorParts) (plan other : Plan)
+        → FitsPlan monitor plan → FitsPlan monitor other
+        → IsExact monitor plan → IsExact monitor other
+        → plan ≡ other }
+{}
