@@ -6,7 +6,7 @@ use Rattle.mon_events.specs.declared.plan.Plan.{Plan}
 use Rattle.mon_events.specs.Plans.{FitsPlan}
 use Rattle.mon_events.specs.declared.log.Entry.{Entry}
 use Rattle.mon_events.specs.Configurations.{System, Configuration, system_under}
-use Rattle.mon_wp.specs.Hardness.{IsSmall}
+use Rattle.mon_prune.specs.Hardness.{IsSmall}
 use Rattle.mon_place.specs.Exact.{IsExact}
 use Rattle.mon_text.specs.Laws.{plan_and_log_text}
 use Rattle.mon_explicit.specs.Sections.{FreeMachine, opened_free}

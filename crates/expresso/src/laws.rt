@@ -7,7 +7,7 @@ ghost use Rattle.mon_implicit.specs.declared.script.Client.{Client};
 ghost use Rattle.mon_events.specs.declared.log.Entry.{Entry};
 ghost use Rattle.mon_events.specs.declared.plan.Plan.{Plan};
 ghost use Rattle.mon_events.specs.Configurations.{System, Configuration, system_under};
-ghost use Rattle.mon_wp.specs.Hardness.{IsSmall};
+ghost use Rattle.mon_prune.specs.Hardness.{IsSmall};
 ghost use Rattle.mon_text.specs.Laws.{plan_and_log_text};
 ghost use Rattle.mon_command.specs.declared.schedule.Schedule.{Schedule};
 ghost use Rattle.expresso.specs.MonitorFiles.{IsAccepted};
