@@ -1,16 +1,17 @@
 //! The event machine on monitors and clients that are read from texts, by plans that were worked out by hand.
 
-ghost use Rattle.std.specs.Prelude.{◌≡◌, length, []};
+ghost use Rattle.std.specs.Prelude.{◌≡◌, length};
 
+use super::reading::{clients_of, fitting_plan, monitor_of};
 use mon_base::Value;
-use mon_events::{CondKind, Event, Note, Plan, Stage, plan_fits};
+use mon_events::{CondKind, Event, Note, NoteList, Plan, Stage};
 use mon_explicit::Config;
 use mon_implicit::{Commit, Reply};
 use samples::clients::{TWO_LOCKS, TWO_TAKE};
 use samples::monitors::{GATE, LOCK};
-use samples::plans::{plan_of, signal, signalling};
-use samples::{checked, scripts_read};
+use samples::plans::signal;
 use std::alloc::Global;
+use std::process::Abort;
 use std::test::Fail;
 
 const WAITS_TO_ACQUIRE: &[u8] = b"client A { acquire(); release(); } client B { acquire(); }";
@@ -88,23 +89,23 @@ fn notes_to(client: u32, target: Option<u32>) -> Event {
     Event::Notify { client, target }
 }
 
-/// The machine at the start of a monitor and its clients, with a plan that fits.
-fn opened(alloc: Global, monitor: &[u8], clients: &[u8], plan: Plan) -> Result<Machine, Fail>
-    requires { plan.kept ≡ [] }
-{
-    let monitor = checked(alloc, monitor).ok_or("a monitor")?;
-    let scripts = scripts_read(alloc, clients, &monitor).ok_or("clients")?;
-    if !plan_fits(&monitor, &plan) {
-        return Err("a plan that fits".into());
-    }
+/// A monitor and its clients, and a plan: the kinds of its conditions, and one note or none for each block.
+#[derive(Clone, Copy)]
+struct Start<'a> {
+    monitor: &'a [u8],
+    clients: &'a [u8],
+    kinds: &'a [CondKind],
+    notes: &'a [Option<Note>],
+}
+
+/// The machine at its start.
+fn opened(alloc: Global, start: Start<'_>) -> Result<Machine, Fail> {
+    let monitor = monitor_of(alloc, start.monitor)?;
+    let scripts = clients_of(alloc, start.clients, &monitor)?;
+    let plan = fitting_plan(alloc, &monitor, start.kinds, start.notes)?;
     let clients = scripts.clients().len();
     let config = Config::open(alloc, monitor, plan, scripts)?;
     Ok(Machine { config, clients })
-}
-
-/// The machine at the start of the lock and these clients, whose blocks signal each other's condition.
-fn lock_machine(alloc: Global, clients: &[u8]) -> Result<Machine, Fail> {
-    opened(alloc, LOCK, clients, signalling(alloc)?)
 }
 
 /// What is asked of a machine after what came before.
@@ -124,6 +125,8 @@ enum Check<'a> {
     Values(&'a [Value]),
     /// The calls that were answered.
     Commits(&'a [Commit]),
+    /// The client of the event is at the stage, has this event alone, and makes it.
+    MakesItsOwn(Stage, Event),
 }
 
 impl Machine {
@@ -137,7 +140,17 @@ impl Machine {
             Check::Owner(owner) => self.config.owner() == *owner,
             Check::Values(values) => self.config.state().values() == *values,
             Check::Commits(commits) => self.config.commits() == *commits,
+            Check::MakesItsOwn(stage, event) => self.makes_its_own(*stage, *event),
         }
+    }
+
+    /// Whether the client of the event is at the stage, has this event alone, and makes it.
+    fn makes_its_own(&mut self, stage: Stage, event: Event) -> bool {
+        let client = client_of(event);
+        let other = if client == A { B } else { A };
+        self.stage(client) == Some(stage)
+            && self.allows_only(client, other, Some(event))
+            && self.step(event)
     }
 
     /// The place from 0 of the first check that it is not as.
@@ -149,6 +162,33 @@ impl Machine {
         }
         None
     }
+}
+
+/// Demands of the machine at this start that it is as each check asks.
+fn meets(
+    rt: &(impl Abort + AllocGlobal),
+    start: Start<'_>,
+    checks: &[Check<'_>],
+) -> Result<(), Fail> {
+    let mut machine = opened(rt.alloc(), start)?;
+    let wrong = machine.first_wrong(checks);
+    assert_eq!(rt; wrong, None);
+    Ok(())
+}
+
+/// The lock with these clients and notes, both of whose conditions are of kind signal.
+fn signalled_lock<'a>(clients: &'a [u8], notes: &'a [Option<Note>]) -> Start<'a> {
+    Start {
+        monitor: LOCK,
+        clients,
+        kinds: &SIGNALS,
+        notes,
+    }
+}
+
+/// The notes of blocks that signal each other's condition.
+fn mutual() -> [Option<Note>; 2] {
+    [Some(signal(2, false)), Some(signal(1, false))]
 }
 
 const ACQUIRES: [Event; 5] = [
@@ -164,7 +204,7 @@ const ACQUIRES: [Event; 5] = [
 
 #[test]
 fn a_client_waits_for_the_lock_and_is_woken_by_nothing(rt: HostRuntime) -> Result<(), Fail> {
-    let mut machine = lock_machine(rt.alloc(), TWO_LOCKS)?;
+    let notes = mutual();
     let waits = [
         Event::Begin { client: B },
         Event::Lock { client: B },
@@ -180,33 +220,39 @@ fn a_client_waits_for_the_lock_and_is_woken_by_nothing(rt: HostRuntime) -> Resul
         Check::Owner(None),
         Check::Values(&[Value::Bool(true)]),
     ];
-    assert_eq!(rt; machine.first_wrong(&checks), None);
-    Ok(())
+    meets(&rt, signalled_lock(TWO_LOCKS, &notes), &checks)
+}
+
+/// The plan of a text that wakes everyone.
+fn plan_for_everyone(alloc: Global, text: &[u8]) -> Result<Plan, Fail> {
+    let monitor = monitor_of(alloc, text)?;
+    Ok(Plan::everyone(alloc, &monitor)?)
+}
+
+/// Demands of a block that it has a broadcast on each of two conditions, untested.
+fn broadcasts_on_both(rt: &impl Abort, list: &NoteList) {
+    let broadcasts = [1, 2].map(|condition| Note {
+        condition,
+        all: true,
+        tested: false,
+    });
+    assert_eq!(rt; list.notes(), broadcasts.as_slice());
+}
+
+/// Demands of a plan that it has two conditions of kind broadcast, and two blocks with a broadcast on each.
+fn wakes_everyone(rt: &impl Abort, plan: &Plan) {
+    assert_eq!(rt; plan.kinds.items(), [CondKind::Broadcast; 2].as_slice());
+    assert_eq!(rt; plan.notes.items().len(), 2);
+    for list in plan.notes.items() {
+        broadcasts_on_both(rt, list);
+    }
 }
 
 #[test]
 fn everyone_has_a_broadcast_on_both_conditions_of_the_lock(rt: HostRuntime) -> Result<(), Fail> {
-    let monitor = checked(rt.alloc(), LOCK).ok_or("a monitor")?;
-    let plan = Plan::everyone(rt.alloc(), &monitor)?;
-    assert_eq!(rt; plan.kinds.items(), [CondKind::Broadcast; 2].as_slice());
-    assert_eq!(rt; plan.notes.items().len(), 2);
-    for list in plan.notes.items() {
-        let broadcasts = [1, 2].map(|condition| Note {
-            condition,
-            all: true,
-            tested: false,
-        });
-        assert_eq!(rt; list.notes(), broadcasts.as_slice());
-    }
+    let plan = plan_for_everyone(rt.alloc(), LOCK)?;
+    wakes_everyone(&rt, &plan);
     Ok(())
-}
-
-/// The gate, where what fires signals those who wait to take.
-fn gate_machine(alloc: Global) -> Result<Machine, Fail> {
-    let kinds = [CondKind::Signal, CondKind::Broadcast];
-    let notes = [None, Some(signal(1, false))];
-    let plan = plan_of(alloc, kinds.as_slice(), notes.as_slice())?;
-    opened(alloc, GATE, TWO_TAKE, plan)
 }
 
 /// The events of a client that waits.
@@ -220,7 +266,15 @@ fn wait_of(client: u32) -> [Event; 3] {
 
 #[test]
 fn an_overflow_wakes_the_next_waiter(rt: HostRuntime) -> Result<(), Fail> {
-    let mut machine = gate_machine(rt.alloc())?;
+    // What fires signals those who wait to take.
+    let kinds = [CondKind::Signal, CondKind::Broadcast];
+    let notes = [None, Some(signal(1, false))];
+    let start = Start {
+        monitor: GATE,
+        clients: TWO_TAKE,
+        kinds: &kinds,
+        notes: &notes,
+    };
     let fires = [
         Event::Begin { client: C },
         Event::Lock { client: C },
@@ -253,51 +307,35 @@ fn an_overflow_wakes_the_next_waiter(rt: HostRuntime) -> Result<(), Fail> {
         Check::Stage(B, Stage::Woken(1)),
         Check::Commits(&commits),
     ];
-    assert_eq!(rt; machine.first_wrong(&checks), None);
-    Ok(())
-}
-
-/// Whether the client of the event is at the stage, has this event alone, and makes it.
-fn makes_its_own(machine: &mut Machine, stage: Stage, event: Event) -> bool {
-    let client = client_of(event);
-    let other = if client == A { B } else { A };
-    machine.stage(client) == Some(stage)
-        && machine.allows_only(client, other, Some(event))
-        && machine.step(event)
+    meets(&rt, start, &checks)
 }
 
 #[test]
 fn each_stage_allows_its_own_events_alone(rt: HostRuntime) -> Result<(), Fail> {
-    let mut machine = lock_machine(rt.alloc(), TWO_LOCKS)?;
-    let run = [
-        (Stage::Idle, Event::Begin { client: A }),
-        (Stage::Entering, Event::Lock { client: A }),
-        (Stage::Inside, Event::Run { client: A }),
-        (Stage::Notifying, notes_to(A, None)),
-        (Stage::Notifying, Event::Unlock { client: A }),
-        (Stage::Idle, Event::Begin { client: B }),
-        (Stage::Entering, Event::Lock { client: B }),
-        (Stage::Inside, Event::Wait { client: B }),
-        (Stage::Waiting(1), Event::Spurious { client: B }),
-        (Stage::Woken(1), Event::Lock { client: B }),
-        (Stage::Inside, Event::Wait { client: B }),
-        (Stage::Idle, Event::Begin { client: A }),
-        (Stage::Entering, Event::Lock { client: A }),
-        (Stage::Inside, Event::Run { client: A }),
-        (Stage::Notifying, notes_to(A, Some(B))),
-    ];
-    for (stage, event) in run {
-        assert!(rt; makes_its_own(&mut machine, stage, event), "at {event:?}");
-    }
-    // The lock is taken, and then A has no call left.
-    let ends = [
+    let notes = mutual();
+    let checks = [
+        Check::MakesItsOwn(Stage::Idle, Event::Begin { client: A }),
+        Check::MakesItsOwn(Stage::Entering, Event::Lock { client: A }),
+        Check::MakesItsOwn(Stage::Inside, Event::Run { client: A }),
+        Check::MakesItsOwn(Stage::Notifying, notes_to(A, None)),
+        Check::MakesItsOwn(Stage::Notifying, Event::Unlock { client: A }),
+        Check::MakesItsOwn(Stage::Idle, Event::Begin { client: B }),
+        Check::MakesItsOwn(Stage::Entering, Event::Lock { client: B }),
+        Check::MakesItsOwn(Stage::Inside, Event::Wait { client: B }),
+        Check::MakesItsOwn(Stage::Waiting(1), Event::Spurious { client: B }),
+        Check::MakesItsOwn(Stage::Woken(1), Event::Lock { client: B }),
+        Check::MakesItsOwn(Stage::Inside, Event::Wait { client: B }),
+        Check::MakesItsOwn(Stage::Idle, Event::Begin { client: A }),
+        Check::MakesItsOwn(Stage::Entering, Event::Lock { client: A }),
+        Check::MakesItsOwn(Stage::Inside, Event::Run { client: A }),
+        Check::MakesItsOwn(Stage::Notifying, notes_to(A, Some(B))),
+        // The lock is taken, and then A has no call left.
         Check::Allows(B, A, None),
         Check::Makes(&[Event::Unlock { client: A }]),
         Check::Allows(A, B, None),
         Check::Allows(C, A, None),
     ];
-    assert_eq!(rt; machine.first_wrong(&ends), None);
-    Ok(())
+    meets(&rt, signalled_lock(TWO_LOCKS, &notes), &checks)
 }
 
 fn client_of(event: Event) -> u32 {
@@ -310,13 +348,6 @@ fn client_of(event: Event) -> u32 {
         | Event::Unlock { client }
         | Event::Spurious { client } => client,
     }
-}
-
-/// The lock and these clients, where what releases signals those who wait to release.
-fn signalled_lock(alloc: Global, clients: &[u8], tested: bool) -> Result<Machine, Fail> {
-    let notes = [None, Some(signal(2, tested))];
-    let plan = plan_of(alloc, SIGNALS.as_slice(), notes.as_slice())?;
-    opened(alloc, LOCK, clients, plan)
 }
 
 #[test]
@@ -342,15 +373,15 @@ fn a_note_names_no_client_that_it_does_not_wake(rt: HostRuntime) -> Result<(), F
         Check::Makes(&releases),
         nobody,
     ];
-    let mut machine = signalled_lock(rt.alloc(), WAITS_TO_ACQUIRE, false)?;
-    assert_eq!(rt; machine.first_wrong(&acquired), None);
+    // What releases signals those who wait to release.
+    let untested = [None, Some(signal(2, false))];
+    meets(&rt, signalled_lock(WAITS_TO_ACQUIRE, &untested), &acquired)?;
     let waited = [
         Check::Makes(&waits),
         Check::Makes(&acquires),
         Check::Makes(&releases),
         nobody,
     ];
-    let mut machine = signalled_lock(rt.alloc(), WAITS_TO_RELEASE, true)?;
-    assert_eq!(rt; machine.first_wrong(&waited), None);
-    Ok(())
+    let tested = [None, Some(signal(2, true))];
+    meets(&rt, signalled_lock(WAITS_TO_RELEASE, &tested), &waited)
 }

@@ -1,10 +1,10 @@
 //! The large input against the texts that it stands for.
 
+use super::reading::{clients_of, monitor_of};
 use mon_implicit::Client;
 use mon_monitor::Monitor;
 use mon_stress::{LargeInput, large_input};
 use samples::monitors::BUFFER;
-use samples::{checked, scripts_read};
 use std::alloc::{AllocError, Global};
 use std::test::Fail;
 
@@ -42,10 +42,15 @@ fn clients_text(alloc: Global) -> Result<String, AllocError> {
     Ok(text)
 }
 
+/// Every part of a monitor.
+fn parts_of(alloc: Global, monitor: &Monitor) -> Result<String, AllocError> {
+    format!(in alloc; "{monitor:?}")
+}
+
 /// Whether every part of two monitors is the same.
 fn is_same_monitor(alloc: Global, one: &Monitor, other: &Monitor) -> Result<bool, AllocError> {
-    let parts = format!(in alloc; "{one:?}")?;
-    let others = format!(in alloc; "{other:?}")?;
+    let parts = parts_of(alloc, one)?;
+    let others = parts_of(alloc, other)?;
     Ok(parts.as_bytes() == others.as_bytes())
 }
 
@@ -70,11 +75,10 @@ fn made(alloc: Global, number: u64) -> Result<LargeInput, AllocError> {
 }
 
 /// Whether the number's buffer is what this text says.
-fn is_buffer(alloc: Global, number: u64, text: &[u8]) -> Result<bool, AllocError> {
-    match checked(alloc, text) {
-        Some(monitor) => is_same_monitor(alloc, &made(alloc, number)?.monitor, &monitor),
-        None => Ok(false),
-    }
+fn is_buffer(alloc: Global, number: u64, text: &[u8]) -> Result<bool, Fail> {
+    let monitor = monitor_of(alloc, text)?;
+    let input = made(alloc, number)?;
+    Ok(is_same_monitor(alloc, &input.monitor, &monitor)?)
 }
 
 /// Whether these are the same clients, in the same order.
@@ -98,11 +102,17 @@ fn the_number_gives_the_room(rt: HostRuntime) -> Result<(), Fail> {
     Ok(())
 }
 
+/// Whether the clients of a large input are those of this text.
+fn has_clients(alloc: Global, input: &LargeInput, text: &[u8]) -> Result<bool, Fail> {
+    let scripts = clients_of(alloc, text, &input.monitor)?;
+    Ok(are_same_clients(input.scripts.clients(), scripts.clients()))
+}
+
 #[test]
 fn the_clients_are_those_of_their_text(rt: HostRuntime) -> Result<(), Fail> {
-    let input = made(rt.alloc(), 3)?;
     let text = clients_text(rt.alloc())?;
-    let scripts = scripts_read(rt.alloc(), text.as_bytes(), &input.monitor).ok_or("clients")?;
-    assert!(rt; are_same_clients(input.scripts.clients(), scripts.clients()));
+    let input = made(rt.alloc(), 3)?;
+    let same = has_clients(rt.alloc(), &input, text.as_bytes())?;
+    assert!(rt; same);
     Ok(())
 }

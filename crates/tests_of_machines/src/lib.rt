@@ -14,6 +14,8 @@ mod machine;
 #[cfg(test)]
 mod plans;
 #[cfg(test)]
+mod reading;
+#[cfg(test)]
 mod room;
 #[cfg(test)]
 mod schedules;
