@@ -2,13 +2,14 @@
 
 ghost use Rattle.std.specs.Prelude.{◌≡◌, length};
 
-use mon_events::{Entry, Outcome, plan_fits};
+use super::reading::{clients_of, fitting_plan, monitor_of};
+use mon_events::{CondKind, Entry, Outcome};
 use mon_explicit::{FreeMonitor, NotReady, Section, SpuriousFault};
 use mon_implicit::Reply;
 use samples::monitors::LOCK;
-use samples::plans::signalling;
-use samples::{checked, scripts_read};
+use samples::plans::signal;
 use std::alloc::Global;
+use std::process::Abort;
 use std::test::Fail;
 
 /// Thirty-one clients that wait for the lock to be held, and one that takes it as often.
@@ -82,6 +83,88 @@ impl Running {
     }
 }
 
+/// The lock at the start, with its clients, whose blocks signal each other's condition.
+fn started(alloc: Global, clients: &[u8]) -> Result<Running, Fail> {
+    let monitor = monitor_of(alloc, LOCK)?;
+    let scripts = clients_of(alloc, clients, &monitor)?;
+    let kinds = [CondKind::Signal, CondKind::Signal];
+    let notes = [Some(signal(2, false)), Some(signal(1, false))];
+    let plan = fitting_plan(alloc, &monitor, &kinds, &notes)?;
+    let clients = scripts.clients().len() as u32;
+    let free = FreeMonitor::open(alloc, monitor, plan, scripts, 1)?;
+    Ok(Running { free, clients })
+}
+
+/// What is asked of a monitor after what came before.
+#[derive(Clone, Copy)]
+enum Check {
+    /// What a section of a client answers.
+    Section(u32, Result<Section, NotReady>),
+    /// What waking a client by nothing answers.
+    Spurious(u32, Result<(), SpuriousFault>),
+    /// Whether it is closed.
+    Closed(bool),
+    /// How long its log is.
+    Length(usize),
+}
+
+impl Running {
+    /// Whether it is as is asked.
+    fn is_as(&mut self, check: Check) -> bool {
+        match check {
+            Check::Section(client, answer) => self.section(client) == Some(answer),
+            Check::Spurious(client, answer) => self.spurious(client) == Some(answer),
+            Check::Closed(closed) => self.free.closed() == closed,
+            Check::Length(length) => self.free.log().len() == length,
+        }
+    }
+
+    /// The place from 0 of the first check that it is not as.
+    fn first_wrong(&mut self, checks: &[Check]) -> Option<usize> {
+        for (place, check) in checks.iter().enumerate() {
+            if !self.is_as(*check) {
+                return Some(place);
+            }
+        }
+        None
+    }
+}
+
+/// Demands of the lock with these clients that it is as each check asks.
+fn meets(rt: &(impl Abort + AllocGlobal), clients: &[u8], checks: &[Check]) -> Result<(), Fail> {
+    let mut running = started(rt.alloc(), clients)?;
+    let wrong = running.first_wrong(checks);
+    assert_eq!(rt; wrong, None);
+    Ok(())
+}
+
+/// The answer of a section in which the only client waits again, by its place in the log.
+fn waits_at(place: u64) -> Result<Section, NotReady> {
+    Ok(Section {
+        place,
+        entry: Entry {
+            client: 0,
+            call: 1,
+            outcome: Outcome::Waits,
+        },
+    })
+}
+
+#[test]
+fn a_client_that_waits_is_woken_by_nothing_once(rt: HostRuntime) -> Result<(), Fail> {
+    let checks = [
+        Check::Section(0, waits_at(0)),
+        Check::Spurious(0, Ok(())),
+        Check::Closed(false),
+        Check::Section(0, waits_at(2)),
+        Check::Spurious(0, Err(SpuriousFault::Spent)),
+        Check::Section(0, Err(NotReady { entries: 3 })),
+        Check::Closed(true),
+        Check::Length(3),
+    ];
+    meets(&rt, b"client A { release(); }", &checks)
+}
+
 /// A reply without a value, of a call that woke these clients.
 fn replied(woken: u32) -> Option<Outcome> {
     Some(Outcome::Replies {
@@ -90,57 +173,37 @@ fn replied(woken: u32) -> Option<Outcome> {
     })
 }
 
-/// The lock at the start, with its clients, whose blocks signal each other's condition.
-fn started(alloc: Global, clients: &[u8]) -> Result<Running, Fail> {
-    let monitor = checked(alloc, LOCK).ok_or("a monitor")?;
-    let scripts = scripts_read(alloc, clients, &monitor).ok_or("clients")?;
-    let plan = signalling(alloc)?;
-    if !plan_fits(&monitor, &plan) {
-        return Err("a plan that fits".into());
+impl Running {
+    /// The first client, from the last one of 31 down, whose section is not one that waits.
+    fn first_that_goes_on(&mut self) -> Option<u32> {
+        for place in 0..31 {
+            if self.outcome(30 - place) != Some(Outcome::Waits) {
+                return Some(30 - place);
+            }
+        }
+        None
     }
-    let clients = scripts.clients().len() as u32;
-    let free = FreeMonitor::open(alloc, monitor, plan, scripts, 1)?;
-    Ok(Running { free, clients })
-}
 
-#[test]
-fn a_client_that_waits_is_woken_by_nothing_once(rt: HostRuntime) -> Result<(), Fail> {
-    let mut running = started(rt.alloc(), b"client A { release(); }")?;
-    let waits = Entry {
-        client: 0,
-        call: 1,
-        outcome: Outcome::Waits,
-    };
-    let first = Section {
-        place: 0,
-        entry: waits,
-    };
-    assert_eq!(rt; running.section(0), Some(Ok(first)));
-    assert_eq!(rt; running.spurious(0), Some(Ok(())));
-    assert!(rt; !running.free.closed());
-    let third = Section {
-        place: 2,
-        entry: waits,
-    };
-    assert_eq!(rt; running.section(0), Some(Ok(third)));
-    assert_eq!(rt; running.spurious(0), Some(Err(SpuriousFault::Spent)));
-    assert_eq!(rt; running.section(0), Some(Err(NotReady { entries: 3 })));
-    assert!(rt; running.free.closed());
-    assert_eq!(rt; running.free.log().len(), 3);
-    Ok(())
+    /// The first client, from the last one of 31 down, that a section of the last client does not wake alone, or whose
+    /// own section does not reply then.
+    fn first_left_behind(&mut self) -> Option<u32> {
+        for place in 0..31 {
+            let next = 30 - place;
+            if self.outcome(31) != replied(1 << next) || self.outcome(next) != replied(0) {
+                return Some(next);
+            }
+        }
+        None
+    }
 }
 
 #[test]
 fn clients_that_wait_leave_in_the_order_in_which_they_came(rt: HostRuntime) -> Result<(), Fail> {
     let mut running = started(rt.alloc(), MANY)?;
-    for place in 0..31 {
-        assert_eq!(rt; running.outcome(30 - place), Some(Outcome::Waits));
-    }
-    for place in 0..31 {
-        let next = 30 - place;
-        assert_eq!(rt; running.outcome(31), replied(1 << next));
-        assert_eq!(rt; running.outcome(next), replied(0));
-    }
+    let going = running.first_that_goes_on();
+    assert_eq!(rt; going, None);
+    let left = running.first_left_behind();
+    assert_eq!(rt; left, None);
     assert!(rt; running.free.closed());
     Ok(())
 }
