@@ -15,8 +15,9 @@ use Rattle.expresso.proofs.program.expresso.Goals.{After-work_in_threads}
 pub work_in_threads-requires-clause-files : goal.work_in_threads-requires-clause-files
 work_in_threads-requires-clause-files g c =
     let command = command_meant c.in-Err.command in
-    let every : All (g.F.Files.may_read c.args.files.now) (files_of command) = c.requires command c.in-Err.ensures.taken in
-    subst (λ files. All (g.F.Files.may_read files) (files_of command)) (sym c.in-Err.ensures.unread) every
+    let before : All (g.F.Files.may_read c.args.files.now) (files_of command) = c.requires command c.in-Err.ensures.taken in
+    let every : All (g.F.Files.may_read c.without_workers.new.files) (files_of command) = subst (λ files. All (g.F.Files.may_read files) (files_of command)) (sym c.in-Err.ensures.unread) before in
+    search (rules, every)
 
 -- the command ended from where the call began
 worked : (g : Over) (c : After-work_in_threads g)
