@@ -5,7 +5,7 @@ use Rattle.std.proofs.lemmas.List.Elements.{All-nil, All-cons, All-head, All-tai
 use Rattle.mon_queue.specs.Tickets.{QueuePassView, new_pass}
 use Rattle.mon_pool.specs.declared.shop.Shop.{Shop}
 use Rattle.mon_pool.specs.declared.worker.Worker.{Worker}
-use Rattle.mon_pool.specs.inner.Workers.{HasFinished, IsPlace, IsWorker}
+use Rattle.mon_pool.specs.inner.Workers.{HasFinished, IsPlace, IsWorker, KnowsClosed}
 
 pub hired : (shop : Shop) (worker : Worker) → IsPlace shop worker.place → worker.tickets ≡ new_pass shop.queue → IsWorker shop worker
 hired shop worker place new = record {
@@ -15,7 +15,13 @@ hired shop worker place new = record {
 }
 
 pub has_place : (shop : Shop) (worker : Worker) → HasFinished shop worker → worker.place.lock ≡ shop.monitor.lock
-has_place shop worker own = own.0.place.lock
+has_place shop worker is = is.own.place.lock
+
+pub knew : (shop : Shop) (worker : Worker) → HasFinished shop worker → KnowsClosed worker.place
+knew shop worker is = is.closed
+
+pub finished : (shop : Shop) (worker : Worker) → IsWorker shop worker → KnowsClosed worker.place → HasFinished shop worker
+finished shop worker own closed = record { own = own; closed = closed }
 
 -- all of a list, and the last
 pub all_parted : {X : Type 0} (P : X → Type 0) (xs : List X) (x : X) → All P (xs ++ x ∷ []) → All P xs × P x

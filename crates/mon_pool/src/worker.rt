@@ -38,7 +38,7 @@ impl Worker {
     }
 
     /// Its pass of the shared monitor, once it has ended.
-    #[tactic(auto, using(crate::proofs::Hiring::has_place))]
+    #[tactic(auto, using(crate::proofs::Hiring::has_place, crate::proofs::Hiring::knew))]
     pub fn into_place(self, shop: &Shop) -> Pass
         requires own { HasFinished shop.now self }
         ensures own { result.lock ≡ shop.now.monitor.lock }
@@ -68,10 +68,10 @@ enum Turn {
 }
 
 /// Makes sections until it is told that the monitor is closed. Nothing else ends it.
+#[tactic(auto, using(crate::proofs::Hiring::finished))]
 pub fn work<R: Threads + Wait + Sync, G: Gate>(rt: &R, shop: &Shop, gate: &G, worker: &mut Worker)
     requires own { IsWorker shop.now worker.old }
-    ensures own { IsWorker shop.now worker.new }
-    ensures closed { KnowsClosed worker.new.place }
+    ensures finished { HasFinished shop.now worker.new }
 {
     let backoff = Backoff::new();
     let mut idle = 0u32;

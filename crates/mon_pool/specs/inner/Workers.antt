@@ -21,5 +21,6 @@ abbrev pub KnowsClosed : PassView → Type 0
 KnowsClosed pass = IsClosed pass.known.front.system pass.known.front.now
 
 -- a worker that ends was told that the monitor is closed
-abbrev pub HasFinished : Shop → Worker → Type 0
-HasFinished shop worker = IsWorker shop worker × KnowsClosed worker.place
+pub record HasFinished (shop : Shop) (worker : Worker) : Type 0 where
+  pub own : IsWorker shop worker
+  pub closed : KnowsClosed worker.place
