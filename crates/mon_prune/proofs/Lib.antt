@@ -5,6 +5,5 @@ mod OpenQueries
 mod PoolNumbers
 mod Pruned
 mod RoundSteps
-mod Smallness
 pub mod SomeOf
 mod StartTruths

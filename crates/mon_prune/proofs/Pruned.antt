@@ -37,7 +37,7 @@ stays monitor kept other one some invariant none within is = record {
   keep = λ block low.
       more_keep_valid monitor (claims.Keeps one block) other kept within
       (All-contains (λ candidate. Keeps monitor other candidate block) other one (invariant.inductive.keeps block low) is);
-  easy = λ block low open_query. none one block is low (open_hard monitor (claims.Keeps one block) kept some open_query);
+  easy = λ block low. record { closed = λ open_query. none one block is low (open_hard monitor (claims.Keeps one block) kept some open_query) };
 }
 
 pub left_after : (monitor : MonitorParts) (kept next : List Candidate) (proofs : List Kept)

@@ -29,7 +29,7 @@ pub found_none : (monitor : MonitorParts) (hyps : List Candidate) (candidate : C
     → query ≡ keeps_query monitor hyps candidate block → found ≡ None → IsDecision monitor query found → IsFoundAt monitor hyps candidate block None
 found_none monitor hyps candidate block query found made none decided =
     let told = subst (λ (asked : Query). IsDecision monitor asked None) made (subst (IsDecision monitor query) none decided) in
-    λ easy keeps. easy (told keeps)
+    λ easy keeps. easy.closed (told keeps)
 
 pub found_some : (monitor : MonitorParts) (hyps : List Candidate) (candidate : Candidate) (block : ℕ) (found : Option Kept) (proof : Kept)
     → found ≡ Some proof → IsFoundAt monitor hyps candidate block found → IsProofAt monitor hyps candidate block proof

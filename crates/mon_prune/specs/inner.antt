@@ -1,5 +1,4 @@
 pub mod Asking
 pub mod Numbers
 pub mod Pruning
-pub mod Smallness
 pub mod Starts

@@ -4,7 +4,7 @@
 //!
 //! [`candidates`] lists the candidates of a monitor, [`certificate_of`] decides a query, and [`invariant`] prunes the
 //! candidates, with a certificate for each that is kept and each block (`specs/Invariants`). Which queries may stay open,
-//! which claims are hard and which monitors are small: `specs/Hardness`; [`is_small`] tells a small one.
+//! which claims are hard and which monitors are small: `specs/Hardness`.
 #![tactic(auto)]
 
 mod bounds;
@@ -15,8 +15,6 @@ mod listing;
 mod pool;
 mod pruning;
 mod rounds;
-mod simple;
-mod small;
 mod starts;
 
 pub use certificate::certificate_of;
@@ -24,4 +22,3 @@ pub use kept::{Invariant, Kept};
 pub use laws::{easy_claims_are_not_hard, open_claims_are_hard};
 pub use listing::candidates;
 pub use pruning::invariant;
-pub use small::is_small;

@@ -26,8 +26,8 @@ pub record AreAskable (hyps : List Candidate) : Type 0 where
 -- ---- of one block
 
 -- the query may not stay open
-abbrev pub IsEasyAt : MonitorParts → List Candidate → Candidate → ℕ → Type 0
-IsEasyAt monitor hyps candidate block = MayStayOpen monitor (keeps_query monitor hyps candidate block) → ⊥
+pub record IsEasyAt (monitor : MonitorParts) (hyps : List Candidate) (candidate : Candidate) (block : ℕ) : Type 0 where
+  pub closed : MayStayOpen monitor (keeps_query monitor hyps candidate block) → ⊥
 
 -- the proof that the block keeps the candidate under the others
 pub record IsProofAt (monitor : MonitorParts) (hyps : List Candidate) (candidate : Candidate) (block : ℕ) (proof : Kept) : Type 0 where
