@@ -160,6 +160,18 @@ impl Config {
         ensures rule { IsMachine self.now }
         ensures wakes { KeepsWakeUps self.now }
     {
+        let stage = self.stage_now(client);
+        // A reading call says what the rule of the machine gives.
+        let _owner = self.owner();
+        stage
+    }
+
+    /// The stage of a client, by what it does.
+    fn stage_now(&self, client: u32) -> Stage
+        requires { client < length self.now.system.clients }
+        ensures { IsSomeAnd (slice_get self.now.now.standings client)
+            (λ standing. result ≡ stage_of standing.phase) }
+    {
         match self.positions[client as usize].doing {
             Doing::Idle => Stage::Idle,
             Doing::Entering => Stage::Entering,
