@@ -1,5 +1,4 @@
 pub mod Lists
-pub mod AskedQueries
 pub mod Backed
 pub mod Answered
 pub mod Placing

@@ -8,7 +8,7 @@ ghost use Rattle.mon_place.specs.inner.Answers.{AreAskable, IsAnswerTo, MayAsk};
 use super::placed::Proof;
 use mon_monitor::{Candidate, Claim, Monitor, Query};
 use mon_prune::certificate_of;
-use mon_wp::{claims_have_placed_queries, keeps, no_test, none_needed, one_enough};
+use mon_wp::{keeps, no_test, none_needed, one_enough};
 use std::alloc::{AllocError, Global};
 
 /// The query of a claim.
@@ -50,7 +50,6 @@ pub(crate) fn proof_of(
 {
     let query = query_of(alloc, monitor, kept, claim)?;
     let _blocks = monitor.blocks();
-    claims_have_placed_queries();
     match certificate_of(alloc, monitor, &query)? {
         Some(cert) => Ok(Some(Proof { claim, cert })),
         None => Ok(None),

@@ -7,7 +7,6 @@ use Rattle.mon_linear.specs.declared.formula.Formula.{Formula}
 use Rattle.mon_linear.specs.LightCubes.{IsLightCube}
 use Rattle.mon_linear.specs.Linear.{Linear}
 use Rattle.mon_linear.specs.Measures.{cubes_of, MOST_CUBES}
-use Rattle.mon_linear.specs.Places.{HasFewPlaces}
 use Rattle.mon_linear.specs.Truth.{Valuation, truth_of}
 use Rattle.mon_monitor.specs.declared.query.Query.{Query}
 use Rattle.mon_monitor.specs.MonitorParts.{MonitorParts}
@@ -87,25 +86,25 @@ many_cubes monitor query many = last (is_query_within monitor query) (has_few_cu
     last true b e = e
     last false b e = refl
 
-open_query : (monitor : MonitorParts) (query : Query) → HasFewPlaces (negated_query monitor query) → Fails monitor query → IsLeftOpen (negated_query monitor query)
+open_query : (monitor : MonitorParts) (query : Query) → Fails monitor query → IsLeftOpen (negated_query monitor query)
     → IsValidQuery monitor query → MayStayOpen monitor query
-open_query monitor query few fails (inl many) valid = limits (many_cubes monitor query many)
-open_query monitor query few fails (inr (inl somewhere)) valid = let holds = somewhere few in absurd (fails holds.0 holds.1 valid)
-open_query monitor query few fails (inr (inr general)) valid = general_open monitor query fails general valid
+open_query monitor query fails (inl many) valid = limits (many_cubes monitor query many)
+open_query monitor query fails (inr (inl somewhere)) valid = absurd (fails somewhere.0 somewhere.1 valid)
+open_query monitor query fails (inr (inr general)) valid = general_open monitor query fails general valid
 
-answer_decides : (monitor : MonitorParts) (query : Query) (answer : Option Cert) → HasFewPlaces (negated_query monitor query) → Fails monitor query
+answer_decides : (monitor : MonitorParts) (query : Query) (answer : Option Cert) → Fails monitor query
     → IsAnswer (negated_query monitor query) answer → IsDecision monitor query answer
-answer_decides monitor query (Some cert) few fails is = is
-answer_decides monitor query None few fails is = λ valid. open_query monitor query few fails is valid
+answer_decides monitor query (Some cert) fails is = is
+answer_decides monitor query None fails is = λ valid. open_query monitor query fails is valid
 
 there_is : {X : Type 0} (test : Bool) (x y : X) → Some y ≡ value_if test x → y ≡ x
 there_is true x y e = cc
 there_is false x y e = absurd cc
 
 pub negated_decides : (monitor : MonitorParts) (query : Query) (formula : Formula) (answer : Option Cert) → Some formula ≡ query_within monitor query
-    → HasFewPlaces (negated_query monitor query) → Fails monitor query → IsAnswer formula answer → IsDecision monitor query answer
-negated_decides monitor query formula answer e few fails is =
-    answer_decides monitor query answer few fails
+    → Fails monitor query → IsAnswer formula answer → IsDecision monitor query answer
+negated_decides monitor query formula answer e fails is =
+    answer_decides monitor query answer fails
     (subst (λ (made : Formula). IsAnswer made answer) (there_is (is_query_within monitor query) (negated_query monitor query) formula e) is)
 
 -- a query that isn't negated

@@ -18,7 +18,6 @@ use Rattle.mon_prune.specs.declared.kept.Kept.{Kept}
 use Rattle.mon_cert.specs.declared.cert.Cert.{Cert}
 use Rattle.mon_prune.specs.Invariants.{IsDecision, Proves, claim_of, keeps_claims}
 use Rattle.mon_wp.specs.Expressible.{is_expressible}
-use Rattle.mon_wp.specs.QueryPlaces.{is_of_fields}
 use Rattle.mon_prune.specs.inner.Asking.{AllKeep, AreAskable, IsAskable, AreProofsBelow, IsFoundAt, IsProofAt, MustStay}
 use Rattle.mon_prune.specs.inner.Pruning.{IsRoundOf}
 use Rattle.mon_prune.proofs.SomeOf.{some_more, some_pass, some_push}
@@ -40,13 +39,11 @@ found_some monitor hyps candidate block found proof is made = subst (IsFoundAt m
 pub askable_at : (hyps : List Candidate) (i : ℕ) (d : Candidate) → i < length hyps → AreAskable hyps → IsAskable (get_or hyps i d)
 askable_at hyps i d low are = record {
   expressible = and_at (list_all is_expressible) is_expressible refl (λ one more. refl) hyps i d low are.expressible;
-  fields = and_at (list_all is_of_fields) is_of_fields refl (λ one more. refl) hyps i d low are.fields;
 }
 
 pub askable_some : (kept all : List Candidate) → AreSomeOf kept all → AreAskable all → AreAskable kept
 askable_some kept all some are = record {
   expressible = some_pass is_expressible kept all some are.expressible;
-  fields = some_pass is_of_fields kept all some are.fields;
 }
 
 -- ---- the blocks of one candidate

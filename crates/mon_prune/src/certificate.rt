@@ -3,7 +3,6 @@
 ghost use Rattle.std.specs.Prelude.{◌<◌, IfOk, IfSome, IsTrue, length};
 ghost use Rattle.mon_linear.specs.Negation.{can_negate};
 ghost use Rattle.mon_monitor.specs.Triples.{IsValidQuery};
-ghost use Rattle.mon_wp.specs.QueryPlaces.{IsPlaced};
 ghost use Rattle.mon_prune.specs.Invariants.{IsDecision};
 
 use mon_cert::{Cert, refuted_formula_is_false};
@@ -13,11 +12,9 @@ use mon_wp::{negated, refuted_query_is_valid, satisfied_query_is_invalid};
 use std::alloc::{AllocError, Global};
 
 /// A certificate that refutes the negation of a query, which is then valid. There is none only where the query is not
-/// valid, or is not negated within the limits of [`negated`] to a formula of at most 1,024 cubes, or where a cube of
-/// that formula has a row that is no difference row and is not light, or has a solution in fractions and none in whole
-/// numbers (`specs/Hardness`).
-/// The hypotheses and the post formula are over places of fields and inputs, as those of each claim's query are. It
-/// fails only for want of memory.
+/// valid, or is not negated within the limits of [`negated`] to a formula of at most 1,024 cubes, or where that formula
+/// has a cube with a row that is no difference row, and that cube isn't light, or is light and has a solution in
+/// fractions and none in whole numbers (`specs/Hardness`). It fails only for want of memory.
 pub fn certificate_of(
     alloc: Global,
     monitor: &Monitor,
@@ -25,7 +22,6 @@ pub fn certificate_of(
 ) -> Result<Option<Cert>, AllocError>
     requires block { query.now.block < length monitor.now.blocks }
     requires post { IsTrue (can_negate query.now.post) }
-    requires placed { IsPlaced query.now }
     ensures decided { IfOk result (IsDecision monitor.now query.now) }
     ensures valid { IfOk result (λ it. IfSome it (λ cert. IsValidQuery monitor.now query.now)) }
 {

@@ -8,7 +8,7 @@ use super::certificate::certificate_of;
 use super::kept::Kept;
 use mon_list::Seq;
 use mon_monitor::{Candidate, Monitor};
-use mon_wp::{claims_have_placed_queries, keeps};
+use mon_wp::keeps;
 use std::alloc::{AllocError, Global};
 
 /// What a round keeps: candidates, and the proofs that each block keeps them under those that were there before.
@@ -31,7 +31,6 @@ fn proof_of(
     requires block { block < length monitor.now.blocks }
     ensures { IfOk result (IsFoundAt monitor.now hyps.now candidate block) }
 {
-    claims_have_placed_queries();
     monitor.blocks();
     let query = keeps(alloc, monitor, hyps, candidate, block)?;
     match certificate_of(alloc, monitor, &query)? {

@@ -16,7 +16,6 @@ use Rattle.mon_events.specs.Plans.{has_note}
 use Rattle.mon_events.specs.Rising.{AreRising}
 use Rattle.mon_wp.specs.Expressible.{is_expressible}
 use Rattle.mon_wp.specs.Hardness.{IsBlockNumber, IsConditionNumber, ReadsNone, WaitsAt}
-use Rattle.mon_wp.specs.QueryPlaces.{is_of_fields}
 use Rattle.mon_prune.specs.Hardness.{IsSmall, MayStayOpen}
 use Rattle.mon_prune.specs.Invariants.{ContainsEasy, IsGreatest, IsInvariant}
 use Rattle.mon_prune.specs.declared.kept.Kept.{Kept}
@@ -38,12 +37,11 @@ IsAnswerTo monitor kept claim None = IsUnproved monitor kept claim
 -- candidates of which queries are made
 pub record AreAskable (kept : List Candidate) : Type 0 where
   pub expressible : list_all is_expressible kept ≡ true
-  pub of_fields : list_all is_of_fields kept ≡ true
 
 -- the claim names a block and a condition of the monitor, and a candidate that has a formula
 abbrev pub MayAsk : MonitorParts → Claim → Type 0
 MayAsk monitor (claims.Keeps candidate block) =
-    IsBlockNumber monitor block × (is_expressible candidate ≡ true) × (is_of_fields candidate ≡ true)
+    IsBlockNumber monitor block × (is_expressible candidate ≡ true)
 MayAsk monitor (claims.NoNote block condition) = IsBlockNumber monitor block × IsConditionNumber monitor condition
 MayAsk monitor (claims.One condition block) = IsBlockNumber monitor block × IsConditionNumber monitor condition
 MayAsk monitor (claims.NoTest block condition) = IsBlockNumber monitor block × IsConditionNumber monitor condition

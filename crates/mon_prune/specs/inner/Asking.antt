@@ -7,21 +7,18 @@ use Rattle.mon_monitor.specs.MonitorParts.{MonitorParts}
 use Rattle.mon_monitor.specs.Queries.{keeps_query}
 use Rattle.mon_monitor.specs.Triples.{Keeps}
 use Rattle.mon_wp.specs.Expressible.{is_expressible}
-use Rattle.mon_wp.specs.QueryPlaces.{is_of_fields}
 use Rattle.mon_prune.specs.declared.kept.Kept.{Kept}
 use Rattle.mon_prune.specs.Hardness.{MayStayOpen}
 use Rattle.mon_prune.specs.Invariants.{Proves, claim_of}
 
 -- ---- what may be asked
 
--- a candidate with a formula over fields
+-- a candidate with a formula
 pub record IsAskable (candidate : Candidate) : Type 0 where
   pub expressible : is_expressible candidate ≡ true
-  pub fields : is_of_fields candidate ≡ true
 
 pub record AreAskable (hyps : List Candidate) : Type 0 where
   pub expressible : list_all is_expressible hyps ≡ true
-  pub fields : list_all is_of_fields hyps ≡ true
 
 -- ---- of one block
 

@@ -13,7 +13,7 @@ use Rattle.mon_place.proofs.placement.answered.Goals as goal
 use Rattle.mon_place.proofs.placement.answered.Goals.{In_ok-kept, After-of-3}
 
 may_ask : (c : In_ok-kept) → AreAskable c.in_ok-kept.field-0.kept
-may_ask c = record { expressible = c.in_ok-kept.ensures.expressible; of_fields = c.in_ok-kept.ensures.of_fields }
+may_ask c = record { expressible = c.in_ok-kept.ensures.expressible }
 
 pub kinds_of_all-requires : goal.kinds_of_all-requires
 kinds_of_all-requires c = subst AreAskable (sym c.items.ensures) (may_ask (goal.at.kinds_of_all-requires c).In_ok-kept)
