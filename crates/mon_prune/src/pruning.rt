@@ -3,8 +3,7 @@
 ghost use Rattle.std.specs.Prelude.{◌≡◌, true, IfOk};
 ghost use Rattle.std.specs.List.{list_all};
 ghost use Rattle.mon_monitor.specs.Candidates.{candidates_of};
-ghost use Rattle.mon_wp.specs.Expressible.{is_expressible};
-ghost use Rattle.mon_wp.specs.QueryPlaces.{is_of_fields};
+ghost use Rattle.mon_wp.specs.Expressible.{is_expressible, is_of_fields};
 ghost use Rattle.mon_prune.specs.Hardness.{IsSmall};
 ghost use Rattle.mon_prune.specs.Invariants.{AreProofs, ContainsEasy, IsGreatest, IsInvariant};
 ghost use Rattle.mon_prune.specs.inner.Asking.{AreAskable};

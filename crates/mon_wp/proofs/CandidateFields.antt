@@ -12,7 +12,7 @@ use Rattle.mon_monitor.specs.declared.monitor.Field.{Field}
 use Rattle.mon_monitor.specs.Bodies.{number_of_value}
 use Rattle.mon_monitor.specs.MonitorParts.{MonitorParts, IsMonitor}
 use Rattle.mon_monitor.specs.Candidates.{bounded, candidates_of, field_candidates, int_fields, int_number, kind_candidates, pair_candidates, pool}
-use Rattle.mon_wp.specs.QueryPlaces.{is_of_fields}
+use Rattle.mon_wp.specs.Expressible.{is_of_fields}
 
 both_hold : (a b : Bool) → a ≡ true → b ≡ true → (a && b) ≡ true
 both_hold a b e f = rw (e, f) refl

@@ -14,6 +14,4 @@ mod WaitingGuards
 mod UnreadGuards
 mod CandidateBounds
 mod CandidateFields
-mod FormulaPlaces
-mod PlacedQueries
 pub mod FewerKept

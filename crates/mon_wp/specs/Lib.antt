@@ -3,5 +3,4 @@ pub mod NegatedQueries
 pub mod Limits
 pub mod Hardness
 pub mod Expressible
-pub mod QueryPlaces
 pub mod inner

@@ -1,9 +1,8 @@
 //! What follows from the definitions alone.
 
-ghost use Rattle.std.specs.Prelude.{◌≡◌, ◌<◌, ℕ, true, false, All, IfSome, List, length};
+ghost use Rattle.std.specs.Prelude.{◌≡◌, ◌<◌, true, false, All, List, length};
 ghost use Rattle.std.specs.List.{Contains, list_all};
 ghost use Rattle.mon_linear.specs.declared.formula.Formula.{Formula};
-ghost use Rattle.mon_linear.specs.Places.{HasFewPlaces};
 ghost use Rattle.mon_linear.specs.Truth.{Valuation, truth_of};
 ghost use Rattle.mon_monitor.specs.declared.candidate.Candidate.{Candidate};
 ghost use Rattle.mon_monitor.specs.declared.claim.Claim.{Claim};
@@ -14,14 +13,12 @@ ghost use Rattle.mon_monitor.specs.Candidates.{AreSomeOf, candidates_of};
 ghost use Rattle.mon_monitor.specs.Inputs.{reads_inputs};
 ghost use Rattle.mon_monitor.specs.MonitorParts.{MonitorParts, IsMonitor};
 ghost use Rattle.mon_monitor.specs.Paths.{path_count};
-ghost use Rattle.mon_monitor.specs.Queries.{for_waiting, keeps_query, no_test_query, none_needed_query, one_enough_query, query_of};
+ghost use Rattle.mon_monitor.specs.Queries.{for_waiting, query_of};
 ghost use Rattle.mon_monitor.specs.Triples.{IsValidQuery};
-ghost use Rattle.mon_wp.specs.Expressible.{is_expressible};
+ghost use Rattle.mon_wp.specs.Expressible.{is_expressible, is_of_fields};
 ghost use Rattle.mon_wp.specs.Hardness.{is_easy, is_within_limits};
-ghost use Rattle.mon_wp.specs.Limits.{query_within};
 ghost use Rattle.mon_wp.specs.NegatedQueries.{negated_query, query_fails};
 ghost use Rattle.mon_wp.specs.Paths.{body_paths};
-ghost use Rattle.mon_wp.specs.QueryPlaces.{IsPlaced, is_of_fields};
 
 /// A negated query is true at a valuation exactly where the triple of the query fails there: each hypothesis is
 /// true, and the post formula is not after the body.
@@ -68,34 +65,6 @@ pub fn candidates_are_expressible()
 pub fn candidates_are_of_fields()
     ensures { (monitor : MonitorParts) → IsMonitor monitor
         → list_all is_of_fields (candidates_of monitor) ≡ true }
-{}
-
-/// The hypotheses and the post formula of each claim's query have variables of fields and inputs alone, where the
-/// candidates are of fields.
-pub fn claims_have_placed_queries()
-    ensures keeps { (monitor : MonitorParts)
-        (kept : List Candidate) (candidate : Candidate) (block : ℕ)
-        → IsMonitor monitor → list_all is_of_fields kept ≡ true
-        → is_of_fields candidate ≡ true
-        → IsPlaced (keeps_query monitor kept candidate block) }
-    ensures none_needed { (monitor : MonitorParts) (kept : List Candidate) (block condition : ℕ)
-        → IsMonitor monitor → list_all is_of_fields kept ≡ true
-        → IsPlaced (none_needed_query monitor kept block condition) }
-    ensures one_enough { (monitor : MonitorParts) (kept : List Candidate) (condition block : ℕ)
-        → IsMonitor monitor → list_all is_of_fields kept ≡ true
-        → IsPlaced (one_enough_query monitor kept condition block) }
-    ensures no_test { (monitor : MonitorParts) (kept : List Candidate) (block condition : ℕ)
-        → IsMonitor monitor → list_all is_of_fields kept ≡ true
-        → IsPlaced (no_test_query monitor kept block condition) }
-{}
-
-/// The rows of such a query's negation have variables of few places, also where `negated` answers it: so the prover
-/// decides it, where its rows are difference rows and its cubes are few.
-pub fn placed_queries_have_few_places()
-    ensures whole { (monitor : MonitorParts) (query : Query) → IsMonitor monitor → IsPlaced query
-        → HasFewPlaces (negated_query monitor query) }
-    ensures within { (monitor : MonitorParts) (query : Query) → IsMonitor monitor → IsPlaced query
-        → IfSome (query_within monitor query) HasFewPlaces }
 {}
 
 /// Under fewer candidates no query is harder: where the query of a claim is within the limits, or easy, under some

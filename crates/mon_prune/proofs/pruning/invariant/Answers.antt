@@ -1,6 +1,5 @@
 use Rattle.mon_monitor.specs.Candidates.{candidates_of}
-use Rattle.mon_wp.specs.Expressible.{is_expressible}
-use Rattle.mon_wp.specs.QueryPlaces.{is_of_fields}
+use Rattle.mon_wp.specs.Expressible.{is_expressible, is_of_fields}
 use Rattle.mon_prune.proofs.Pruned.{greatest_left, invariant_left, left_first}
 use Rattle.mon_prune.proofs.SomeOf.{some_pass}
 use Rattle.mon_prune.proofs.pruning.invariant.Goals as goal
