@@ -1,6 +1,6 @@
 //! Tests of the crates that read, check and prove monitors: what the checker makes of a text, and which rule it names;
 //! the forms and the formulas of expressions; paths, queries, candidates, invariants and certificates of whole
-//! monitors.
+//! monitors, and which of them are small.
 //!
 //! There are only tests. Every answer was worked out by hand from the rules of the language and of plans.
 #![tactic(auto)]
@@ -19,3 +19,5 @@ mod invariants;
 mod queries;
 #[cfg(test)]
 mod rules;
+#[cfg(test)]
+mod small;

@@ -1,0 +1,2 @@
+mod DifferenceRows
+mod Smallness
