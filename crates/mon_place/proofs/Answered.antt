@@ -1,4 +1,4 @@
--- A plan that the prover's answers make fits, is lawful and licensed, and exact where the monitor is small.
+-- A plan that the prover's answers make fits, is lawful and licensed, and exact where no claim of the monitor is hard.
 use Rattle.std.proofs.Common.{◌≡◌, ◌==◌, ◌↔◌, inl, ℕ, ◌-◌, ◌<◌, ◌≤◌, Bool, true, false, List, [], ◌∷◌, length, get_or, Option, Some, None, refl, sym, ap, subst, ◌∙◌, arith}
 use Rattle.std.specs.Prelude.{All, slice_get, IsSomeAnd, unwrap_or, ◌||◌}
 use Rattle.std.proofs.lemmas.Bool.{true≢false, eqb-true}
@@ -23,7 +23,7 @@ use Rattle.mon_events.specs.PlanText.{note_kind}
 use Rattle.mon_events.specs.Plans.{IsCondition as IsThere, FitsNote, FitsNotes, FitsPlan, IsLawful, IsUntestedBroadcast, condition_kind, has_note, notes_at}
 use Rattle.mon_events.proofs.Facing.{at_index, all_at, is_some_and}
 use Rattle.mon_wp.specs.Hardness.{IsBlockNumber, IsClaimOf, IsConditionNumber, ReadsNone, WaitsAt}
-use Rattle.mon_prune.specs.Hardness.{IsHard, IsSmall}
+use Rattle.mon_prune.specs.Hardness.{HasNoHardClaim, IsHard}
 use Rattle.mon_place.specs.Backing.{HasCertificate}
 use Rattle.mon_place.specs.Exact.{HasHardBlock, HaveTheirKinds, IsExact, IsLicensed, MaySignal, NeedsTest}
 use Rattle.mon_place.specs.inner.Answers.{AreNotes, IsAnswered, IsKindOf, IsNote, IsUnproved}
@@ -221,17 +221,17 @@ plan_licensed laws monitor plan rule answered = record {
       (λ note known tested needless. hard_from laws monitor plan (claims.NoTest block note.condition) answered (known.tests tested).unproved needless);
 }
 
--- ---- the plan of a small monitor is exact
+-- ---- the plan of a monitor with no hard claim is exact
 
 -- what isn't proved fails
-fails : Laws → (monitor : MonitorParts) (plan : Plan) (claim : Claim) → IsAnswered monitor plan → IsSmall monitor → IsClaimOf monitor claim
+fails : Laws → (monitor : MonitorParts) (plan : Plan) (claim : Claim) → IsAnswered monitor plan → HasNoHardClaim monitor → IsClaimOf monitor claim
     → IsUnproved monitor plan.kept claim → Holds monitor plan.kept claim → ⊥
-fails laws monitor plan claim answered small is_claim unproved holds = small.easy claim is_claim (hard_from laws monitor plan claim answered unproved holds)
+fails laws monitor plan claim answered easy is_claim unproved holds = easy claim is_claim (hard_from laws monitor plan claim answered unproved holds)
 
-exactly_noted : Laws → (monitor : MonitorParts) (plan : Plan) (block condition : ℕ) → IsMonitor monitor → IsAnswered monitor plan → IsSmall monitor
+exactly_noted : Laws → (monitor : MonitorParts) (plan : Plan) (block condition : ℕ) → IsMonitor monitor → IsAnswered monitor plan → HasNoHardClaim monitor
     → IsBlockNumber monitor block → IsConditionNumber monitor condition → (has_note (notes_at plan block) condition ≡ true) ↔ (NoneNeeded monitor plan.kept block condition → ⊥)
-exactly_noted laws monitor plan block condition rule answered small within is = (
-  λ has needless. small.easy (claims.NoNote block condition) (within, is) (unneeded_hard laws monitor plan block condition answered has needless),
+exactly_noted laws monitor plan block condition rule answered easy within is = (
+  λ has needless. easy (claims.NoNote block condition) (within, is) (unneeded_hard laws monitor plan block condition answered has needless),
   λ needed. by_test (has_note (notes_at plan block) condition) refl (λ none. needed (none_needed laws monitor plan block condition rule answered within is.0 is.1 none)),
 )
   where
@@ -239,9 +239,9 @@ exactly_noted laws monitor plan block condition rule answered small within is = 
     by_test true told never = refl
     by_test false told never = absurd (never told)
 
-exactly_signals : Laws → (monitor : MonitorParts) (plan : Plan) (condition : ℕ) → IsMonitor monitor → IsAnswered monitor plan → IsSmall monitor
+exactly_signals : Laws → (monitor : MonitorParts) (plan : Plan) (condition : ℕ) → IsMonitor monitor → IsAnswered monitor plan → HasNoHardClaim monitor
     → IsConditionNumber monitor condition → (condition_kind plan condition ≡ Some kinds.Signal) ↔ MaySignal monitor plan condition
-exactly_signals laws monitor plan condition rule answered small is =
+exactly_signals laws monitor plan condition rule answered easy is =
     let many = answered.many_kinds in
     let first = is.0 in
     let last = is.1 in
@@ -257,11 +257,11 @@ exactly_signals laws monitor plan condition rule answered small is =
     by_kind kinds.Signal there may = there
     by_kind kinds.Broadcast there may =
         let hard = unsignalled_hard laws monitor plan condition answered there may in
-        absurd (small.easy (claims.One condition hard.block) (may.reads_none, hard.waits) hard.hard)
+        absurd (easy (claims.One condition hard.block) (may.reads_none, hard.waits) hard.hard)
 
-exactly_tested : Laws → (monitor : MonitorParts) (plan : Plan) (block : ℕ) (notes : List Note) → IsMonitor monitor → IsAnswered monitor plan → IsSmall monitor
+exactly_tested : Laws → (monitor : MonitorParts) (plan : Plan) (block : ℕ) (notes : List Note) → IsMonitor monitor → IsAnswered monitor plan → HasNoHardClaim monitor
     → slice_get plan.notes block ≡ Some notes → All (λ note. (note.tested ≡ true) ↔ NeedsTest monitor plan block note) notes
-exactly_tested laws monitor plan block notes rule answered small there =
+exactly_tested laws monitor plan block notes rule answered easy there =
     let known = (notes_known monitor plan block notes answered there).each in
     let proved = untested_backed monitor plan block notes answered.backed there in
     let low = slice_get_within plan.notes block notes there in
@@ -276,7 +276,7 @@ exactly_tested laws monitor plan block notes rule answered small there =
       λ tested.
           let test = known.tests tested in record {
             reads_none = test.reads_none;
-            needed = λ needless. fails laws monitor plan (claims.NoTest block note.condition) answered small (within, test.reads_none) test.unproved needless;
+            needed = λ needless. fails laws monitor plan (claims.NoTest block note.condition) answered easy (within, test.reads_none) test.unproved needless;
           },
       λ needs. by_test note.tested refl
           (λ untested. needs.needed (held laws monitor plan.kept (claims.NoTest block note.condition) rule within (proved untested needs.reads_none))),
@@ -286,14 +286,14 @@ exactly_tested laws monitor plan block notes rule answered small there =
         by_test true told never = refl
         by_test false told never = absurd (never told)
 
-pub plan_exact : Laws → (monitor : MonitorParts) (plan : Plan) → IsMonitor monitor → IsAnswered monitor plan → IsSmall monitor → IsExact monitor plan
-plan_exact laws monitor plan rule answered small = record {
-  greatest = answered.greatest small;
-  noted = λ block condition within is. exactly_noted laws monitor plan block condition rule answered small within is;
-  signals = λ condition is. exactly_signals laws monitor plan condition rule answered small is;
+pub plan_exact : Laws → (monitor : MonitorParts) (plan : Plan) → IsMonitor monitor → IsAnswered monitor plan → HasNoHardClaim monitor → IsExact monitor plan
+plan_exact laws monitor plan rule answered easy = record {
+  greatest = answered.greatest easy;
+  noted = λ block condition within is. exactly_noted laws monitor plan block condition rule answered easy within is;
+  signals = λ condition is. exactly_signals laws monitor plan condition rule answered easy is;
   kinds = their_kinds monitor plan answered;
   tested = λ block.
       notes_there (All (λ (note : Note). (note.tested ≡ true) ↔ NeedsTest monitor plan block note)) plan block
       (All-nil (λ (note : Note). (note.tested ≡ true) ↔ NeedsTest monitor plan block note))
-      (λ notes there. exactly_tested laws monitor plan block notes rule answered small there);
+      (λ notes there. exactly_tested laws monitor plan block notes rule answered easy there);
 }

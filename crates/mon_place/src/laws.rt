@@ -4,7 +4,7 @@ ghost use Rattle.std.specs.Prelude.{◌≡◌};
 ghost use Rattle.mon_events.specs.declared.plan.Plan.{Plan};
 ghost use Rattle.mon_events.specs.Plans.{FitsPlan, IsLawful};
 ghost use Rattle.mon_monitor.specs.MonitorParts.{MonitorParts, IsMonitor};
-ghost use Rattle.mon_prune.specs.Hardness.{IsSmall};
+ghost use Rattle.mon_prune.specs.Hardness.{HasNoHardClaim, IsSmall};
 ghost use Rattle.mon_place.specs.Exact.{IsExact, IsLicensed};
 ghost use Rattle.mon_place.specs.inner.Answers.{IsAnswered};
 
@@ -12,7 +12,8 @@ use mon_cert::refuted_formula_is_false;
 use mon_prune::open_claims_are_hard;
 use mon_wp::refuted_query_is_valid;
 
-/// A plan that the prover's answers make fits, is lawful and licensed, and exact where the monitor is small.
+/// A plan that the prover's answers make fits, is lawful and licensed, and exact where no claim of the monitor is hard,
+/// as none of a small one is.
 pub(crate) fn answered_plans_are_placed()
     ensures fits { (monitor : MonitorParts) (plan : Plan) → IsMonitor monitor
         → IsAnswered monitor plan → FitsPlan monitor plan }
@@ -22,6 +23,8 @@ pub(crate) fn answered_plans_are_placed()
         → IsAnswered monitor plan → IsLicensed monitor plan }
     ensures exact { (monitor : MonitorParts) (plan : Plan) → IsMonitor monitor
         → IsAnswered monitor plan → IsSmall monitor → IsExact monitor plan }
+    ensures none_hard { (monitor : MonitorParts) (plan : Plan) → IsMonitor monitor
+        → IsAnswered monitor plan → HasNoHardClaim monitor → IsExact monitor plan }
 {
     refuted_formula_is_false();
     refuted_query_is_valid();

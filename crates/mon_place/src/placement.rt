@@ -2,7 +2,7 @@
 
 ghost use Rattle.std.specs.Prelude.{◌≡◌, ◌++◌, IfOk, map};
 ghost use Rattle.mon_events.specs.Plans.{FitsPlan, IsLawful};
-ghost use Rattle.mon_prune.specs.Hardness.{IsSmall};
+ghost use Rattle.mon_prune.specs.Hardness.{HasNoHardClaim, IsSmall};
 ghost use Rattle.mon_place.specs.Backing.{AreProofs, IsBacked, backed_claims};
 ghost use Rattle.mon_place.specs.Exact.{IsExact, IsLicensed};
 ghost use Rattle.mon_place.specs.inner.Answers.{AreAskable, IsAnswered, proof_of_kept};
@@ -24,7 +24,7 @@ use std::alloc::{AllocError, Global};
 /// that none is needed. A condition is of kind signal where its guard reads no inputs and after each block that waits
 /// at it one waiter is enough, and else of kind broadcast; each note has its condition's kind. A note on a condition
 /// that reads no inputs is tested unless a certificate is found that no test is needed. So the plan is lawful; where
-/// no query is hard it is exact, and else it does more than it has to only where a hard query leaves that open.
+/// no claim is hard it is exact, and else it does more than it has to only where a hard query leaves that open.
 ///
 /// Placing signals by such triples is due to K. Ferles, J. Van Geffen, I. Dillig and Y. Smaragdakis, "Symbolic
 /// Reasoning for Automatic Signal Placement" (PLDI 2018).
@@ -33,6 +33,8 @@ pub fn place(alloc: Global, monitor: &Monitor) -> Result<PlacedPlan, AllocError>
     ensures lawful { IfOk result (λ placed. IsLawful monitor.now placed.plan) }
     ensures licensed { IfOk result (λ placed. IsLicensed monitor.now placed.plan) }
     ensures exact { IfOk result (λ placed. IsSmall monitor.now → IsExact monitor.now placed.plan) }
+    ensures none_hard { IfOk result (λ placed. HasNoHardClaim monitor.now
+        → IsExact monitor.now placed.plan) }
     ensures backed { IfOk result (λ placed. IsBacked monitor.now placed.plan) }
     ensures proofs { IfOk result (λ placed. AreProofs monitor.now placed.plan.kept
         (backed_claims monitor.now placed.plan) placed.proofs) }

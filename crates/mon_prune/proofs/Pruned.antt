@@ -9,7 +9,7 @@ use Rattle.mon_monitor.specs.MonitorParts.{MonitorParts, start_of}
 use Rattle.mon_monitor.specs.Triples.{Keeps}
 use Rattle.mon_wp.proofs.FewerKept.{more_keep_valid, some_contained}
 use Rattle.mon_prune.specs.declared.kept.Kept.{Kept}
-use Rattle.mon_prune.specs.Hardness.{IsSmall}
+use Rattle.mon_prune.specs.Hardness.{HasNoHardClaim}
 use Rattle.mon_prune.specs.Invariants.{ContainsEasy, IsGreatest, IsInvariant, NoneIsHard}
 use Rattle.mon_prune.specs.inner.Asking.{MustStay}
 use Rattle.mon_prune.specs.inner.Pruning.{IsLeft, IsRoundOf}
@@ -70,8 +70,8 @@ invariant_left monitor kept proofs left round = record {
 }
 
 pub greatest_left : (monitor : MonitorParts) (kept : List Candidate)
-    → IsInvariant monitor kept → ContainsEasy monitor kept → IsSmall monitor → IsGreatest monitor kept
-greatest_left monitor kept invariant easy small = record {
+    → IsInvariant monitor kept → ContainsEasy monitor kept → HasNoHardClaim monitor → IsGreatest monitor kept
+greatest_left monitor kept invariant easy none = record {
   invariant = invariant;
   exactly = λ candidate. (
     (λ is. record { kept = kept; invariant = invariant; contains = is }),
@@ -81,5 +81,5 @@ greatest_left monitor kept invariant easy small = record {
   where
     none_hard : (other : List Candidate) → IsInvariant monitor other → NoneIsHard monitor other
     none_hard other known = λ candidate block is low.
-        small.easy (claims.Keeps candidate block)
+        none (claims.Keeps candidate block)
         (All-contains (Contains (candidates_of monitor)) other candidate (some_contained other (candidates_of monitor) known.candidates) is, low)

@@ -62,7 +62,11 @@ pub data IsHard (monitor : MonitorParts) (claim : Claim) : Type 0 where
 
 -- ---- small monitors
 
+-- no claim of the monitor is hard
+abbrev pub HasNoHardClaim : MonitorParts → Type 0
+HasNoHardClaim monitor = (claim : Claim) → IsClaimOf monitor claim → IsHard monitor claim → ⊥
+
 -- blocks are simple, and no claim is hard
 pub record IsSmall (monitor : MonitorParts) : Type 0 where
   pub simple : list_all is_simple_block monitor.blocks ≡ true
-  pub easy : (claim : Claim) → IsClaimOf monitor claim → IsHard monitor claim → ⊥
+  pub easy : HasNoHardClaim monitor

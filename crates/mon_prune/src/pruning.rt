@@ -4,7 +4,7 @@ ghost use Rattle.std.specs.Prelude.{◌≡◌, true, IfOk};
 ghost use Rattle.std.specs.List.{list_all};
 ghost use Rattle.mon_monitor.specs.Candidates.{candidates_of};
 ghost use Rattle.mon_wp.specs.Expressible.{is_expressible, is_of_fields};
-ghost use Rattle.mon_prune.specs.Hardness.{IsSmall};
+ghost use Rattle.mon_prune.specs.Hardness.{HasNoHardClaim};
 ghost use Rattle.mon_prune.specs.Invariants.{AreProofs, ContainsEasy, IsGreatest, IsInvariant};
 ghost use Rattle.mon_prune.specs.inner.Asking.{AreAskable};
 ghost use Rattle.mon_prune.specs.inner.Pruning.{IsLeft, IsPruned};
@@ -34,9 +34,9 @@ fn pruned(alloc: Global, monitor: &Monitor, first: Vec<Candidate>) -> Result<Rou
 }
 
 /// The candidates that are true at the start and that each block keeps under all of them, with a proof for each of them
-/// and each block. It contains every invariant of the monitor's candidates none of whose claims is hard, and so for a
-/// small monitor it is the greatest invariant of its candidates. The makers of queries take what is kept.
-/// It fails only for want of memory.
+/// and each block. It contains every invariant of the monitor's candidates none of whose claims is hard, and so where no
+/// claim of the monitor is hard it is the greatest invariant of its candidates. The makers of queries take what is
+/// kept. It fails only for want of memory.
 ///
 /// The candidates that are false at the start are dropped, and then in rounds those that some block is not found to
 /// keep under all that are left, until a round drops none. A round asks one query for each candidate that is left and
@@ -47,7 +47,8 @@ pub fn invariant(alloc: Global, monitor: &Monitor) -> Result<Invariant, AllocErr
     ensures of_fields { IfOk result (λ made. list_all is_of_fields made.kept ≡ true) }
     ensures proofs { IfOk result (λ it. AreProofs monitor.now it.kept it.kept it.proofs) }
     ensures easy { IfOk result (λ made. ContainsEasy monitor.now made.kept) }
-    ensures small { IfOk result (λ made. IsSmall monitor.now → IsGreatest monitor.now made.kept) }
+    ensures greatest { IfOk result (λ made. HasNoHardClaim monitor.now
+        → IsGreatest monitor.now made.kept) }
 {
     candidates_are_expressible();
     candidates_are_of_fields();

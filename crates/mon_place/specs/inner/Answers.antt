@@ -16,7 +16,7 @@ use Rattle.mon_events.specs.Plans.{has_note}
 use Rattle.mon_events.specs.Rising.{AreRising}
 use Rattle.mon_wp.specs.Expressible.{is_expressible}
 use Rattle.mon_wp.specs.Hardness.{IsBlockNumber, IsConditionNumber, ReadsNone, WaitsAt}
-use Rattle.mon_prune.specs.Hardness.{IsSmall, MayStayOpen}
+use Rattle.mon_prune.specs.Hardness.{HasNoHardClaim, MayStayOpen}
 use Rattle.mon_prune.specs.Invariants.{ContainsEasy, IsGreatest, IsInvariant}
 use Rattle.mon_prune.specs.declared.kept.Kept.{Kept}
 use Rattle.mon_place.specs.declared.placed.Proof.{Proof}
@@ -122,7 +122,7 @@ AreNotesOfEach monitor kept all_kinds lists =
 pub record IsAnswered (monitor : MonitorParts) (plan : Plan) : Type 0 where
   pub invariant : IsInvariant monitor plan.kept
   pub easy_kept : ContainsEasy monitor plan.kept
-  pub greatest : IsSmall monitor → IsGreatest monitor plan.kept
+  pub greatest : HasNoHardClaim monitor → IsGreatest monitor plan.kept
   pub many_kinds : length plan.kinds ≡ length monitor.conditions
   pub many_notes : length plan.notes ≡ length monitor.blocks
   pub kinds : AreKinds monitor plan.kept plan.kinds

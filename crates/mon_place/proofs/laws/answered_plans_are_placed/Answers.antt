@@ -20,4 +20,7 @@ pub returns-clause-licensed : goal.returns-clause-licensed
 returns-clause-licensed c = plan_licensed (laws c)
 
 pub returns-clause-exact : goal.returns-clause-exact
-returns-clause-exact c = plan_exact (laws c)
+returns-clause-exact c = λ monitor plan rule answered small. plan_exact (laws c) monitor plan rule answered small.easy
+
+pub returns-clause-none_hard : goal.returns-clause-none_hard
+returns-clause-none_hard c = plan_exact (laws c)

@@ -54,7 +54,7 @@ returns-clause-plan c =
     subst (IsAnswered monitor) (same_plan c) (record {
       invariant = told.invariant;
       easy_kept = told.easy;
-      greatest = told.small;
+      greatest = told.greatest;
       many_kinds = c.in_ok-kinds.ensures.many;
       many_notes = c.in_ok-notes.ensures.many;
       kinds = subst (λ (kept : List Candidate). AreKinds monitor kept plan.kinds) c.items.ensures c.in_ok-kinds.ensures.kinds;

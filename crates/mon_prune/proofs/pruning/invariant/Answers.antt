@@ -27,9 +27,9 @@ returns-clause-of_fields c =
 pub returns-clause-easy : goal.returns-clause-easy
 returns-clause-easy c = rw c.of.ensures c.in_ok-round.ensures.left.easy
 
-pub returns-clause-small : goal.returns-clause-small
-returns-clause-small c = λ small.
+pub returns-clause-greatest : goal.returns-clause-greatest
+returns-clause-greatest c = λ none.
     let round = c.in_ok-round.ensures in
     rw c.of.ensures
     (greatest_left c.args.monitor.now c.in_ok-round.round.kept.items
-    (invariant_left c.args.monitor.now c.in_ok-round.round.kept.items c.in_ok-round.round.proofs.items round.left round.last) round.left.easy small)
+    (invariant_left c.args.monitor.now c.in_ok-round.round.kept.items c.in_ok-round.round.proofs.items round.left round.last) round.left.easy none)
