@@ -220,10 +220,10 @@ fn are_easy_blocks(alloc: Global, monitor: &Monitor, all: &[Candidate]) -> Resul
     Ok(true)
 }
 
-/// Whether all blocks are simple, and the query of each claim that is asked of the monitor is negated, with all
-/// candidates kept, within the limits to a formula of few cubes and of difference rows alone. A monitor of which it
-/// answers true is small, so its plan is exact. It answers false of some small monitors too: a query with another row
-/// need not be hard. It fails only for want of memory.
+/// Whether the monitor is told to be small, so that its plan is exact. It is where all blocks are simple, and the query
+/// of each claim that is asked of it is negated, with all candidates kept, within the limits to a formula of few cubes
+/// and of difference rows alone. Some small monitors are not told, as a query with another row need not be hard; that
+/// any is told is tested, not promised. It fails only for want of memory.
 pub fn is_small(alloc: Global, monitor: &Monitor) -> Result<bool, AllocError>
     ensures { IfOk result (λ answer. IsTrue answer → IsSmall monitor.now) }
 {
