@@ -160,6 +160,35 @@ fn the_first_fault_is_printed(rt: HostRuntime) -> Result<(), Fail> {
     Ok(())
 }
 
+#[test]
+fn one_byte_that_is_changed_is_refused_at_its_place(rt: HostRuntime) -> Result<(), Fail> {
+    let table: [(&[u8], &[u8]); 7] = [
+        (
+            b"monitor\0M { }",
+            b"refused: m.mon:1:8: no token starts here\n",
+        ),
+        (b"mon\ntor M { }", b"refused: m.mon:1:1: syntax\n"),
+        (
+            b"monitor & { }",
+            b"refused: m.mon:1:9: no token starts here\n",
+        ),
+        (b"monitor M ( }", b"refused: m.mon:1:11: syntax\n"),
+        (b"monitor M } }", b"refused: m.mon:1:11: syntax\n"),
+        (
+            b"monitor M { \x80",
+            b"refused: m.mon:1:13: no token starts here\n",
+        ),
+        (
+            b"monitor M {\n\xff",
+            b"refused: m.mon:2:1: no token starts here\n",
+        ),
+    ];
+    for (monitor, line) in table {
+        refuses(&rt, monitor, line)?;
+    }
+    Ok(())
+}
+
 /// A monitor whose guard is `true` in so many parentheses.
 fn in_parentheses(alloc: Global, levels: usize) -> Result<Vec<u8>, AllocError> {
     let mut text = Vec::from_slice(alloc, b"monitor M { method m() waituntil (")?;

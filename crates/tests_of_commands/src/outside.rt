@@ -2,14 +2,16 @@
 
 use super::asking::{
     CHECK, COMPILE, Call, Devices, Outcome, RUN, SIMULATE, SOUND, TURNS, answers, asked, check,
-    outcome_of, texts_of, turns, two_files,
+    compile, outcome_of, texts_of, turns, two_files,
 };
+use super::run::LOCK_PLAN;
 use super::runs::TWO_RUN;
+use super::simulate::HANDED_OVER;
 use expresso::{Status, expresso};
 use mon_io::StdSink;
 use mon_pool::OpenGate;
-use samples::clients::TWO;
-use samples::monitors::BUFFER;
+use samples::clients::{TWO, TWO_LOCKS};
+use samples::monitors::{BUFFER, LOCK};
 use std::alloc::AllocError;
 use std::fmt::Display;
 use std::io;
@@ -104,9 +106,17 @@ fn both_files_are_read_before_one_is_refused(rt: HostRuntime) -> Result<(), Fail
 
 #[test]
 fn a_file_that_is_not_held_is_a_read_fault(rt: HostRuntime) -> Result<(), Fail> {
-    let words = ["expresso", "turns", "b.mon", "c.cl"];
-    let other = asked(words.as_slice(), BUFFER, TWO);
-    answers(&rt, other, Status::ReadFault, b"read fault: b.mon\n")?;
+    let table: [(&str, &[u8]); 4] = [
+        ("b.mon", b"read fault: b.mon\n"),
+        ("", b"read fault: \n"),
+        ("m.mon\n", b"read fault: m.mon\n\n"),
+        ("a/\u{e9}", b"read fault: a/\xc3\xa9\n"),
+    ];
+    for (name, line) in table {
+        let words = ["expresso", "turns", name, "c.cl"];
+        let other = asked(words.as_slice(), BUFFER, TWO);
+        answers(&rt, other, Status::ReadFault, line)?;
+    }
     Ok(())
 }
 
@@ -125,29 +135,31 @@ fn a_sink_of_ten_bytes_takes_a_front_of_the_text(rt: HostRuntime) -> Result<(), 
     Ok(())
 }
 
-/// Demands that what a write fault left is some of the first bytes of the run of the buffer, and not all.
-fn leaves_a_front(rt: &impl Abort, outcome: &Outcome) {
+/// Demands that what a write fault left is some of the first bytes of a text, and not all.
+fn leaves_a_front(rt: &impl Abort, outcome: &Outcome, text: &[u8]) {
     assert_eq!(rt; outcome.status, Status::WriteFault);
-    assert!(rt; TWO_RUN.starts_with(outcome.text.as_slice()));
-    assert!(rt; outcome.text.len() < TWO_RUN.len());
+    assert!(rt; text.starts_with(outcome.text.as_slice()));
+    assert!(rt; outcome.text.len() < text.len());
 }
 
-/// Demands of the run of the buffer that it is whole, or has failed and left a front, where the write of this number
-/// fails, and says which.
+/// Demands of a call that it is done with this text, or has failed and left a front of it, where the write of this
+/// number fails, and says which.
 fn is_whole_or_front(
     rt: &(impl Abort + Threads + Wait + Sync + AllocGlobal),
+    call: Call<'_>,
+    text: &[u8],
     number: u64,
 ) -> Result<bool, AllocError> {
     let devices = Devices {
         failing_write: Some(number),
         ..SOUND
     };
-    let outcome = outcome_of(rt, &buffer_over(TURNS, devices), &OpenGate)?;
+    let outcome = outcome_of(rt, &Call { devices, ..call }, &OpenGate)?;
     if outcome.status == Status::Done {
-        assert_eq!(rt; outcome.text.as_slice(), TWO_RUN);
+        assert_eq!(rt; outcome.text.as_slice(), text);
         return Ok(true);
     }
-    leaves_a_front(rt, &outcome);
+    leaves_a_front(rt, &outcome, text);
     Ok(false)
 }
 
@@ -155,7 +167,7 @@ fn is_whole_or_front(
 fn a_write_that_fails_leaves_a_front_of_the_text(rt: HostRuntime) -> Result<(), Fail> {
     let mut sound = 0;
     for number in 1..200 {
-        if is_whole_or_front(&rt, number)? {
+        if is_whole_or_front(&rt, turns(BUFFER, TWO), TWO_RUN, number)? {
             sound = number;
             break;
         }
@@ -164,6 +176,33 @@ fn a_write_that_fails_leaves_a_front_of_the_text(rt: HostRuntime) -> Result<(), 
         sound > 5,
         "a run with no fault comes after one for each of more than four pieces"
     );
+    Ok(())
+}
+
+#[test]
+fn each_command_has_writes_that_fail(rt: HostRuntime) -> Result<(), Fail> {
+    let alone: &[&str] = &["expresso"];
+    let run: &[&str] = &["expresso", "run", "m.mon", "c.cl", "--workers", "1"];
+    let table: [(Call<'_>, &[u8], u64); 7] = [
+        (check(LOCK), LOCK, 2),
+        (
+            check(b"@"),
+            b"refused: m.mon:1:1: no token starts here\n",
+            1,
+        ),
+        (
+            check(b"@"),
+            b"refused: m.mon:1:1: no token starts here\n",
+            2,
+        ),
+        (compile(LOCK), LOCK_PLAN, 3),
+        (asked(SIMULATE, LOCK, TWO_LOCKS), HANDED_OVER, 5),
+        (asked(run, LOCK, TWO_LOCKS), HANDED_OVER, 1),
+        (asked(alone, b"", b""), USAGE, 1),
+    ];
+    for (call, text, number) in table {
+        assert!(rt; !is_whole_or_front(&rt, call, text, number)?);
+    }
     Ok(())
 }
 

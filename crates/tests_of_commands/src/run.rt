@@ -1,6 +1,7 @@
 //! Runs by workers: the plan and the log that are printed, worked out by hand.
 
 use super::asking::{RUN, answers, asked, begins_and_ends};
+use super::simulate::HANDED_OVER;
 use expresso::Status;
 use mon_pool::OpenGate;
 use samples::clients::{TWO, TWO_LOCKS};
@@ -9,7 +10,7 @@ use std::test::Fail;
 
 const PUT_GET: &[u8] = b"client A { put(); get(); }";
 
-const LOCK_PLAN: &[u8] = b"plan Lock
+pub(crate) const LOCK_PLAN: &[u8] = b"plan Lock
 condition 1 signal: !held
 condition 2 signal: held
 block acquire: 2 signal
@@ -49,26 +50,9 @@ state count=0
 
 #[test]
 fn one_worker_serves_clients_in_turn(rt: HostRuntime) -> Result<(), Fail> {
-    let text = b"plan Lock
-condition 1 signal: !held
-condition 2 signal: held
-block acquire: 2 signal
-block release: 1 signal
-A.1 acquire() = -
-B.1 acquire() waits
-A.2 release() = - wakes B
-B.1 acquire() = -
-B.2 release() = -
-done
-state held=false
-";
     let words = with_workers("1");
-    answers(
-        &rt,
-        asked(words.as_slice(), LOCK, TWO_LOCKS),
-        Status::Done,
-        text,
-    )?;
+    let run = asked(words.as_slice(), LOCK, TWO_LOCKS);
+    answers(&rt, run, Status::Done, HANDED_OVER)?;
     Ok(())
 }
 

@@ -34,9 +34,8 @@ fn drawn<'a>(seed: &'a str, spurious: &'a str) -> [&'a str; 8] {
     ]
 }
 
-#[test]
-fn a_lock_is_handed_over(rt: HostRuntime) -> Result<(), Fail> {
-    let text = b"plan Lock
+/// What two clients with a lock get, by rounds and of one worker.
+pub(crate) const HANDED_OVER: &[u8] = b"plan Lock
 condition 1 signal: !held
 condition 2 signal: held
 block acquire: 2 signal
@@ -49,7 +48,10 @@ B.2 release() = -
 done
 state held=false
 ";
-    answers(&rt, locks(SIMULATE), Status::Done, text)?;
+
+#[test]
+fn a_lock_is_handed_over(rt: HostRuntime) -> Result<(), Fail> {
+    answers(&rt, locks(SIMULATE), Status::Done, HANDED_OVER)?;
     Ok(())
 }
 
