@@ -17,6 +17,7 @@ import sys
 import tempfile
 import threading
 
+from hostile_grammar import line_of, line_that_refuses, place_of
 from hostile_rows import (
     BUFFER, BUILT, CHECK, COMMANDS, COMPILE, DONE, LOCK, LOCK_PLAN, LONGEST, NOBODY, OTHER_WORDS, OUT_OF_MEMORY,
     PRODUCT, Program, READERS_AND_WRITERS, READ_FAULT, REFUSAL, REFUSED, RUN, Row, SIMULATE, STALL, STALLED, STRESS,
@@ -109,53 +110,20 @@ def reads(program, table):
 
 # Texts that are cut, changed or long.
 
-TEXTS = [b"no token starts here", b"syntax", b"unknown name", b"name used twice", b"wrong type", b"not a field"]
+# What may be printed of a file that is of the grammar.
+TEXTS = [b"unknown name", b"name used twice", b"wrong type", b"not a field"]
 TEXTS += [b"product of two variables", b"number too large", b"misplaced return", b"unknown method"]
 TEXTS += [b"too many %s" % counted for counted in [b"constants", b"fields", b"methods", b"parameters", b"statements"]]
 TEXTS += [b"wrong number of arguments", b"client used twice", b"too many clients", b"too many calls"]
 LINE = re.compile(rb"refused: ([^:]*):(\d+):(\d+): (.*)\n")
-WORD = re.compile(rb"\w")
-TOKEN = re.compile(rb"[ \t\r\n]+|//[^\n]*|[A-Za-z_]\w*|[0-9]+|&&|\|\||[=!<>]=|[-{}();,=<>!+*]")
-
-
-def pieces(text):
-    """Where the tokens, blanks and comments of a text begin and end, and where none starts, or the end."""
-    found, at = [], 0
-    while at < len(text):
-        piece = TOKEN.match(text, at)
-        if piece is None or (len(piece[0]) > 32 and WORD.match(piece[0])):
-            break
-        found.append(piece[0])
-        at = piece.end()
-    return found, at
-
-
-def place_of(text, offset):
-    """The line and column of an offset."""
-    before = text[:offset]
-    return before.count(b"\n") + 1, offset - (before.rfind(b"\n") + 1) + 1
-
-
-def line_of(name, text, offset, fault):
-    """The line that refuses a file at an offset."""
-    return b"refused: %s:%d:%d: %s\n" % (name.encode(), *place_of(text, offset), fault)
 
 
 def is_refusal(found, name, text):
-    """Whether a run refuses this text, at a place that it has and for a known cause."""
+    """Whether a run refuses this text, which is of the grammar, at a place that it has and for a known cause."""
     line = LINE.fullmatch(found.text)
     if found.status != REFUSED or line is None or line[1] != name.encode() or line[4] not in TEXTS:
         return False
     return (int(line[2]), int(line[3])) in {place_of(text, offset) for offset in range(len(text) + 1)}
-
-
-def syntax_lines(name, front):
-    """The lines that may refuse a front of a file: at its end, or at its last token, which may be half of one."""
-    found, end = pieces(front)
-    if end < len(front):
-        return [line_of(name, front, end, b"no token starts here")]
-    last = len(found[-1]) if found else 0
-    return [line_of(name, front, at, b"syntax") for at in (end, end - last)]
 
 
 def monitor_is_cut(program, table, end):
@@ -166,8 +134,10 @@ def monitor_is_cut(program, table, end):
     if end + 1 >= len(READERS_AND_WRITERS):
         table.answers(case, found, DONE, READERS_AND_WRITERS)
         return
-    stuck = (b"no token starts here" in found.text) == (front.endswith(b"&") and not front.endswith(b"&&"))
-    table.demand(case, found, stuck and found.status == REFUSED and found.text in syntax_lines("m.mon", front))
+    table.answers(case, found, REFUSED, line_that_refuses("m.mon", front))
+    half = front.endswith(b"&") and not front.endswith(b"&&")
+    text = b"no token starts here\n" if half else b" syntax\n"
+    table.demand(f"{case}, its text", found, found.text.endswith(text))
 
 
 # The runs of the fronts of two clients with a lock that are client files.
@@ -186,7 +156,7 @@ def clients_are_cut(program, table, end):
     if front.rstrip() in LOCK_FRONTS:
         table.answers(case, found, DONE, LOCK_FRONTS[front.rstrip()])
         return
-    table.demand(case, found, found.status == REFUSED and found.text in syntax_lines("c.cl", front))
+    table.answers(case, found, REFUSED, line_that_refuses("c.cl", front))
 
 
 # What one byte of a text is changed to.
@@ -195,12 +165,12 @@ BYTES = [0, 10, 38, 40, 125, 128, 255]
 
 def is_own_of_change(found, name, text, changed, offset, own):
     """Whether a run is as it has to be, over a text with this byte changed, that was accepted with this text."""
-    stuck = pieces(changed)[1]
-    if stuck < len(changed):
-        return (found.status, found.text) == (REFUSED, line_of(name, changed, stuck, b"no token starts here"))
+    line = line_that_refuses(name, changed)
+    if line is not None:
+        return (found.status, found.text) == (REFUSED, line)
     if changed[offset] == 10 and text[offset : offset + 1].isspace():
         return (found.status, found.text) == (DONE, own)
-    return found.status in (DONE, STALLED) or (is_refusal(found, name, changed) and b"no token" not in found.text)
+    return found.status in (DONE, STALLED) or is_refusal(found, name, changed)
 
 
 def byte_is_changed(program, table, row, name, offset):
