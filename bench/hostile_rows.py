@@ -202,7 +202,8 @@ class Table:
             if not holds:
                 self.failed += 1
                 if self.failed <= SHOWN:
-                    print(f"FAILED {self.name}: {case}: status {found.status}, {found.text!r:.300} {wanted}")
+                    shown = f"status {found.status}, {found.text!r:.300} {wanted}"
+                    print(f"FAILED {self.name}: {case}: {shown}", flush=True)
 
     def answers(self, case, found, status, text):
         """Counts a case that has to have this status and text."""
