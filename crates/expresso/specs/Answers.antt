@@ -18,10 +18,12 @@ use Rattle.mon_explicit.specs.Sections.{spurious_in}
 use Rattle.mon_text.specs.TurnsText.{turns_text}
 use Rattle.mon_text.specs.FaultText.{unread_text}
 use Rattle.expresso.specs.declared.status.Status.{Status}
-use Rattle.expresso.specs.declared.status.Status.TheVariants.{Done, Refused, Usage, ReadFault, WriteFault, OutOfMemory, Stalled}
+use Rattle.expresso.specs.declared.status.Status.TheVariants.{Done, Refused, Usage, ReadFault}
+use Rattle.expresso.specs.declared.status.Status.TheVariants.{WriteFault, OutOfMemory, Stalled}
 use Rattle.expresso.specs.declared.source_fault.SourceFault.{SourceFault}
 use Rattle.mon_command.specs.declared.schedule.Schedule.{Schedule}
-use Rattle.mon_command.specs.CommandLine.{Command, check, turns, compile, simulate, run, stress, Takes, TakesNone, files_of}
+use Rattle.mon_command.specs.CommandLine.{Command, check, turns, compile, simulate, run, stress}
+use Rattle.mon_command.specs.CommandLine.{Takes, TakesNone, files_of}
 use Rattle.mon_stress.specs.LargeInput.{buffer_of, capacity_of, producers_and_consumers}
 use Rattle.expresso.specs.Placements.{IsPlacement}
 use Rattle.expresso.specs.PlacedRuns.{IsPlacedRun}
@@ -39,13 +41,16 @@ abbrev pub HoldsBytes : (List ℕ → Option (List ℕ)) → List ℕ → List �
 HoldsBytes held name bytes = IfSome (held name) (λ all. all ≡ bytes)
 
 -- the file holds the monitor, and its tree, where it is told
-pub record HoldsMonitor (held : List ℕ → Option (List ℕ)) (file : List ℕ) (tree : MonitorTree) (monitor : MonitorParts) : Type 0 where
+pub record HoldsMonitor (held : List ℕ
+    → Option (List ℕ)) (file : List ℕ) (tree : MonitorTree) (monitor : MonitorParts) : Type 0 where
   pub bytes : List ℕ
   pub told : HoldsBytes held file bytes
   pub accepted : IsAccepted bytes tree monitor
 
 -- the two files hold the monitor and the clients, where they are told
-pub record HoldRun (held : List ℕ → Option (List ℕ)) (monitor_file clients_file : List ℕ) (monitor : MonitorParts) (clients : List Client) : Type 0 where
+pub record HoldRun (held : List ℕ
+    → Option (List ℕ)) (monitor_file clients_file : List ℕ) (monitor : MonitorParts)
+    (clients : List Client) : Type 0 where
   pub monitor_bytes : List ℕ
   pub clients_bytes : List ℕ
   pub tree : MonitorTree
@@ -64,7 +69,9 @@ pub record IsCheckText (held : List ℕ → Option (List ℕ)) (file text : List
   pub printed : text ≡ tree_text tree
 
 -- the text of the run by rounds of the monitor and the clients that the two files stand for
-pub record IsTurnsText (held : List ℕ → Option (List ℕ)) (monitor_file clients_file : List ℕ) (clients : List Client) (run : Turns) (text : List ℕ) : Type 0 where
+pub record IsTurnsText (held : List ℕ
+    → Option (List ℕ)) (monitor_file clients_file : List ℕ) (clients : List Client) (run : Turns)
+    (text : List ℕ) : Type 0 where
   pub monitor : MonitorParts
   pub files : HoldRun held monitor_file clients_file monitor clients
   pub rounds : AreTurnsByRounds monitor clients run
@@ -80,7 +87,9 @@ pub record IsCompileText (held : List ℕ → Option (List ℕ)) (file text : Li
   pub printed : text ≡ plan_text monitor plan
 
 -- the text of a plan that the monitor is compiled to, and of the log of a simulation under it
-pub record IsSimulateText (held : List ℕ → Option (List ℕ)) (monitor_file clients_file : List ℕ) (schedule : Schedule) (clients : List Client) (log : List Entry) (text : List ℕ) : Type 0 where
+pub record IsSimulateText (held : List ℕ
+    → Option (List ℕ)) (monitor_file clients_file : List ℕ) (schedule : Schedule)
+    (clients : List Client) (log : List Entry) (text : List ℕ) : Type 0 where
   pub monitor : MonitorParts
   pub plan : Plan
   pub last : Configuration
@@ -88,8 +97,11 @@ pub record IsSimulateText (held : List ℕ → Option (List ℕ)) (monitor_file 
   pub simulation : IsSimulation (system_under monitor clients plan) schedule log last
   pub printed : text ≡ plan_and_log_text (system_under monitor clients plan) log last
 
--- the text of a plan that the monitor is compiled to, and of the log of a run under it in which no wake-up is spurious
-pub record IsRunText (held : List ℕ → Option (List ℕ)) (monitor_file clients_file : List ℕ) (clients : List Client) (log : List Entry) (text : List ℕ) : Type 0 where
+-- the text of a plan that the monitor is compiled to, and of the log of a run under it in which no
+-- wake-up is spurious
+pub record IsRunText (held : List ℕ
+    → Option (List ℕ)) (monitor_file clients_file : List ℕ) (clients : List Client)
+    (log : List Entry) (text : List ℕ) : Type 0 where
   pub monitor : MonitorParts
   pub plan : Plan
   pub last : Configuration
@@ -98,35 +110,52 @@ pub record IsRunText (held : List ℕ → Option (List ℕ)) (monitor_file clien
   pub unprompted : spurious_in log ≡ 0
   pub printed : text ≡ plan_and_log_text (system_under monitor clients plan) log last
 
--- the summary of such a run of the large input that the number stands for; its calls are done and the buffer is empty
+-- the summary of such a run of the large input that the number stands for; its calls are done and
+-- the buffer is empty
 pub record IsStressText (number : ℕ) (text : List ℕ) : Type 0 where
   pub plan : Plan
   pub log : List Entry
   pub last : Configuration
-  pub placed : IsPlacedRun (system_under (buffer_of (capacity_of number)) producers_and_consumers plan) log last
+  pub placed : IsPlacedRun (system_under (buffer_of (capacity_of number)) producers_and_consumers
+      plan) log last
   pub unprompted : spurious_in log ≡ 0
   pub finished : IsFinished producers_and_consumers (commits_of log)
-  pub summed : text ≡ summary_text (system_under (buffer_of (capacity_of number)) producers_and_consumers plan) log last
+  pub summed : text ≡ summary_text
+      (system_under (buffer_of (capacity_of number)) producers_and_consumers plan) log last
   pub printed : text ≡ codes "calls 16384\ndone\nstate count=0\n"
 
--- the text of a command whose work is done; of `turns`, `simulate` and `run`, that no client has a call left
+-- the text of a command whose work is done; of `turns`, `simulate` and `run`, that no client has a
+-- call left
 abbrev pub IsDoneText : (List ℕ → Option (List ℕ)) → Command → List ℕ → Type 0
 IsDoneText held (check file) text = IsCheckText held file text
-IsDoneText held (turns monitor clients) text = (scripts : List Client) × (run : Turns) × IsTurnsText held monitor clients scripts run text × IsFinished scripts run.history
+IsDoneText held (turns monitor clients) text =
+    (scripts : List Client) × (run : Turns) × IsTurnsText held monitor clients scripts run text
+    × IsFinished scripts run.history
 IsDoneText held (compile file) text = IsCompileText held file text
 IsDoneText held (simulate monitor clients schedule) text =
-    (scripts : List Client) × (log : List Entry) × IsSimulateText held monitor clients schedule scripts log text × IsFinished scripts (commits_of log)
-IsDoneText held (run monitor clients workers) text = (scripts : List Client) × (log : List Entry) × IsRunText held monitor clients scripts log text × IsFinished scripts (commits_of log)
+    (scripts : List Client) × (log : List Entry)
+    × IsSimulateText held monitor clients schedule scripts log text
+    × IsFinished scripts (commits_of log)
+IsDoneText held (run monitor clients workers) text =
+    (scripts : List Client) × (log : List Entry) × IsRunText held monitor clients scripts log text
+    × IsFinished scripts (commits_of log)
 IsDoneText held (stress number workers) text = IsStressText number text
 
--- the text of `turns`, `simulate` or `run` where some client has a call left; no other command stalls
+-- the text of `turns`, `simulate` or `run` where some client has a call left; no other command
+-- stalls
 abbrev pub IsStalledText : (List ℕ → Option (List ℕ)) → Command → List ℕ → Type 0
 IsStalledText held (check file) text = ⊥
-IsStalledText held (turns monitor clients) text = (scripts : List Client) × (run : Turns) × IsTurnsText held monitor clients scripts run text × (IsFinished scripts run.history → ⊥)
+IsStalledText held (turns monitor clients) text =
+    (scripts : List Client) × (run : Turns) × IsTurnsText held monitor clients scripts run text
+    × (IsFinished scripts run.history → ⊥)
 IsStalledText held (compile file) text = ⊥
 IsStalledText held (simulate monitor clients schedule) text =
-    (scripts : List Client) × (log : List Entry) × IsSimulateText held monitor clients schedule scripts log text × (IsFinished scripts (commits_of log) → ⊥)
-IsStalledText held (run monitor clients workers) text = (scripts : List Client) × (log : List Entry) × IsRunText held monitor clients scripts log text × (IsFinished scripts (commits_of log) → ⊥)
+    (scripts : List Client) × (log : List Entry)
+    × IsSimulateText held monitor clients schedule scripts log text
+    × (IsFinished scripts (commits_of log) → ⊥)
+IsStalledText held (run monitor clients workers) text =
+    (scripts : List Client) × (log : List Entry) × IsRunText held monitor clients scripts log text
+    × (IsFinished scripts (commits_of log) → ⊥)
 IsStalledText held (stress number workers) text = ⊥
 
 -- ---- refusals
@@ -140,7 +169,8 @@ pub record IsMonitorRefusal (held : List ℕ → Option (List ℕ)) (file text :
   pub printed : text ≡ source_fault_text file bytes fault
 
 -- the monitor file is accepted, and the line is that of the first fault of the client file
-pub record IsClientsRefusal (held : List ℕ → Option (List ℕ)) (monitor_file clients_file text : List ℕ) : Type 0 where
+pub record IsClientsRefusal (held : List ℕ
+    → Option (List ℕ)) (monitor_file clients_file text : List ℕ) : Type 0 where
   pub monitor_bytes : List ℕ
   pub clients_bytes : List ℕ
   pub tree : MonitorTree
@@ -154,7 +184,8 @@ pub record IsClientsRefusal (held : List ℕ → Option (List ℕ)) (monitor_fil
 
 -- the line of the first of both files that is not accepted
 abbrev pub IsRunRefusal : (List ℕ → Option (List ℕ)) → List ℕ → List ℕ → List ℕ → Type 0
-IsRunRefusal held monitor clients text = IsMonitorRefusal held monitor text ⊎ IsClientsRefusal held monitor clients text
+IsRunRefusal held monitor clients text =
+    IsMonitorRefusal held monitor text ⊎ IsClientsRefusal held monitor clients text
 
 abbrev pub IsRefusedText : (List ℕ → Option (List ℕ)) → Command → List ℕ → Type 0
 IsRefusedText held (check file) text = IsMonitorRefusal held file text
@@ -170,49 +201,70 @@ IsUnreadText command text = Any (λ file. text ≡ unread_text file) (files_of c
 
 -- ---- what a status says
 
--- The whole text of a status, and what is true where it is written. The files were seen before the call, and are seen now.
+-- The whole text of a status, and what is true where it is written. The files were seen before the
+-- call, and are seen now.
 abbrev pub IsText : List (List ℕ) → FilesSeen → FilesSeen → Status → List ℕ → Type 0
-IsText words files files_now Done text = (command : Command) × Takes words command × IsDoneText files.held command text
-IsText words files files_now Stalled text = (command : Command) × Takes words command × IsStalledText files.held command text
-IsText words files files_now Refused text = (command : Command) × Takes words command × IsRefusedText files.held command text
+IsText words files files_now Done text =
+    (command : Command) × Takes words command × IsDoneText files.held command text
+IsText words files files_now Stalled text =
+    (command : Command) × Takes words command × IsStalledText files.held command text
+IsText words files files_now Refused text =
+    (command : Command) × Takes words command × IsRefusedText files.held command text
 IsText words files files_now Usage text = TakesNone words × (text ≡ usage_text)
-IsText words files files_now ReadFault text = (command : Command) × Takes words command × IsUnreadText command text × Rises files.faults files_now.faults
+IsText words files files_now ReadFault text =
+    (command : Command) × Takes words command × IsUnreadText command text
+    × Rises files.faults files_now.faults
 IsText words files files_now WriteFault text = ⊥
 IsText words files files_now OutOfMemory text = ⊥
 
--- Not all of the text was handed on: a proper front of it was written, or all of it, and then bytes are still buffered.
+-- Not all of the text was handed on: a proper front of it was written, or all of it, and then bytes
+-- are still buffered.
 abbrev pub IsUnfinished : SinkSeen → SinkSeen → List ℕ → Type 0
-IsUnfinished out out_now text = AppendsFront out.written out_now.written text ⊎ (Appends out.written out_now.written text × (0 < out_now.buffered))
+IsUnfinished out out_now text =
+    AppendsFront out.written out_now.written text
+    ⊎ (Appends out.written out_now.written text × (0 < out_now.buffered))
 
--- What was written for a status: its whole text; where the sink failed, the text whose status this one replaces, not all of
+-- What was written for a status: its whole text; where the sink failed, the text whose status this
+-- one replaces, not all of
 -- which was handed on; where memory ran out, nothing.
 abbrev pub Answers : List (List ℕ) → FilesSeen → FilesSeen → Status → SinkSeen → SinkSeen → Type 0
-Answers words files files_now WriteFault out out_now = (status : Status) × (text : List ℕ) × IsText words files files_now status text × IsUnfinished out out_now text
+Answers words files files_now WriteFault out out_now =
+    (status : Status) × (text : List ℕ) × IsText words files files_now status text
+    × IsUnfinished out out_now text
 Answers words files files_now OutOfMemory out out_now = out_now ≡ out
-Answers words files files_now status out out_now = (text : List ℕ) × IsText words files files_now status text × Appends out.written out_now.written text
+Answers words files files_now status out out_now =
+    (text : List ℕ) × IsText words files files_now status text
+    × Appends out.written out_now.written text
 
 -- ---- completeness: what the status must be where nothing fails
 
 -- the file tells its bytes, which are accepted
 abbrev pub AcceptsMonitor : (List ℕ → Option (List ℕ)) → List ℕ → Type 0
-AcceptsMonitor held file = (bytes : List ℕ) × (tree : MonitorTree) × (monitor : MonitorParts) × (held file ≡ Some bytes) × IsAccepted bytes tree monitor
+AcceptsMonitor held file =
+    (bytes : List ℕ) × (tree : MonitorTree) × (monitor : MonitorParts) × (held file ≡ Some bytes)
+    × IsAccepted bytes tree monitor
 
 -- it tells its bytes, which are not accepted
 abbrev pub RejectsMonitor : (List ℕ → Option (List ℕ)) → List ℕ → Type 0
-RejectsMonitor held file = (bytes : List ℕ) × (held file ≡ Some bytes) × ((tree : MonitorTree) (monitor : MonitorParts) → IsAccepted bytes tree monitor → ⊥)
+RejectsMonitor held file =
+    (bytes : List ℕ) × (held file ≡ Some bytes)
+    × ((tree : MonitorTree) (monitor : MonitorParts) → IsAccepted bytes tree monitor → ⊥)
 
 -- the two files tell their bytes, which are accepted
 abbrev pub AcceptsRun : (List ℕ → Option (List ℕ)) → List ℕ → List ℕ → Type 0
 AcceptsRun held monitor_file clients_file =
-    (monitor_bytes : List ℕ) × (clients_bytes : List ℕ) × (tree : MonitorTree) × (monitor : MonitorParts) × (clients : List Client)
+    (monitor_bytes : List ℕ) × (clients_bytes : List ℕ) × (tree : MonitorTree)
+    × (monitor : MonitorParts) × (clients : List Client)
     × (held monitor_file ≡ Some monitor_bytes) × (held clients_file ≡ Some clients_bytes)
     × IsAccepted monitor_bytes tree monitor × AreAccepted clients_bytes monitor clients
 
 -- they tell their bytes, and one of them is not accepted
 abbrev pub RejectsRun : (List ℕ → Option (List ℕ)) → List ℕ → List ℕ → Type 0
 RejectsRun held monitor_file clients_file =
-    (monitor_bytes : List ℕ) × (clients_bytes : List ℕ) × (held monitor_file ≡ Some monitor_bytes) × (held clients_file ≡ Some clients_bytes)
-    × ((tree : MonitorTree) (monitor : MonitorParts) (clients : List Client) → IsAccepted monitor_bytes tree monitor → AreAccepted clients_bytes monitor clients → ⊥)
+    (monitor_bytes : List ℕ) × (clients_bytes : List ℕ) × (held monitor_file ≡ Some monitor_bytes)
+    × (held clients_file ≡ Some clients_bytes)
+    × ((tree : MonitorTree) (monitor : MonitorParts) (clients : List Client)
+    → IsAccepted monitor_bytes tree monitor → AreAccepted clients_bytes monitor clients → ⊥)
 
 -- the files of the command tell their bytes, which are accepted; `stress` has no files
 abbrev pub AcceptsFiles : (List ℕ → Option (List ℕ)) → Command → Type 0

@@ -18,14 +18,15 @@ use Rattle.expresso.specs.declared.source_fault.SourceFault.TheVariants as fault
 use Rattle.expresso.specs.SourceFaults.{IsStuckFile, IsUnfitFile}
 
 -- the bytes are a client file that stands for these clients of the monitor
-pub record AreAccepted (bytes : List ℕ) (monitor : MonitorParts) (clients : List Client) : Type 0 where
-  pub tokens : List Token
-  pub tree : ClientsTree
-  pub short : length bytes ≤ FILE_BYTES
-  pub spelled : Spells bytes tokens
-  pub derived : DerivesClients bytes tokens tree
-  pub unbroken : faults_of monitor tree ≡ []
-  pub scripted : IsScripted tree monitor clients
+pub record AreAccepted (bytes : List ℕ) (monitor : MonitorParts) (clients : List Client) : Type 0
+  where
+    pub tokens : List Token
+    pub tree : ClientsTree
+    pub short : length bytes ≤ FILE_BYTES
+    pub spelled : Spells bytes tokens
+    pub derived : DerivesClients bytes tokens tree
+    pub unbroken : faults_of monitor tree ≡ []
+    pub scripted : IsScripted tree monitor clients
 
 -- ---- the first fault, by size, tokens, grammar and rules
 
@@ -41,15 +42,16 @@ fault_of_script (rules.TooManyCalls at) = faults.At at refusals.TooManyCalls
 fault_of_script rules.OutOfMemory = faults.OutOfMemory
 
 -- the first of the rules that the tree breaks is this one, at this offset
-pub record AreBroken (bytes : List ℕ) (monitor : MonitorParts) (at : ℕ) (what : Refusal) : Type 0 where
-  pub tokens : List Token
-  pub tree : ClientsTree
-  pub broken : ScriptFault
-  pub short : length bytes ≤ FILE_BYTES
-  pub spelled : Spells bytes tokens
-  pub derived : DerivesClients bytes tokens tree
-  pub first : IsLeast (faults_of monitor tree) broken
-  pub named : fault_of_script broken ≡ faults.At at what
+pub record AreBroken (bytes : List ℕ) (monitor : MonitorParts) (at : ℕ) (what : Refusal) : Type 0
+  where
+    pub tokens : List Token
+    pub tree : ClientsTree
+    pub broken : ScriptFault
+    pub short : length bytes ≤ FILE_BYTES
+    pub spelled : Spells bytes tokens
+    pub derived : DerivesClients bytes tokens tree
+    pub first : IsLeast (faults_of monitor tree) broken
+    pub named : fault_of_script broken ≡ faults.At at what
 
 abbrev pub IsFirstOfClients : List ℕ → MonitorParts → SourceFault → Type 0
 IsFirstOfClients bytes monitor faults.TooLong = FILE_BYTES < length bytes

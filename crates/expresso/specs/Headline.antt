@@ -25,7 +25,8 @@ use Rattle.expresso.specs.MonitorFiles.{IsAccepted}
 use Rattle.expresso.specs.ClientFiles.{AreAccepted}
 
 -- What the text of `run` says of the bytes of the two files, with the status that it comes with.
-pub record IsHeadlineText (monitor_bytes clients_bytes : List ℕ) (status : Status) (text : List ℕ) : Type 0 where
+pub record IsHeadlineText (monitor_bytes clients_bytes : List ℕ) (status : Status) (text : List ℕ) :
+    Type 0 where
   pub tree : MonitorTree
   pub monitor : MonitorParts
   pub clients : List Client
@@ -35,15 +36,20 @@ pub record IsHeadlineText (monitor_bytes clients_bytes : List ℕ) (status : Sta
   -- The monitor and its clients are those of the two files.
   pub monitor_accepted : IsAccepted monitor_bytes tree monitor
   pub clients_accepted : AreAccepted clients_bytes monitor clients
-  -- The text is that of a plan, and then that of a log which led to the last configuration. (For this monitor and these clients no other plan and no
+  -- The text is that of a plan, and then that of a log which led to the last configuration. (For
+  -- this monitor and these clients no other plan and no
   -- other log that is legal under it have this text: the law `text_names_log` of `mon_text`.)
-  pub printed : text ≡ plan_text monitor plan ++ log_text (system_under monitor clients plan) log last
+  pub printed : text ≡ plan_text monitor plan
+      ++ log_text (system_under monitor clients plan) log last
   pub is : IsSystem (system_under monitor clients plan)
-  -- The plan is lawful. (So no wake-up is lost under it: the law `no_wakeup_is_lost` of `mon_events`.)
+  -- The plan is lawful. (So no wake-up is lost under it: the law `no_wakeup_is_lost` of
+  -- `mon_events`.)
   pub lawful : IsLawful monitor plan
-  -- Every omitted notification has an accepted certificate, and so has each other claim that the plan rests on.
+  -- Every omitted notification has an accepted certificate, and so has each other claim that the
+  -- plan rests on.
   pub backed : IsBacked monitor plan
-  -- Each note has its condition's kind, each invariant without a hard query is kept, and what the plan does beyond need has a hard query.
+  -- Each note has its condition's kind, each invariant without a hard query is kept, and what the
+  -- plan does beyond need has a hard query.
   pub licensed : IsLicensed monitor plan
   -- Where the monitor is small the plan is exactly what the queries say.
   pub exact : IsSmall monitor → IsExact monitor plan
@@ -52,19 +58,24 @@ pub record IsHeadlineText (monitor_bytes clients_bytes : List ℕ) (status : Sta
   pub closed : IsClosed (system_under monitor clients plan) last
   -- No wake-up of it is spurious.
   pub unprompted : spurious_in log ≡ 0
-  -- Its committed blocks, each client's in script order and each once, are a run of the implicit monitor, to the state that is printed.
+  -- Its committed blocks, each client's in script order and each once, are a run of the implicit
+  -- monitor, to the state that is printed.
   pub run : IsRun monitor clients (commits_of log) last.state
   -- The run ends only where no unfinished client's guard holds.
   pub ends : Ends monitor clients (commits_of log) last.state
   -- The status is `Stalled` exactly where some client has a call left.
   pub stalled : (status ≡ Stalled) ↔ (IsFinished clients (commits_of log) → ⊥)
 
--- The words are those of `run`, the files and the sink tell their bytes, and the status is `Done` or `Stalled`: then the bytes that were appended
+-- The words are those of `run`, the files and the sink tell their bytes, and the status is `Done`
+-- or `Stalled`: then the bytes that were appended
 -- are such a text.
 abbrev pub Headline : List (List ℕ) → FilesSeen → Status → SinkSeen → SinkSeen → Type 0
 Headline words files status out out_now =
-    (monitor_file clients_file : List ℕ) (workers : ℕ) (monitor_bytes clients_bytes written : List ℕ)
+    (monitor_file clients_file : List ℕ) (workers : ℕ)
+    (monitor_bytes clients_bytes written : List ℕ)
     → Takes words (run monitor_file clients_file workers)
-    → files.held monitor_file ≡ Some monitor_bytes → files.held clients_file ≡ Some clients_bytes → out.written ≡ Some written
+    → files.held monitor_file ≡ Some monitor_bytes → files.held clients_file ≡ Some clients_bytes
+    → out.written ≡ Some written
     → (status ≡ Done) ⊎ (status ≡ Stalled)
-    → (text : List ℕ) × (out_now.written ≡ Some (written ++ text)) × IsHeadlineText monitor_bytes clients_bytes status text
+    → (text : List ℕ) × (out_now.written ≡ Some (written ++ text))
+    × IsHeadlineText monitor_bytes clients_bytes status text

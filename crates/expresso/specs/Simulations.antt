@@ -19,10 +19,12 @@ IsScheduled Rounds before last = IsByRounds 0 before last
 IsScheduled (Drawn seed spurious) before last = IsDrawn seed spurious before last
 
 -- what a log and its last configuration are a simulation of
-pub record IsSimulation (system : System) (schedule : Schedule) (log : List Entry) (last : Configuration) : Type 0 where
+pub record IsSimulation (system : System) (schedule : Schedule) (log : List Entry)
+    (last : Configuration) : Type 0 where
   pub placed : IsPlacedRun system log last
   -- they are what the schedule leads to from the start
-  pub scheduled : IsScheduled schedule (opened_free system.monitor system.plan system.clients (most_spurious schedule))
+  pub scheduled : IsScheduled schedule
+      (opened_free system.monitor system.plan system.clients (most_spurious schedule))
       (record { system = system; now = last; log = log; extra = most_spurious schedule })
   -- no more wake-ups are spurious than were asked for
   pub spurious : spurious_in log ≤ most_spurious schedule

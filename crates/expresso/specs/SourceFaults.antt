@@ -1,4 +1,5 @@
--- Why the bytes of a source file, a monitor's or the clients', are refused, by size, tokens and grammar.
+-- Why the bytes of a source file, a monitor's or the clients', are refused, by size, tokens and
+-- grammar.
 use Rattle.std.specs.Prelude.{◌≤◌, ℕ, List, [], length}
 use Rattle.mon_base.specs.Limits.{FILE_BYTES}
 use Rattle.mon_tokens.specs.declared.token.Token.{Token}
@@ -20,7 +21,8 @@ pub record IsStuckFile (bytes : List ℕ) (at : ℕ) : Type 0 where
   pub short : length bytes ≤ FILE_BYTES
   pub stuck : StartsNoToken bytes at
 
--- the tokens are none of this grammar's, and the one at this offset is the first that doesn't fit; or more is wanted at the end
+-- the tokens are none of this grammar's, and the one at this offset is the first that doesn't fit;
+-- or more is wanted at the end
 pub record IsUnfitFile {Tree : Type 0} (IsTree : Rule Tree) (bytes : List ℕ) (at : ℕ) : Type 0 where
   pub tokens : List Token
   pub short : length bytes ≤ FILE_BYTES

@@ -1,5 +1,7 @@
 -- When a certificate refutes a formula.
-use Rattle.std.specs.Prelude.{◌≡◌, ℕ, pos, int_le, int_lt, Bool, true, false, not, ◌&&◌, ◌==◌, if◌then◌else◌, List, [], ◌∷◌, ◌++◌, length, map, Option, Some, None, slice_get}
+use Rattle.std.specs.Prelude.{◌≡◌, ℕ, pos, int_le, int_lt, Bool, true, false, not, ◌&&◌, ◌==◌}
+use Rattle.std.specs.Prelude.{if◌then◌else◌, List, [], ◌∷◌, ◌++◌, length, map, Option, Some, None}
+use Rattle.std.specs.Prelude.{slice_get}
 use Rattle.mon_linear.specs.declared.form.Term.{Term}
 use Rattle.mon_linear.specs.declared.formula.Formula.{Formula}
 use Rattle.mon_linear.specs.declared.formula.Formula.TheVariants as formulas
@@ -69,7 +71,8 @@ is_nil [] = true
 is_nil (combine ∷ combines) = false
 
 -- The made row is there, and is absurd if it is the last, and else stands after the others.
-abbrev pub chain_goes : (List (Option Linear) → Bool) → List (Option Linear) → Bool → Option Linear → Bool
+abbrev pub chain_goes : (List (Option Linear) → Bool) → List (Option Linear) → Bool → Option Linear
+    → Bool
 chain_goes more rows is_last None = false
 chain_goes more rows is_last (Some row) =
     if is_last then is_absurd row else more (rows ++ Some row ∷ [])
@@ -106,7 +109,8 @@ pub data RefutesFrom : List Formula → List Literal → Cert → Type 0 where
   -- an any is split: each part has a certificate, with the part put first
   split : (parts : List Formula) (certs : List Cert) (todo : List Formula) (literals : List Literal)
       → length certs ≡ length parts
-      → ((i : ℕ) (part : Formula) (cert : Cert) → slice_get parts i ≡ Some part → slice_get certs i ≡ Some cert
+      → ((i : ℕ) (part : Formula) (cert : Cert) → slice_get parts i ≡ Some part
+      → slice_get certs i ≡ Some cert
       → RefutesFrom (part ∷ todo) literals cert)
       → RefutesFrom (formulas.Any parts ∷ todo) literals (certificates.Split certs)
   -- a clash or a chain ends the work where an any is next

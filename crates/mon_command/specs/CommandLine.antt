@@ -1,6 +1,8 @@
 -- The command line: what its words give, and the command that they ask for.
-use Rattle.std.specs.Prelude.{◌≡◌, ◌<◌, ◌≤◌, ℕ, true, List, [], ◌∷◌, All, Option, Some, None, codes, length, unwrap_or}
-use Rattle.clap.specs.Words.{App, Rule, Text, new_app, new_rule, with_rule, fault_of, matches_of, first_of, all_of}
+use Rattle.std.specs.Prelude.{◌≡◌, ◌<◌, ◌≤◌, ℕ, true, List, [], ◌∷◌, All, Option, Some, None, codes}
+use Rattle.std.specs.Prelude.{length, unwrap_or}
+use Rattle.clap.specs.Words.{App, Rule, Text, new_app, new_rule, with_rule, fault_of, matches_of}
+use Rattle.clap.specs.Words.{first_of, all_of}
 use Rattle.clap.specs.Lexer.{usize_max}
 use Rattle.clap.specs.declared.builder.action.ArgAction.TheVariants.{Set, Append}
 use Rattle.mon_base.specs.Identifiers.{is_digit}
@@ -93,11 +95,13 @@ abbrev pub IsSpurious : Option Text → ℕ → Type 0
 IsSpurious None number = number ≡ 0
 IsSpurious (Some word) number = IsNumber MOST_SPURIOUS word number
 
--- the schedule that `--seed` and `--spurious` ask for: rounds where neither is given, and no spurious wake-ups without a seed
+-- the schedule that `--seed` and `--spurious` ask for: rounds where neither is given, and no
+-- spurious wake-ups without a seed
 abbrev pub IsSchedule : Option Text → Option Text → Schedule → Type 0
 IsSchedule seed spurious Rounds = (seed ≡ None) × (spurious ≡ None)
 IsSchedule seed spurious (Drawn number extra) =
-    (word : Text) × (seed ≡ Some word) × IsNumber GREATEST_UNSIGNED word number × IsSpurious spurious extra
+    (word : Text) × (seed ≡ Some word) × IsNumber GREATEST_UNSIGNED word number
+    × IsSpurious spurious extra
 
 -- `--workers` asks for 1 to 16 workers
 abbrev pub IsWorkers : Option Text → ℕ → Type 0
@@ -122,7 +126,8 @@ HasValues values (turns monitor clients) = values ≡ monitor ∷ clients ∷ []
 HasValues values (compile monitor) = values ≡ monitor ∷ []
 HasValues values (simulate monitor clients schedule) = values ≡ monitor ∷ clients ∷ []
 HasValues values (run monitor clients workers) = values ≡ monitor ∷ clients ∷ []
-HasValues values (stress number workers) = (word : Text) × (values ≡ word ∷ []) × IsNumber GREATEST_UNSIGNED word number
+HasValues values (stress number workers) =
+    (word : Text) × (values ≡ word ∷ []) × IsNumber GREATEST_UNSIGNED word number
 
 abbrev pub HasNoSchedule : Given → Type 0
 HasNoSchedule given = (given.seed ≡ None) × (given.spurious ≡ None)
@@ -132,8 +137,10 @@ abbrev pub HasOptions : Given → Command → Type 0
 HasOptions given (check monitor) = HasNoSchedule given × (given.workers ≡ None)
 HasOptions given (turns monitor clients) = HasNoSchedule given × (given.workers ≡ None)
 HasOptions given (compile monitor) = HasNoSchedule given × (given.workers ≡ None)
-HasOptions given (simulate monitor clients schedule) = IsSchedule given.seed given.spurious schedule × (given.workers ≡ None)
-HasOptions given (run monitor clients workers) = HasNoSchedule given × IsWorkers given.workers workers
+HasOptions given (simulate monitor clients schedule) =
+    IsSchedule given.seed given.spurious schedule × (given.workers ≡ None)
+HasOptions given (run monitor clients workers) =
+    HasNoSchedule given × IsWorkers given.workers workers
 HasOptions given (stress number workers) = HasNoSchedule given × IsWorkers given.workers workers
 
 -- the arguments ask for the command
@@ -163,4 +170,5 @@ files_of (stress number workers) = []
 
 -- each file that the words name is one that may be read
 abbrev pub MayReadFiles : (List ℕ → Type 0) → List (List ℕ) → Type 0
-MayReadFiles may_read words = (command : Command) → Takes words command → All may_read (files_of command)
+MayReadFiles may_read words =
+    (command : Command) → Takes words command → All may_read (files_of command)

@@ -18,16 +18,19 @@ pub record Machine : Type 0 where
   pub system : System
   pub now : Configuration
 
--- The rule of every machine: its monitor, plan and calls fit, and its configuration keeps what events keep, under a lawful plan that wake-ups are on their way.
+-- The rule of every machine: its monitor, plan and calls fit, and its configuration keeps what
+-- events keep, under a lawful plan that wake-ups are on their way.
 pub record IsMachine (machine : Machine) : Type 0 where
   pub is : IsSystem machine.system
   pub sound : IsSound machine.system machine.now
-  pub covered : IsLawful machine.system.monitor machine.system.plan → IsCovered machine.system machine.now
+  pub covered : IsLawful machine.system.monitor machine.system.plan
+      → IsCovered machine.system machine.now
 
 -- no wake-up is lost: one is pending, and where the machine is stuck its run is at its end
 pub record LosesNoWakeUp (machine : Machine) : Type 0 where
   pub pending : WakePending machine.system machine.now
-  pub ends : IsStuck machine.system machine.now → Ends machine.system.monitor machine.system.clients machine.now.commits machine.now.state
+  pub ends : IsStuck machine.system machine.now
+      → Ends machine.system.monitor machine.system.clients machine.now.commits machine.now.state
 
 -- under a lawful plan no wake-up is lost
 abbrev pub KeepsWakeUps : Machine → Type 0
@@ -42,11 +45,13 @@ opened monitor plan clients = record {
 
 -- the event may not happen now
 abbrev pub NotAllowed : Machine → Event → Type 0
-NotAllowed machine event = (next : Configuration) → IsEvent machine.system event machine.now next → ⊥
+NotAllowed machine event =
+    (next : Configuration) → IsEvent machine.system event machine.now next → ⊥
 
 -- the event happened, to the same system
 abbrev pub Happened : Event → Machine → Machine → Type 0
-Happened event before next = (next.system ≡ before.system) × IsEvent before.system event before.now next.now
+Happened event before next =
+    (next.system ≡ before.system) × IsEvent before.system event before.now next.now
 
 -- the event isn't allowed, and all is as before
 abbrev pub Refused : Event → Machine → Machine → Type 0
@@ -54,7 +59,8 @@ Refused event before next = (next ≡ before) × NotAllowed before event
 
 -- a step happens, or is refused
 abbrev pub Steps : {E : Type 0} → Event → Machine → Machine → Result (Unit {0}) E → Type 0
-Steps event before next result = MatchResult result (λ _. Happened event before next) (λ _. Refused event before next)
+Steps event before next result =
+    MatchResult result (λ _. Happened event before next) (λ _. Refused event before next)
 
 -- where a client is, without the notes that are to come
 abbrev pub stage_of : Phase → Stage

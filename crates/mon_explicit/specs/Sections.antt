@@ -1,5 +1,6 @@
 -- A monitor that runs by sections, and what its calls do.
-use Rattle.std.specs.Prelude.{◌≡◌, ◌<◌, ◌≤◌, ◌+◌, ◌*◌, ◌^◌, ◌++◌, ◌∷◌, [], ℕ, Bool, true, false, nat_lt, List, None, Result, MatchResult, length, count_by, slice_get}
+use Rattle.std.specs.Prelude.{◌≡◌, ◌<◌, ◌≤◌, ◌+◌, ◌*◌, ◌^◌, ◌++◌, ◌∷◌, [], ℕ, Bool, true, false}
+use Rattle.std.specs.Prelude.{nat_lt, List, None, Result, MatchResult, length, count_by, slice_get}
 use Rattle.std.specs.Option.{option_map_or}
 pub use Rattle.mon_base.specs.Limits.{MOST_SPURIOUS}
 use Rattle.mon_monitor.specs.MonitorParts.{MonitorParts}
@@ -10,17 +11,20 @@ use Rattle.mon_events.specs.declared.plan.Plan.{Plan}
 use Rattle.mon_events.specs.declared.log.Entry.{Entry}
 use Rattle.mon_events.specs.declared.log.Outcome.TheVariants as outcomes
 use Rattle.mon_events.specs.Plans.{IsLawful}
-use Rattle.mon_events.specs.Configurations.{System, Phase, Standing, Configuration, StandsAt, initial, system_under}
+use Rattle.mon_events.specs.Configurations.{System, Phase, Standing, Configuration, StandsAt}
+use Rattle.mon_events.specs.Configurations.{initial, system_under}
 use Rattle.mon_events.specs.Configurations.Phase.{Idle, Waiting, Woken}
 use Rattle.mon_events.specs.Events.{WakesSpuriously}
 use Rattle.mon_events.specs.Pending.{IsSystem, IsSound, IsCovered, WakePending}
-use Rattle.mon_events.specs.Logs.{IsSection, IsLegal, rests, all_calls, is_spurious_entry, commits_of}
+use Rattle.mon_events.specs.Logs.{IsSection, IsLegal, rests, all_calls, is_spurious_entry}
+use Rattle.mon_events.specs.Logs.{commits_of}
 use Rattle.mon_explicit.specs.declared.section.Section.{Section}
 use Rattle.mon_explicit.specs.declared.section.NotReady.{NotReady}
 use Rattle.mon_explicit.specs.declared.section.SpuriousFault.{SpuriousFault}
 use Rattle.mon_explicit.specs.declared.section.SpuriousFault.TheVariants as faults
 
--- what it runs, its configuration now, its log so far, and how many spurious entries the log may have
+-- what it runs, its configuration now, its log so far, and how many spurious entries the log may
+-- have
 pub record FreeMachine : Type 0 where
   pub system : System
   pub now : Configuration
@@ -40,7 +44,8 @@ room_of machine = all_calls machine.system * length machine.system.clients + 2 *
 abbrev pub HasLawful : System → Type 0
 HasLawful system = IsLawful system.monitor system.plan
 
--- The rule of every such monitor: its log is legal and leads to its configuration, in which no one owns the lock.
+-- The rule of every such monitor: its log is legal and leads to its configuration, in which no one
+-- owns the lock.
 pub record IsFree (machine : FreeMachine) : Type 0 where
   pub is : IsSystem machine.system
   pub legal : IsLegal machine.system machine.log machine.now
@@ -58,18 +63,24 @@ is_between (Waiting condition) = true
 is_between (Woken condition) = true
 is_between phase = false
 
--- What holds of every such monitor: its rule, what its configuration keeps whatever the plan, where its clients are between sections, that under a lawful plan a wake-up is pending, that the replies of its log and its state are a run, and that its log is short.
+-- What holds of every such monitor: its rule, what its configuration keeps whatever the plan, where
+-- its clients are between sections, that under a lawful plan a wake-up is pending, that the replies
+-- of its log and its state are a run, and that its log is short.
 pub record HoldsAlways (machine : FreeMachine) : Type 0 where
   pub rule : IsFree machine
   pub sound : IsSound machine.system machine.now
-  pub between : (client past : ℕ) (phase : Phase) → StandsAt machine.now.standings client past phase → is_between phase ≡ true
+  pub between : (client past : ℕ) (phase : Phase) → StandsAt machine.now.standings client past phase
+      → is_between phase ≡ true
   pub pending : HasLawful machine.system → WakePending machine.system machine.now
-  pub run : IsRun machine.system.monitor machine.system.clients (commits_of machine.log) machine.now.state
+  pub run : IsRun machine.system.monitor machine.system.clients (commits_of machine.log)
+      machine.now.state
   pub short : length machine.log < 2 ^ 63
 
 -- under a lawful plan no client with a call left has a true guard, after the replies of the log
 abbrev pub HasEnded : FreeMachine → Type 0
-HasEnded machine = HasLawful machine.system → Ends machine.system.monitor machine.system.clients (commits_of machine.log) machine.now.state
+HasEnded machine =
+    HasLawful machine.system → Ends machine.system.monitor machine.system.clients
+    (commits_of machine.log) machine.now.state
 
 -- ---- what the calls do
 
@@ -90,7 +101,9 @@ pub record AddsEntry (before : FreeMachine) (entry : Entry) (next : FreeMachine)
 
 -- the client waits, or is idle with no call left
 abbrev pub Rests : FreeMachine → ℕ → Type 0
-Rests machine client = (past : ℕ) × (phase : Phase) × StandsAt machine.now.standings client past phase × (rests machine.system client past phase ≡ true)
+Rests machine client =
+    (past : ℕ) × (phase : Phase) × StandsAt machine.now.standings client past phase
+    × (rests machine.system client past phase ≡ true)
 
 -- a client can make a section where it is idle with a call left, or was woken
 abbrev pub can_start : System → ℕ → ℕ → Phase → Bool
@@ -100,7 +113,9 @@ can_start system client past phase = false
 
 -- whether a client is there and can make a section
 abbrev pub is_ready : FreeMachine → ℕ → Bool
-is_ready machine client = option_map_or (λ standing. can_start machine.system client standing.past standing.phase) (slice_get machine.now.standings client) false
+is_ready machine client =
+    option_map_or (λ standing. can_start machine.system client standing.past standing.phase)
+    (slice_get machine.now.standings client) false
 
 -- the client made a section, and its entry is the last of the log now
 pub record MadeSection (client : ℕ) (before next : FreeMachine) (section : Section) : Type 0 where
@@ -117,14 +132,18 @@ pub record NotMade (client : ℕ) (before next : FreeMachine) (fault : NotReady)
 
 -- a section: it is made exactly where the client was woken, or is idle with a call left
 abbrev pub Sections : ℕ → FreeMachine → FreeMachine → Result Section NotReady → Type 0
-Sections client before next result = MatchResult result (λ section. MadeSection client before next section) (λ fault. NotMade client before next fault)
+Sections client before next result =
+    MatchResult result (λ section. MadeSection client before next section)
+    (λ fault. NotMade client before next fault)
 
 -- the client waits
 abbrev pub IsWaiting : List Standing → ℕ → Type 0
-IsWaiting standings client = (past : ℕ) × (condition : ℕ) × StandsAt standings client past (Waiting condition)
+IsWaiting standings client =
+    (past : ℕ) × (condition : ℕ) × StandsAt standings client past (Waiting condition)
 
 abbrev pub spurious_entry : ℕ → ℕ → Entry
-spurious_entry client past = record { client = client; call = past + 1; outcome = outcomes.Spurious }
+spurious_entry client past =
+    record { client = client; call = past + 1; outcome = outcomes.Spurious }
 
 -- the client was woken by nothing, and the log says so
 pub record WokenByNothing (client : ℕ) (before next : FreeMachine) : Type 0 where
@@ -134,10 +153,13 @@ pub record WokenByNothing (client : ℕ) (before next : FreeMachine) : Type 0 wh
   pub wakes : WakesSpuriously client past condition before.now next.now
   pub appends : AddsEntry before (spurious_entry client past) next
 
--- why it isn't: it doesn't wait; or it waits, and the log has all the spurious entries that it may have
+-- why it isn't: it doesn't wait; or it waits, and the log has all the spurious entries that it may
+-- have
 abbrev pub IsSpuriousFault : FreeMachine → ℕ → SpuriousFault → Type 0
-IsSpuriousFault machine client (faults.NotReady entries) = (entries ≡ length machine.log) × (IsWaiting machine.now.standings client → ⊥)
-IsSpuriousFault machine client faults.Spent = (spurious_in machine.log ≡ machine.extra) × IsWaiting machine.now.standings client
+IsSpuriousFault machine client (faults.NotReady entries) =
+    (entries ≡ length machine.log) × (IsWaiting machine.now.standings client → ⊥)
+IsSpuriousFault machine client faults.Spent =
+    (spurious_in machine.log ≡ machine.extra) × IsWaiting machine.now.standings client
 
 -- it isn't woken, and all is as before
 pub record NotWoken (client : ℕ) (before next : FreeMachine) (fault : SpuriousFault) : Type 0 where
@@ -145,5 +167,8 @@ pub record NotWoken (client : ℕ) (before next : FreeMachine) (fault : Spurious
   pub same : next ≡ before
 
 -- a spurious wake-up: it is made exactly where the client waits and an entry is left for it
-abbrev pub WakesByNothing : {T : Type 0} → ℕ → FreeMachine → FreeMachine → Result T SpuriousFault → Type 0
-WakesByNothing client before next result = MatchResult result (λ _. WokenByNothing client before next) (λ fault. NotWoken client before next fault)
+abbrev pub WakesByNothing : {T : Type 0} → ℕ → FreeMachine → FreeMachine → Result T SpuriousFault
+    → Type 0
+WakesByNothing client before next result =
+    MatchResult result (λ _. WokenByNothing client before next)
+    (λ fault. NotWoken client before next fault)

@@ -1,5 +1,6 @@
 -- Flattened forms: how many times each name of a scope counts, and a constant.
-use Rattle.std.specs.Prelude.{ℕ, ◌≤◌, ℤ, pos, neg_ℤ, ◌+ℤ◌, ◌*ℤ◌, Bool, ◌&&◌, List, [], ◌∷◌, map, Option, Some, slice_set, if◌then◌else◌}
+use Rattle.std.specs.Prelude.{ℕ, ◌≤◌, ℤ, pos, neg_ℤ, ◌+ℤ◌, ◌*ℤ◌, Bool, ◌&&◌, List, [], ◌∷◌, map}
+use Rattle.std.specs.Prelude.{Option, Some, slice_set, if◌then◌else◌}
 use Rattle.mon_base.specs.Limits.{FIELDS, GREATEST_CONSTANT, MOST_TIMES}
 use Rattle.mon_base.specs.Numbers.{is_within}
 use Rattle.std.specs.List.{list_all}

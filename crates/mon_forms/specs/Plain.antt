@@ -1,11 +1,14 @@
 -- What an expression means by ordinary arithmetic and logic, over whole numbers without bounds.
-use Rattle.std.specs.Prelude.{ℤ, pos, neg_ℤ, ◌+ℤ◌, ◌*ℤ◌, Bool, false, not, List, Option, Some, None, fold, int_lt, int_le}
+use Rattle.std.specs.Prelude.{ℤ, pos, neg_ℤ, ◌+ℤ◌, ◌*ℤ◌, Bool, false, not, List, Option, Some, None}
+use Rattle.std.specs.Prelude.{fold, int_lt, int_le}
 use Rattle.std.specs.Ordering.{int_eq}
 use Rattle.std.specs.List.{list_all, list_any}
 use Rattle.mon_tree.specs.declared.tree.Op.{Op}
 use Rattle.mon_tree.specs.declared.tree.Op.TheVariants as ops
 use Rattle.mon_tree.specs.declared.tree.Expr.{Expr}
-use Rattle.mon_tree.specs.declared.tree.Expr.TheOpen.{Expr-F, Addend-F, Factor-F, Number, Truth, Named, Minus, Not, Product, Sum, Compare, Both, Either}
+use Rattle.mon_tree.specs.declared.tree.Expr.TheOpen.{Expr-F, Addend-F, Factor-F, Number, Truth}
+use Rattle.mon_tree.specs.declared.tree.Expr.TheOpen.{Named, Minus, Not, Product, Sum, Compare}
+use Rattle.mon_tree.specs.declared.tree.Expr.TheOpen.{Both, Either}
 use Rattle.mon_tree.specs.declared.tree.Expr.TheFolds.{fold-Expr}
 use Rattle.mon_linear.specs.Truth.{Valuation}
 use Rattle.mon_forms.specs.declared.scope.Meaning.{Meaning}

@@ -1,5 +1,6 @@
 -- What the names of an expression stand for: constants, fields and the inputs of its method.
-use Rattle.std.specs.Prelude.{ℕ, ◌+◌, ℤ, pos, neg_ℤ, Bool, true, false, nat_le, List, [], ◌∷◌, ◌++◌, Option, Some, None, position, slice_get, if◌then◌else◌}
+use Rattle.std.specs.Prelude.{ℕ, ◌+◌, ℤ, pos, neg_ℤ, Bool, true, false, nat_le, List, [], ◌∷◌, ◌++◌}
+use Rattle.std.specs.Prelude.{Option, Some, None, position, slice_get, if◌then◌else◌}
 use Rattle.std.specs.Str.{bytes_eq}
 use Rattle.mon_base.specs.Limits.{FIRST_INPUT, GREATEST_NUMBER}
 use Rattle.mon_tree.specs.declared.tree.Lit.{Lit}

@@ -1,11 +1,14 @@
 -- What the checker finds of an expression: its kind, the rules that it breaks, its flattened form
 -- or its formula.
-use Rattle.std.specs.Prelude.{ℕ, pos, nat_lt, Bool, true, false, ◌||◌, List, [], ◌∷◌, map, fold, Option, Some, None, if◌then◌else◌}
+use Rattle.std.specs.Prelude.{ℕ, pos, nat_lt, Bool, true, false, ◌||◌, List, [], ◌∷◌, map, fold}
+use Rattle.std.specs.Prelude.{Option, Some, None, if◌then◌else◌}
 use Rattle.std.specs.List.{flat_map}
 use Rattle.mon_tree.specs.declared.tree.Op.{Op}
 use Rattle.mon_tree.specs.declared.tree.Op.TheVariants as ops
 use Rattle.mon_tree.specs.declared.tree.Expr.{Expr}
-use Rattle.mon_tree.specs.declared.tree.Expr.TheOpen.{Expr-F, Addend-F, Factor-F, Number, Truth, Named, Minus, Not, Product, Sum, Compare, Both, Either}
+use Rattle.mon_tree.specs.declared.tree.Expr.TheOpen.{Expr-F, Addend-F, Factor-F, Number, Truth}
+use Rattle.mon_tree.specs.declared.tree.Expr.TheOpen.{Named, Minus, Not, Product, Sum, Compare}
+use Rattle.mon_tree.specs.declared.tree.Expr.TheOpen.{Both, Either}
 use Rattle.mon_tree.specs.declared.tree.Expr.TheFolds.{fold-Expr}
 use Rattle.mon_linear.specs.declared.formula.Formula.{Formula}
 use Rattle.mon_linear.specs.declared.formula.Formula.TheVariants as formulas
@@ -19,7 +22,8 @@ use Rattle.mon_forms.specs.declared.scope.Meaning.{Meaning}
 use Rattle.mon_forms.specs.declared.scope.Meaning.TheVariants as meanings
 use Rattle.mon_forms.specs.declared.scope.Entry.{Entry}
 use Rattle.mon_forms.specs.Scope.{entry_named}
-use Rattle.mon_forms.specs.Forms.{Form, number_form, name_form, plus, minus, opposite, raised, product, is_constant, is_limited, linear_of}
+use Rattle.mon_forms.specs.Forms.{Form, number_form, name_form, plus, minus, opposite, raised}
+use Rattle.mon_forms.specs.Forms.{product, is_constant, is_limited, linear_of}
 use Rattle.mon_forms.specs.Faults.{◌or_else◌}
 
 -- ---- kinds
@@ -113,7 +117,8 @@ part_faults wanted parts =
     flat_map (λ part. part.faults) parts or_else flat_map (wrong_type wanted) parts
 
 -- From left to right: of the product before a `*` and the factor after it one is constant, and
--- their product is not too large. Only the first break is listed: behind it there is no form to multiply.
+-- their product is not too large. Only the first break is listed: behind it there is no form to
+-- multiply.
 abbrev pub product_faults : ℕ → Form → List FactorSense → List TypeFault
 product_faults first form [] = []
 product_faults first form (factor ∷ rest) =

@@ -8,7 +8,8 @@ use Rattle.mon_lock.specs.declared.view.Knowledge.{Knowledge}
 use Rattle.mon_lock.specs.Growth.{Follows}
 use Rattle.mon_lock.specs.Passes.{PassView, StandsIn}
 
--- The front has grown to this monitor, whose log is no shorter than was seen and has each receipt's entry at its place.
+-- The front has grown to this monitor, whose log is no shorter than was seen and has each receipt's
+-- entry at its place.
 pub record Covers (top : FreeMachine) (known : Knowledge) : Type 0 where
   pub front : Follows known.front top
   pub seen : known.seen ≤ length top.log
@@ -29,4 +30,6 @@ pub record HaveOneEach (first : ℕ) (log : List Entry) (receipts : List Receipt
 
 -- Of two receipts the one with the earlier ticket is of the earlier place.
 abbrev pub AreInOrder : List Receipt → Type 0
-AreInOrder receipts = (one other : Receipt) → Contains receipts one → Contains receipts other → (one.ticket < other.ticket) ↔ (one.place < other.place)
+AreInOrder receipts =
+    (one other : Receipt) → Contains receipts one → Contains receipts other
+    → (one.ticket < other.ticket) ↔ (one.place < other.place)

@@ -8,7 +8,8 @@ use Rattle.mon_explicit.specs.Sections.{FreeMachine, spurious_in}
 abbrev pub IsFront : List Entry → List Entry → Type 0
 IsFront log longer = (rest : List Entry) × (longer ≡ log ++ rest)
 
--- The same monitor, plan and scripts, with as many spurious entries allowed, a log that begins with the log before, and no spurious entry more. What was closed is as it was.
+-- The same monitor, plan and scripts, with as many spurious entries allowed, a log that begins with
+-- the log before, and no spurious entry more. What was closed is as it was.
 pub record Follows (before after : FreeMachine) : Type 0 where
   pub system : after.system ≡ before.system
   pub extra : after.extra ≡ before.extra

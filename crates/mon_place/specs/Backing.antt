@@ -1,5 +1,6 @@
 -- The claims that a plan rests on, and their certificates.
-use Rattle.std.specs.Prelude.{◌≡◌, ◌==◌, ℕ, ◌-◌, Bool, false, not, ◌&&◌, List, [], ◌++◌, map, length, slice_get, All}
+use Rattle.std.specs.Prelude.{◌≡◌, ◌==◌, ℕ, ◌-◌, Bool, false, not, ◌&&◌, List, [], ◌++◌, map}
+use Rattle.std.specs.Prelude.{length, slice_get, All}
 use Rattle.std.specs.List.{filter, flat_map, enumerate_from, range_with_len}
 use Rattle.std.specs.Option.{option_map_or}
 use Rattle.mon_cert.specs.declared.cert.Cert.{Cert}
@@ -34,12 +35,14 @@ waits_at monitor condition block =
 -- the monitor has this condition, and its guard reads no inputs
 abbrev pub reads_none : MonitorParts → ℕ → Bool
 reads_none monitor condition =
-    option_map_or (λ held. not held.reads_inputs) (slice_get monitor.conditions (condition - 1)) false
+    option_map_or (λ held. not held.reads_inputs) (slice_get monitor.conditions (condition - 1))
+    false
 
 -- a block, which has these notes, with each condition on which it has none
 abbrev pub unnoted_claims : MonitorParts → ℕ → List Note → List Claim
 unnoted_claims monitor block notes =
-    map (claims.NoNote block) (filter (λ condition. not (has_note notes condition)) (condition_numbers monitor))
+    map (claims.NoNote block)
+    (filter (λ condition. not (has_note notes condition)) (condition_numbers monitor))
 
 -- a condition, which has this kind, with each block that waits at it: where the kind is signal
 abbrev pub kind_claims : MonitorParts → ℕ → CondKind → List Claim
@@ -47,14 +50,17 @@ kind_claims monitor condition kinds.Signal =
     map (claims.One condition) (filter (waits_at monitor condition) (block_numbers monitor))
 kind_claims monitor condition kinds.Broadcast = []
 
--- a block, which has these notes, with each condition that reads no inputs and on which it has an untested one
+-- a block, which has these notes, with each condition that reads no inputs and on which it has an
+-- untested one
 abbrev pub untested_claims : MonitorParts → ℕ → List Note → List Claim
 untested_claims monitor block notes =
     map (λ note. claims.NoTest block note.condition)
     (filter (λ note. not note.tested && reads_none monitor note.condition) notes)
 
--- The claims that a plan rests on, each once, in the order of their kinds: each kept candidate with each block; each
--- block with each condition on which it has no note; each condition of kind signal with each block that waits at it;
+-- The claims that a plan rests on, each once, in the order of their kinds: each kept candidate with
+-- each block; each
+-- block with each condition on which it has no note; each condition of kind signal with each block
+-- that waits at it;
 -- each untested note on a condition that reads no inputs.
 abbrev pub backed_claims : MonitorParts → Plan → List Claim
 backed_claims monitor plan =
@@ -67,7 +73,8 @@ backed_claims monitor plan =
 
 -- the certificate refutes the negated query of the claim
 abbrev pub Certifies : MonitorParts → List Candidate → Claim → Cert → Type 0
-Certifies monitor kept claim cert = Refutes (negated_query monitor (query_of monitor kept claim)) cert
+Certifies monitor kept claim cert =
+    Refutes (negated_query monitor (query_of monitor kept claim)) cert
 
 abbrev pub HasCertificate : MonitorParts → List Candidate → Claim → Type 0
 HasCertificate monitor kept claim = (cert : Cert) × Certifies monitor kept claim cert
@@ -77,6 +84,7 @@ abbrev pub IsBacked : MonitorParts → Plan → Type 0
 IsBacked monitor plan = All (HasCertificate monitor plan.kept) (backed_claims monitor plan)
 
 -- exactly one proof of each of these claims, in their order, each with its certificate
-pub record AreProofs (monitor : MonitorParts) (kept : List Candidate) (wanted : List Claim) (proofs : List Proof) : Type 0 where
+pub record AreProofs (monitor : MonitorParts) (kept : List Candidate) (wanted : List Claim)
+    (proofs : List Proof) : Type 0 where
   pub claims : map (λ proof. proof.claim) proofs ≡ wanted
   pub certificates : All (λ proof. Certifies monitor kept proof.claim proof.cert) proofs

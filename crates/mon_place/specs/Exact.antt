@@ -15,12 +15,14 @@ use Rattle.mon_prune.specs.Invariants.{ContainsEasy, IsGreatest}
 -- each note has its condition's kind
 abbrev pub HaveTheirKinds : Plan → Type 0
 HaveTheirKinds plan = (block : ℕ)
-    → All (λ note. condition_kind plan note.condition ≡ Some (note_kind note.all)) (notes_at plan block)
+    → All (λ note. condition_kind plan note.condition
+    ≡ Some (note_kind note.all)) (notes_at plan block)
 
 -- the condition's guard reads no inputs, and one waiter is enough after each block that waits at it
 pub record MaySignal (monitor : MonitorParts) (plan : Plan) (condition : ℕ) : Type 0 where
   pub reads_none : ReadsNone monitor condition
-  pub enough : (block : ℕ) → WaitsAt monitor block condition → OneEnough monitor plan.kept condition block
+  pub enough : (block : ℕ) → WaitsAt monitor block condition
+      → OneEnough monitor plan.kept condition block
 
 -- the condition of the note reads no inputs, and a test is needed
 pub record NeedsTest (monitor : MonitorParts) (plan : Plan) (block : ℕ) (note : Note) : Type 0 where
@@ -31,14 +33,17 @@ pub record IsExact (monitor : MonitorParts) (plan : Plan) : Type 0 where
   -- the greatest invariant is kept
   pub greatest : IsGreatest monitor plan.kept
   -- a block has a note on a condition exactly where one is needed
-  pub noted : (block condition : ℕ) → IsBlockNumber monitor block → IsConditionNumber monitor condition
-      → (has_note (notes_at plan block) condition ≡ true) ↔ (NoneNeeded monitor plan.kept block condition → ⊥)
+  pub noted : (block condition : ℕ) → IsBlockNumber monitor block
+      → IsConditionNumber monitor condition
+      → (has_note (notes_at plan block) condition
+      ≡ true) ↔ (NoneNeeded monitor plan.kept block condition → ⊥)
   -- a condition is of kind signal exactly where it may be
   pub signals : (condition : ℕ) → IsConditionNumber monitor condition
       → (condition_kind plan condition ≡ Some kinds.Signal) ↔ MaySignal monitor plan condition
   pub kinds : HaveTheirKinds plan
   -- a note is tested exactly where it needs a test
-  pub tested : (block : ℕ) → All (λ note. (note.tested ≡ true) ↔ NeedsTest monitor plan block note) (notes_at plan block)
+  pub tested : (block : ℕ) → All (λ note. (note.tested
+      ≡ true) ↔ NeedsTest monitor plan block note) (notes_at plan block)
 
 -- some block that waits at the condition has a hard query of one waiter
 pub record HasHardBlock (monitor : MonitorParts) (condition : ℕ) : Type 0 where
@@ -51,11 +56,14 @@ pub record IsLicensed (monitor : MonitorParts) (plan : Plan) : Type 0 where
   pub easy_kept : ContainsEasy monitor plan.kept
   -- a note that isn't needed stands only where that query is hard
   pub noted : (block condition : ℕ) → has_note (notes_at plan block) condition ≡ true
-      → NoneNeeded monitor plan.kept block condition → IsHard monitor (claims.NoNote block condition)
-  -- a condition that may be of kind signal is of kind broadcast only where a query of its blocks is hard
+      → NoneNeeded monitor plan.kept block condition
+      → IsHard monitor (claims.NoNote block condition)
+  -- a condition that may be of kind signal is of kind broadcast only where a query of its blocks is
+  -- hard
   pub broadcasts : (condition : ℕ) → condition_kind plan condition ≡ Some kinds.Broadcast
       → MaySignal monitor plan condition → HasHardBlock monitor condition
   pub kinds : HaveTheirKinds plan
   -- a note that needs no test is tested only where that query is hard
   pub tested : (block : ℕ) → All (λ note. note.tested ≡ true
-      → NoTestNeeded monitor plan.kept block note.condition → IsHard monitor (claims.NoTest block note.condition)) (notes_at plan block)
+      → NoTestNeeded monitor plan.kept block note.condition
+      → IsHard monitor (claims.NoTest block note.condition)) (notes_at plan block)

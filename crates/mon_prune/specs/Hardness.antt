@@ -30,7 +30,8 @@ pub record HasHeavyCube (formula : Formula) : Type 0 where
 abbrev pub HoldInWhole : List Linear → Valuation → Type 0
 HoldInWhole rows v = Each (λ (row : Linear). value_of v row ≤ℤ pos 0) rows
 
--- a row that is no difference row, in a light cube that has a solution in fractions and none in whole numbers
+-- a row that is no difference row, in a light cube that has a solution in fractions and none in
+-- whole numbers
 pub record HasFractionalCube (formula : Formula) : Type 0 where
   pub cube : List Literal
   pub is_cube : IsCubeOf formula cube

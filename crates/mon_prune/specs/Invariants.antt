@@ -17,17 +17,20 @@ use Rattle.mon_prune.specs.Hardness.{IsHard, MayStayOpen}
 
 -- ---- certificates
 
--- a certificate refutes the negated query; there is none only where the query may stay open or is not valid
+-- a certificate refutes the negated query; there is none only where the query may stay open or is
+-- not valid
 abbrev pub IsDecision : MonitorParts → Query → Option Cert → Type 0
 IsDecision monitor query (Some cert) = Refutes (negated_query monitor query) cert
 IsDecision monitor query None = IsValidQuery monitor query → MayStayOpen monitor query
 
 -- ---- the proofs of an invariant
 
--- the claims that each block keeps each of the candidates: candidates in order, and of each the blocks
+-- the claims that each block keeps each of the candidates: candidates in order, and of each the
+-- blocks
 abbrev pub keeps_claims : MonitorParts → List Candidate → List Claim
 keeps_claims monitor kept =
-    flat_map (λ candidate. map (claims.Keeps candidate) (range_with_len 0 (length monitor.blocks))) kept
+    flat_map (λ candidate. map (claims.Keeps candidate) (range_with_len 0 (length monitor.blocks)))
+    kept
 
 abbrev pub claim_of : Kept → Claim
 claim_of proof = claims.Keeps proof.candidate proof.block
@@ -38,7 +41,8 @@ Proves monitor hyps proof =
     Refutes (negated_query monitor (query_of monitor hyps (claim_of proof))) proof.cert
 
 -- one proof of each claim, in the order of the claims
-pub record AreProofs (monitor : MonitorParts) (hyps kept : List Candidate) (proofs : List Kept) : Type 0 where
+pub record AreProofs (monitor : MonitorParts) (hyps kept : List Candidate) (proofs : List Kept) :
+    Type 0 where
   pub claims : map claim_of proofs ≡ keeps_claims monitor kept
   pub each : All (Proves monitor hyps) proofs
 

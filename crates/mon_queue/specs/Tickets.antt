@@ -1,5 +1,6 @@
 -- What the queue and its passes show, and what each call does.
-use Rattle.std.specs.Prelude.{◌≡◌, ◌+◌, ◌<◌, ◌≤◌, ◌==◌, ℕ, List, [], ◌∷◌, ◌++◌, Option, MatchOption, count_by, if◌then◌else◌}
+use Rattle.std.specs.Prelude.{◌≡◌, ◌+◌, ◌<◌, ◌≤◌, ◌==◌, ℕ, List, [], ◌∷◌, ◌++◌, Option, MatchOption}
+use Rattle.std.specs.Prelude.{count_by, if◌then◌else◌}
 use Rattle.std.specs.List.{flat_map}
 use mathlib.Core.Option.{some}
 use lib.ListN.{get_elem?}
@@ -13,7 +14,8 @@ pub record QueueView : Type 0 where
   pub clients : ℕ
   pub passes : ℕ
 
--- a pass: which queue it is of, the clients whose tickets it has, and how many of its pops found the queue empty
+-- a pass: which queue it is of, the clients whose tickets it has, and how many of its pops found
+-- the queue empty
 pub record QueuePassView : Type 0 where
   pub queue : QueueView
   pub tickets : List ℕ
@@ -41,13 +43,21 @@ tickets_of passes = flat_map (λ pass. pass.tickets) passes
 -- the list without the first that is this number
 abbrev pub without : ℕ → List ℕ → List ℕ
 without number [] = []
-without number (ticket ∷ tickets) = if ticket == number then tickets else ticket ∷ without number tickets
+without number (ticket ∷ tickets) =
+    if ticket == number then tickets else ticket ∷ without number tickets
 
 -- ---- what the calls do
 
 -- what the rule of the queue knows of a pass
 abbrev pub hand_of : QueuePassView → Hand
-hand_of pass = record { clients = pass.queue.clients; passes = pass.queue.passes; parts = 1; tickets = pass.tickets; empties = pass.empties }
+hand_of pass =
+    record {
+      clients = pass.queue.clients;
+      passes = pass.queue.passes;
+      parts = 1;
+      tickets = pass.tickets;
+      empties = pass.empties;
+    }
 
 -- At one moment no ticket was in the queue: the passes had them all, this one its own.
 pub record WasEmpty (pass : QueuePassView) : Type 0 where
@@ -61,9 +71,11 @@ abbrev pub Takes : QueuePassView → QueuePassView → Option ℕ → Type 0
 Takes before after result =
     MatchOption result
     (WasEmpty before × (after ≡ record before { empties = before.empties + 1 }))
-    (λ ticket. (ticket < before.queue.clients) × (after ≡ record before { tickets = ticket ∷ before.tickets }))
+    (λ ticket. (ticket < before.queue.clients)
+    × (after ≡ record before { tickets = ticket ∷ before.tickets }))
 
--- At one moment the ticket was the last of the queue, and the passes had all that the queue had not, this one its own.
+-- At one moment the ticket was the last of the queue, and the passes had all that the queue had
+-- not, this one its own.
 pub record IsQueued (ticket : ℕ) (pass : QueuePassView) : Type 0 where
   pub earlier : List ℕ
   pub hands : List Hand

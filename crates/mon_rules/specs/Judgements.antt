@@ -1,5 +1,6 @@
 -- The rules of monitor files, one by one: a tree breaks a rule at a place.
-use Rattle.std.specs.Prelude.{◌≡◌, ℕ, ◌<◌, ◌⊎◌, ◌↔◌, Bool, true, false, ◌||◌, List, [], ◌∷◌, ◌++◌, map, All, Contains, Some, None, slice_get}
+use Rattle.std.specs.Prelude.{◌≡◌, ℕ, ◌<◌, ◌⊎◌, ◌↔◌, Bool, true, false, ◌||◌, List, [], ◌∷◌, ◌++◌}
+use Rattle.std.specs.Prelude.{map, All, Contains, Some, None, slice_get}
 use Rattle.std.specs.List.{flat_map}
 use Rattle.mon_tree.specs.declared.tree.Lit.{Lit}
 use Rattle.mon_tree.specs.declared.tree.Decl.{Decl}
@@ -8,7 +9,8 @@ use Rattle.mon_tree.specs.declared.tree.Addend.{Addend}
 use Rattle.mon_tree.specs.declared.tree.Factor.{Factor}
 use Rattle.mon_tree.specs.declared.tree.Expr.{Expr, out-Expr}
 use Rattle.mon_tree.specs.declared.tree.Expr.TheVariants as exprs
-use Rattle.mon_tree.specs.declared.tree.Expr.TheOpen.{Expr-F, Number, Named, Minus, Not, Product, Sum, Compare, Both, Either}
+use Rattle.mon_tree.specs.declared.tree.Expr.TheOpen.{Expr-F, Number, Named, Minus, Not, Product}
+use Rattle.mon_tree.specs.declared.tree.Expr.TheOpen.{Sum, Compare, Both, Either}
 use Rattle.mon_tree.specs.declared.tree.StmtTree.{StmtTree, out-StmtTree}
 use Rattle.mon_tree.specs.declared.tree.StmtTree.TheOpen.{StmtTree-F, Set, If, Return}
 use Rattle.mon_tree.specs.declared.tree.MonitorTree.{MonitorTree}
@@ -24,7 +26,8 @@ use Rattle.mon_forms.specs.Scope.{entry_named}
 use Rattle.mon_forms.specs.Forms.{Form, is_constant, is_limited, minus}
 use Rattle.mon_forms.specs.Sense.{entry_kind, faults_in, first_in, form_in, is_other, kind_in}
 use Rattle.mon_rules.specs.Occurrences.{OfExpression, OfMethod, OfStatement, inner_of, parts_of}
-use Rattle.mon_rules.specs.Rules.{PlacedName, constant_place, declared_names, faults_of, field_place, input_names, method_names, places_in}
+use Rattle.mon_rules.specs.Rules.{PlacedName, constant_place, declared_names, faults_of}
+use Rattle.mon_rules.specs.Rules.{field_place, input_names, method_names, places_in}
 
 -- ---- what a rule asks of the expressions that it speaks of
 
@@ -33,10 +36,11 @@ abbrev pub IsFine : List Entry → Expr → Type 0
 IsFine scope expression = faults_in scope expression ≡ []
 
 -- an expression that begins there and breaks no rule is of another kind than the wanted one
-pub record IsOther (scope : List Entry) (wanted : Kind) (place : ℕ) (expression : Expr) : Type 0 where
-  pub begins : first_in scope expression ≡ place
-  pub fine : IsFine scope expression
-  pub other : is_other wanted (kind_in scope expression) ≡ true
+pub record IsOther (scope : List Entry) (wanted : Kind) (place : ℕ) (expression : Expr) : Type 0
+  where
+    pub begins : first_in scope expression ≡ place
+    pub fine : IsFine scope expression
+    pub other : is_other wanted (kind_in scope expression) ≡ true
 
 abbrev pub layer_kind : Expr-F Expr Addend Factor → Kind
 layer_kind (Not at of) = kinds.Bool
@@ -66,7 +70,8 @@ pub record Reached (scope : List Entry) (first : Expr) (rest : List Factor) : Ty
   pub fine : IsFine scope (exprs.Product first before)
 
 -- the product of the factors before it is constant, or the factor
-abbrev pub has_constant : {scope : List Entry} {first : Expr} {rest : List Factor} → Reached scope first rest → Bool
+abbrev pub has_constant : {scope : List Entry} {first : Expr} {rest : List Factor}
+    → Reached scope first rest → Bool
 has_constant {scope} {first} reached =
     is_constant (form_in scope (exprs.Product first reached.before))
     || is_constant (form_in scope reached.factor.of)
@@ -86,14 +91,16 @@ HasWrongPart scope place whole =
 -- neither the product before a `*` nor the factor after it is constant
 abbrev pub IsNotLinear : List Entry → ℕ → Expr-F Expr Addend Factor → Type 0
 IsNotLinear scope place (Product first rest) =
-    (reached : Reached scope first rest) × (has_constant reached ≡ false) × (reached.factor.at ≡ place)
+    (reached : Reached scope first rest) × (has_constant reached ≡ false)
+    × (reached.factor.at ≡ place)
 IsNotLinear scope place layer = ⊥
 
 -- the product of the first factors has too large a number
 abbrev pub HasLargeProduct : List Entry → Expr → List Factor → Type 0
 HasLargeProduct scope first rest =
     (reached : Reached scope first rest) × (has_constant reached ≡ true)
-    × (is_limited (form_in scope (exprs.Product first (reached.before ++ reached.factor ∷ []))) ≡ false)
+    × (is_limited (form_in scope (exprs.Product first (reached.before ++ reached.factor ∷ [])))
+    ≡ false)
 
 -- the flattened form of the expression, of its first factors, or of its left less its right side is
 -- too large; the expression's own is given
@@ -124,7 +131,8 @@ HasReadOnlyTarget scope place layer = ⊥
 -- the value of an assignment has the target's kind, and a condition is bool
 abbrev pub HasWrongValue : List Entry → ℕ → StmtTree-F StmtTree → Type 0
 HasWrongValue scope place (Set at name value) =
-    (kind : Kind) × (entry_kind (entry_named scope name) ≡ Some kind) × IsOther scope kind place value
+    (kind : Kind) × (entry_kind (entry_named scope name) ≡ Some kind)
+    × IsOther scope kind place value
 HasWrongValue scope place (If at when body other) = IsOther scope kinds.Bool place when
 HasWrongValue scope place (Return at value) = ⊥
 
@@ -230,7 +238,8 @@ BreaksMisplaced tree place =
     OfStatement tree (λ scope statement. HasInnerReturn place statement)
     ⊎ OfMethod tree (λ scope method. HasEarlyReturn place method.body)
 
--- The tree breaks the rule of a fault at its place. Of a product the first `*` with a break is named,
+-- The tree breaks the rule of a fault at its place. Of a product the first `*` with a break is
+-- named,
 -- and of too many things the first over the limit.
 abbrev pub Breaks : MonitorTree → TypeFault → Type 0
 Breaks tree (faults.Unknown at) = BreaksUnknown tree at

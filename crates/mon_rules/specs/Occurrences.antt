@@ -4,7 +4,8 @@ use Rattle.std.specs.Prelude.{◌≡◌, ℕ, zero, suc, ◌⊎◌, List, [], �
 use Rattle.mon_tree.specs.declared.tree.Addend.{Addend}
 use Rattle.mon_tree.specs.declared.tree.Factor.{Factor}
 use Rattle.mon_tree.specs.declared.tree.Expr.{Expr, out-Expr}
-use Rattle.mon_tree.specs.declared.tree.Expr.TheOpen.{Expr-F, Number, Truth, Named, Minus, Not, Product, Sum, Compare, Both, Either}
+use Rattle.mon_tree.specs.declared.tree.Expr.TheOpen.{Expr-F, Number, Truth, Named, Minus, Not}
+use Rattle.mon_tree.specs.declared.tree.Expr.TheOpen.{Product, Sum, Compare, Both, Either}
 use Rattle.mon_tree.specs.declared.tree.StmtTree.{StmtTree, out-StmtTree}
 use Rattle.mon_tree.specs.declared.tree.StmtTree.TheOpen.{StmtTree-F, Set, If, Return}
 use Rattle.mon_tree.specs.declared.tree.MethodTree.{MethodTree}

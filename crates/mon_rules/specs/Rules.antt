@@ -1,6 +1,7 @@
 -- The rules of monitor files: the faults of a tree, as the checker goes over it.
 -- `Judgements` has each rule by itself; the faults listed here are exactly those.
-use Rattle.std.specs.Prelude.{◌≤◌, ℕ, List, [], ◌∷◌, ◌++◌, length, map, All, Option, Some, None, slice_get, if◌then◌else◌}
+use Rattle.std.specs.Prelude.{◌≤◌, ℕ, List, [], ◌∷◌, ◌++◌, length, map, All, Option, Some, None}
+use Rattle.std.specs.Prelude.{slice_get, if◌then◌else◌}
 use Rattle.std.specs.List.{flat_map, list_any}
 use Rattle.std.specs.Str.{bytes_eq}
 use Rattle.mon_tree.specs.declared.tree.Decl.{Decl}
@@ -16,9 +17,11 @@ use Rattle.mon_base.specs.Limits.{CONSTANTS, FIELDS, FILE_BYTES, INPUTS, METHODS
 use Rattle.mon_base.specs.declared.kind.Kind.{Kind}
 use Rattle.mon_base.specs.declared.kind.Kind.TheVariants as kinds
 use Rattle.mon_base.specs.declared.counted.Counted.{Counted}
-use Rattle.mon_base.specs.declared.counted.Counted.TheVariants.{Constants, Fields, Methods, Parameters, Statements}
+use Rattle.mon_base.specs.declared.counted.Counted.TheVariants.{Constants, Fields, Methods}
+use Rattle.mon_base.specs.declared.counted.Counted.TheVariants.{Parameters, Statements}
 use Rattle.mon_forms.specs.declared.fault.TypeFault.{TypeFault}
-use Rattle.mon_forms.specs.declared.fault.TypeFault.TheVariants.{Unknown, Duplicate, TooMany, ReadOnly, Misplaced}
+use Rattle.mon_forms.specs.declared.fault.TypeFault.TheVariants.{Unknown, Duplicate, TooMany}
+use Rattle.mon_forms.specs.declared.fault.TypeFault.TheVariants.{ReadOnly, Misplaced}
 use Rattle.mon_forms.specs.declared.scope.Entry.{Entry}
 use Rattle.mon_forms.specs.Scope.{scope_of, entry_named}
 use Rattle.mon_forms.specs.Sense.{Sense, sense, entry_kind, wrong_type, large_number}

@@ -1,5 +1,7 @@
--- The faults of a client file's tree, as a list, and their order: by place, and at one place by rule.
-use Rattle.std.specs.Prelude.{ℕ, ◌+◌, Bool, true, false, ◌==◌, nat_lt, if◌then◌else◌, List, [], ◌∷◌, ◌++◌, length, map, Option, Some, None, slice_get, zip}
+-- The faults of a client file's tree, as a list, and their order: by place, and at one place by
+-- rule.
+use Rattle.std.specs.Prelude.{ℕ, ◌+◌, Bool, true, false, ◌==◌, nat_lt, if◌then◌else◌, List, [], ◌∷◌}
+use Rattle.std.specs.Prelude.{◌++◌, length, map, Option, Some, None, slice_get, zip}
 use Rattle.std.specs.List.{flat_map, list_any}
 use Rattle.std.specs.Str.{bytes_eq}
 use Rattle.mon_tree.specs.declared.tree.Arg.{Arg}
@@ -17,7 +19,10 @@ use Rattle.mon_base.specs.declared.kind.Kind.TheVariants as kinds
 use Rattle.mon_monitor.specs.MonitorParts.{MonitorParts}
 use Rattle.mon_implicit.specs.Steps.{kinds_in}
 use Rattle.mon_script.specs.declared.fault.ScriptFault.{ScriptFault}
-use Rattle.mon_script.specs.declared.fault.ScriptFault.TheVariants.{UnknownMethod, WrongCount, WrongType, TooLarge, DuplicateClient, TooManyClients, TooManyCalls, OutOfMemory}
+use Rattle.mon_script.specs.declared.fault.ScriptFault.TheVariants.{UnknownMethod, WrongCount}
+use Rattle.mon_script.specs.declared.fault.ScriptFault.TheVariants.{WrongType, TooLarge}
+use Rattle.mon_script.specs.declared.fault.ScriptFault.TheVariants.{DuplicateClient, TooManyClients}
+use Rattle.mon_script.specs.declared.fault.ScriptFault.TheVariants.{TooManyCalls, OutOfMemory}
 use Rattle.mon_script.specs.Scripts.{call_count, joined, method_named}
 
 -- ---- what stands in a tree

@@ -1,5 +1,6 @@
 -- The rules of client files, one by one: a tree breaks a rule at a place.
-use Rattle.std.specs.Prelude.{◌≡◌, ◌≢◌, ℕ, ◌<◌, ◌≤◌, ◌↔◌, false, List, [], ◌∷◌, ◌++◌, length, map, Contains, Some, None, slice_get, sum_by, zip}
+use Rattle.std.specs.Prelude.{◌≡◌, ◌≢◌, ℕ, ◌<◌, ◌≤◌, ◌↔◌, false, List, [], ◌∷◌, ◌++◌, length, map}
+use Rattle.std.specs.Prelude.{Contains, Some, None, slice_get, sum_by, zip}
 use Rattle.std.specs.List.{flat_map}
 use Rattle.mon_tree.specs.declared.tree.Lit.{Lit}
 use Rattle.mon_tree.specs.declared.tree.Arg.{Arg}
@@ -13,11 +14,13 @@ use Rattle.mon_monitor.specs.MonitorParts.{MonitorParts}
 use Rattle.mon_script.specs.declared.fault.ScriptFault.{ScriptFault}
 use Rattle.mon_script.specs.declared.fault.ScriptFault.TheVariants as faults
 use Rattle.mon_script.specs.Scripts.{call_count, method_named}
-use Rattle.mon_script.specs.Faults.{PlacedCall, argument_place, faults_of, inputs_of, is_for, items_in, place_of, placed_calls}
+use Rattle.mon_script.specs.Faults.{PlacedCall, argument_place, faults_of, inputs_of, is_for}
+use Rattle.mon_script.specs.Faults.{items_in, place_of, placed_calls}
 
 -- some call of the tree is such a one, in a `repeat` or in none
 abbrev pub OfCall : ClientsTree → (PlacedCall → Type 0) → Type 0
-OfCall tree P = (call : PlacedCall) × Contains (flat_map placed_calls (items_in tree.clients)) call × P call
+OfCall tree P =
+    (call : PlacedCall) × Contains (flat_map placed_calls (items_in tree.clients)) call × P call
 
 -- the call is one of the method with this number
 abbrev pub CallsMethod : MonitorParts → PlacedCall → ℕ → Type 0
@@ -58,9 +61,11 @@ BreaksDuplicateClient tree place =
 
 -- it is the first client over the limit
 abbrev pub BreaksTooManyClients : ClientsTree → ℕ → Type 0
-BreaksTooManyClients tree place = slice_get (map (λ client. client.at) tree.clients) CLIENTS ≡ Some place
+BreaksTooManyClients tree place =
+    slice_get (map (λ client. client.at) tree.clients) CLIENTS ≡ Some place
 
--- it is the first item, of those that stand directly in clients, with which the calls of the file are above
+-- it is the first item, of those that stand directly in clients, with which the calls of the file
+-- are above
 -- the limit, with each `repeat` written out
 abbrev pub BreaksTooManyCalls : ClientsTree → ℕ → Type 0
 BreaksTooManyCalls tree place =
@@ -83,4 +88,5 @@ Breaks monitor tree faults.OutOfMemory = ⊥
 
 -- the faults that are listed are exactly the rules that the tree breaks, each at its place
 abbrev pub ListsBrokenRules : MonitorParts → ClientsTree → Type 0
-ListsBrokenRules monitor tree = (fault : ScriptFault) → Contains (faults_of monitor tree) fault ↔ Breaks monitor tree fault
+ListsBrokenRules monitor tree =
+    (fault : ScriptFault) → Contains (faults_of monitor tree) fault ↔ Breaks monitor tree fault

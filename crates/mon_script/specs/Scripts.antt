@@ -1,5 +1,6 @@
 -- The scripts that the tree of a client file stands for: its calls, with each `repeat` written out.
-use Rattle.std.specs.Prelude.{◌≡◌, ℕ, ◌*◌, ℤ, pos, neg_ℤ, if◌then◌else◌, List, [], ◌∷◌, map, replicate, sum, Option, position, unwrap_or}
+use Rattle.std.specs.Prelude.{◌≡◌, ℕ, ◌*◌, ℤ, pos, neg_ℤ, if◌then◌else◌, List, [], ◌∷◌, map}
+use Rattle.std.specs.Prelude.{replicate, sum, Option, position, unwrap_or}
 use Rattle.std.specs.List.{flat_map}
 use Rattle.std.specs.Str.{bytes_eq}
 use Rattle.mon_tree.specs.declared.tree.Lit.{Lit}

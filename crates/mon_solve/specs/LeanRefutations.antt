@@ -14,12 +14,14 @@ IsLeanEnd count (Clash left right) = Unit {0}
 IsLeanEnd count (Chain combines) = IsLean count combines
 
 -- Each chain of the refutation is so.
-abbrev pub HasLeanChains : {todo : List Formula} {literals : List Literal} {cert : Cert} → RefutesFrom todo literals cert → Type 0
+abbrev pub HasLeanChains : {todo : List Formula} {literals : List Literal} {cert : Cert}
+    → RefutesFrom todo literals cert → Type 0
 HasLeanChains (row form todo literals cert rest) = HasLeanChains rest
 HasLeanChains (flag place is todo literals cert rest) = HasLeanChains rest
 HasLeanChains (every parts todo literals cert rest) = HasLeanChains rest
 HasLeanChains (split parts certs todo literals count each) =
-    (i : ℕ) (part : Formula) (cert : Cert) (at : slice_get parts i ≡ Some part) (is : slice_get certs i ≡ Some cert)
+    (i : ℕ) (part : Formula) (cert : Cert) (at : slice_get parts i
+    ≡ Some part) (is : slice_get certs i ≡ Some cert)
     → HasLeanChains (each i part cert at is)
 HasLeanChains (closed parts todo literals cert closes) = IsLeanEnd (length literals) (out-Cert cert)
 HasLeanChains (ended literals cert closes) = IsLeanEnd (length literals) (out-Cert cert)

@@ -1,5 +1,6 @@
 -- The large input that a number names: a buffer, with clients that put and clients that get.
-use Rattle.std.specs.Prelude.{ℕ, ◌+◌, ◌*◌, ◌%◌, ℤ, pos, neg_ℤ, ◌-ℤ◌, false, List, [], ◌∷◌, ◌++◌, map, replicate, codes, decimal}
+use Rattle.std.specs.Prelude.{ℕ, ◌+◌, ◌*◌, ◌%◌, ℤ, pos, neg_ℤ, ◌-ℤ◌, false, List, [], ◌∷◌, ◌++◌}
+use Rattle.std.specs.Prelude.{map, replicate, codes, decimal}
 use Rattle.std.specs.List.{range_with_len}
 use Rattle.mon_base.specs.declared.kind.Kind.TheVariants as kinds
 use Rattle.mon_base.specs.declared.value.Value.TheVariants as values
@@ -59,26 +60,32 @@ MOST_ROOM = 7
 abbrev pub capacity_of : ℕ → ℕ
 capacity_of number = 1 + number % MOST_ROOM
 
--- the one field, `count`, has place 0: these are `count` and a constant, and the constant less `count`
+-- the one field, `count`, has place 0: these are `count` and a constant, and the constant less
+-- `count`
 abbrev pub count_and : ℤ → Linear
 count_and constant = record { terms = once 0 ∷ []; constant = constant }
 
 abbrev pub less_count : ℤ → Linear
 less_count constant = record { terms = opposite 0 ∷ []; constant = constant }
 
--- `count < CAP`, as the row `count + 1 - CAP <= 0`, and as it is shown, with the places of its words in the text
+-- `count < CAP`, as the row `count + 1 - CAP <= 0`, and as it is shown, with the places of its
+-- words in the text
 abbrev pub has_room : ℕ → Formula
 has_room capacity = formulas.Row (count_and (pos 1 -ℤ pos capacity))
 
 abbrev pub room_shown : Expr
-room_shown = expressions.Compare operators.Less (expressions.Named 77 (codes "count")) (expressions.Named 85 (codes "CAP"))
+room_shown =
+    expressions.Compare operators.Less (expressions.Named 77 (codes "count"))
+    (expressions.Named 85 (codes "CAP"))
 
 -- `count > 0`, as the row `1 - count <= 0`, and as it is shown
 abbrev pub has_some : Formula
 has_some = formulas.Row (less_count (pos 1))
 
 abbrev pub some_shown : Expr
-some_shown = expressions.Compare operators.More (expressions.Named 145 (codes "count")) (expressions.Number 153 0)
+some_shown =
+    expressions.Compare operators.More (expressions.Named 145 (codes "count"))
+    (expressions.Number 153 0)
 
 abbrev pub count_field : Field
 count_field = record { name = codes "count"; kind = kinds.Int; start = values.Int (pos 0) }
@@ -105,11 +112,15 @@ buffer_of capacity = record {
   name = codes "Buffer";
   fields = count_field ∷ [];
   methods = plain_method (codes "put") 0 ∷ plain_method (codes "get") 1 ∷ [];
-  blocks = counting_block 0 (has_room capacity) (count_and (pos 1)) ∷ counting_block 1 has_some (count_and (neg_ℤ (pos 1))) ∷ [];
-  conditions = shown_condition (has_room capacity) room_shown ∷ shown_condition has_some some_shown ∷ [];
+  blocks =
+      counting_block 0 (has_room capacity) (count_and (pos 1)) ∷ counting_block 1 has_some
+      (count_and (neg_ℤ (pos 1))) ∷ [];
+  conditions =
+      shown_condition (has_room capacity) room_shown ∷ shown_condition has_some some_shown ∷ [];
 }
 
--- ---- the clients: those that put, each `client P.. { repeat 512 { put(); } }` with its number from 1 on, and then those that get, `client G.. { repeat 512 { get(); } }`
+-- ---- the clients: those that put, each `client P.. { repeat 512 { put(); } }` with its number
+-- from 1 on, and then those that get, `client G.. { repeat 512 { get(); } }`
 
 -- a call of a method of no inputs
 abbrev pub plain_call : ℕ → Call
@@ -117,7 +128,8 @@ plain_call method = record { method = method; inputs = [] }
 
 -- a letter and a number for its name, and so many calls of the method
 abbrev pub caller : List ℕ → ℕ → ℕ → ℕ → Client
-caller letter method calls number = record { name = letter ++ decimal number; calls = replicate calls (plain_call method) }
+caller letter method calls number =
+    record { name = letter ++ decimal number; calls = replicate calls (plain_call method) }
 
 -- so many of them, numbered from 1
 abbrev pub callers : List ℕ → ℕ → ℕ → ℕ → List Client
@@ -125,7 +137,8 @@ callers letter method calls count = map (caller letter method calls) (range_with
 
 -- those that put, and then those that get
 unfoldable pub clients_of : ℕ → ℕ → ℕ → List Client
-clients_of producers consumers calls = callers (codes "P") 0 calls producers ++ callers (codes "G") 1 calls consumers
+clients_of producers consumers calls =
+    callers (codes "P") 0 calls producers ++ callers (codes "G") 1 calls consumers
 
 abbrev pub producers_and_consumers : List Client
 producers_and_consumers = clients_of PRODUCERS CONSUMERS CALLS_EACH

@@ -11,7 +11,8 @@ use Rattle.mon_tree.specs.declared.tree.ClientTree.{ClientTree}
 use Rattle.mon_tree.specs.declared.tree.ClientsTree.{ClientsTree}
 use Rattle.mon_tokens.specs.Spelling.{Spells}
 use Rattle.mon_tokens.specs.Words.{words}
-use Rattle.mon_syntax.specs.Grammar.{Rule, ◌⌢◌, Each, IsBlock, IsIdent, IsNumeral, IsMarkAt, IsMark, truth_word}
+use Rattle.mon_syntax.specs.Grammar.{Rule, ◌⌢◌, Each, IsBlock, IsIdent, IsNumeral, IsMarkAt, IsMark}
+use Rattle.mon_syntax.specs.Grammar.{truth_word}
 
 -- ---- arguments
 
@@ -25,14 +26,17 @@ plain at digits = args.Int at (record { at = at; minus = false; digits = digits 
 -- argument = ["-"] NUM | "true" | "false"
 abbrev pub IsArgument : Rule Arg
 IsArgument argument ws =
-    ((at : ℕ) × (digits : ℕ) × (place : ℕ) × (argument ≡ negative at digits place) × (IsMarkAt kinds.Minus at ⌢ IsNumeral digits place) ws)
+    ((at : ℕ) × (digits : ℕ) × (place : ℕ) × (argument ≡ negative at digits place)
+    × (IsMarkAt kinds.Minus at ⌢ IsNumeral digits place) ws)
     ⊎ ((at : ℕ) × (digits : ℕ) × (argument ≡ plain at digits) × IsNumeral digits at ws)
-    ⊎ ((at : ℕ) × (value : Bool) × (argument ≡ args.Bool at value) × IsMarkAt (truth_word value) at ws)
+    ⊎ ((at : ℕ) × (value : Bool) × (argument ≡ args.Bool at value)
+    × IsMarkAt (truth_word value) at ws)
 
 -- [argument ("," argument)*]
 abbrev pub AreArguments : Rule (List Arg)
 AreArguments [] ws = ws ≡ []
-AreArguments (first ∷ rest) ws = (IsArgument first ⌢ Each (λ argument. IsMark kinds.Comma ⌢ IsArgument argument) rest) ws
+AreArguments (first ∷ rest) ws =
+    (IsArgument first ⌢ Each (λ argument. IsMark kinds.Comma ⌢ IsArgument argument) rest) ws
 
 -- ---- items
 
@@ -40,7 +44,8 @@ AreArguments (first ∷ rest) ws = (IsArgument first ⌢ Each (λ argument. IsMa
 abbrev pub IsCall : Rule Item
 IsCall item ws =
     (at : ℕ) × (name : List ℕ) × (given : List Arg) × (item ≡ items.Call at name given)
-    × (IsIdent name at ⌢ IsMark kinds.OpenParen ⌢ AreArguments given ⌢ IsMark kinds.CloseParen ⌢ IsMark kinds.Semicolon) ws
+    × (IsIdent name at ⌢ IsMark kinds.OpenParen ⌢ AreArguments given ⌢ IsMark kinds.CloseParen
+    ⌢ IsMark kinds.Semicolon) ws
 
 -- "repeat" NUM "{" item* "}"
 abbrev pub IsRepeat : Rule Item → Rule Item
@@ -57,7 +62,8 @@ IsItem (suc levels) item ws = IsCall item ws ⊎ IsRepeat (IsItem levels) item w
 
 -- client = "client" ID "{" item* "}"
 abbrev pub IsClient : Rule ClientTree
-IsClient client = IsMark kinds.KeyClient ⌢ IsIdent client.name client.at ⌢ IsBlock (IsItem LEVELS) client.items
+IsClient client =
+    IsMark kinds.KeyClient ⌢ IsIdent client.name client.at ⌢ IsBlock (IsItem LEVELS) client.items
 
 -- client_file = client*
 abbrev pub IsClientFile : Rule ClientsTree

@@ -11,17 +11,22 @@ abbrev pub IsAt : SyntaxFault → (ℕ → Type 0) → Type 0
 IsAt (At at) P = P at
 IsAt OutOfMemory P = Unit {0}
 
--- The words begin those of some tree. No rule looks at what names, numbers and offsets are, so any words may follow.
+-- The words begin those of some tree. No rule looks at what names, numbers and offsets are, so any
+-- words may follow.
 abbrev pub Begins : {Tree : Type 0} → Rule Tree → List Word → Type 0
 Begins {Tree} IsTree front = (tree : Tree) × (more : List Word) × IsTree tree (front ++ more)
 
--- with the first of the tokens that are left the ones before it begin no tree's; where none is left the fault is at the end
+-- with the first of the tokens that are left the ones before it begin no tree's; where none is left
+-- the fault is at the end
 abbrev pub IsUnfit : {Tree : Type 0} → Rule Tree → List ℕ → List Token → List Token → ℕ → Type 0
 IsUnfit IsTree bytes front [] at = at ≡ length bytes
-IsUnfit IsTree bytes front (token ∷ more) at = (at ≡ token.at) × (Begins IsTree (words bytes (front ++ token ∷ [])) → ⊥)
+IsUnfit IsTree bytes front (token ∷ more) at =
+    (at ≡ token.at) × (Begins IsTree (words bytes (front ++ token ∷ [])) → ⊥)
 
--- the fault stands at the first token that doesn't fit: those before it begin the words of some tree
-pub record IsFaultAt {Tree : Type 0} (IsTree : Rule Tree) (bytes : List ℕ) (tokens : List Token) (at : ℕ) : Type 0 where
+-- the fault stands at the first token that doesn't fit: those before it begin the words of some
+-- tree
+pub record IsFaultAt {Tree : Type 0} (IsTree : Rule Tree) (bytes : List ℕ) (tokens : List Token)
+    (at : ℕ) : Type 0 where
   pub front : List Token
   pub rest : List Token
   pub parts : tokens ≡ front ++ rest

@@ -1,5 +1,6 @@
 -- The grammar of monitor files: which words are a tree's, one definition for each production.
-use Rattle.std.specs.Prelude.{◌≡◌, ℕ, zero, suc, ◌≤◌, ◌⊎◌, Bool, true, false, List, [], ◌∷◌, ◌++◌, length, Option, Some, None}
+use Rattle.std.specs.Prelude.{◌≡◌, ℕ, zero, suc, ◌≤◌, ◌⊎◌, Bool, true, false, List, [], ◌∷◌, ◌++◌}
+use Rattle.std.specs.Prelude.{length, Option, Some, None}
 use Rattle.mon_base.specs.Limits.{FILE_BYTES, LEVELS}
 use Rattle.mon_tokens.specs.declared.token.TokenKind.{TokenKind}
 use Rattle.mon_tokens.specs.declared.token.TokenKind.TheVariants as kinds
@@ -32,7 +33,8 @@ Rule Tree = Tree → List Word → Type 0
 -- the one rule's words, and then the other's
 infixr 20 ◌⌢◌
 abbrev pub ◌⌢◌ : (List Word → Type 0) → (List Word → Type 0) → List Word → Type 0
-(First ⌢ Second) ws = (front : List Word) × (rest : List Word) × First front × Second rest × (ws ≡ front ++ rest)
+(First ⌢ Second) ws =
+    (front : List Word) × (rest : List Word) × First front × Second rest × (ws ≡ front ++ rest)
 
 -- x*: the words of one tree after the other
 abbrev pub Each : {Tree : Type 0} → Rule Tree → Rule (List Tree)
@@ -89,7 +91,8 @@ chain node first (next ∷ more) = node first (next ∷ more)
 
 abbrev pub IsChain : {Part : Type 0} → (Expr → List Part → Expr) → Rule Expr → Rule Part → Rule Expr
 IsChain {Part} node IsFirst IsPart expression ws =
-    (first : Expr) × (rest : List Part) × (expression ≡ chain node first rest) × (IsFirst first ⌢ Each IsPart rest) ws
+    (first : Expr) × (rest : List Part) × (expression ≡ chain node first rest)
+    × (IsFirst first ⌢ Each IsPart rest) ws
 
 -- product = unary ("*" unary)*
 abbrev pub IsFactor : Rule Expr → Rule Factor
@@ -100,7 +103,8 @@ IsProduct Unary = IsChain exprs.Product Unary (IsFactor Unary)
 
 -- sum = product (("+" | "-") product)*
 abbrev pub IsAddend : Rule Expr → Rule Addend
-IsAddend Unary addend = IsMark (sum_sign (out-Addend addend).minus) ⌢ IsProduct Unary (out-Addend addend).of
+IsAddend Unary addend =
+    IsMark (sum_sign (out-Addend addend).minus) ⌢ IsProduct Unary (out-Addend addend).of
 
 abbrev pub IsSum : Rule Expr → Rule Expr
 IsSum Unary = IsChain exprs.Sum (IsProduct Unary) (IsAddend Unary)
@@ -115,34 +119,41 @@ IsCompared Unary (op, right) = IsMark (op_sign op) ⌢ IsSum Unary right
 
 abbrev pub IsComparison : Rule Expr → Rule Expr
 IsComparison Unary expression ws =
-    (left : Expr) × (rest : Option (Op × Expr)) × (expression ≡ comparison left rest) × (IsSum Unary left ⌢ Maybe (IsCompared Unary) rest) ws
+    (left : Expr) × (rest : Option (Op × Expr)) × (expression ≡ comparison left rest)
+    × (IsSum Unary left ⌢ Maybe (IsCompared Unary) rest) ws
 
 -- conjunction = comparison ("&&" comparison)*
 abbrev pub both : Expr → List Expr → Expr
 both first rest = exprs.Both (first ∷ rest)
 
 abbrev pub IsConjunction : Rule Expr → Rule Expr
-IsConjunction Unary = IsChain both (IsComparison Unary) (λ part. IsMark kinds.And ⌢ IsComparison Unary part)
+IsConjunction Unary =
+    IsChain both (IsComparison Unary) (λ part. IsMark kinds.And ⌢ IsComparison Unary part)
 
 -- expression = conjunction ("||" conjunction)*
 abbrev pub either : Expr → List Expr → Expr
 either first rest = exprs.Either (first ∷ rest)
 
 abbrev pub IsDisjunction : Rule Expr → Rule Expr
-IsDisjunction Unary = IsChain either (IsConjunction Unary) (λ part. IsMark kinds.Or ⌢ IsConjunction Unary part)
+IsDisjunction Unary =
+    IsChain either (IsConjunction Unary) (λ part. IsMark kinds.Or ⌢ IsConjunction Unary part)
 
 -- atom = NUM | "true" | "false" | ID
 abbrev pub IsAtom : Rule Expr
 IsAtom expression ws =
     ((value : ℕ) × (at : ℕ) × (expression ≡ exprs.Number at value) × IsNumeral value at ws)
-    ⊎ ((value : Bool) × (at : ℕ) × (expression ≡ exprs.Truth at value) × IsMarkAt (truth_word value) at ws)
+    ⊎ ((value : Bool) × (at : ℕ) × (expression ≡ exprs.Truth at value)
+    × IsMarkAt (truth_word value) at ws)
     ⊎ ((name : List ℕ) × (at : ℕ) × (expression ≡ exprs.Named at name) × IsIdent name at ws)
 
--- What opens a level for what it contains: "-" unary | "!" unary | "(" expression ")". Parentheses give no node.
+-- What opens a level for what it contains: "-" unary | "!" unary | "(" expression ")". Parentheses
+-- give no node.
 abbrev pub IsOpened : Rule Expr → Rule Expr
 IsOpened Unary expression ws =
-    ((at : ℕ) × (of : Expr) × (expression ≡ exprs.Minus at of) × (IsMarkAt kinds.Minus at ⌢ Unary of) ws)
-    ⊎ ((at : ℕ) × (of : Expr) × (expression ≡ exprs.Not at of) × (IsMarkAt kinds.Not at ⌢ Unary of) ws)
+    ((at : ℕ) × (of : Expr) × (expression ≡ exprs.Minus at of)
+    × (IsMarkAt kinds.Minus at ⌢ Unary of) ws)
+    ⊎ ((at : ℕ) × (of : Expr) × (expression ≡ exprs.Not at of)
+    × (IsMarkAt kinds.Not at ⌢ Unary of) ws)
     ⊎ (IsMark kinds.OpenParen ⌢ IsDisjunction Unary expression ⌢ IsMark kinds.CloseParen) ws
 
 -- a unary expression or an atom, where so many levels may still be opened
@@ -163,20 +174,24 @@ IsElse Inner body ws = ((body ≡ []) × (ws ≡ [])) ⊎ (IsMark kinds.KeyElse 
 abbrev pub IsSimple : ℕ → Rule StmtTree
 IsSimple levels statement ws =
     ((at : ℕ) × (name : List ℕ) × (value : Expr) × (statement ≡ statements.Set at name value)
-    × (IsIdent name at ⌢ IsMark kinds.Assign ⌢ IsExpression levels value ⌢ IsMark kinds.Semicolon) ws)
+    × (IsIdent name at ⌢ IsMark kinds.Assign ⌢ IsExpression levels value
+    ⌢ IsMark kinds.Semicolon) ws)
     ⊎ ((at : ℕ) × (value : Expr) × (statement ≡ statements.Return at value)
     × (IsMarkAt kinds.KeyReturn at ⌢ IsExpression levels value ⌢ IsMark kinds.Semicolon) ws)
 
 -- "if" "(" expression ")" block ["else" block]
 abbrev pub IsIf : ℕ → Rule StmtTree → Rule StmtTree
 IsIf levels Inner statement ws =
-    (at : ℕ) × (when : Expr) × (body : List StmtTree) × (other : List StmtTree) × (statement ≡ statements.If at when body other)
-    × (IsMarkAt kinds.KeyIf at ⌢ IsMark kinds.OpenParen ⌢ IsExpression levels when ⌢ IsMark kinds.CloseParen ⌢ IsBlock Inner body ⌢ IsElse Inner other) ws
+    (at : ℕ) × (when : Expr) × (body : List StmtTree) × (other : List StmtTree)
+    × (statement ≡ statements.If at when body other)
+    × (IsMarkAt kinds.KeyIf at ⌢ IsMark kinds.OpenParen ⌢ IsExpression levels when
+    ⌢ IsMark kinds.CloseParen ⌢ IsBlock Inner body ⌢ IsElse Inner other) ws
 
 -- a statement, where so many levels may still be opened; each block opens one
 abbrev pub IsStatement : ℕ → Rule StmtTree
 IsStatement zero statement ws = IsSimple zero statement ws
-IsStatement (suc levels) statement ws = IsSimple (suc levels) statement ws ⊎ IsIf (suc levels) (IsStatement levels) statement ws
+IsStatement (suc levels) statement ws =
+    IsSimple (suc levels) statement ws ⊎ IsIf (suc levels) (IsStatement levels) statement ws
 
 -- ---- files
 
@@ -188,11 +203,19 @@ after_minus false Rest = Rest
 abbrev pub IsLiteral : Rule Lit
 IsLiteral literal = after_minus literal.minus (IsNumeral literal.digits literal.at)
 
--- declaration = "const" ID "=" literal ";" | "int" ID "=" literal ";" | "bool" ID "=" ("true" | "false") ";"
+-- declaration = "const" ID "=" literal ";"
+--     | "int" ID "=" literal ";"
+--     | "bool" ID "=" ("true" | "false") ";"
 abbrev pub IsDeclaration : Rule Decl
-IsDeclaration (decls.Const at name value) = IsMark kinds.KeyConst ⌢ IsIdent name at ⌢ IsMark kinds.Assign ⌢ IsLiteral value ⌢ IsMark kinds.Semicolon
-IsDeclaration (decls.Int at name value) = IsMark kinds.KeyInt ⌢ IsIdent name at ⌢ IsMark kinds.Assign ⌢ IsLiteral value ⌢ IsMark kinds.Semicolon
-IsDeclaration (decls.Flag at name value) = IsMark kinds.KeyBool ⌢ IsIdent name at ⌢ IsMark kinds.Assign ⌢ IsMark (truth_word value) ⌢ IsMark kinds.Semicolon
+IsDeclaration (decls.Const at name value) =
+    IsMark kinds.KeyConst ⌢ IsIdent name at ⌢ IsMark kinds.Assign ⌢ IsLiteral value
+    ⌢ IsMark kinds.Semicolon
+IsDeclaration (decls.Int at name value) =
+    IsMark kinds.KeyInt ⌢ IsIdent name at ⌢ IsMark kinds.Assign ⌢ IsLiteral value
+    ⌢ IsMark kinds.Semicolon
+IsDeclaration (decls.Flag at name value) =
+    IsMark kinds.KeyBool ⌢ IsIdent name at ⌢ IsMark kinds.Assign ⌢ IsMark (truth_word value)
+    ⌢ IsMark kinds.Semicolon
 
 -- input = ("int" | "bool") ID
 abbrev pub kind_word : Kind → TokenKind
@@ -205,13 +228,17 @@ IsInput input = IsMark (kind_word input.kind) ⌢ IsIdent input.name input.at
 -- [input ("," input)*]
 abbrev pub AreInputs : Rule (List InputTree)
 AreInputs [] ws = ws ≡ []
-AreInputs (first ∷ rest) ws = (IsInput first ⌢ Each (λ input. IsMark kinds.Comma ⌢ IsInput input) rest) ws
+AreInputs (first ∷ rest) ws =
+    (IsInput first ⌢ Each (λ input. IsMark kinds.Comma ⌢ IsInput input) rest) ws
 
--- method = "method" ID "(" [input ("," input)*] ")" "waituntil" "(" expression ")" "{" statement* "}"
+-- method = "method" ID "(" [input ("," input)*] ")"
+--     "waituntil" "(" expression ")" "{" statement* "}"
 abbrev pub IsMethod : Rule MethodTree
 IsMethod method =
-    IsMark kinds.KeyMethod ⌢ IsIdent method.name method.at ⌢ IsMark kinds.OpenParen ⌢ AreInputs method.inputs ⌢ IsMark kinds.CloseParen
-    ⌢ IsMark kinds.KeyWaituntil ⌢ IsMark kinds.OpenParen ⌢ IsExpression LEVELS method.guard ⌢ IsMark kinds.CloseParen
+    IsMark kinds.KeyMethod ⌢ IsIdent method.name method.at ⌢ IsMark kinds.OpenParen
+    ⌢ AreInputs method.inputs ⌢ IsMark kinds.CloseParen
+    ⌢ IsMark kinds.KeyWaituntil ⌢ IsMark kinds.OpenParen ⌢ IsExpression LEVELS method.guard
+    ⌢ IsMark kinds.CloseParen
     ⌢ IsBlock (IsStatement LEVELS) method.body
 
 -- monitor_file = "monitor" ID "{" declaration* method* "}"

@@ -11,7 +11,8 @@ use Rattle.mon_text.specs.declared.refusal.Refusal.TheVariants as refusals
 abbrev pub line_at : List ℕ → ℕ → ℕ
 line_at bytes at = 1 + count_by (λ byte. byte == 10) (take at bytes)
 
--- the column of an offset: 1, and 1 more for each byte between it and the last line feed before it, or the start
+-- the column of an offset: 1, and 1 more for each byte between it and the last line feed before it,
+-- or the start
 abbrev pub column_at : List ℕ → ℕ → ℕ
 column_at bytes at = 1 + prefix_len is_in_line (reverse (take at bytes))
 
@@ -52,4 +53,5 @@ unread_text file = codes "read fault: " ++ file ++ codes "\n"
 -- what is wrong stands at an offset of the file's bytes
 abbrev pub place_text : List ℕ → List ℕ → ℕ → Refusal → List ℕ
 place_text file bytes at what =
-    codes "refused: " ++ file ++ codes ":" ++ decimal (line_at bytes at) ++ codes ":" ++ decimal (column_at bytes at) ++ codes ": " ++ refusal_text what ++ codes "\n"
+    codes "refused: " ++ file ++ codes ":" ++ decimal (line_at bytes at) ++ codes ":"
+    ++ decimal (column_at bytes at) ++ codes ": " ++ refusal_text what ++ codes "\n"

@@ -13,7 +13,9 @@ use Rattle.mon_text.specs.LogText.{log_text}
 
 -- plans that fit one monitor and have the same text are equal
 abbrev pub PlanTextNamesPlan : Type 0
-PlanTextNamesPlan = (monitor : MonitorParts) (plan other : Plan) → IsMonitor monitor → FitsPlan monitor plan → FitsPlan monitor other
+PlanTextNamesPlan =
+    (monitor : MonitorParts) (plan other : Plan) → IsMonitor monitor → FitsPlan monitor plan
+    → FitsPlan monitor other
     → plan_text monitor plan ≡ plan_text monitor other → plan ≡ other
 
 -- the clients' calls and the plan fit the monitor, and the log is legal
@@ -25,9 +27,14 @@ pub record HasLegalLog (system : System) (log : List Entry) (last : Configuratio
 abbrev pub plan_and_log_text : System → List Entry → Configuration → List ℕ
 plan_and_log_text system log last = plan_text system.monitor system.plan ++ log_text system log last
 
--- For one monitor and its clients: where one log is legal under a plan and another under another, and what is printed of both is the same, the plans are equal, and so are the logs.
+-- For one monitor and its clients: where one log is legal under a plan and another under another,
+-- and what is printed of both is the same, the plans are equal, and so are the logs.
 abbrev pub TextNamesPlanAndLog : Type 0
-TextNamesPlanAndLog = (monitor : MonitorParts) (clients : List Client) (plan other : Plan) (log others : List Entry) (last end : Configuration)
-    → HasLegalLog (system_under monitor clients plan) log last → HasLegalLog (system_under monitor clients other) others end
-    → plan_and_log_text (system_under monitor clients plan) log last ≡ plan_and_log_text (system_under monitor clients other) others end
+TextNamesPlanAndLog =
+    (monitor : MonitorParts) (clients : List Client) (plan other : Plan) (log others : List Entry)
+    (last end : Configuration)
+    → HasLegalLog (system_under monitor clients plan) log last
+    → HasLegalLog (system_under monitor clients other) others end
+    → plan_and_log_text (system_under monitor clients plan) log last
+    ≡ plan_and_log_text (system_under monitor clients other) others end
     → (plan ≡ other) × (log ≡ others)

@@ -1,5 +1,6 @@
 -- The text of a log.
-use Rattle.std.specs.Prelude.{ℕ, ◌^◌, ◌==◌, Bool, not, nat_le, List, [], ◌++◌, length, slice_get, codes, if◌then◌else◌, bit_and}
+use Rattle.std.specs.Prelude.{ℕ, ◌^◌, ◌==◌, Bool, not, nat_le, List, [], ◌++◌, length, slice_get}
+use Rattle.std.specs.Prelude.{codes, if◌then◌else◌, bit_and}
 use Rattle.std.specs.List.{flat_map, list_all, enumerate_from}
 use Rattle.mon_base.specs.declared.value.Value.{Value}
 use Rattle.mon_monitor.specs.MonitorParts.{MonitorParts}
@@ -26,7 +27,8 @@ woken_name woken number client = if is_woken woken number then codes " " ++ clie
 
 -- the same for each client, in file order
 abbrev pub woken_names : ℕ → List Client → List ℕ
-woken_names woken clients = flat_map (λ one. woken_name woken one.0 one.1) (enumerate_from 0 clients)
+woken_names woken clients =
+    flat_map (λ one. woken_name woken one.0 one.1) (enumerate_from 0 clients)
 
 -- ` wakes B C`, and nothing where no client was woken
 abbrev pub wakes_text : List Client → ℕ → List ℕ
@@ -36,16 +38,22 @@ wakes_text clients woken = if woken == 0 then [] else codes " wakes" ++ woken_na
 
 -- ` = - wakes B` and a line feed
 abbrev pub replied_text : List Client → Reply → ℕ → List ℕ
-replied_text clients reply woken = codes " = " ++ reply_text reply ++ wakes_text clients woken ++ codes "\n"
+replied_text clients reply woken =
+    codes " = " ++ reply_text reply ++ wakes_text clients woken ++ codes "\n"
 
--- the line of a client at its call, by what came of it: `A.1 put(3) waits`, `A.1 put(3) = - wakes B`, or `spurious A`
+-- the line of a client at its call, by what came of it: `A.1 put(3) waits`, `A.1 put(3) = - wakes
+-- B`, or `spurious A`
 abbrev pub outcome_text : MonitorParts → List Client → ℕ → ℕ → Outcome → List ℕ
-outcome_text monitor clients client call outcomes.Waits = call_text monitor clients client call ++ codes " waits\n"
-outcome_text monitor clients client call (outcomes.Replies reply woken) = call_text monitor clients client call ++ replied_text clients reply woken
-outcome_text monitor clients client call outcomes.Spurious = codes "spurious " ++ client_name (slice_get clients client) ++ codes "\n"
+outcome_text monitor clients client call outcomes.Waits =
+    call_text monitor clients client call ++ codes " waits\n"
+outcome_text monitor clients client call (outcomes.Replies reply woken) =
+    call_text monitor clients client call ++ replied_text clients reply woken
+outcome_text monitor clients client call outcomes.Spurious =
+    codes "spurious " ++ client_name (slice_get clients client) ++ codes "\n"
 
 abbrev pub entry_text : MonitorParts → List Client → Entry → List ℕ
-entry_text monitor clients entry = outcome_text monitor clients entry.client entry.call entry.outcome
+entry_text monitor clients entry =
+    outcome_text monitor clients entry.client entry.call entry.outcome
 
 -- ---- the whole
 

@@ -1,5 +1,6 @@
 -- The text of a run by rounds.
-use Rattle.std.specs.Prelude.{ℕ, ◌+◌, ◌-◌, Bool, true, false, List, [], ◌∷◌, ◌++◌, Option, Some, None, map, slice_get, codes, decimal}
+use Rattle.std.specs.Prelude.{ℕ, ◌+◌, ◌-◌, Bool, true, false, List, [], ◌∷◌, ◌++◌, Option, Some}
+use Rattle.std.specs.Prelude.{None, map, slice_get, codes, decimal}
 use Rattle.std.specs.Fmt.{signed_decimal}
 use Rattle.std.specs.List.{flat_map}
 use Rattle.mon_printer.specs.Canonical.{joined, truth_text}
@@ -37,36 +38,45 @@ client_name (Some client) = client.name
 -- `put(3, true)`: a method's name and the inputs of the call
 abbrev pub called_text : MonitorParts → Option Call → List ℕ
 called_text monitor None = codes "()"
-called_text monitor (Some call) = method_name (slice_get monitor.methods call.method) ++ codes "(" ++ joined (codes ", ") (map value_text call.inputs) ++ codes ")"
+called_text monitor (Some call) =
+    method_name (slice_get monitor.methods call.method) ++ codes "("
+    ++ joined (codes ", ") (map value_text call.inputs) ++ codes ")"
 
 -- `A.1 put(3, true)`: a client and its call, by its number from 1
 abbrev pub call_text : MonitorParts → List Client → ℕ → ℕ → List ℕ
 call_text monitor clients client number =
-    client_name (slice_get clients client) ++ codes "." ++ decimal number ++ codes " " ++ called_text monitor (slice_get (calls_of clients client) (number - 1))
+    client_name (slice_get clients client) ++ codes "." ++ decimal number ++ codes " "
+    ++ called_text monitor (slice_get (calls_of clients client) (number - 1))
 
 -- `A.1 put(3, true) = -` and a line feed
 abbrev pub commit_text : MonitorParts → List Client → Commit → List ℕ
-commit_text monitor clients commit = call_text monitor clients commit.client commit.call ++ codes " = " ++ reply_text commit.reply ++ codes "\n"
+commit_text monitor clients commit =
+    call_text monitor clients commit.client commit.call ++ codes " = " ++ reply_text commit.reply
+    ++ codes "\n"
 
 -- `A.1 put(3, true) blocked` and a line feed, where the client has a call left
 abbrev pub blocked_text : MonitorParts → List Client → List Commit → ℕ → Option Call → List ℕ
 blocked_text monitor clients history client None = []
-blocked_text monitor clients history client (Some call) = call_text monitor clients client (done history client + 1) ++ codes " blocked\n"
+blocked_text monitor clients history client (Some call) =
+    call_text monitor clients client (done history client + 1) ++ codes " blocked\n"
 
 -- the same for each client from a number on, in file order
 abbrev pub blocked_from : MonitorParts → List Client → List Commit → ℕ → List Client → List ℕ
 blocked_from monitor clients history client [] = []
 blocked_from monitor clients history client (first ∷ rest) =
-    blocked_text monitor clients history client (next_call clients history client) ++ blocked_from monitor clients history (client + 1) rest
+    blocked_text monitor clients history client (next_call clients history client)
+    ++ blocked_from monitor clients history (client + 1) rest
 
 -- `done`, or `stalled` and who is blocked
 abbrev pub end_text : MonitorParts → List Client → List Commit → Bool → List ℕ
 end_text monitor clients history true = codes "done\n"
-end_text monitor clients history false = codes "stalled\n" ++ blocked_from monitor clients history 0 clients
+end_text monitor clients history false =
+    codes "stalled\n" ++ blocked_from monitor clients history 0 clients
 
 -- ` name=value` for each field, as far as there are values
 abbrev pub fields_text : List Field → List Value → List ℕ
-fields_text (field ∷ fields) (value ∷ values) = codes " " ++ field.name ++ codes "=" ++ value_text value ++ fields_text fields values
+fields_text (field ∷ fields) (value ∷ values) =
+    codes " " ++ field.name ++ codes "=" ++ value_text value ++ fields_text fields values
 fields_text fields values = []
 
 -- `state count=0` and a line feed

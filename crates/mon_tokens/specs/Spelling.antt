@@ -1,5 +1,6 @@
 -- How a program's text is cut into tokens, blanks and comments.
-use Rattle.std.specs.Prelude.{◌≡◌, ℕ, ◌+◌, ◌<◌, ◌≤◌, Bool, true, false, ◌||◌, List, [], ◌∷◌, ◌++◌, length, take, drop, All, Contains, slice_index_or, ◌==◌, codes}
+use Rattle.std.specs.Prelude.{◌≡◌, ℕ, ◌+◌, ◌<◌, ◌≤◌, Bool, true, false, ◌||◌, List, [], ◌∷◌, ◌++◌}
+use Rattle.std.specs.Prelude.{length, take, drop, All, Contains, slice_index_or, ◌==◌, codes}
 use Rattle.std.specs.List.{position}
 use Rattle.std.specs.Option.{option_map_or}
 use Rattle.std.specs.Str.{bytes_eq}
@@ -21,7 +22,8 @@ is_blank b = b == 32 || b == 9 || b == 10 || b == 13
 
 -- ---- keywords and signs
 
--- the kinds of the keywords, in the order of `KEYWORDS`: monitor const int bool true, false method waituntil if else,
+-- the kinds of the keywords, in the order of `KEYWORDS`: monitor const int bool true, false method
+-- waituntil if else,
 -- return client repeat try local
 abbrev pub KEYWORD_KINDS : List TokenKind
 KEYWORD_KINDS =
@@ -42,16 +44,23 @@ SIGNS =
 
 -- the kind of a word: that of the keyword which it is, or else of an identifier
 abbrev pub kind_of_word : List ℕ → TokenKind
-kind_of_word text = option_map_or (λ place. slice_index_or KEYWORD_KINDS place kinds.Ident) (position (bytes_eq text) KEYWORDS) kinds.Ident
+kind_of_word text =
+    option_map_or (λ place. slice_index_or KEYWORD_KINDS place kinds.Ident)
+    (position (bytes_eq text) KEYWORDS) kinds.Ident
 
 -- ---- pieces
 
 -- The text is a piece of this shape.
 abbrev pub IsShape : Shape → List ℕ → Type 0
 IsShape shapes.Blank text = (b : ℕ) × (is_blank b ≡ true) × (text ≡ b ∷ [])
-IsShape shapes.Comment text = (line : List ℕ) × All (λ b. is_in_line b ≡ true) line × (text ≡ 47 ∷ 47 ∷ line)
-IsShape shapes.Word text = (first : ℕ) × (more : List ℕ) × (is_letter first ≡ true) × All (λ b. is_word_byte b ≡ true) more × (text ≡ first ∷ more)
-IsShape shapes.Number text = (first : ℕ) × (more : List ℕ) × (is_digit first ≡ true) × All (λ b. is_digit b ≡ true) more × (text ≡ first ∷ more)
+IsShape shapes.Comment text =
+    (line : List ℕ) × All (λ b. is_in_line b ≡ true) line × (text ≡ 47 ∷ 47 ∷ line)
+IsShape shapes.Word text =
+    (first : ℕ) × (more : List ℕ) × (is_letter first ≡ true) × All (λ b. is_word_byte b ≡ true) more
+    × (text ≡ first ∷ more)
+IsShape shapes.Number text =
+    (first : ℕ) × (more : List ℕ) × (is_digit first ≡ true) × All (λ b. is_digit b ≡ true) more
+    × (text ≡ first ∷ more)
 IsShape (shapes.Sign kind) text = Contains SIGNS (text, kind)
 
 -- words and numbers
@@ -65,7 +74,8 @@ is_run shape = false
 pub record Starts (bytes : List ℕ) (shape : Shape) (text rest : List ℕ) : Type 0 where
   pub front : bytes ≡ text ++ rest
   pub spells : IsShape shape text
-  pub longest : (other : Shape) (longer after : List ℕ) → bytes ≡ longer ++ after → IsShape other longer → length longer ≤ length text
+  pub longest : (other : Shape) (longer after : List ℕ) → bytes ≡ longer ++ after
+      → IsShape other longer → length longer ≤ length text
   pub fits : is_run shape ≡ true → length text ≤ WORD_BYTES
 
 pub record Piece : Type 0 where
@@ -75,7 +85,8 @@ pub record Piece : Type 0 where
 -- these pieces, one after the other, and then the rest
 abbrev pub AreCut : List ℕ → List Piece → List ℕ → Type 0
 AreCut bytes [] rest = bytes ≡ rest
-AreCut bytes (p ∷ ps) rest = (after : List ℕ) × Starts bytes p.shape p.text after × AreCut after ps rest
+AreCut bytes (p ∷ ps) rest =
+    (after : List ℕ) × Starts bytes p.shape p.text after × AreCut after ps rest
 
 -- ---- tokens
 

@@ -18,7 +18,8 @@ use Rattle.mon_forms.specs.Plain.{number_in, truth_in, plain_value}
 -- values that are assigned or returned, and conditions, with those of inner statements
 abbrev pub expressions_step : StmtTree-F (List Expr) → List Expr
 expressions_step (Set at name value) = value ∷ []
-expressions_step (If at when body other) = when ∷ (flat_map (λ inner. inner) body ++ flat_map (λ inner. inner) other)
+expressions_step (If at when body other) =
+    when ∷ (flat_map (λ inner. inner) body ++ flat_map (λ inner. inner) other)
 expressions_step (Return at value) = value ∷ []
 
 abbrev pub expressions_of : StmtTree → List Expr
@@ -27,17 +28,22 @@ expressions_of = fold-StmtTree (List Expr) expressions_step
 abbrev pub expressions_in : List StmtTree → List Expr
 expressions_in statements = flat_map expressions_of statements
 
--- The form of an int expression has the value that ordinary arithmetic gives the expression, and the formula of
+-- The form of an int expression has the value that ordinary arithmetic gives the expression, and
+-- the formula of
 -- a bool one the truth that ordinary logic gives it.
 pub record KeepsMeaning (scope : List Entry) (expression : Expr) : Type 0 where
   pub value : (valuation : Valuation) → (sense scope expression).kind ≡ Some kinds.Int
-      → value_of valuation (linear_of scope (sense scope expression).form) ≡ number_in (plain_value scope valuation expression)
+      → value_of valuation (linear_of scope (sense scope expression).form)
+      ≡ number_in (plain_value scope valuation expression)
   pub holds : (valuation : Valuation) → (sense scope expression).kind ≡ Some kinds.Bool
-      → truth_of valuation (sense scope expression).formula ≡ truth_in (plain_value scope valuation expression)
+      → truth_of valuation (sense scope expression).formula
+      ≡ truth_in (plain_value scope valuation expression)
 
 -- the truth that ordinary arithmetic and logic give a method's guard
 abbrev pub plain_guard : List Decl → MethodTree → Valuation → Bool
-plain_guard declared method valuation = truth_in (plain_value (scope_of declared method.inputs) valuation method.guard)
+plain_guard declared method valuation =
+    truth_in (plain_value (scope_of declared method.inputs) valuation method.guard)
 
 abbrev pub BodyKeepsMeaning : List Decl → MethodTree → Type 0
-BodyKeepsMeaning declared method = All (KeepsMeaning (scope_of declared method.inputs)) (expressions_in method.body)
+BodyKeepsMeaning declared method =
+    All (KeepsMeaning (scope_of declared method.inputs)) (expressions_in method.body)

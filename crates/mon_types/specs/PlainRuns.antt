@@ -1,5 +1,6 @@
 -- What the statements of a tree do, by ordinary arithmetic and logic, where each name has a value.
-use Rattle.std.specs.Prelude.{◌≡◌, ℕ, ℤ, pos, false, List, [], ◌∷◌, ◌++◌, map, Option, Some, None, slice_get, if◌then◌else◌}
+use Rattle.std.specs.Prelude.{◌≡◌, ℕ, ℤ, pos, false, List, [], ◌∷◌, ◌++◌, map, Option, Some, None}
+use Rattle.std.specs.Prelude.{slice_get, if◌then◌else◌}
 use Rattle.std.specs.Option.{option_map}
 use Rattle.std.specs.Str.{bytes_eq}
 use Rattle.mon_tree.specs.declared.tree.Decl.{Decl}
@@ -17,7 +18,8 @@ use Rattle.mon_linear.specs.Truth.{Valuation}
 use Rattle.mon_base.specs.declared.kind.Kind.{Kind}
 use Rattle.mon_base.specs.declared.value.Value.{Value}
 use Rattle.mon_base.specs.declared.value.Value.TheVariants as values
-use Rattle.mon_forms.specs.Plain.{Plain, number, truth, truth_in, plain_step, addend_value, factor_value}
+use Rattle.mon_forms.specs.Plain.{Plain, number, truth, truth_in, plain_step, addend_value}
+use Rattle.mon_forms.specs.Plain.{factor_value}
 use Rattle.mon_monitor.specs.declared.monitor.Block.{Block}
 use Rattle.mon_monitor.specs.MonitorParts.{MonitorParts, AreOfKinds, kinds_of}
 use Rattle.mon_monitor.specs.Bodies.{after, result_value}
@@ -44,7 +46,8 @@ abbrev pub plain_of : Value → Plain
 plain_of (values.Int value) = number value
 plain_of (values.Bool value) = truth value
 
--- a constant is its written number, and the fields have the values of a state, in the order of the file
+-- a constant is its written number, and the fields have the values of a state, in the order of the
+-- file
 abbrev pub declared_values : List Decl → List Value → List NamedValue
 declared_values (decls.Const at name value ∷ more) state =
     record { name = name; value = number (literal_value value) } ∷ declared_values more state
@@ -122,10 +125,12 @@ plain_run body names =
 
 -- From a state and inputs the block's body reaches the state that a plain run ends in, read by the
 -- names of the fields, and the block's result is what that run returned.
-pub record RunsAsWritten (monitor : MonitorParts) (block : Block) (state inputs : List Value) (end : PlainState) : Type 0 where
+pub record RunsAsWritten (monitor : MonitorParts) (block : Block) (state inputs : List Value)
+    (end : PlainState) : Type 0 where
   pub reaches : map plain_of (after inputs block.body state)
       ≡ map (λ field. end.names field.name) monitor.fields
-  pub answers : option_map plain_of (result_value (after inputs block.body state) inputs block.result)
+  pub answers : option_map plain_of
+      (result_value (after inputs block.body state) inputs block.result)
       ≡ end.returned
 
 abbrev pub kinds_taken : MethodTree → List Kind

@@ -1,5 +1,6 @@
 -- The monitor that a tree stands for.
-use Rattle.std.specs.Prelude.{◌≡◌, ℕ, ◌+◌, ◌-◌, ◌⊎◌, ℤ, pos, List, [], ◌∷◌, ◌++◌, length, map, All, Option, Some, None, slice_get, IsSomeAnd}
+use Rattle.std.specs.Prelude.{◌≡◌, ℕ, ◌+◌, ◌-◌, ◌⊎◌, ℤ, pos, List, [], ◌∷◌, ◌++◌, length, map, All}
+use Rattle.std.specs.Prelude.{Option, Some, None, slice_get, IsSomeAnd}
 use Rattle.std.specs.List.{flat_map}
 use Rattle.mon_tree.specs.declared.tree.Lit.{Lit}
 use Rattle.mon_tree.specs.declared.tree.Decl.{Decl}
@@ -37,19 +38,28 @@ literal_value literal = signed literal.minus (pos literal.digits)
 -- constants are no fields
 abbrev pub field_of : Decl → List Field
 field_of (decls.Const at name value) = []
-field_of (decls.Int at name value) = record { name = name; kind = kinds.Int; start = values.Int (literal_value value) } ∷ []
-field_of (decls.Flag at name value) = record { name = name; kind = kinds.Bool; start = values.Bool value } ∷ []
+field_of (decls.Int at name value) =
+    record { name = name; kind = kinds.Int; start = values.Int (literal_value value) } ∷ []
+field_of (decls.Flag at name value) =
+    record { name = name; kind = kinds.Bool; start = values.Bool value } ∷ []
 
 -- each method has one block, in the order of the file
 abbrev pub methods_from : ℕ → List MethodTree → List Method
 methods_from number [] = []
-methods_from number (method ∷ methods) = record { name = method.name; inputs = map (λ input. input.kind) method.inputs; first = number; count = 1 } ∷ methods_from (number + 1) methods
+methods_from number (method ∷ methods) =
+    record {
+      name = method.name;
+      inputs = map (λ input. input.kind) method.inputs;
+      first = number;
+      count = 1;
+    } ∷ methods_from (number + 1) methods
 
 -- ---- statements and results
 
 abbrev pub assignment : List Entry → Meaning → Sense → List Stmt
 assignment scope (meanings.Number number) value = []
-assignment scope (meanings.Int place) value = statements.SetInt place (linear_of scope value.form) ∷ []
+assignment scope (meanings.Int place) value =
+    statements.SetInt place (linear_of scope value.form) ∷ []
 assignment scope (meanings.Flag place) value = statements.SetBool place value.formula ∷ []
 
 abbrev pub set_of : List Entry → Option Entry → Sense → List Stmt
@@ -58,8 +68,11 @@ set_of scope (Some target) value = assignment scope target.meaning value
 
 -- a `return` is no statement of the body: it is the block's result
 abbrev pub statement_of_step : List Entry → StmtTree-F (List Stmt) → List Stmt
-statement_of_step scope (Set at name value) = set_of scope (entry_named scope name) (sense scope value)
-statement_of_step scope (If at when body other) = statements.If (sense scope when).formula (flat_map (λ inner. inner) body) (flat_map (λ inner. inner) other) ∷ []
+statement_of_step scope (Set at name value) =
+    set_of scope (entry_named scope name) (sense scope value)
+statement_of_step scope (If at when body other) =
+    statements.If (sense scope when).formula (flat_map (λ inner. inner) body)
+    (flat_map (λ inner. inner) other) ∷ []
 statement_of_step scope (Return at value) = []
 
 abbrev pub statement_of : List Entry → StmtTree → List Stmt
@@ -71,7 +84,8 @@ result_of_kind scope (Some kinds.Bool) value = rets.Bool value.formula
 result_of_kind scope None value = rets.Nothing
 
 abbrev pub result_layer : List Entry → StmtTree-F StmtTree → Ret
-result_layer scope (Return at value) = result_of_kind scope (sense scope value).kind (sense scope value)
+result_layer scope (Return at value) =
+    result_of_kind scope (sense scope value).kind (sense scope value)
 result_layer scope statement = rets.Nothing
 
 -- the result of the last statement, where it is a `return`
@@ -83,7 +97,8 @@ result_of scope (first ∷ next ∷ more) = result_of scope (next ∷ more)
 -- ---- blocks
 
 -- the block is its method's
-pub record IsBlockOf (declared : List Decl) (number : ℕ) (method : MethodTree) (block : Block) : Type 0 where
+pub record IsBlockOf (declared : List Decl) (number : ℕ) (method : MethodTree) (block : Block) :
+    Type 0 where
   pub method_number : block.method ≡ number
   pub guard : block.guard ≡ (sense (scope_of declared method.inputs) method.guard).formula
   pub body : block.body ≡ flat_map (statement_of (scope_of declared method.inputs)) method.body
@@ -91,20 +106,26 @@ pub record IsBlockOf (declared : List Decl) (number : ℕ) (method : MethodTree)
 
 abbrev pub AreBlocksOf : List Decl → ℕ → List MethodTree → List Block → Type 0
 AreBlocksOf declared number [] [] = Unit {0}
-AreBlocksOf declared number (method ∷ methods) (block ∷ blocks) = IsBlockOf declared number method block × AreBlocksOf declared (number + 1) methods blocks
+AreBlocksOf declared number (method ∷ methods) (block ∷ blocks) =
+    IsBlockOf declared number method block × AreBlocksOf declared (number + 1) methods blocks
 AreBlocksOf declared number methods blocks = ⊥
 
 -- ---- conditions: classes of equal guards, numbered from 1 by their first block
 
 abbrev pub condition_of : Block → MethodTree → Condition
-condition_of block method = record { guard = block.guard; reads_inputs = reads_inputs block.guard; shown = method.guard }
+condition_of block method =
+    record { guard = block.guard; reads_inputs = reads_inputs block.guard; shown = method.guard }
 
--- The block has a condition that was there, or the new one after them, where none of them has its guard.
+-- The block has a condition that was there, or the new one after them, where none of them has its
+-- guard.
 abbrev pub AreConditions : List Condition → List MethodTree → List Block → List Condition → Type 0
 AreConditions before [] [] all = all ≡ before
 AreConditions before (method ∷ methods) (block ∷ blocks) all =
-    (IsSomeAnd (slice_get before (block.condition - 1)) (λ condition. condition.guard ≡ block.guard) × (block.condition ≡ (block.condition - 1) + 1) × AreConditions before methods blocks all)
-    ⊎ (All (λ condition. condition.guard ≡ block.guard → ⊥) before × (block.condition ≡ length before + 1) × AreConditions (before ++ condition_of block method ∷ []) methods blocks all)
+    (IsSomeAnd (slice_get before (block.condition - 1)) (λ condition. condition.guard ≡ block.guard)
+    × (block.condition ≡ (block.condition - 1) + 1) × AreConditions before methods blocks all)
+    ⊎ (All (λ condition. condition.guard ≡ block.guard → ⊥) before
+    × (block.condition ≡ length before + 1)
+    × AreConditions (before ++ condition_of block method ∷ []) methods blocks all)
 AreConditions before methods blocks all = ⊥
 
 -- the monitor has the tree's name, fields, methods, blocks and conditions

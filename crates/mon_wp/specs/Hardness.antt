@@ -1,5 +1,7 @@
--- Queries within the limits of a prover, easy ones among them, simple blocks, and the claims of a monitor.
-use Rattle.std.specs.Prelude.{◌≡◌, ◌<◌, ◌≤◌, ℕ, ◌-◌, pos, Bool, true, false, ◌&&◌, nat_le, List, [], ◌∷◌, length, slice_get}
+-- Queries within the limits of a prover, easy ones among them, simple blocks, and the claims of a
+-- monitor.
+use Rattle.std.specs.Prelude.{◌≡◌, ◌<◌, ◌≤◌, ℕ, ◌-◌, pos, Bool, true, false, ◌&&◌, nat_le, List, []}
+use Rattle.std.specs.Prelude.{◌∷◌, length, slice_get}
 use Rattle.std.specs.List.{list_all, Contains}
 use Rattle.std.specs.Option.{IsSomeAnd}
 use Rattle.std.specs.Ordering.{int_eq}
@@ -76,7 +78,8 @@ abbrev pub WaitsAt : MonitorParts → ℕ → ℕ → Type 0
 WaitsAt monitor block condition =
     IsSomeAnd (slice_get monitor.blocks block) (λ held. held.condition ≡ condition)
 
--- the claims that are asked of a monitor: where a guard reads inputs, only whether no note is needed
+-- the claims that are asked of a monitor: where a guard reads inputs, only whether no note is
+-- needed
 abbrev pub IsClaimOf : MonitorParts → Claim → Type 0
 IsClaimOf monitor (claims.Keeps candidate block) =
     Contains (candidates_of monitor) candidate × IsBlockNumber monitor block

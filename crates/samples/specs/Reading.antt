@@ -20,9 +20,10 @@ pub record IsMonitorOf (text : List ℕ) (monitor : MonitorParts) : Type 0 where
   pub typed : IsTyped tree monitor
 
 -- the text is a client file that stands for these clients of the monitor
-pub record AreClientsOf (text : List ℕ) (monitor : MonitorParts) (clients : List Client) : Type 0 where
-  pub tokens : List Token
-  pub tree : ClientsTree
-  pub spelled : Spells text tokens
-  pub derived : DerivesClients text tokens tree
-  pub scripted : IsScripted tree monitor clients
+pub record AreClientsOf (text : List ℕ) (monitor : MonitorParts) (clients : List Client) : Type 0
+  where
+    pub tokens : List Token
+    pub tree : ClientsTree
+    pub spelled : Spells text tokens
+    pub derived : DerivesClients text tokens tree
+    pub scripted : IsScripted tree monitor clients

@@ -12,6 +12,7 @@ one_variable times constant = record {
 -- The form of two terms and a constant.
 abbrev pub pair_of : ℕ → ℤ → ℕ → ℤ → ℤ → Linear
 pair_of place times other other_times constant = record {
-  terms = record { place = place; times = times } ∷ record { place = other; times = other_times } ∷ [];
+  terms =
+      record { place = place; times = times } ∷ record { place = other; times = other_times } ∷ [];
   constant = constant;
 }

@@ -6,9 +6,12 @@ use Rattle.mon_text.specs.FaultText.{unread_text}
 use Rattle.expresso.specs.declared.status.Status.{Status}
 use Rattle.expresso.specs.declared.status.Status.TheVariants as statuses
 use Rattle.mon_command.specs.CommandLine.{Command}
-use Rattle.expresso.specs.Answers.{AcceptsFiles, RejectsFiles, IsDoneText, IsStalledText, IsRefusedText, IsUnfinished, IsUnreadText, IsWorkedOrMemory, IsRefusedOrMemory, IsStoppedOrMemory, IsUnreadOrMemory}
+use Rattle.expresso.specs.Answers.{AcceptsFiles, RejectsFiles, IsDoneText, IsStalledText}
+use Rattle.expresso.specs.Answers.{IsRefusedText, IsUnfinished, IsUnreadText, IsWorkedOrMemory}
+use Rattle.expresso.specs.Answers.{IsRefusedOrMemory, IsStoppedOrMemory, IsUnreadOrMemory}
 
--- A sink was seen `before` a text was written and is seen `now`. All of the text was written and handed on, and no fault rose.
+-- A sink was seen `before` a text was written and is seen `now`. All of the text was written and
+-- handed on, and no fault rose.
 pub record IsHandedOn (before now : SinkSeen) (text : List ℕ) : Type 0 where
   pub written : Appends before.written now.written text
   pub emptied : now.buffered ≡ 0
@@ -22,13 +25,17 @@ pub record IsCutShort (before now : SinkSeen) (text : List ℕ) : Type 0 where
 
 -- the one with the text's status, or the other
 abbrev pub IsWritten : Status → List ℕ → Status → SinkSeen → SinkSeen → Type 0
-IsWritten status text result before now = ((result ≡ status) × IsHandedOn before now text) ⊎ ((result ≡ statuses.WriteFault) × IsCutShort before now text)
+IsWritten status text result before now =
+    ((result ≡ status) × IsHandedOn before now text)
+    ⊎ ((result ≡ statuses.WriteFault) × IsCutShort before now text)
 
--- A file has no bytes for its command: memory ran out and nothing was written, or it couldn't be read and its line was written.
+-- A file has no bytes for its command: memory ran out and nothing was written, or it couldn't be
+-- read and its line was written.
 abbrev pub IsUnread : List ℕ → FilesSeen → FilesSeen → Status → SinkSeen → SinkSeen → Type 0
 IsUnread file files files_now status out out_now =
     ((status ≡ statuses.OutOfMemory) × (out_now ≡ out))
-    ⊎ (Rises files.faults files_now.faults × IsWritten statuses.ReadFault (unread_text file) status out out_now)
+    ⊎ (Rises files.faults files_now.faults
+    × IsWritten statuses.ReadFault (unread_text file) status out out_now)
 
 -- the status of a run
 abbrev pub ended : Bool → Status
@@ -40,20 +47,28 @@ abbrev pub IsCommandText : Command → FilesSeen → FilesSeen → Status → Li
 IsCommandText command files files_now statuses.Done text = IsDoneText files.held command text
 IsCommandText command files files_now statuses.Stalled text = IsStalledText files.held command text
 IsCommandText command files files_now statuses.Refused text = IsRefusedText files.held command text
-IsCommandText command files files_now statuses.ReadFault text = IsUnreadText command text × Rises files.faults files_now.faults
+IsCommandText command files files_now statuses.ReadFault text =
+    IsUnreadText command text × Rises files.faults files_now.faults
 IsCommandText command files files_now status text = ⊥
 
 -- a text was written for the command, or memory ran out and nothing was
 abbrev pub AnswersCommand : Command → FilesSeen → FilesSeen → Status → SinkSeen → SinkSeen → Type 0
 AnswersCommand command files files_now result out out_now =
-    ((status : Status) × (text : List ℕ) × IsCommandText command files files_now status text × IsWritten status text result out out_now)
+    ((status : Status) × (text : List ℕ) × IsCommandText command files files_now status text
+    × IsWritten status text result out out_now)
     ⊎ ((result ≡ statuses.OutOfMemory) × (out_now ≡ out))
 
--- How a command ended, between what was seen of the files and of the sink before it and what is seen now: what was written, and which status
+-- How a command ended, between what was seen of the files and of the sink before it and what is
+-- seen now: what was written, and which status
 -- had to come where nothing failed.
-pub record CommandEnds (command : Command) (files files_now : FilesSeen) (result : Status) (out out_now : SinkSeen) : Type 0 where
+pub record CommandEnds (command : Command) (files files_now : FilesSeen) (result : Status)
+    (out out_now : SinkSeen) : Type 0 where
   pub answer : AnswersCommand command files files_now result out out_now
-  pub accepted : AcceptsFiles files.held command → (Rises files.faults files_now.faults → ⊥) → (Rises out.faults out_now.faults → ⊥) → IsWorkedOrMemory result
-  pub rejected : RejectsFiles files.held command → (Rises files.faults files_now.faults → ⊥) → (Rises out.faults out_now.faults → ⊥) → IsRefusedOrMemory result
-  pub stopped : RejectsFiles files.held command → (Rises out.faults out_now.faults → ⊥) → IsStoppedOrMemory result
-  pub unread : files.faults < files_now.faults → (Rises out.faults out_now.faults → ⊥) → IsUnreadOrMemory result
+  pub accepted : AcceptsFiles files.held command → (Rises files.faults files_now.faults → ⊥)
+      → (Rises out.faults out_now.faults → ⊥) → IsWorkedOrMemory result
+  pub rejected : RejectsFiles files.held command → (Rises files.faults files_now.faults → ⊥)
+      → (Rises out.faults out_now.faults → ⊥) → IsRefusedOrMemory result
+  pub stopped : RejectsFiles files.held command → (Rises out.faults out_now.faults → ⊥)
+      → IsStoppedOrMemory result
+  pub unread : files.faults < files_now.faults → (Rises out.faults out_now.faults → ⊥)
+      → IsUnreadOrMemory result

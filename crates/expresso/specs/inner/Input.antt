@@ -12,18 +12,23 @@ use Rattle.expresso.specs.declared.input.InputFault.TheVariants as faults
 use Rattle.mon_command.specs.CommandLine.{Command, files_of}
 use Rattle.expresso.specs.MonitorFiles.{IsAccepted, IsFirstFault}
 use Rattle.expresso.specs.ClientFiles.{AreAccepted, IsFirstOfClients}
-use Rattle.expresso.specs.Answers.{AcceptsFiles, AcceptsMonitor, AcceptsRun, IsMonitorRefusal, IsRefusedText, IsRunRefusal}
+use Rattle.expresso.specs.Answers.{AcceptsFiles, AcceptsMonitor, AcceptsRun, IsMonitorRefusal}
+use Rattle.expresso.specs.Answers.{IsRefusedText, IsRunRefusal}
 use Rattle.expresso.specs.inner.Ending.{CommandEnds}
 
 -- the command works on the monitor of this file
 pub record WorksOn (command : Command) (file : List ℕ) : Type 0 where
   pub files : files_of command ≡ file ∷ []
-  pub refused : (held : List ℕ → Option (List ℕ)) (text : List ℕ) → IsMonitorRefusal held file text → IsRefusedText held command text
-  pub accepted : (held : List ℕ → Option (List ℕ)) → AcceptsFiles held command → AcceptsMonitor held file
+  pub refused : (held : List ℕ → Option (List ℕ)) (text : List ℕ) → IsMonitorRefusal held file text
+      → IsRefusedText held command text
+  pub accepted : (held : List ℕ → Option (List ℕ)) → AcceptsFiles held command
+      → AcceptsMonitor held file
 
 -- how any command that works on it ended
 abbrev pub CommandsEndOn : List ℕ → FilesSeen → FilesSeen → Status → SinkSeen → SinkSeen → Type 0
-CommandsEndOn file files files_now result out out_now = (command : Command) → WorksOn command file → CommandEnds command files files_now result out out_now
+CommandsEndOn file files files_now result out out_now =
+    (command : Command) → WorksOn command file
+    → CommandEnds command files files_now result out out_now
 
 -- the monitor and the clients that the bytes stand for
 pub record IsInput (monitor_bytes clients_bytes : List ℕ) (input : Input) : Type 0 where
@@ -34,7 +39,9 @@ pub record IsInput (monitor_bytes clients_bytes : List ℕ) (input : Input) : Ty
 -- why there are none, unless memory ran out
 abbrev pub HasInputCause : List ℕ → List ℕ → InputFault → Type 0
 HasInputCause monitor_bytes clients_bytes (faults.Monitor fault) = IsFirstFault monitor_bytes fault
-HasInputCause monitor_bytes clients_bytes (faults.Clients fault) = (tree : MonitorTree) × (monitor : MonitorParts) × IsAccepted monitor_bytes tree monitor × IsFirstOfClients clients_bytes monitor fault
+HasInputCause monitor_bytes clients_bytes (faults.Clients fault) =
+    (tree : MonitorTree) × (monitor : MonitorParts) × IsAccepted monitor_bytes tree monitor
+    × IsFirstOfClients clients_bytes monitor fault
 HasInputCause monitor_bytes clients_bytes faults.OutOfMemory = Unit {0}
 
 -- a fault of the monitor file as one of both
@@ -45,9 +52,13 @@ fault_of_input fault = faults.Monitor fault
 -- the command runs the clients of the second file on the monitor of the first
 pub record RunsFiles (command : Command) (monitor clients : List ℕ) : Type 0 where
   pub files : files_of command ≡ monitor ∷ clients ∷ []
-  pub refused : (held : List ℕ → Option (List ℕ)) (text : List ℕ) → IsRunRefusal held monitor clients text → IsRefusedText held command text
-  pub accepted : (held : List ℕ → Option (List ℕ)) → AcceptsFiles held command → AcceptsRun held monitor clients
+  pub refused : (held : List ℕ → Option (List ℕ)) (text : List ℕ)
+      → IsRunRefusal held monitor clients text → IsRefusedText held command text
+  pub accepted : (held : List ℕ → Option (List ℕ)) → AcceptsFiles held command
+      → AcceptsRun held monitor clients
 
 -- how any command that runs these files ended
 abbrev pub RunsEnd : List ℕ → List ℕ → FilesSeen → FilesSeen → Status → SinkSeen → SinkSeen → Type 0
-RunsEnd monitor clients files files_now result out out_now = (command : Command) → RunsFiles command monitor clients → CommandEnds command files files_now result out out_now
+RunsEnd monitor clients files files_now result out out_now =
+    (command : Command) → RunsFiles command monitor clients
+    → CommandEnds command files files_now result out out_now

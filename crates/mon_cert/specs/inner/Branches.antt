@@ -1,5 +1,6 @@
 -- For private contracts: what is left to refute, as the code keeps it.
-use Rattle.std.specs.Prelude.{◌≡◌, ◌<◌, ℕ, ◌+◌, Bool, true, false, ◌&&◌, List, [], ◌∷◌, map, Option, Some, None}
+use Rattle.std.specs.Prelude.{◌≡◌, ◌<◌, ℕ, ◌+◌, Bool, true, false, ◌&&◌, List, [], ◌∷◌, map, Option}
+use Rattle.std.specs.Prelude.{Some, None}
 use Rattle.std.specs.Borrow.{Bor}
 use Rattle.std.specs.Global.{Vec}
 use Rattle.std.specs.List.{list_all}
@@ -78,7 +79,8 @@ branches_size branches = total (map (λ branch. size_of branch.cert.now) branche
 abbrev pub IsGathered : Branch → Branch → Option (Bor (List Formula)) → Type 0
 IsGathered old new None = branch_refutes old ≡ closes new.literals.items (out-Cert old.cert.now)
 IsGathered old new (Some parts) =
-    branch_refutes old ≡ at_any (map before parts.now) (stack_of new.todo.items) new.literals.items (out-Cert old.cert.now)
+    branch_refutes old ≡ at_any (map before parts.now) (stack_of new.todo.items) new.literals.items
+    (out-Cert old.cert.now)
 
 -- The certificates refute the parts, each put before what is left to do at a branch.
 abbrev pub any_refutes : Branch → List Formula → List Cert → Bool
@@ -102,4 +104,5 @@ Splits branch parts certs old new even = Replaces (any_refutes branch parts cert
 
 -- The branch is the one in which a formula is put before the others.
 abbrev pub PutsFirst : List (Bor Formula) → Formula → List Literal → Cert → Branch → Type 0
-PutsFirst todo first literals cert branch = branch_refutes branch ≡ before first (stack_of todo) literals cert
+PutsFirst todo first literals cert branch =
+    branch_refutes branch ≡ before first (stack_of todo) literals cert

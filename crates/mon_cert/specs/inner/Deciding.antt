@@ -1,7 +1,9 @@
 -- For private contracts: the test that decides whether a certificate refutes a formula.
 use Rattle.std.specs.Prelude.{Bool, true, false, ◌&&◌, List, [], ◌∷◌, ◌++◌, map}
 use Rattle.mon_linear.specs.declared.formula.Formula.{Formula}
-use Rattle.mon_linear.specs.declared.formula.Formula.TheOpen.{Formula-F, Row as RowLayer, Flag as FlagLayer, All as Every, Any as Some_of}
+use Rattle.mon_linear.specs.declared.formula.Formula.TheOpen.{Formula-F, Row as RowLayer}
+use Rattle.mon_linear.specs.declared.formula.Formula.TheOpen.{Flag as FlagLayer, All as Every}
+use Rattle.mon_linear.specs.declared.formula.Formula.TheOpen.{Any as Some_of}
 use Rattle.mon_linear.specs.declared.formula.Formula.TheFolds.{fold-Formula}
 use Rattle.mon_cert.specs.declared.cert.Literal.{Literal}
 use Rattle.mon_cert.specs.declared.cert.Literal.TheVariants.{Row, Flag}

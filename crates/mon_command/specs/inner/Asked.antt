@@ -1,16 +1,20 @@
 -- The command that arguments ask for, computed.
-use Rattle.std.specs.Prelude.{ℕ, ◌&&◌, ◌||◌, ◌==◌, List, [], ◌∷◌, Option, Some, None, Bool, bytes_eq, codes, is_some, cond, length, nat_le, nat_lt, option_and_then, option_map}
+use Rattle.std.specs.Prelude.{ℕ, ◌&&◌, ◌||◌, ◌==◌, List, [], ◌∷◌, Option, Some, None, Bool}
+use Rattle.std.specs.Prelude.{bytes_eq, codes, is_some, cond, length, nat_le, nat_lt}
+use Rattle.std.specs.Prelude.{option_and_then, option_map}
 use Rattle.std.specs.List.{list_all}
 use Rattle.mon_base.specs.Identifiers.{is_digit}
 use Rattle.mon_base.specs.Limits.{MOST_SPURIOUS, WORKERS}
 use Rattle.mon_tokens.specs.Words.{decimal_value}
 use Rattle.mon_command.specs.declared.schedule.Schedule.{Schedule}
 use Rattle.mon_command.specs.declared.schedule.Schedule.TheVariants.{Rounds, Drawn}
-use Rattle.mon_command.specs.CommandLine.{Given, Command, check, turns, compile, simulate, run, stress, GREATEST_UNSIGNED, DEFAULT_WORKERS, MOST_DIGITS}
+use Rattle.mon_command.specs.CommandLine.{Given, Command, check, turns, compile, simulate, run}
+use Rattle.mon_command.specs.CommandLine.{stress, GREATEST_UNSIGNED, DEFAULT_WORKERS, MOST_DIGITS}
 
 -- 1 to `MOST_DIGITS` decimal digits
 abbrev pub is_written : List ℕ → Bool
-is_written word = nat_lt 0 (length word) && (nat_le (length word) MOST_DIGITS && list_all is_digit word)
+is_written word =
+    nat_lt 0 (length word) && (nat_le (length word) MOST_DIGITS && list_all is_digit word)
 
 abbrev pub within : ℕ → ℕ → Option ℕ
 within most number = cond (nat_le number most) (Some number) None
@@ -27,7 +31,8 @@ abbrev pub schedule_if : Option (List ℕ) → Option (List ℕ) → Option Sche
 schedule_if None None = Some Rounds
 schedule_if None (Some word) = None
 schedule_if (Some seed) spurious =
-    option_and_then (λ number. option_map (λ extra. Drawn number extra) (spurious_if spurious)) (number_if GREATEST_UNSIGNED seed)
+    option_and_then (λ number. option_map (λ extra. Drawn number extra) (spurious_if spurious))
+    (number_if GREATEST_UNSIGNED seed)
 
 -- a number of workers is not 0
 abbrev pub some_workers : ℕ → Option ℕ
@@ -43,7 +48,8 @@ has_schedule given = is_some given.seed || is_some given.spurious
 
 abbrev pub stress_if : Given → List ℕ → Option Command
 stress_if given word = cond (has_schedule given) None
-    (option_and_then (λ number. option_map (λ workers. stress number workers) (workers_if given.workers)) (number_if GREATEST_UNSIGNED word))
+    (option_and_then (λ number. option_map (λ workers. stress number workers) (workers_if
+    given.workers)) (number_if GREATEST_UNSIGNED word))
 
 abbrev pub run_if : Given → List ℕ → List ℕ → Option Command
 run_if given monitor clients = cond (has_schedule given) None
@@ -51,7 +57,8 @@ run_if given monitor clients = cond (has_schedule given) None
 
 abbrev pub simulate_if : Given → List ℕ → List ℕ → Option Command
 simulate_if given monitor clients = cond (is_some given.workers) None
-    (option_map (λ schedule. simulate monitor clients schedule) (schedule_if given.seed given.spurious))
+    (option_map (λ schedule. simulate monitor clients schedule)
+    (schedule_if given.seed given.spurious))
 
 -- a command that has no options
 abbrev pub plain_if : Given → Command → Option Command

@@ -1,5 +1,6 @@
 -- For private contracts: how a sum is left out of a chain.
-use Rattle.std.specs.Prelude.{◌≡◌, ℕ, ◌+◌, ◌-◌, nat_lt, if◌then◌else◌, true, List, ◌∷◌, ◌++◌, length, map, Option}
+use Rattle.std.specs.Prelude.{◌≡◌, ℕ, ◌+◌, ◌-◌, nat_lt, if◌then◌else◌, true, List, ◌∷◌, ◌++◌}
+use Rattle.std.specs.Prelude.{length, map, Option}
 use Rattle.mon_linear.specs.Linear.{Linear}
 use Rattle.mon_cert.specs.declared.cert.Combine.{Combine}
 use Rattle.mon_cert.specs.Refutes.{chain_closes, is_nil}
@@ -26,7 +27,8 @@ with_sum number combine later =
 -- What is kept of a chain closes where the chain does, and is lean.
 pub record IsLeanPart (first : ℕ) (combines kept : List Combine) : Type 0 where
   pub same : is_nil combines ≡ is_nil kept
-  pub closes : (rows : List (Option Linear)) → length rows ≡ first → chain_closes combines rows ≡ true → chain_closes kept rows ≡ true
+  pub closes : (rows : List (Option Linear)) → length rows ≡ first
+      → chain_closes combines rows ≡ true → chain_closes kept rows ≡ true
   pub lean : IsLean first kept
 
 -- So far the last sums of the chain were looked at, and some of them are kept.

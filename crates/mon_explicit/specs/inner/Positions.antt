@@ -1,5 +1,7 @@
 -- How the code keeps a configuration.
-use Rattle.std.specs.Prelude.{◌≡◌, ◌==◌, ◌⊎◌, Bool, true, false, not, ◌||◌, if◌then◌else◌, ℕ, ◌+◌, ◌-◌, ◌≤◌, List, [], ◌∷◌, map, sum_by, drop, length, slice_get, Option, Some}
+use Rattle.std.specs.Prelude.{◌≡◌, ◌==◌, ◌⊎◌, Bool, true, false, not, ◌||◌, if◌then◌else◌, ℕ, ◌+◌}
+use Rattle.std.specs.Prelude.{◌-◌, ◌≤◌, List, [], ◌∷◌, map, sum_by, drop, length, slice_get, Option}
+use Rattle.std.specs.Prelude.{Some}
 use Rattle.mon_base.specs.declared.value.Value.{Value}
 use Rattle.mon_monitor.specs.MonitorParts.{MonitorParts}
 use Rattle.mon_implicit.specs.declared.commit.Commit.{Commit}
@@ -27,26 +29,37 @@ phase_of plan (doings.Waiting condition) = Waiting condition
 phase_of plan (doings.Woken condition) = Woken condition
 phase_of plan doings.Inside = Inside
 phase_of plan (doings.Notifying block from) = Notifying (drop from (notes_at plan block))
-phase_of plan (doings.Signalling condition) = Notifying (record { condition = condition; all = false; tested = false } ∷ [])
+phase_of plan (doings.Signalling condition) =
+    Notifying (record { condition = condition; all = false; tested = false } ∷ [])
 phase_of plan doings.Signalled = Notifying []
 
 abbrev pub standing_of : Plan → Position → Standing
 standing_of plan position = record { past = position.past; phase = phase_of plan position.doing }
 
-abbrev pub machine_of : MonitorParts → Plan → List Client → List Value → Option ℕ → List Commit → List Position → Machine
+abbrev pub machine_of : MonitorParts → Plan → List Client → List Value → Option ℕ → List Commit
+    → List Position → Machine
 machine_of monitor plan clients state owner commits positions = record {
   system = record { monitor = monitor; plan = plan; clients = clients };
-  now = record { state = state; owner = owner; commits = commits; standings = map (standing_of plan) positions };
+  now =
+      record {
+        state = state;
+        owner = owner;
+        commits = commits;
+        standings = map (standing_of plan) positions;
+      };
 }
 
 abbrev pub idle_position : Client → Position
 idle_position client = record { past = 0; doing = doings.Idle }
 
 abbrev pub PositionAt : List Position → ℕ → ℕ → Doing → Type 0
-PositionAt positions client past doing = slice_get positions client ≡ Some (record { past = past; doing = doing })
+PositionAt positions client past doing =
+    slice_get positions client ≡ Some (record { past = past; doing = doing })
 
 abbrev pub WantsLockAt : List Position → ℕ → ℕ → Type 0
-WantsLockAt positions client past = PositionAt positions client past doings.Entering ⊎ ((condition : ℕ) × PositionAt positions client past (doings.Woken condition))
+WantsLockAt positions client past =
+    PositionAt positions client past doings.Entering
+    ⊎ ((condition : ℕ) × PositionAt positions client past (doings.Woken condition))
 
 -- ---- room for the commits of the calls that are left
 
@@ -63,11 +76,14 @@ done_in position = position.past + made_of position.doing
 abbrev pub calls_left : List Client → List Position → ℕ
 calls_left [] positions = 0
 calls_left (client ∷ clients) [] = 0
-calls_left (client ∷ clients) (one ∷ positions) = (length client.calls - done_in one) + calls_left clients positions
+calls_left (client ∷ clients) (one ∷ positions) =
+    (length client.calls - done_in one) + calls_left clients positions
 
 -- there is room for a commit of each call, and no more; those that are left find theirs
 abbrev pub HasRoom : List Client → ℕ → ℕ → List Position → Type 0
-HasRoom clients commits capacity positions = (commits + calls_left clients positions ≤ capacity) × (capacity ≡ sum_by (λ client. length client.calls) clients)
+HasRoom clients commits capacity positions =
+    (commits + calls_left clients positions ≤ capacity)
+    × (capacity ≡ sum_by (λ client. length client.calls) clients)
 
 -- ---- notes
 
@@ -81,7 +97,8 @@ fires_in monitor state note = not note.tested || condition_truth monitor state n
 
 -- the note's condition is one that there is, and reads no inputs
 abbrev pub CanTest : MonitorParts → Note → Type 0
-CanTest monitor note = (1 ≤ note.condition) × ReadsNoInputs (slice_get monitor.conditions (note.condition - 1))
+CanTest monitor note =
+    (1 ≤ note.condition) × ReadsNoInputs (slice_get monitor.conditions (note.condition - 1))
 
 -- the client has no note to come
 abbrev pub HasNoNext : Plan → List Position → ℕ → Type 0
@@ -91,7 +108,8 @@ HasNoNext plan positions client = (past : ℕ) (doing : Doing) (note : Note) (mo
 -- so many notes of the client are to come
 abbrev pub HasNotes : Plan → List Position → ℕ → ℕ → Type 0
 HasNotes plan positions client count = (past : ℕ) (doing : Doing) (notes : List Note)
-    → PositionAt positions client past doing → phase_of plan doing ≡ Notifying notes → length notes ≡ count
+    → PositionAt positions client past doing → phase_of plan doing ≡ Notifying notes
+    → length notes ≡ count
 
 -- the client has made its notes
 pub record HasFinished (plan : Plan) (positions : List Position) (client past : ℕ) : Type 0 where
@@ -100,13 +118,15 @@ pub record HasFinished (plan : Plan) (positions : List Position) (client past : 
   pub none : phase_of plan doing ≡ Notifying []
 
 -- the first note to come of a client, and what it does after it; a tested note is one of a block
-pub record IsNext (plan : Plan) (positions : List Position) (client : ℕ) (next : Next) : Type 0 where
-  pub doing : Doing
-  pub more : List Note
-  pub at : PositionAt positions client next.past doing
-  pub first : phase_of plan doing ≡ Notifying (next.note ∷ more)
-  pub then_more : phase_of plan next.rest ≡ Notifying more
-  pub source : next.note.tested ≡ true → (block : ℕ) × (from : ℕ) × (slice_get (notes_at plan block) from ≡ Some next.note)
+pub record IsNext (plan : Plan) (positions : List Position) (client : ℕ) (next : Next) : Type 0
+  where
+    pub doing : Doing
+    pub more : List Note
+    pub at : PositionAt positions client next.past doing
+    pub first : phase_of plan doing ≡ Notifying (next.note ∷ more)
+    pub then_more : phase_of plan next.rest ≡ Notifying more
+    pub source : next.note.tested ≡ true
+        → (block : ℕ) × (from : ℕ) × (slice_get (notes_at plan block) from ≡ Some next.note)
 
 -- it is the note of a block at this place, and the rest begins after it
 pub record IsNoteOf (plan : Plan) (block from calls : ℕ) (next : Next) : Type 0 where
@@ -124,4 +144,6 @@ abbrev pub position_waits : ℕ → Position → Bool
 position_waits condition position = doing_waits condition position.doing
 
 abbrev pub waking_position : ℕ → Position → Position
-waking_position condition position = if position_waits condition position then record { past = position.past; doing = doings.Woken condition } else position
+waking_position condition position =
+    if position_waits condition position
+    then record { past = position.past; doing = doings.Woken condition } else position

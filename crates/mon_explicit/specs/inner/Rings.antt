@@ -1,5 +1,6 @@
 -- Who waits on each condition, in order.
-use Rattle.std.specs.Prelude.{◌≡◌, ◌==◌, ℕ, ◌+◌, ◌<◌, ◌≤◌, Bool, not, if◌then◌else◌, List, [], length, get_or, filter, Contains, AllPairs, slice_set as set}
+use Rattle.std.specs.Prelude.{◌≡◌, ◌==◌, ℕ, ◌+◌, ◌<◌, ◌≤◌, Bool, not, if◌then◌else◌, List, []}
+use Rattle.std.specs.Prelude.{length, get_or, filter, Contains, AllPairs, slice_set as set}
 use Rattle.mon_events.specs.declared.log.Outcome.{Outcome}
 use Rattle.mon_events.specs.Configurations.{System, Standing, StandsAt}
 use Rattle.mon_events.specs.Configurations.Phase.{Waiting}
@@ -15,15 +16,20 @@ is_not client other = not (other == client)
 abbrev pub without : ℕ → List ℕ → List ℕ
 without client line = filter (is_not client) line
 
--- the line lists exactly the clients that wait on the condition, each once, by rising numbers above 0
-pub record IsLine (since : List ℕ) (standings : List Standing) (condition : ℕ) (line : List ℕ) : Type 0 where
-  pub all : (client past : ℕ) → StandsAt standings client past (Waiting condition) → Contains line client
-  pub only : (client : ℕ) → Contains line client → (past : ℕ) × StandsAt standings client past (Waiting condition)
+-- the line lists exactly the clients that wait on the condition, each once, by rising numbers above
+-- 0
+pub record IsLine (since : List ℕ) (standings : List Standing) (condition : ℕ) (line : List ℕ) :
+    Type 0 where
+  pub all : (client past : ℕ) → StandsAt standings client past (Waiting condition)
+      → Contains line client
+  pub only : (client : ℕ) → Contains line client
+      → (past : ℕ) × StandsAt standings client past (Waiting condition)
   pub rising : AllPairs (λ one other. get_or since one 0 < get_or since other 0) line
   pub numbered : (client : ℕ) → Contains line client → 0 < get_or since client 0
 
 -- each condition has its line; the one of 0, which is no condition, is empty
-pub record AreLines (since : List ℕ) (system : System) (standings : List Standing) (rings : List (List ℕ)) : Type 0 where
+pub record AreLines (since : List ℕ) (system : System) (standings : List Standing)
+    (rings : List (List ℕ)) : Type 0 where
   pub one_each : length since ≡ length standings
   pub conditions : length rings ≡ length system.monitor.conditions + 1
   pub each : (condition : ℕ) → IsLine since standings condition (line_of rings condition)
@@ -38,4 +44,6 @@ AreBefore since place = (client : ℕ) → get_or since client 0 ≤ place
 -- the lines after the client's entry at a place that is later than all
 abbrev pub LinesAfter : List ℕ → System → List Standing → ℕ → Outcome → List (List ℕ) → Type 0
 LinesAfter since system standings client outcome rings =
-    (place : ℕ) → AreBefore since place → AreLines (if says_waits outcome then set since client (place + 1) else since) system standings rings
+    (place : ℕ) → AreBefore since place
+    → AreLines (if says_waits outcome then set since client (place + 1)
+    else since) system standings rings

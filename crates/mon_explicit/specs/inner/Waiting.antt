@@ -1,5 +1,7 @@
 -- How the code makes a section, and what it keeps of the log.
-use Rattle.std.specs.Prelude.{◌≡◌, ◌⊎◌, ◌↔◌, ℕ, ◌<◌, ◌≤◌, Bool, true, false, nat_le, nat_lt, List, [], ◌∷◌, ◌++◌, length, get_or, Option, Some, None, slice_get, slice_set as set, IsBitSet, if◌then◌else◌, ◌+◌}
+use Rattle.std.specs.Prelude.{◌≡◌, ◌⊎◌, ◌↔◌, ℕ, ◌<◌, ◌≤◌, Bool, true, false, nat_le, nat_lt, List}
+use Rattle.std.specs.Prelude.{[], ◌∷◌, ◌++◌, length, get_or, Option, Some, None, slice_get}
+use Rattle.std.specs.Prelude.{slice_set as set, IsBitSet, if◌then◌else◌, ◌+◌}
 use Rattle.mon_base.specs.declared.value.Value.{Value}
 use Rattle.mon_implicit.specs.declared.commit.Commit.{Commit}
 use Rattle.mon_implicit.specs.declared.commit.Reply.{Reply}
@@ -35,13 +37,15 @@ pub record IsSettled (c : Configuration) : Type 0 where
 
 abbrev pub CanStart : Machine → ℕ → Type 0
 CanStart machine client =
-    ((past : ℕ) × StandsAt machine.now.standings client past Idle × (past < length (calls_of machine.system.clients client)))
+    ((past : ℕ) × StandsAt machine.now.standings client past Idle
+    × (past < length (calls_of machine.system.clients client)))
     ⊎ ((past : ℕ) × (condition : ℕ) × StandsAt machine.now.standings client past (Woken condition))
 
 -- it begins, or goes on, and takes the lock
 abbrev pub Started : Machine → ℕ → Machine → Type 0
 Started before client next = (next.system ≡ before.system)
-    × ((past : ℕ) × (begun : Configuration) × IsBegun before.system client past before.now begun × Locks client past begun next.now)
+    × ((past : ℕ) × (begun : Configuration) × IsBegun before.system client past before.now begun
+    × Locks client past begun next.now)
 
 abbrev pub NotStarted : Machine → ℕ → Machine → Type 0
 NotStarted before client next = (next ≡ before) × (CanStart before client → ⊥)
@@ -51,7 +55,9 @@ IsInside machine client = (past : ℕ) × StandsAt machine.now.standings client 
 
 -- where it is inside, its guard is false
 abbrev pub CannotRun : Machine → ℕ → Type 0
-CannotRun machine client = (past : ℕ) → StandsAt machine.now.standings client past Inside → guard_of machine.system machine.now.state client past ≡ false
+CannotRun machine client =
+    (past : ℕ) → StandsAt machine.now.standings client past Inside
+    → guard_of machine.system machine.now.state client past ≡ false
 
 abbrev pub CanWait : Machine → ℕ → Type 0
 CanWait machine client = IsInside machine client × CannotRun machine client
@@ -61,67 +67,95 @@ CanWait machine client = IsInside machine client × CannotRun machine client
 -- for each client 0, or one more than the place of its last `waits` entry
 pub record KeepsWaits (log : List Entry) (clients : List Client) (since : List ℕ) : Type 0 where
   pub one_each : length since ≡ length clients
-  pub each : (client place : ℕ) → client < length since → get_or since client 0 ≡ place + 1 → WaitsSince log client place
+  pub each : (client place : ℕ) → client < length since → get_or since client 0 ≡ place + 1
+      → WaitsSince log client place
 
 -- of the clients that wait on the condition this is one, and none has waited longer by what is kept
-pub record IsFirst (since : List ℕ) (standings : List Standing) (condition target : ℕ) : Type 0 where
-  pub past : ℕ
-  pub waits : StandsAt standings target past (Waiting condition)
-  pub within : target < length since
-  pub numbered : 0 < get_or since target 0
-  pub first : (other others_past : ℕ) → StandsAt standings other others_past (Waiting condition) → (other < length since) × (get_or since target 0 ≤ get_or since other 0)
+pub record IsFirst (since : List ℕ) (standings : List Standing) (condition target : ℕ) : Type 0
+  where
+    pub past : ℕ
+    pub waits : StandsAt standings target past (Waiting condition)
+    pub within : target < length since
+    pub numbered : 0 < get_or since target 0
+    pub first : (other others_past : ℕ) → StandsAt standings other others_past (Waiting condition)
+        → (other < length since) × (get_or since target 0 ≤ get_or since other 0)
 
 -- the client waited before, and is woken after
 abbrev pub WasWoken : List Standing → List Standing → ℕ → Type 0
-WasWoken before next client = (past : ℕ) × (condition : ℕ) × StandsAt before client past (Waiting condition) × StandsAt next client past (Woken condition)
+WasWoken before next client =
+    (past : ℕ) × (condition : ℕ) × StandsAt before client past (Waiting condition)
+    × StandsAt next client past (Woken condition)
 
 -- each client rests
 abbrev pub EachRests : Machine → Type 0
-EachRests machine = (client past : ℕ) (phase : Phase) → StandsAt machine.now.standings client past phase → rests machine.system client past phase ≡ true
+EachRests machine =
+    (client past : ℕ) (phase : Phase) → StandsAt machine.now.standings client past phase
+    → rests machine.system client past phase ≡ true
 
 -- the bits of the clients of whom this is true
 abbrev pub AreBits : (ℕ → Type 0) → ℕ → Type 0
 AreBits P bits = (client : ℕ) → IsBitSet bits client ↔ P client
 
--- the clients of these bits were woken, and no others: each client that waited waits on or is woken, no other waits, and who was woken before still is
+-- the clients of these bits were woken, and no others: each client that waited waits on or is
+-- woken, no other waits, and who was woken before still is
 pub record WokeThese (before next : List Standing) (bits : ℕ) : Type 0 where
-  pub waited : (client past condition : ℕ) → StandsAt next client past (Waiting condition) → StandsAt before client past (Waiting condition)
-  pub goes : (client past condition : ℕ) → StandsAt before client past (Waiting condition) → StandsAt next client past (Waiting condition) ⊎ StandsAt next client past (Woken condition)
-  pub stays : (client past condition : ℕ) → StandsAt before client past (Woken condition) → StandsAt next client past (Woken condition)
+  pub waited : (client past condition : ℕ) → StandsAt next client past (Waiting condition)
+      → StandsAt before client past (Waiting condition)
+  pub goes : (client past condition : ℕ) → StandsAt before client past (Waiting condition)
+      → StandsAt next client past (Waiting condition) ⊎ StandsAt next client past (Woken condition)
+  pub stays : (client past condition : ℕ) → StandsAt before client past (Woken condition)
+      → StandsAt next client past (Woken condition)
   pub woken : AreBits (λ client. WasWoken before next client) bits
 
 -- ---- notes
 
 -- a note of the client is to come
 abbrev pub HasNote : Machine → ℕ → Type 0
-HasNote machine client = (past : ℕ) × (note : Note) × (more : List Note) × StandsAt machine.now.standings client past (Notifying (note ∷ more))
+HasNote machine client =
+    (past : ℕ) × (note : Note) × (more : List Note)
+    × StandsAt machine.now.standings client past (Notifying (note ∷ more))
 
 abbrev pub IsNotifying : Machine → ℕ → Type 0
-IsNotifying machine client = (past : ℕ) × (notes : List Note) × StandsAt machine.now.standings client past (Notifying notes)
+IsNotifying machine client =
+    (past : ℕ) × (notes : List Note) × StandsAt machine.now.standings client past (Notifying notes)
 
 abbrev pub CanUnlock : Machine → ℕ → Type 0
 CanUnlock machine client = (past : ℕ) × StandsAt machine.now.standings client past (Notifying [])
 
 -- as many as are to come
 abbrev pub CountsNotes : List Standing → ℕ → ℕ → Type 0
-CountsNotes standings client count = (past : ℕ) (notes : List Note) → StandsAt standings client past (Notifying notes) → length notes ≡ count
+CountsNotes standings client count =
+    (past : ℕ) (notes : List Note) → StandsAt standings client past (Notifying notes)
+    → length notes ≡ count
 
 -- the first note to come of the client is this, and it fires
 abbrev pub IsFired : Machine → ℕ → Note → Type 0
-IsFired machine client note = (past : ℕ) × (more : List Note) × StandsAt machine.now.standings client past (Notifying (note ∷ more)) × (fires machine.system machine.now.state note ≡ true)
+IsFired machine client note =
+    (past : ℕ) × (more : List Note)
+    × StandsAt machine.now.standings client past (Notifying (note ∷ more))
+    × (fires machine.system machine.now.state note ≡ true)
 
 -- the first note to come of the client, if there is one, does not fire
 abbrev pub IsNotFired : Machine → ℕ → Type 0
-IsNotFired machine client = (past : ℕ) (note : Note) (more : List Note) → StandsAt machine.now.standings client past (Notifying (note ∷ more)) → fires machine.system machine.now.state note ≡ false
+IsNotFired machine client =
+    (past : ℕ) (note : Note) (more : List Note)
+    → StandsAt machine.now.standings client past (Notifying (note ∷ more))
+    → fires machine.system machine.now.state note ≡ false
 
--- the first note to come of the client wakes nobody: it does not fire, or no one waits on its condition
+-- the first note to come of the client wakes nobody: it does not fire, or no one waits on its
+-- condition
 abbrev pub Passes : Machine → ℕ → Type 0
-Passes machine client = (past : ℕ) × (note : Note) × (more : List Note) × StandsAt machine.now.standings client past (Notifying (note ∷ more))
-    × ((fires machine.system machine.now.state note ≡ false) ⊎ NoneWaits machine.now.standings note.condition)
+Passes machine client =
+    (past : ℕ) × (note : Note) × (more : List Note)
+    × StandsAt machine.now.standings client past (Notifying (note ∷ more))
+    × ((fires machine.system machine.now.state note ≡ false)
+    ⊎ NoneWaits machine.now.standings note.condition)
 
 -- it names nobody: it doesn't fire, or is a broadcast, or no one waits
 abbrev pub NamesNobody : Machine → Note → Type 0
-NamesNobody machine note = (fires machine.system machine.now.state note ≡ false) ⊎ ((note.all ≡ true) ⊎ NoneWaits machine.now.standings note.condition)
+NamesNobody machine note =
+    (fires machine.system machine.now.state note ≡ false)
+    ⊎ ((note.all ≡ true) ⊎ NoneWaits machine.now.standings note.condition)
 
 -- a signal that fires, and the first that waits
 pub record Names (machine : Machine) (since : List ℕ) (note : Note) (target : ℕ) : Type 0 where
@@ -136,44 +170,63 @@ IsTarget since machine note (Some target) = Names machine since note target
 -- the client that the first note to come names
 abbrev pub Targets : List ℕ → Machine → ℕ → Option ℕ → Type 0
 Targets since machine client target = (past : ℕ) (note : Note) (more : List Note)
-    → StandsAt machine.now.standings client past (Notifying (note ∷ more)) → IsTarget since machine note target
+    → StandsAt machine.now.standings client past (Notifying (note ∷ more))
+    → IsTarget since machine note target
 
 -- a client that is named is the first that waits on its condition
 abbrev pub IsChosenBy : List ℕ → Machine → Option ℕ → Type 0
 IsChosenBy since machine None = Unit {0}
-IsChosenBy since machine (Some target) = (condition : ℕ) × IsFirst since machine.now.standings condition target
+IsChosenBy since machine (Some target) =
+    (condition : ℕ) × IsFirst since machine.now.standings condition target
 
 -- a note of the client was made
 abbrev pub MadeNote : List ℕ → ℕ → Machine → Machine → Type 0
-MadeNote since client before next = (target : Option ℕ) × IsChosenBy since before target × Happened (events.Notify client target) before next
+MadeNote since client before next =
+    (target : Option ℕ) × IsChosenBy since before target
+    × Happened (events.Notify client target) before next
 
 -- all notes of the client were made
 pub record MadeNotes (since : List ℕ) (client : ℕ) (before next : Machine) : Type 0 where
   pub system : next.system ≡ before.system
-  pub done : (past : ℕ) (notes : List Note) → StandsAt before.now.standings client past (Notifying notes) → StandsAt next.now.standings client past (Notifying [])
-  pub notified : (log : List Entry) → KeepsWaits log before.system.clients since → IsNotified before.system log client before.now next.now
+  pub done : (past : ℕ) (notes : List Note)
+      → StandsAt before.now.standings client past (Notifying notes)
+      → StandsAt next.now.standings client past (Notifying [])
+  pub notified : (log : List Entry) → KeepsWaits log before.system.clients since
+      → IsNotified before.system log client before.now next.now
 
 -- so far notes of the client were made: what follows from now on, follows from before
 pub record MadeSome (since : List ℕ) (client : ℕ) (before now : Machine) : Type 0 where
   pub system : now.system ≡ before.system
-  pub so_far : (log : List Entry) (last : Configuration) → KeepsWaits log before.system.clients since → IsNotified before.system log client now.now last → IsNotified before.system log client before.now last
+  pub so_far : (log : List Entry) (last : Configuration)
+      → KeepsWaits log before.system.clients since
+      → IsNotified before.system log client now.now last
+      → IsNotified before.system log client before.now last
 
 -- a note was made, the rings tell who waits after it, and the bits whom it woke
 abbrev pub MadeNoteOf : ℕ → Machine → List (List ℕ) → Machine → List (List ℕ) → ℕ → Type 0
-MadeNoteOf client before rings next next_rings bits = (since : List ℕ) → AreLines since before.system before.now.standings rings
-    → MadeNote since client before next × AreLines since next.system next.now.standings next_rings × WokeThese before.now.standings next.now.standings bits
+MadeNoteOf client before rings next next_rings bits =
+    (since : List ℕ) → AreLines since before.system before.now.standings rings
+    → MadeNote since client before next × AreLines since next.system next.now.standings next_rings
+    × WokeThese before.now.standings next.now.standings bits
 
 -- all notes were made, the rings tell who waits after them, and the bits whom they woke
 abbrev pub MadeNotesOf : ℕ → Machine → List (List ℕ) → Machine → List (List ℕ) → ℕ → Type 0
-MadeNotesOf client before rings next next_rings bits = (since : List ℕ) → AreLines since before.system before.now.standings rings
-    → MadeNotes since client before next × AreLines since next.system next.now.standings next_rings × WokeThese before.now.standings next.now.standings bits
+MadeNotesOf client before rings next next_rings bits =
+    (since : List ℕ) → AreLines since before.system before.now.standings rings
+    → MadeNotes since client before next × AreLines since next.system next.now.standings next_rings
+    × WokeThese before.now.standings next.now.standings bits
 
--- so many of its notes were made, of as many as there are to the end, and they woke the clients of the bits
-pub record AreMaking (client : ℕ) (before : Machine) (rings : List (List ℕ)) (now : Machine) (rings_now : List (List ℕ)) (count end bits : ℕ) : Type 0 where
+-- so many of its notes were made, of as many as there are to the end, and they woke the clients of
+-- the bits
+pub record AreMaking (client : ℕ) (before : Machine) (rings : List (List ℕ)) (now : Machine)
+    (rings_now : List (List ℕ)) (count end bits : ℕ) : Type 0 where
   pub some : (since : List ℕ) → AreLines since before.system before.now.standings rings
-      → MadeSome since client before now × AreLines since now.system now.now.standings rings_now × WokeThese before.now.standings now.now.standings bits
-  pub left : (past : ℕ) (notes : List Note) → StandsAt before.now.standings client past (Notifying notes)
-      → (rest : List Note) × StandsAt now.now.standings client past (Notifying rest) × (length rest + count ≡ end)
+      → MadeSome since client before now × AreLines since now.system now.now.standings rings_now
+      × WokeThese before.now.standings now.now.standings bits
+  pub left : (past : ℕ) (notes : List Note)
+      → StandsAt before.now.standings client past (Notifying notes)
+      → (rest : List Note) × StandsAt now.now.standings client past (Notifying rest)
+      × (length rest + count ≡ end)
 
 -- ---- a section
 
@@ -181,48 +234,62 @@ abbrev pub HasCommit : List Commit → Type 0
 HasCommit commits = (before : List Commit) × (commit : Commit) × (commits ≡ before ++ commit ∷ [])
 
 abbrev pub LastReplies : List Commit → Reply → Type 0
-LastReplies commits reply = (before : List Commit) (commit : Commit) → commits ≡ before ++ commit ∷ [] → reply ≡ commit.reply
+LastReplies commits reply =
+    (before : List Commit) (commit : Commit) → commits ≡ before ++ commit ∷ []
+    → reply ≡ commit.reply
 
 -- a client inside waited
 abbrev pub HasWaited : ℕ → Machine → Machine → Type 0
 HasWaited client before next = Happened (events.Wait client) before next
 
 -- a client inside ran, made its notes, and gave the lock back
-pub record HasReplied (since : List ℕ) (client : ℕ) (before next : Machine) (reply : Reply) : Type 0 where
-  pub system : next.system ≡ before.system
-  pub past : ℕ
-  pub state : List Value
-  pub ran : Configuration
-  pub notified : Configuration
-  pub runs : Runs before.system client past reply state before.now ran
-  pub notes : (log : List Entry) → KeepsWaits log before.system.clients since → IsNotified before.system log client ran notified
-  pub unlocks : Unlocks client past notified next.now
+pub record HasReplied (since : List ℕ) (client : ℕ) (before next : Machine) (reply : Reply) : Type 0
+  where
+    pub system : next.system ≡ before.system
+    pub past : ℕ
+    pub state : List Value
+    pub ran : Configuration
+    pub notified : Configuration
+    pub runs : Runs before.system client past reply state before.now ran
+    pub notes : (log : List Entry) → KeepsWaits log before.system.clients since
+        → IsNotified before.system log client ran notified
+    pub unlocks : Unlocks client past notified next.now
 
--- what came of a client inside; the bits are those of the clients that waited before and are woken after
+-- what came of a client inside; the bits are those of the clients that waited before and are woken
+-- after
 abbrev pub WentOn : List ℕ → ℕ → Machine → Machine → Outcome → Type 0
 WentOn since client before next outcomes.Waits = HasWaited client before next
-WentOn since client before next (outcomes.Replies reply woken) = HasReplied since client before next reply
+WentOn since client before next (outcomes.Replies reply woken) =
+    HasReplied since client before next reply
     × AreBits (λ other. WasWoken before.now.standings next.now.standings other) woken
 WentOn since client before next outcomes.Spurious = ⊥
 
-pub record MakesSection (since : List ℕ) (client : ℕ) (before next : Machine) (entry : Entry) : Type 0 where
+pub record MakesSection (since : List ℕ) (client : ℕ) (before next : Machine) (entry : Entry) : Type
+    0 where
   pub system : next.system ≡ before.system
   pub who : entry.client ≡ client
-  pub made : (log : List Entry) → KeepsWaits log before.system.clients since → IsSection before.system log before.now entry next.now
+  pub made : (log : List Entry) → KeepsWaits log before.system.clients since
+      → IsSection before.system log before.now entry next.now
 
 -- the section was made, and the rings tell who waits after its entry
 abbrev pub MakesSectionOf : ℕ → Machine → List (List ℕ) → Machine → List (List ℕ) → Entry → Type 0
-MakesSectionOf client before rings next next_rings entry = (since : List ℕ) → AreLines since before.system before.now.standings rings
-    → MakesSection since client before next entry × LinesAfter since next.system next.now.standings client entry.outcome next_rings
+MakesSectionOf client before rings next next_rings entry =
+    (since : List ℕ) → AreLines since before.system before.now.standings rings
+    → MakesSection since client before next entry
+    × LinesAfter since next.system next.now.standings client entry.outcome next_rings
 
 -- what came of a client inside, and the rings tell who waits after it
 abbrev pub WentOnOf : ℕ → Machine → List (List ℕ) → Machine → List (List ℕ) → Outcome → Type 0
-WentOnOf client before rings next next_rings outcome = (since : List ℕ) → AreLines since before.system before.now.standings rings
-    → WentOn since client before next outcome × LinesAfter since next.system next.now.standings client outcome next_rings
+WentOnOf client before rings next next_rings outcome =
+    (since : List ℕ) → AreLines since before.system before.now.standings rings
+    → WentOn since client before next outcome
+    × LinesAfter since next.system next.now.standings client outcome next_rings
 
 -- the client waits on this condition, which is one of the monitor's
 abbrev pub WaitsOn : Machine → ℕ → ℕ → Type 0
-WaitsOn machine client condition = ((past : ℕ) × StandsAt machine.now.standings client past (Waiting condition)) × (condition < length machine.system.monitor.conditions + 1)
+WaitsOn machine client condition =
+    ((past : ℕ) × StandsAt machine.now.standings client past (Waiting condition))
+    × (condition < length machine.system.monitor.conditions + 1)
 
 -- ---- the same of positions, of the first so many clients
 
@@ -235,7 +302,9 @@ abbrev pub position_rests : List Client → ℕ → Position → Bool
 position_rests clients client one = doing_rests clients client one.past one.doing
 
 abbrev pub AllRest : List Client → List Position → ℕ → Type 0
-AllRest clients positions count = (client : ℕ) (one : Position) → client < count → slice_get positions client ≡ Some one → position_rests clients client one ≡ true
+AllRest clients positions count =
+    (client : ℕ) (one : Position) → client < count → slice_get positions client ≡ Some one
+    → position_rests clients client one ≡ true
 
 -- ---- the monitor
 
@@ -246,7 +315,8 @@ stage_condition stage = None
 
 -- what is kept of who waits, after an entry at this place
 abbrev pub since_after : List ℕ → Entry → ℕ → List ℕ
-since_after since entry place = if says_waits entry.outcome then set since entry.client (place + 1) else since
+since_after since entry place =
+    if says_waits entry.outcome then set since entry.client (place + 1) else since
 
 -- whether a client at this position can make a section
 abbrev pub doing_starts : List Client → ℕ → ℕ → Doing → Bool
@@ -259,10 +329,14 @@ position_starts clients client one = doing_starts clients client one.past one.do
 
 -- as contracts see it
 abbrev pub free_of : Machine → List Entry → ℕ → FreeMachine
-free_of machine log extra = record { system = machine.system; now = machine.now; log = log; extra = extra }
+free_of machine log extra =
+    record { system = machine.system; now = machine.now; log = log; extra = extra }
 
--- What the code keeps of the log: room for the whole, for each condition the line of the clients that wait on it, by rising place of their last `waits` entries, and how many entries are spurious.
-pub record IsKept (machine : FreeMachine) (capacity : ℕ) (rings : List (List ℕ)) (spurious : ℕ) : Type 0 where
+-- What the code keeps of the log: room for the whole, for each condition the line of the clients
+-- that wait on it, by rising place of their last `waits` entries, and how many entries are
+-- spurious.
+pub record IsKept (machine : FreeMachine) (capacity : ℕ) (rings : List (List ℕ)) (spurious : ℕ) :
+    Type 0 where
   pub always : HoldsAlways machine
   pub settled : NoneEnters machine.now.standings
   pub room : room_of machine ≡ capacity

@@ -12,7 +12,9 @@ use Rattle.mon_forms.specs.declared.fault.TypeFault.{TypeFault}
 use Rattle.mon_forms.specs.declared.scope.Entry.{Entry}
 use Rattle.mon_forms.specs.Faults.{least, earlier_of}
 use Rattle.mon_forms.specs.Forms.{Form, minus, opposite}
-use Rattle.mon_forms.specs.Sense.{AddendSense, FactorSense, at_most, comparison_formula, faults_in, first_in, form_in, formula_in, large_form, less, product_faults, product_form, sense, sum_form, wrong_type}
+use Rattle.mon_forms.specs.Sense.{AddendSense, FactorSense, at_most, comparison_formula, faults_in}
+use Rattle.mon_forms.specs.Sense.{first_in, form_in, formula_in, large_form, less, product_faults}
+use Rattle.mon_forms.specs.Sense.{product_form, sense, sum_form, wrong_type}
 
 -- ---- the later parts of sums and products
 

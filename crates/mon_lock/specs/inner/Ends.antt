@@ -12,7 +12,8 @@ use Rattle.mon_lock.specs.inner.Queueing.{Agrees, IsHistory}
 abbrev pub AgreesWithAll : List Receipt → FreeMachine → List PassView → Type 0
 AgreesWithAll history top passes = All (λ pass. Agrees history top pass.known) passes
 
--- The monitor has come from the start by the sections of a history; what is known is so, and there is a receipt of each section.
+-- The monitor has come from the start by the sections of a history; what is known is so, and there
+-- is a receipt of each section.
 pub record EndsWith (start : FreeMachine) (known : Knowledge) (top : FreeMachine) : Type 0 where
   pub history : List Receipt
   pub limit : ℕ

@@ -13,5 +13,8 @@ use Rattle.mon_lock.specs.inner.Ends.{AgreesWithAll}
 pub record Gathered (me next : Me FreeMachine View) (passes : List PassView) : Type 0 where
   pub idle : IsIdle next
   pub parts : next.0.parts ≡ me.0.parts + length passes
-  pub receipts : (place : ℕ) → times place next.0.known.receipts ≡ times place me.0.known.receipts + times place (receipts_of passes)
-  pub agrees : (history : List Receipt) (top : FreeMachine) → Agrees history top next.0.known → Agrees history top me.0.known × AgreesWithAll history top passes
+  pub receipts : (place : ℕ)
+      → times place next.0.known.receipts
+      ≡ times place me.0.known.receipts + times place (receipts_of passes)
+  pub agrees : (history : List Receipt) (top : FreeMachine) → Agrees history top next.0.known
+      → Agrees history top me.0.known × AgreesWithAll history top passes

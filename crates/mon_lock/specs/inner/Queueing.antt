@@ -1,6 +1,8 @@
 -- The rule of the lock, which holds between any two steps.
--- Word 0 is the next ticket, word 1 the ticket that is served, and word 2 the length of the log. Slot 0 has the monitor.
-use Rattle.std.specs.Prelude.{◌≡◌, ◌⊎◌, ℕ, ◌+◌, ◌-◌, ◌%◌, ◌^◌, ◌<◌, ◌≤◌, nat_lt, List, [], ◌∷◌, ◌++◌, length, map, Bool, true, false, max, if◌then◌else◌, None}
+-- Word 0 is the next ticket, word 1 the ticket that is served, and word 2 the length of the log.
+-- Slot 0 has the monitor.
+use Rattle.std.specs.Prelude.{◌≡◌, ◌⊎◌, ℕ, ◌+◌, ◌-◌, ◌%◌, ◌^◌, ◌<◌, ◌≤◌, nat_lt, List, [], ◌∷◌}
+use Rattle.std.specs.Prelude.{◌++◌, length, map, Bool, true, false, max, if◌then◌else◌, None}
 use Rattle.std.specs.List.{All, Contains}
 use mathlib.Core.Option.{Option, none, some}
 use lib.ListN.{get_elem?}
@@ -38,7 +40,8 @@ abbrev pub queued : Stage → ℕ
 queued Idle = 0
 queued stage = 1
 
--- the tickets of the sections that were counted are below this number while this view holds the lock
+-- the tickets of the sections that were counted are below this number while this view holds the
+-- lock
 abbrev pub limit_of : Stage → ℕ
 limit_of Idle = 0
 limit_of (Waiting ticket) = 0
@@ -52,13 +55,18 @@ total f (one ∷ views) = f one + total f views
 
 -- ---- the sections so far
 
--- Receipts of sections that were made one after the other, from this place on and with no earlier ticket than this; all tickets are below the last number.
+-- Receipts of sections that were made one after the other, from this place on and with no earlier
+-- ticket than this; all tickets are below the last number.
 abbrev pub AreInTurn : ℕ → ℕ → List Receipt → ℕ → Type 0
 AreInTurn place ticket [] last = ticket ≤ last
-AreInTurn place ticket (receipt ∷ receipts) last = (receipt.place ≡ place) × (ticket ≤ receipt.ticket) × AreInTurn (place + 1) (receipt.ticket + 1) receipts last
+AreInTurn place ticket (receipt ∷ receipts) last =
+    (receipt.place ≡ place) × (ticket ≤ receipt.ticket)
+    × AreInTurn (place + 1) (receipt.ticket + 1) receipts last
 
--- The monitor has come from the start by the sections of the history, whose tickets are below the limit.
-pub record IsHistory (start : FreeMachine) (history : List Receipt) (limit : ℕ) (top : FreeMachine) : Type 0 where
+-- The monitor has come from the start by the sections of the history, whose tickets are below the
+-- limit.
+pub record IsHistory (start : FreeMachine) (history : List Receipt) (limit : ℕ)
+    (top : FreeMachine) : Type 0 where
   pub follows : Follows start top
   pub log : top.log ≡ start.log ++ map (λ receipt. receipt.entry) history
   pub in_turn : AreInTurn (length start.log) 0 history limit
@@ -76,7 +84,9 @@ pub record Agrees (history : List Receipt) (top : FreeMachine) (known : Knowledg
 -- the receipt goes before the first of a later place
 abbrev pub put_in : Receipt → List Receipt → List Receipt
 put_in receipt [] = receipt ∷ []
-put_in receipt (other ∷ others) = if nat_lt receipt.place other.place then receipt ∷ other ∷ others else other ∷ put_in receipt others
+put_in receipt (other ∷ others) =
+    if nat_lt receipt.place other.place then receipt ∷ other ∷ others
+    else other ∷ put_in receipt others
 
 -- the receipts of both, in rising places
 abbrev pub merged : List Receipt → List Receipt → List Receipt
@@ -113,7 +123,18 @@ together v w = view v.stage (v.parts + w.parts) (joined v.known w.known)
 -- a monitor of nothing, which stands for the front of a seat that was joined into another
 abbrev pub nothing : FreeMachine
 nothing = record {
-  system = record { monitor = record { name = []; fields = []; methods = []; blocks = []; conditions = [] }; plan = record { kept = []; kinds = []; notes = [] }; clients = [] };
+  system =
+      record {
+        monitor = record {
+          name = [];
+          fields = [];
+          methods = [];
+          blocks = [];
+          conditions = [];
+        };
+        plan = record { kept = []; kinds = []; notes = [] };
+        clients = [];
+      };
   now = record { state = []; owner = None; commits = []; standings = [] };
   log = [];
   extra = 0;
@@ -131,34 +152,44 @@ IsIdle me = (me.0.stage ≡ Idle) × (me.1 ≡ [])
 
 -- ---- the rule
 
--- What a seat knows is so, and its ticket is drawn and not passed; a seat that was joined into another knows nothing.
-pub record Fits (served drawn : ℕ) (history : List Receipt) (top : FreeMachine) (v : View) : Type 0 where
-  pub known : 0 < v.parts → IsKnown v.known × Agrees history top v.known
-  pub joined : v.parts ≡ 0 → v ≡ spent
-  pub ticket : (ticket : ℕ) → ticket_of v.stage ≡ some ticket → (served ≤ ticket) × (ticket < drawn)
+-- What a seat knows is so, and its ticket is drawn and not passed; a seat that was joined into
+-- another knows nothing.
+pub record Fits (served drawn : ℕ) (history : List Receipt) (top : FreeMachine) (v : View) : Type 0
+  where
+    pub known : 0 < v.parts → IsKnown v.known × Agrees history top v.known
+    pub joined : v.parts ≡ 0 → v ≡ spent
+    pub ticket : (ticket : ℕ) → ticket_of v.stage ≡ some ticket
+        → (served ≤ ticket) × (ticket < drawn)
 
 -- no two views have one ticket
 abbrev pub AreApart : List View → Type 0
-AreApart views = (i j : ℕ) (v w : View) (ticket : ℕ) → get_elem? views i ≡ some v → get_elem? views j ≡ some w → ticket_of v.stage ≡ some ticket → ticket_of w.stage ≡ some ticket → i ≡ j
+AreApart views =
+    (i j : ℕ) (v w : View) (ticket : ℕ) → get_elem? views i ≡ some v → get_elem? views j ≡ some w
+    → ticket_of v.stage ≡ some ticket → ticket_of w.stage ≡ some ticket → i ≡ j
 
 -- some view has the ticket
 abbrev pub IsHad : List View → ℕ → Type 0
-IsHad views ticket = (j : ℕ) × (v : View) × (get_elem? views j ≡ some v) × (ticket_of v.stage ≡ some ticket)
+IsHad views ticket =
+    (j : ℕ) × (v : View) × (get_elem? views j ≡ some v) × (ticket_of v.stage ≡ some ticket)
 
--- The tickets that are out are those from the one that is served up to the next, and one view has each.
+-- The tickets that are out are those from the one that is served up to the next, and one view has
+-- each.
 pub record IsQueue (served drawn : ℕ) (views : List View) : Type 0 where
   pub out : served + total (λ v. queued v.stage) views ≡ drawn
   pub apart : AreApart views
   pub had : (ticket : ℕ) → served ≤ ticket → ticket < drawn → IsHad views ticket
 
 -- the monitor is at home, and no view has the turn
-pub record IsFree (served limit : ℕ) (top : FreeMachine) (homes : List (Option FreeMachine)) (views : List View) : Type 0 where
+pub record IsFree (served limit : ℕ) (top : FreeMachine) (homes : List (Option FreeMachine))
+    (views : List View) : Type 0 where
   pub home : homes ≡ some top ∷ []
   pub none_holds : (j : ℕ) (v : View) → get_elem? views j ≡ some v → holds v.stage ≡ false
   pub bound : limit ≤ served
 
--- the monitor is away with the one view that has the turn; it has the ticket that is served, and its front has the log
-pub record IsTaken (served limit : ℕ) (top : FreeMachine) (homes : List (Option FreeMachine)) (views : List View) : Type 0 where
+-- the monitor is away with the one view that has the turn; it has the ticket that is served, and
+-- its front has the log
+pub record IsTaken (served limit : ℕ) (top : FreeMachine) (homes : List (Option FreeMachine))
+    (views : List View) : Type 0 where
   pub away : homes ≡ none ∷ []
   pub holder : ℕ
   pub its_view : View
@@ -181,7 +212,8 @@ pub record Kept (key : Terms) (s : State FreeMachine View) : Type 0 where
   pub few : key.passes < 2 ^ 32
   pub whole : total (λ v. v.parts) s.views ≡ key.passes
   pub made : IsHistory key.start.value history limit top
-  pub receipts : (place : ℕ) → total (λ v. times place v.known.receipts) s.views ≡ times place history
+  pub receipts : (place : ℕ)
+      → total (λ v. times place v.known.receipts) s.views ≡ times place history
   pub each : (j : ℕ) (v : View) → get_elem? s.views j ≡ some v → Fits served drawn history top v
   pub queue : IsQueue served drawn s.views
   pub lock : IsFree served limit top s.homes s.views ⊎ IsTaken served limit top s.homes s.views

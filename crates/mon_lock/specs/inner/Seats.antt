@@ -10,7 +10,8 @@ use Rattle.mon_lock.specs.inner.Queueing.{IsIdle}
 abbrev pub pass_view : Seat FreeMachine View → PassView
 pass_view place = record { lock = place.table_id; known = place.me.0.known }
 
--- the seat has no ticket and one part of the right to close, and the program knows the length that was seen
+-- the seat has no ticket and one part of the right to close, and the program knows the length that
+-- was seen
 pub record IsPass (me : Me FreeMachine View) (seen : ℕ) : Type 0 where
   pub idle : IsIdle me
   pub one_part : me.0.parts ≡ 1

@@ -15,7 +15,8 @@ staged stage v = view stage v.parts v.known
 
 -- the view has a ticket, which the word told
 abbrev pub Drew : Step FreeMachine → Me FreeMachine View → ℕ → Me FreeMachine View → Type 0
-Drew step me found next = (ticket : ℕ) × (found ≡ ticket % 2 ^ 64) × (next ≡ (staged (Waiting ticket) me.0, me.1))
+Drew step me found next =
+    (ticket : ℕ) × (found ≡ ticket % 2 ^ 64) × (next ≡ (staged (Waiting ticket) me.0, me.1))
 
 abbrev pub has_at : ℕ → FreeMachine → View → View
 has_at ticket top v = view (Holding ticket) v.parts (looked v.known top)
@@ -29,24 +30,31 @@ pub record HasTurn (ticket : ℕ) (me next : Me FreeMachine View) : Type 0 where
 
 -- the ticket is served, and the view has the turn; or nothing changed
 abbrev pub Called : Step FreeMachine → Me FreeMachine View → ℕ → Me FreeMachine View → Type 0
-Called step me found next = (ticket : ℕ) → me.0.stage ≡ Waiting ticket → (found ≡ ticket % 2 ^ 64 → HasTurn ticket me next) × (found ≢ ticket % 2 ^ 64 → next ≡ me)
+Called step me found next =
+    (ticket : ℕ) → me.0.stage ≡ Waiting ticket
+    → (found ≡ ticket % 2 ^ 64 → HasTurn ticket me next) × (found ≢ ticket % 2 ^ 64 → next ≡ me)
 
 -- the receipt of a section that added the entry to the view's front
 abbrev pub receipt_at : ℕ → View → Entry → Receipt
-receipt_at ticket v entry = record { place = length v.known.front.log; entry = entry; ticket = ticket }
+receipt_at ticket v entry =
+    record { place = length v.known.front.log; entry = entry; ticket = ticket }
 
 abbrev pub told : ℕ → View → FreeMachine → Entry → View
-told ticket v next entry = view (Leaving ticket) v.parts (receipted v.known next (receipt_at ticket v entry))
+told ticket v next entry =
+    view (Leaving ticket) v.parts (receipted v.known next (receipt_at ticket v entry))
 
 -- the monitor that the view has, with one entry more than its front, is its front now
 abbrev pub Published : Step FreeMachine → Me FreeMachine View → ℕ → Me FreeMachine View → Type 0
-Published step me found next = (ticket : ℕ) (y : FreeMachine) (entry : Entry) → me.0.stage ≡ Holding ticket → me.1 ≡ (0, y) ∷ []
+Published step me found next =
+    (ticket : ℕ) (y : FreeMachine) (entry : Entry) → me.0.stage ≡ Holding ticket
+    → me.1 ≡ (0, y) ∷ []
     → y.log ≡ me.0.known.front.log ++ entry ∷ [] → next ≡ (told ticket me.0 y entry, me.1)
 
 abbrev pub Released : Step FreeMachine → Me FreeMachine View → ℕ → Me FreeMachine View → Type 0
 Released step me found next = next ≡ (staged Idle me.0, [])
 
 -- the log has this length, no less than what was seen
-pub record Observed (step : Step FreeMachine) (me : Me FreeMachine View) (found : ℕ) (next : Me FreeMachine View) : Type 0 where
+pub record Observed (step : Step FreeMachine) (me : Me FreeMachine View) (found : ℕ)
+    (next : Me FreeMachine View) : Type 0 where
   pub now : next ≡ (view me.0.stage me.0.parts (observed me.0.known found), me.1)
   pub seen : me.0.known.seen ≤ found

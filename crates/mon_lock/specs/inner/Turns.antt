@@ -14,7 +14,8 @@ use Rattle.mon_lock.specs.inner.Steps.{HasTurn, staged}
 
 -- the seat has the ticket that the program knows modulo 2^64
 abbrev pub IsWaiting : ℕ → Me FreeMachine View → Me FreeMachine View → Type 0
-IsWaiting number me next = (ticket : ℕ) × (number ≡ ticket % 2 ^ 64) × (next ≡ (staged (Waiting ticket) me.0, me.1))
+IsWaiting number me next =
+    (ticket : ℕ) × (number ≡ ticket % 2 ^ 64) × (next ≡ (staged (Waiting ticket) me.0, me.1))
 
 -- the ticket is served, and the seat has the turn
 abbrev pub TurnIsHere : ℕ → Me FreeMachine View → Me FreeMachine View → Type 0
@@ -31,19 +32,26 @@ HasMonitor me = (holds me.0.stage ≡ true) × (me.1 ≡ (0, me.0.known.front) �
 
 -- the seat has the turn by this ticket and has made no section yet
 abbrev pub IsHolding : ℕ → Me FreeMachine View → Type 0
-IsHolding number me = (ticket : ℕ) × (number ≡ ticket % 2 ^ 64) × (me.0.stage ≡ Holding ticket) × (me.1 ≡ (0, me.0.known.front) ∷ [])
+IsHolding number me =
+    (ticket : ℕ) × (number ≡ ticket % 2 ^ 64) × (me.0.stage ≡ Holding ticket)
+    × (me.1 ≡ (0, me.0.known.front) ∷ [])
 
 -- it is made, and gives a receipt
 pub record MakesOne (client : ℕ) (before after : Knowledge) (told : Receipt) : Type 0 where
   pub next : FreeMachine
   pub receipt : Receipt
-  pub made : MadeSection client before.front next (record { place = receipt.place; entry = receipt.entry })
+  pub made : MadeSection client before.front next (record {
+    place = receipt.place;
+    entry = receipt.entry;
+  })
   pub known : after ≡ receipted before next receipt
   pub told_is : IsReceipt told receipt
 
 -- a section of the client on the monitor that the seat has: its front
 abbrev pub MakesShared : ℕ → Knowledge → Knowledge → Result Receipt NotReady → Type 0
-MakesShared client before after result = MatchResult result (λ told. MakesOne client before after told) (λ fault. NotMade client before.front before.front fault × (after ≡ before))
+MakesShared client before after result =
+    MatchResult result (λ told. MakesOne client before after told)
+    (λ fault. NotMade client before.front before.front fault × (after ≡ before))
 
 -- a section was made on the monitor that the seat has, and isn't counted yet
 pub record IsMade (client : ℕ) (me next : Me FreeMachine View) (section : Section) : Type 0 where

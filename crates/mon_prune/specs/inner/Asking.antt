@@ -23,11 +23,13 @@ pub record AreAskable (hyps : List Candidate) : Type 0 where
 -- ---- of one block
 
 -- the query may not stay open
-pub record IsEasyAt (monitor : MonitorParts) (hyps : List Candidate) (candidate : Candidate) (block : ℕ) : Type 0 where
+pub record IsEasyAt (monitor : MonitorParts) (hyps : List Candidate) (candidate : Candidate)
+    (block : ℕ) : Type 0 where
   pub closed : MayStayOpen monitor (keeps_query monitor hyps candidate block) → ⊥
 
 -- the proof that the block keeps the candidate under the others
-pub record IsProofAt (monitor : MonitorParts) (hyps : List Candidate) (candidate : Candidate) (block : ℕ) (proof : Kept) : Type 0 where
+pub record IsProofAt (monitor : MonitorParts) (hyps : List Candidate) (candidate : Candidate)
+    (block : ℕ) (proof : Kept) : Type 0 where
   pub claim : claim_of proof ≡ claims.Keeps candidate block
   pub proves : Proves monitor hyps proof
   pub keeps : Keeps monitor hyps candidate block
@@ -41,7 +43,8 @@ IsFoundAt monitor hyps candidate block None =
 -- ---- of each block
 
 -- the proofs of the first blocks
-pub record AreProofsBelow (monitor : MonitorParts) (hyps : List Candidate) (candidate : Candidate) (count : ℕ) (proofs : List Kept) : Type 0 where
+pub record AreProofsBelow (monitor : MonitorParts) (hyps : List Candidate) (candidate : Candidate)
+    (count : ℕ) (proofs : List Kept) : Type 0 where
   pub claims : map claim_of proofs ≡ map (claims.Keeps candidate) (range_with_len 0 count)
   pub each : All (Proves monitor hyps) proofs
   pub keep : (block : ℕ) → block < count → Keeps monitor hyps candidate block
@@ -52,7 +55,8 @@ AllKeep monitor hyps candidate =
     (block : ℕ) → block < length monitor.blocks → Keeps monitor hyps candidate block
 
 -- each block keeps the candidate, and its query may not stay open
-pub record MustStay (monitor : MonitorParts) (hyps : List Candidate) (candidate : Candidate) : Type 0 where
+pub record MustStay (monitor : MonitorParts) (hyps : List Candidate) (candidate : Candidate) : Type
+    0 where
   pub keep : AllKeep monitor hyps candidate
   pub easy : (block : ℕ) → block < length monitor.blocks → IsEasyAt monitor hyps candidate block
 

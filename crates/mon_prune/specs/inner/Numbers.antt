@@ -1,5 +1,6 @@
 -- The numbers with which a field is compared, as the code gathers them.
-use Rattle.std.specs.Prelude.{ℕ, ℤ, neg_ℤ, not, ◌&&◌, nat_lt, List, [], ◌∷◌, ◌++◌, length, if◌then◌else◌}
+use Rattle.std.specs.Prelude.{ℕ, ℤ, neg_ℤ, not, ◌&&◌, nat_lt, List, [], ◌∷◌, ◌++◌, length}
+use Rattle.std.specs.Prelude.{if◌then◌else◌}
 use Rattle.std.specs.List.{flat_map, list_any}
 use Rattle.std.specs.Ordering.{int_eq}
 use Rattle.mon_linear.specs.declared.form.Term.{Term}

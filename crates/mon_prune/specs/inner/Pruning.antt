@@ -10,7 +10,8 @@ use Rattle.mon_prune.specs.Invariants.{AreProofs, ContainsEasy}
 use Rattle.mon_prune.specs.inner.Asking.{AllKeep, MustStay}
 
 -- what a round has kept of the candidates before, under these, with its proofs
-pub record IsRoundOf (monitor : MonitorParts) (hyps before kept : List Candidate) (proofs : List Kept) : Type 0 where
+pub record IsRoundOf (monitor : MonitorParts) (hyps before kept : List Candidate)
+    (proofs : List Kept) : Type 0 where
   pub candidates : AreSomeOf kept before
   pub proven : AreProofs monitor hyps kept proofs
   pub keep : All (AllKeep monitor hyps) kept

@@ -7,7 +7,12 @@ use Rattle.mon_queue.specs.Tickets.{QueuePassView, tickets_of}
 
 -- a hand at a queue, as a pass
 abbrev pub pass_of : TableId → Hand → QueuePassView
-pass_of id hand = record { queue = record { id = id; clients = hand.clients; passes = hand.passes }; tickets = hand.tickets; empties = hand.empties }
+pass_of id hand =
+    record {
+      queue = record { id = id; clients = hand.clients; passes = hand.passes };
+      tickets = hand.tickets;
+      empties = hand.empties;
+    }
 
 abbrev pub pass_view : Pass ℕ Hand → QueuePassView
 pass_view place = pass_of place.table_id (view place)
@@ -17,4 +22,6 @@ pub record Gathered (before after : Hand) (passes : List QueuePassView) : Type 0
   pub clients : after.clients ≡ before.clients
   pub passes_same : after.passes ≡ before.passes
   pub parts : after.parts ≡ before.parts + length passes
-  pub tickets : (weight : ℕ → ℕ) → sum_by weight after.tickets ≡ sum_by weight before.tickets + sum_by weight (tickets_of passes)
+  pub tickets : (weight : ℕ → ℕ)
+      → sum_by weight after.tickets
+      ≡ sum_by weight before.tickets + sum_by weight (tickets_of passes)

@@ -19,16 +19,30 @@ found_empty hand = record hand { empties = hand.empties + 1 }
 
 -- every part and every ticket
 abbrev pub begun : ℕ → ℕ → Hand
-begun clients passes = record { clients = clients; passes = passes; parts = passes; tickets = range_with_len 0 clients; empties = 0 }
+begun clients passes =
+    record {
+      clients = clients;
+      passes = passes;
+      parts = passes;
+      tickets = range_with_len 0 clients;
+      empties = 0;
+    }
 
 abbrev pub one_less : Hand → Hand
 one_less hand = record hand { parts = hand.parts - 1 }
 
 abbrev pub one_part : Hand → Hand
-one_part hand = record { clients = hand.clients; passes = hand.passes; parts = 1; tickets = []; empties = 0 }
+one_part hand =
+    record { clients = hand.clients; passes = hand.passes; parts = 1; tickets = []; empties = 0 }
 
 abbrev pub together : Hand → Hand → Hand
-together hand other = record hand { parts = hand.parts + other.parts; tickets = hand.tickets ++ other.tickets; empties = hand.empties + other.empties }
+together hand other =
+    record hand {
+      parts = hand.parts + other.parts;
+      tickets = hand.tickets
+          ++ other.tickets;
+      empties = hand.empties + other.empties;
+    }
 
 -- ---- what the steps tell
 
@@ -55,4 +69,6 @@ Fit hand queued = length queued + length hand.tickets ≤ hand.clients
 
 -- what the queue and this hand have is all that there is
 abbrev pub AreAll : Hand → List ℕ → Type 0
-AreAll hand queued = (weight : ℕ → ℕ) → sum_by weight queued + sum_by weight hand.tickets ≡ sum_by weight (range_with_len 0 hand.clients)
+AreAll hand queued =
+    (weight : ℕ → ℕ) → sum_by weight queued + sum_by weight hand.tickets ≡ sum_by weight
+    (range_with_len 0 hand.clients)

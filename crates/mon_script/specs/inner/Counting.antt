@@ -9,7 +9,8 @@ use Rattle.mon_script.specs.Faults.{place_of}
 abbrev pub ABOVE : ℕ
 ABOVE = CALLS + 1
 
--- how many calls there are with these items after so many before, or where the first item stands with which they are above the limit
+-- how many calls there are with these items after so many before, or where the first item stands
+-- with which they are above the limit
 abbrev pub counted : ℕ → List Item → Result ℕ ℕ
 counted before [] = Ok before
 counted before (item ∷ more) =

@@ -4,13 +4,15 @@ use Rattle.mon_explicit.specs.Sections.{FreeMachine, is_ready, spurious_in}
 use Rattle.mon_simulate.specs.declared.draws.Draws.{Draws}
 use Rattle.mon_simulate.specs.declared.picking.Who.{Who}
 use Rattle.mon_simulate.specs.declared.picking.Who.TheVariants as who
-use Rattle.mon_simulate.specs.Schedules.{Drawing, Extends, IsByRounds, IsDrawnFrom, clients_who, is_waiting}
+use Rattle.mon_simulate.specs.Schedules.{Drawing, Extends, IsByRounds, IsDrawnFrom, clients_who}
+use Rattle.mon_simulate.specs.Schedules.{is_waiting}
 
 -- ---- by rounds
 
 -- no client of a range can make a section
 abbrev pub NoneReady : FreeMachine → ℕ → ℕ → Type 0
-NoneReady machine from to = (client : ℕ) → from ≤ client → client < to → is_ready machine client ≡ false
+NoneReady machine from to =
+    (client : ℕ) → from ≤ client → client < to → is_ready machine client ≡ false
 
 -- the first client of a range that can
 pub record IsFirstReady (machine : FreeMachine) (from to client : ℕ) : Type 0 where
@@ -41,6 +43,7 @@ abbrev pub drawing : FreeMachine → Draws → Drawing
 drawing machine draws = record { machine = machine; generator = draws.generator; left = draws.left }
 
 pub record DrawnSoFar (before : Drawing) (machine : FreeMachine) (draws : Draws) : Type 0 where
-  pub follows : (last : FreeMachine) → IsDrawnFrom (drawing machine draws) last → IsDrawnFrom before last
+  pub follows : (last : FreeMachine) → IsDrawnFrom (drawing machine draws) last
+      → IsDrawnFrom before last
   pub extends : Extends before.machine machine
   pub spurious : spurious_in machine.log + draws.left ≡ spurious_in before.machine.log + before.left

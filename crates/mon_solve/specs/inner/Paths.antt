@@ -1,6 +1,8 @@
 -- For private contracts: longest paths in the graph of difference rows, and its cycles.
 use Rattle.std.specs.Global.{Global}
-use Rattle.std.specs.Prelude.{Vec, ◌≡◌, ℕ, ◌+◌, ◌-◌, ◌<◌, ◌≤◌, ◌^◌, ℤ, pos, negsuc, ◌+ℤ◌, ◌-ℤ◌, ◌≤ℤ◌, ◌<ℤ◌, ◌==◌, Bool, if◌then◌else◌, List, [], ◌∷◌, length, map, Option, Some, None}
+use Rattle.std.specs.Prelude.{Vec, ◌≡◌, ℕ, ◌+◌, ◌-◌, ◌<◌, ◌≤◌, ◌^◌, ℤ, pos, negsuc, ◌+ℤ◌, ◌-ℤ◌}
+use Rattle.std.specs.Prelude.{◌≤ℤ◌, ◌<ℤ◌, ◌==◌, Bool, if◌then◌else◌, List, [], ◌∷◌, length, map}
+use Rattle.std.specs.Prelude.{Option, Some, None}
 use Rattle.std.specs.List.{AllByRecursion as Each}
 use Rattle.mon_linear.specs.LightCubes.{IsWithin}
 use Rattle.mon_solve.specs.inner.Different.{Among, Different}
@@ -18,7 +20,8 @@ is_of vertex one = one.vertex == vertex
 -- What the vertex's entry says.
 abbrev pub found_at : {X : Type 0} → (Reached → X) → X → List Reached → ℕ → X
 found_at says default [] vertex = default
-found_at says default (first ∷ reached) vertex = if first.vertex == vertex then says first else found_at says default reached vertex
+found_at says default (first ∷ reached) vertex =
+    if first.vertex == vertex then says first else found_at says default reached vertex
 
 -- How high a vertex stands: as much as the path to it weighs, or 0.
 abbrev pub height_at : List Reached → ℕ → ℤ
@@ -31,7 +34,8 @@ path_at reached vertex = found_at (λ one. one.path.items) [] reached vertex
 -- The entries once the new one stands for that of its vertex, or at the end.
 abbrev pub with_reached : List Reached → Reached → List Reached
 with_reached [] new = new ∷ []
-with_reached (first ∷ reached) new = if first.vertex == new.vertex then (new ∷ reached) else (first ∷ with_reached reached new)
+with_reached (first ∷ reached) new =
+    if first.vertex == new.vertex then (new ∷ reached) else (first ∷ with_reached reached new)
 
 -- ---- edges and paths
 
@@ -59,7 +63,8 @@ weight_of (edge ∷ path) = edge.weight +ℤ weight_of path
 -- The path of edges, the last first, leads to one vertex from the other.
 abbrev pub Leads : List Edge → ℕ → List Edge → ℕ → Type 0
 Leads edges to [] from = to ≡ from
-Leads edges to (edge ∷ path) from = ((edge.to ≡ to) × Among edge edges) × Leads edges edge.from path from
+Leads edges to (edge ∷ path) from =
+    ((edge.to ≡ to) × Among edge edges) × Leads edges edge.from path from
 
 -- A closed path of positive weight.
 pub record IsCycle (edges cycle : List Edge) : Type 0 where
@@ -70,7 +75,8 @@ pub record IsCycle (edges cycle : List Edge) : Type 0 where
   pub positive : pos 0 <ℤ weight_of cycle
 
 -- The last edge of a path to a vertex, at which the path has this weight.
-pub record IsLast (edges : List Edge) (height : ℕ → ℤ) (vertex : ℕ) (weight : ℤ) (edge : Edge) : Type 0 where
+pub record IsLast (edges : List Edge) (height : ℕ
+    → ℤ) (vertex : ℕ) (weight : ℤ) (edge : Edge) : Type 0 where
   pub among : Among edge edges
   pub leads : edge.to ≡ vertex
   pub below : weight ≤ℤ height vertex
@@ -78,12 +84,15 @@ pub record IsLast (edges : List Edge) (height : ℕ → ℤ) (vertex : ℕ) (wei
 -- The path has this weight, and at no vertex more than the height there.
 abbrev pub IsPath : List Edge → (ℕ → ℤ) → ℕ → ℤ → List Edge → Type 0
 IsPath edges height vertex weight [] = (weight ≡ pos 0) × (weight ≤ℤ height vertex)
-IsPath edges height vertex weight (edge ∷ path) = IsLast edges height vertex weight edge × IsPath edges height edge.from (weight -ℤ edge.weight) path
+IsPath edges height vertex weight (edge ∷ path) =
+    IsLast edges height vertex weight edge
+    × IsPath edges height edge.from (weight -ℤ edge.weight) path
 
 -- Each vertex stands as high as the path to it weighs, and no path comes to a vertex twice.
 pub record IsReached (edges : List Edge) (reached : List Reached) : Type 0 where
   pub high : (vertex : ℕ) → pos 0 ≤ℤ height_at reached vertex
-  pub path : (vertex : ℕ) → IsPath edges (height_at reached) vertex (height_at reached vertex) (path_at reached vertex)
+  pub path : (vertex : ℕ) → IsPath edges (height_at reached) vertex (height_at reached vertex)
+      (path_at reached vertex)
   pub different : (vertex : ℕ) → Different (vertex ∷ starts (path_at reached vertex))
 
 -- ---- what relaxing does

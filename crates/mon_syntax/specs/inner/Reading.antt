@@ -1,5 +1,8 @@
--- Reading from left to right, with how many words are left at the first that does not fit. The laws with the grammar are in proofs/.
-use Rattle.std.specs.Prelude.{◌≡◌, ℕ, zero, suc, Bool, true, false, ◌||◌, ◌-◌, List, [], ◌∷◌, length, drop, All, Option, Some, None, Result, Ok, Err, ◌==◌, if◌then◌else◌}
+-- Reading from left to right, with how many words are left at the first that does not fit. The laws
+-- with the grammar are in proofs/.
+use Rattle.std.specs.Prelude.{◌≡◌, ℕ, zero, suc, Bool, true, false, ◌||◌, ◌-◌, List, [], ◌∷◌}
+use Rattle.std.specs.Prelude.{length, drop, All, Option, Some, None, Result, Ok, Err, ◌==◌}
+use Rattle.std.specs.Prelude.{if◌then◌else◌}
 use Rattle.mon_base.specs.Limits.{LEVELS}
 use Rattle.mon_tokens.specs.declared.token.TokenKind.{TokenKind}
 use Rattle.mon_tokens.specs.declared.token.TokenKind.TheVariants as kinds
@@ -60,7 +63,8 @@ first_offset bytes (token ∷ rest) = token.at
 
 -- the fault that a stop becomes: it stands where so many tokens are left
 abbrev pub IsFaultOf : List ℕ → List Token → Stop → SyntaxFault → Type 0
-IsFaultOf bytes tokens (stops.Before left) fault = fault ≡ faults.At (first_offset bytes (drop (length tokens - left) tokens))
+IsFaultOf bytes tokens (stops.Before left) fault =
+    fault ≡ faults.At (first_offset bytes (drop (length tokens - left) tokens))
 IsFaultOf bytes tokens stops.OutOfMemory fault = fault ≡ faults.OutOfMemory
 
 unfoldable pub AreTokens : List ℕ → List Token → Type 0
@@ -119,7 +123,8 @@ Read A = Result (A × List Word) ℕ
 
 -- the one, and then the other
 infixr 20 ◌⊗◌
-abbrev pub ◌⊗◌ : {A B : Type 0} → (List Word → Read A) → (List Word → Read B) → List Word → Read (A × B)
+abbrev pub ◌⊗◌ : {A B : Type 0} → (List Word → Read A) → (List Word → Read B) → List Word
+    → Read (A × B)
 (first ⊗ second) ws = first ws >>= λ a. second a.1 >>= λ b. Ok ((a.0, b.0), b.1)
 
 -- what is made of what was read
@@ -127,7 +132,8 @@ abbrev pub made_at : {A B : Type 0} → (A → B) → (List Word → Read A) →
 made_at make read ws = read ws >>= λ a. Ok (make a.0, a.1)
 
 -- the one where it begins so, and the other elsewhere
-abbrev pub choice_at : {A : Type 0} → (List Word → Bool) → (List Word → Read A) → (List Word → Read A) → List Word → Read A
+abbrev pub choice_at : {A : Type 0} → (List Word → Bool) → (List Word → Read A)
+    → (List Word → Read A) → List Word → Read A
 choice_at starts first second ws = if starts ws then first ws else second ws
 
 -- no words
@@ -135,14 +141,16 @@ abbrev pub pure_at : {A : Type 0} → A → List Word → Read A
 pure_at tree ws = Ok (tree, ws)
 
 -- item after item, while another one begins; fuel is at least the number of words
-unfoldable pub many_at : {A : Type 0} → (List Word → Bool) → (List Word → Read A) → ℕ → List Word → Read (List A)
+unfoldable pub many_at : {A : Type 0} → (List Word → Bool) → (List Word → Read A) → ℕ → List Word
+    → Read (List A)
 many_at starts item zero ws = Ok ([], ws)
 many_at starts item (suc fuel) ws = if starts ws then (do
   first ← item ws
   others ← many_at starts item fuel first.1
   Ok (first.0 ∷ others.0, others.1)) else Ok ([], ws)
 
-abbrev pub each_at : {A : Type 0} → (List Word → Bool) → (List Word → Read A) → List Word → Read (List A)
+abbrev pub each_at : {A : Type 0} → (List Word → Bool) → (List Word → Read A) → List Word
+    → Read (List A)
 each_at starts item ws = many_at starts item (length ws) ws
 
 -- all of the words
@@ -155,7 +163,8 @@ whole read = do
 
 unfoldable pub placed_at : TokenKind → List Word → Read ℕ
 placed_at kind [] = Err 0
-placed_at kind (mark k at ∷ rest) = if is_kind k kind then Ok (at, rest) else Err (suc (length rest))
+placed_at kind (mark k at ∷ rest) =
+    if is_kind k kind then Ok (at, rest) else Err (suc (length rest))
 placed_at kind (ident name at ∷ rest) = Err (suc (length rest))
 placed_at kind (numeral value at ∷ rest) = Err (suc (length rest))
 
@@ -181,8 +190,10 @@ numeral_at (numeral value at ∷ rest) = Ok (record { at = at; value = value }, 
 abbrev pub body_of : {A : Type 0} → Unit {0} × (List A × Unit {0}) → List A
 body_of (left, (body, right)) = body
 
-abbrev pub braces_at : {A : Type 0} → (List Word → Bool) → (List Word → Read A) → List Word → Read (List A)
-braces_at starts item = made_at body_of (mark_at kinds.OpenBrace ⊗ each_at starts item ⊗ mark_at kinds.CloseBrace)
+abbrev pub braces_at : {A : Type 0} → (List Word → Bool) → (List Word → Read A) → List Word
+    → Read (List A)
+braces_at starts item =
+    made_at body_of (mark_at kinds.OpenBrace ⊗ each_at starts item ⊗ mark_at kinds.CloseBrace)
 
 -- what a table says of the keyword or sign that comes next
 abbrev pub found_or : {A : Type 0} → Option A → List Word → ℕ → Read A
@@ -253,7 +264,8 @@ unfoldable pub begins_item : List Word → Bool
 begins_item ws = begins_ident ws || begins kinds.KeyRepeat ws
 
 unfoldable pub begins_declaration : List Word → Bool
-begins_declaration ws = begins kinds.KeyConst ws || (begins kinds.KeyInt ws || begins kinds.KeyBool ws)
+begins_declaration ws =
+    begins kinds.KeyConst ws || (begins kinds.KeyInt ws || begins kinds.KeyBool ws)
 
 -- ---- expressions, over the reader of a unary expression
 
@@ -288,7 +300,9 @@ abbrev pub comparison_of : Expr × Option (Op × Expr) → Expr
 comparison_of (left, rest) = comparison left rest
 
 unfoldable pub compared_at : (List Word → Read Expr) → List Word → Read (Option (Op × Expr))
-compared_at unary = choice_at (begins_listed op_of) (made_at (λ compared. Some compared) (listed_at op_of ⊗ sum_at unary)) (pure_at None)
+compared_at unary =
+    choice_at (begins_listed op_of)
+    (made_at (λ compared. Some compared) (listed_at op_of ⊗ sum_at unary)) (pure_at None)
 
 unfoldable pub comparison_at : (List Word → Read Expr) → List Word → Read Expr
 comparison_at unary = made_at comparison_of (sum_at unary ⊗ compared_at unary)
@@ -348,11 +362,15 @@ unfoldable pub not_unary_at : (List Word → Read Expr) → List Word → Read E
 not_unary_at unary = made_at not_of_unary (placed_at kinds.Not ⊗ unary)
 
 unfoldable pub group_at : (List Word → Read Expr) → List Word → Read Expr
-group_at unary = made_at inner_of (mark_at kinds.OpenParen ⊗ disjunction_at unary ⊗ mark_at kinds.CloseParen)
+group_at unary =
+    made_at inner_of (mark_at kinds.OpenParen ⊗ disjunction_at unary ⊗ mark_at kinds.CloseParen)
 
 -- with a level left for what is opened
 unfoldable pub opened_at : (List Word → Read Expr) → List Word → Read Expr
-opened_at unary = choice_at (begins kinds.Minus) (minus_unary_at unary) (choice_at (begins kinds.Not) (not_unary_at unary) (choice_at (begins kinds.OpenParen) (group_at unary) atom_at))
+opened_at unary =
+    choice_at (begins kinds.Minus) (minus_unary_at unary)
+    (choice_at (begins kinds.Not) (not_unary_at unary)
+    (choice_at (begins kinds.OpenParen) (group_at unary) atom_at))
 
 unfoldable pub unary_at : ℕ → List Word → Read Expr
 unary_at zero = atom_at
@@ -370,7 +388,8 @@ expression_at levels = disjunction_at (unary_at levels)
 
 -- "(" expression ")"
 unfoldable pub condition_at : ℕ → List Word → Read Expr
-condition_at levels = made_at inner_of (mark_at kinds.OpenParen ⊗ expression_at levels ⊗ mark_at kinds.CloseParen)
+condition_at levels =
+    made_at inner_of (mark_at kinds.OpenParen ⊗ expression_at levels ⊗ mark_at kinds.CloseParen)
 
 unfoldable pub block_at : (List Word → Read StmtTree) → List Word → Read (List StmtTree)
 block_at statement = braces_at begins_statement statement
@@ -379,32 +398,40 @@ abbrev pub else_of : Unit {0} × List StmtTree → List StmtTree
 else_of (word, body) = body
 
 unfoldable pub else_at : (List Word → Read StmtTree) → List Word → Read (List StmtTree)
-else_at statement = choice_at (begins kinds.KeyElse) (made_at else_of (mark_at kinds.KeyElse ⊗ block_at statement)) (pure_at [])
+else_at statement =
+    choice_at (begins kinds.KeyElse) (made_at else_of (mark_at kinds.KeyElse ⊗ block_at statement))
+    (pure_at [])
 
 abbrev pub set_of : PlacedName × (Unit {0} × (Expr × Unit {0})) → StmtTree
 set_of (name, (assign, (value, semicolon))) = statements.Set name.at name.name value
 
 unfoldable pub set_at : ℕ → List Word → Read StmtTree
-set_at levels = made_at set_of (ident_at ⊗ mark_at kinds.Assign ⊗ expression_at levels ⊗ mark_at kinds.Semicolon)
+set_at levels =
+    made_at set_of (ident_at ⊗ mark_at kinds.Assign ⊗ expression_at levels ⊗ mark_at
+    kinds.Semicolon)
 
 abbrev pub return_of : ℕ × (Expr × Unit {0}) → StmtTree
 return_of (at, (value, semicolon)) = statements.Return at value
 
 unfoldable pub return_at : ℕ → List Word → Read StmtTree
-return_at levels = made_at return_of (placed_at kinds.KeyReturn ⊗ expression_at levels ⊗ mark_at kinds.Semicolon)
+return_at levels =
+    made_at return_of (placed_at kinds.KeyReturn ⊗ expression_at levels ⊗ mark_at kinds.Semicolon)
 
 abbrev pub if_of : ℕ × (Expr × (List StmtTree × List StmtTree)) → StmtTree
 if_of (at, (when, (body, other))) = statements.If at when body other
 
 unfoldable pub if_at : ℕ → (List Word → Read StmtTree) → List Word → Read StmtTree
-if_at levels inner = made_at if_of (placed_at kinds.KeyIf ⊗ condition_at levels ⊗ block_at inner ⊗ else_at inner)
+if_at levels inner =
+    made_at if_of (placed_at kinds.KeyIf ⊗ condition_at levels ⊗ block_at inner ⊗ else_at inner)
 
 unfoldable pub simple_at : ℕ → List Word → Read StmtTree
 simple_at levels = choice_at (begins kinds.KeyReturn) (return_at levels) (set_at levels)
 
 unfoldable pub statement_at : ℕ → List Word → Read StmtTree
 statement_at zero = simple_at zero
-statement_at (suc levels) = choice_at (begins kinds.KeyIf) (if_at (suc levels) (statement_at levels)) (simple_at (suc levels))
+statement_at (suc levels) =
+    choice_at (begins kinds.KeyIf) (if_at (suc levels) (statement_at levels))
+    (simple_at (suc levels))
 
 -- ---- monitor files
 
@@ -416,7 +443,9 @@ abbrev pub negative_of : Unit {0} × PlacedNumber → Lit
 negative_of (minus, number) = literal_of true number
 
 unfoldable pub literal_at : List Word → Read Lit
-literal_at = choice_at (begins kinds.Minus) (made_at negative_of (mark_at kinds.Minus ⊗ numeral_at)) (made_at (literal_of false) numeral_at)
+literal_at =
+    choice_at (begins kinds.Minus) (made_at negative_of (mark_at kinds.Minus ⊗ numeral_at))
+    (made_at (literal_of false) numeral_at)
 
 -- "const" ID "=" literal ";", and the same with "int"
 abbrev pub Declared : Type 0 → Type 0
@@ -431,8 +460,10 @@ int_of (word, (name, (assign, (value, semicolon)))) = decls.Int name.at name.nam
 abbrev pub flag_of : Declared Bool → Decl
 flag_of (word, (name, (assign, (value, semicolon)))) = decls.Flag name.at name.name value
 
-abbrev pub declared_at : {Value : Type 0} → TokenKind → (List Word → Read Value) → List Word → Read (Declared Value)
-declared_at kind value = mark_at kind ⊗ ident_at ⊗ mark_at kinds.Assign ⊗ value ⊗ mark_at kinds.Semicolon
+abbrev pub declared_at : {Value : Type 0} → TokenKind → (List Word → Read Value) → List Word
+    → Read (Declared Value)
+declared_at kind value =
+    mark_at kind ⊗ ident_at ⊗ mark_at kinds.Assign ⊗ value ⊗ mark_at kinds.Semicolon
 
 unfoldable pub constant_at : List Word → Read Decl
 constant_at = made_at constant_of (declared_at kinds.KeyConst literal_at)
@@ -444,7 +475,8 @@ unfoldable pub flag_at : List Word → Read Decl
 flag_at = made_at flag_of (declared_at kinds.KeyBool (listed_at truth_of))
 
 unfoldable pub declaration_at : List Word → Read Decl
-declaration_at = choice_at (begins kinds.KeyConst) constant_at (choice_at (begins kinds.KeyInt) int_at flag_at)
+declaration_at =
+    choice_at (begins kinds.KeyConst) constant_at (choice_at (begins kinds.KeyInt) int_at flag_at)
 
 unfoldable pub declarations_at : List Word → Read (List Decl)
 declarations_at = each_at begins_declaration declaration_at
@@ -475,26 +507,37 @@ unfoldable pub inputs_at : List Word → Read (List InputTree)
 inputs_at = choice_at (begins_listed kind_of) some_inputs_at (pure_at [])
 
 -- "method" ID "(" inputs ")"
-abbrev pub head_of : Unit {0} × (PlacedName × (Unit {0} × (List InputTree × Unit {0}))) → PlacedName × List InputTree
+abbrev pub head_of : Unit {0} × (PlacedName × (Unit {0} × (List InputTree × Unit {0})))
+    → PlacedName × List InputTree
 head_of (word, (name, (left, (inputs, right)))) = (name, inputs)
 
 unfoldable pub head_at : List Word → Read (PlacedName × List InputTree)
-head_at = made_at head_of (mark_at kinds.KeyMethod ⊗ ident_at ⊗ mark_at kinds.OpenParen ⊗ inputs_at ⊗ mark_at kinds.CloseParen)
+head_at =
+    made_at head_of (mark_at kinds.KeyMethod ⊗ ident_at ⊗ mark_at kinds.OpenParen ⊗ inputs_at ⊗
+    mark_at kinds.CloseParen)
 
-abbrev pub method_of : (PlacedName × List InputTree) × (Unit {0} × (Expr × List StmtTree)) → MethodTree
-method_of (head, (word, (guard, body))) = record { at = head.0.at; name = head.0.name; inputs = head.1; guard = guard; body = body }
+abbrev pub method_of : (PlacedName × List InputTree) × (Unit {0} × (Expr × List StmtTree))
+    → MethodTree
+method_of (head, (word, (guard, body))) =
+    record { at = head.0.at; name = head.0.name; inputs = head.1; guard = guard; body = body }
 
 unfoldable pub method_at : List Word → Read MethodTree
-method_at = made_at method_of (head_at ⊗ mark_at kinds.KeyWaituntil ⊗ condition_at LEVELS ⊗ block_at (statement_at LEVELS))
+method_at =
+    made_at method_of (head_at ⊗ mark_at kinds.KeyWaituntil ⊗ condition_at LEVELS ⊗ block_at
+    (statement_at LEVELS))
 
 unfoldable pub methods_at : List Word → Read (List MethodTree)
 methods_at = each_at (begins kinds.KeyMethod) method_at
 
-abbrev pub monitor_of : Unit {0} × (PlacedName × (Unit {0} × (List Decl × (List MethodTree × Unit {0})))) → MonitorTree
-monitor_of (word, (name, (left, (decls, (methods, right))))) = record { name = name.name; decls = decls; methods = methods }
+abbrev pub monitor_of : Unit {0}
+    × (PlacedName × (Unit {0} × (List Decl × (List MethodTree × Unit {0})))) → MonitorTree
+monitor_of (word, (name, (left, (decls, (methods, right))))) =
+    record { name = name.name; decls = decls; methods = methods }
 
 unfoldable pub monitor_at : List Word → Read MonitorTree
-monitor_at = made_at monitor_of (mark_at kinds.KeyMonitor ⊗ ident_at ⊗ mark_at kinds.OpenBrace ⊗ declarations_at ⊗ methods_at ⊗ mark_at kinds.CloseBrace)
+monitor_at =
+    made_at monitor_of (mark_at kinds.KeyMonitor ⊗ ident_at ⊗ mark_at kinds.OpenBrace ⊗
+    declarations_at ⊗ methods_at ⊗ mark_at kinds.CloseBrace)
 
 unfoldable pub monitor_file : List Word → Result MonitorTree ℕ
 monitor_file ws = whole (monitor_at ws)
@@ -545,7 +588,9 @@ abbrev pub call_of : PlacedName × (Unit {0} × (List Arg × (Unit {0} × Unit {
 call_of (name, (left, (given, (right, semicolon)))) = items.Call name.at name.name given
 
 unfoldable pub call_at : List Word → Read Item
-call_at = made_at call_of (ident_at ⊗ mark_at kinds.OpenParen ⊗ arguments_at ⊗ mark_at kinds.CloseParen ⊗ mark_at kinds.Semicolon)
+call_at =
+    made_at call_of (ident_at ⊗ mark_at kinds.OpenParen ⊗ arguments_at ⊗ mark_at kinds.CloseParen ⊗
+    mark_at kinds.Semicolon)
 
 -- over the reader of the items inside
 unfoldable pub items_at : (List Word → Read Item) → List Word → Read (List Item)

@@ -1,5 +1,7 @@
--- The piece at the front of the bytes, computed. That it is the one that starts there is shown in proofs/Pieces.antt.
-use Rattle.std.specs.Prelude.{ℕ, ◌+◌, ◌&&◌, Bool, true, false, List, [], ◌∷◌, Option, Some, None, length, find, nat_eq, nat_lt, option_map, if◌then◌else◌}
+-- The piece at the front of the bytes, computed. That it is the one that starts there is shown in
+-- proofs/Pieces.antt.
+use Rattle.std.specs.Prelude.{ℕ, ◌+◌, ◌&&◌, Bool, true, false, List, [], ◌∷◌, Option, Some, None}
+use Rattle.std.specs.Prelude.{length, find, nat_eq, nat_lt, option_map, if◌then◌else◌}
 use Rattle.std.specs.List.{prefix_len, starts_with}
 use Rattle.mon_base.specs.Limits.{WORD_BYTES}
 use Rattle.mon_tokens.specs.declared.token.TokenKind.{TokenKind}
@@ -9,7 +11,8 @@ use Rattle.mon_tokens.specs.declared.piece.Shape.{Shape}
 use Rattle.mon_tokens.specs.declared.piece.Shape.TheVariants as coded
 use Rattle.mon_tokens.specs.Shapes.{Shape as Meant}
 use Rattle.mon_tokens.specs.Shapes as shapes
-use Rattle.mon_tokens.specs.Spelling.{SIGNS, is_letter, is_word_byte, is_digit, is_blank, is_in_line}
+use Rattle.mon_tokens.specs.Spelling.{SIGNS, is_letter, is_word_byte, is_digit, is_blank}
+use Rattle.mon_tokens.specs.Spelling.{is_in_line}
 
 -- a shape of the code as one of the definitions
 abbrev pub meant : Shape → Meant
@@ -25,15 +28,22 @@ is_run coded.Number = true
 is_run shape = false
 
 abbrev pub class_of : ℕ → Class
-class_of b = if is_letter b then classes.Letter else (if is_digit b then classes.Digit else (if is_blank b then classes.Blank else classes.Other))
+class_of b =
+    if is_letter b then classes.Letter
+    else (if is_digit b then classes.Digit
+    else (if is_blank b then classes.Blank else classes.Other))
 
 -- the first sign of the table that stands at the front, and its length
 abbrev pub sign_at : List ℕ → Option (TokenKind × ℕ)
-sign_at bytes = option_map (λ row. (row.1, length row.0)) (find (λ row. starts_with nat_eq bytes row.0) SIGNS)
+sign_at bytes =
+    option_map (λ row. (row.1, length row.0)) (find (λ row. starts_with nat_eq bytes row.0) SIGNS)
 
 -- a comment or a sign
 unfoldable pub other_at : List ℕ → Option (Shape × ℕ)
-other_at bytes = if starts_with nat_eq bytes (47 ∷ 47 ∷ []) then Some (coded.Comment, prefix_len is_in_line bytes) else option_map (λ sign. (coded.Sign sign.0, sign.1)) (sign_at bytes)
+other_at bytes =
+    if starts_with nat_eq bytes (47 ∷ 47 ∷ [])
+    then Some (coded.Comment, prefix_len is_in_line bytes)
+    else option_map (λ sign. (coded.Sign sign.0, sign.1)) (sign_at bytes)
 
 abbrev pub by_class : Class → ℕ → List ℕ → Option (Shape × ℕ)
 by_class classes.Letter a rest = Some (coded.Word, 1 + prefix_len is_word_byte rest)

@@ -1,5 +1,6 @@
 -- What the parts of the making of a monitor say.
-use Rattle.std.specs.Prelude.{◌≡◌, ℕ, ◌+◌, ◌-◌, ◌⊎◌, true, false, List, [], ◌∷◌, ◌++◌, length, All, Some, slice_get, IsSomeAnd}
+use Rattle.std.specs.Prelude.{◌≡◌, ℕ, ◌+◌, ◌-◌, ◌⊎◌, true, false, List, [], ◌∷◌, ◌++◌, length, All}
+use Rattle.std.specs.Prelude.{Some, slice_get, IsSomeAnd}
 use Rattle.mon_tree.specs.declared.tree.Expr.{Expr}
 use Rattle.mon_tree.specs.declared.tree.StmtTree.{StmtTree}
 use Rattle.mon_tree.specs.declared.tree.MethodTree.{MethodTree}
@@ -23,8 +24,14 @@ use Rattle.mon_types.specs.Typed.{AreConditions, assignment, result_of_kind, set
 -- The number of the condition with a guard: one that was there, or the new one after them.
 abbrev pub IsNumbered : List Condition → Formula → Expr → ℕ → List Condition → Type 0
 IsNumbered before guard shown number all =
-    (IsSomeAnd (slice_get before (number - 1)) (λ condition. condition.guard ≡ guard) × (number ≡ (number - 1) + 1) × (all ≡ before))
-    ⊎ (All (λ condition. condition.guard ≡ guard → ⊥) before × (number ≡ length before + 1) × (all ≡ before ++ record { guard = guard; reads_inputs = reads_inputs guard; shown = shown } ∷ []))
+    (IsSomeAnd (slice_get before (number - 1)) (λ condition. condition.guard ≡ guard)
+    × (number ≡ (number - 1) + 1) × (all ≡ before))
+    ⊎ (All (λ condition. condition.guard ≡ guard → ⊥) before × (number ≡ length before + 1)
+    × (all ≡ before ++ record {
+      guard = guard;
+      reads_inputs = reads_inputs guard;
+      shown = shown;
+    } ∷ []))
 
 abbrev pub HasGuard : Formula → Condition → Type 0
 HasGuard guard condition = condition.guard ≡ guard

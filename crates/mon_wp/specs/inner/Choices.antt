@@ -14,4 +14,5 @@ abbrev pub part_within : Formula → List Step → Option Formula
 part_within post path = value_if (is_path_within post path) (path_part post path)
 
 abbrev pub parts_within : Formula → List (List Step) → Option (List Formula)
-parts_within post paths = value_if (list_all (is_path_within post) paths) (map (path_part post) paths)
+parts_within post paths =
+    value_if (list_all (is_path_within post) paths) (map (path_part post) paths)

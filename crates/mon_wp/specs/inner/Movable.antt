@@ -1,11 +1,13 @@
--- Formulas whose inputs can be moved to the places of a waiting client's, and numbers that stay small.
+-- Formulas whose inputs can be moved to the places of a waiting client's, and numbers that stay
+-- small.
 use Rattle.std.specs.Prelude.{ℕ, Bool, true, ◌&&◌, nat_lt}
 use Rattle.std.specs.List.{list_all}
 use Rattle.mon_base.specs.Numbers.{is_within}
 use Rattle.mon_linear.specs.declared.form.Term.{Term}
 use Rattle.mon_linear.specs.Linear.{Linear}
 use Rattle.mon_linear.specs.declared.formula.Formula.{Formula}
-use Rattle.mon_linear.specs.declared.formula.Formula.TheOpen.{Formula-F, Row, Flag, All as Every, Any as Some_of}
+use Rattle.mon_linear.specs.declared.formula.Formula.TheOpen.{Formula-F, Row, Flag, All as Every}
+use Rattle.mon_linear.specs.declared.formula.Formula.TheOpen.{Any as Some_of}
 use Rattle.mon_linear.specs.declared.formula.Formula.TheFolds.{fold-Formula}
 
 abbrev pub is_movable_term : Term → Bool
@@ -25,7 +27,8 @@ abbrev pub has_small_times : ℕ → Term → Bool
 has_small_times bound term = is_within bound term.times
 
 abbrev pub is_small_form : ℕ → Linear → Bool
-is_small_form bound form = list_all (has_small_times bound) form.terms && is_within bound form.constant
+is_small_form bound form =
+    list_all (has_small_times bound) form.terms && is_within bound form.constant
 
 abbrev pub small_layer : ℕ → Formula-F Bool → Bool
 small_layer bound (Row form) = is_small_form bound form
