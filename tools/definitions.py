@@ -1,0 +1,282 @@
+#!/usr/bin/env python3
+"""Makes docs/DEFINITIONS.md and docs/HEADLINE.md from the comments, clauses and definitions of the crates.
+
+    tools/definitions.py            writes both
+    tools/definitions.py --check    fails where one is not what would be written
+
+Above the line that says so each document is written by hand, and kept. What a definition says is the comment above it
+in specs/; tools/sentences.txt has the sentences of those that have none, or whose comment says less.
+"""
+
+import pathlib
+import re
+import sys
+import textwrap
+
+sys.dont_write_bytecode = True
+sys.path.insert(0, str(pathlib.Path(__file__).resolve().parent))
+
+import reading  # noqa: E402
+
+ROOT = reading.ROOT
+SENTENCES = ROOT / "tools" / "sentences.txt"
+MARK = "<!-- From here on made by tools/definitions.py. -->"
+WIDEST = 100
+SHORT = 160
+PRODUCTION = re.compile(r"[a-z_]+ = ")
+
+
+# ---- what a definition says
+
+
+def sentences():
+    """From each definition that has one to its sentence."""
+    found = {}
+    for line in SENTENCES.read_text().splitlines():
+        if line.strip() and not line.startswith("#"):
+            name, _, sentence = line.partition(": ")
+            crate, rest = name.split(".", 1)
+            spec, _, last = rest.rpartition(".")
+            found[crate, spec, last] = sentence.strip()
+    return found
+
+
+def code(text):
+    return "`" + text.replace("|", "\\|") + "`"
+
+
+def equations(definition):
+    """Its equations, one after the other, where they are short together."""
+    own = re.compile(rf"{re.escape(definition.name)}(?![\w-])")
+    found = []
+    for line in definition.code.split("\n"):
+        if own.match(line):
+            found.append(line.strip())
+        elif found and line.strip():
+            found[-1] += " " + line.strip()
+    text = "; ".join(found)
+    return text if len(text) <= SHORT else ""
+
+
+def number(definition):
+    """What is said of a number behind its sentence."""
+    found = re.fullmatch(rf"{re.escape(definition.name)} = ([\d ^*+-]+)", equations(definition))
+    return f" ({found.group(1)})" if found else ""
+
+
+def said(definition):
+    """What a definition says, for a cell of a table."""
+    sentence = sentences().get(definition.key) or definition.comment
+    if PRODUCTION.match(sentence):
+        return code(sentence)
+    if sentence:
+        return sentence.rstrip(".").replace("|", "\\|") + number(definition)
+    if definition.fields:
+        names = ", ".join(code(name) for name, _, _ in definition.fields)
+        return ("by its rules " if definition.code.startswith(("pub data", "data")) else "its parts: ") + names
+    text = equations(definition)
+    if text:
+        return code(text)
+    return f"by its equations ({definition.heading})" if definition.heading else "by its equations"
+
+
+def link(definition):
+    return f"[`{definition.spec.replace('.', '/')}`](../{definition.path})"
+
+
+def names(items):
+    return ", ".join(f"`{item}`" for item in items)
+
+
+# ---- docs/DEFINITIONS.md
+
+
+def beneath(given):
+    """All that the given definitions are made of, themselves left out, in reading order."""
+    seen, found = set(), []
+
+    def go(definition):
+        for inner in reading.beneath(definition)[0]:
+            if inner.key not in seen:
+                seen.add(inner.key)
+                found.append(inner)
+                go(inner)
+
+    for definition in given:
+        go(definition)
+    kept = {definition.key for definition in given}
+    return [definition for definition in found if definition.key not in kept]
+
+
+def citing():
+    """From each definition that a public call or type cites to the names of these."""
+    found = {}
+    for call in reading.calls():
+        if call.public and not call.derived:
+            for _, cited in reading.cited_by(call):
+                for definition in cited:
+                    if not (call.function == "" and definition.is_inner):
+                        found.setdefault(definition.key, {})[call.name] = None
+    return {key: list(callers) for key, callers in found.items()}
+
+
+def rows_of_definitions(crate, cited):
+    for key, definition in reading.definitions().items():
+        if key[0] == crate and key in cited:
+            yield f"| `{definition.name}` | {said(definition)} | {link(definition)} | {names(cited[key])} |"
+
+
+def told_clause(clause, cited):
+    told = names(definition.name for definition in cited)
+    if clause.name:
+        return f"`{clause.name}`" + (f" ({told})" if told else "")
+    return told or "its clause"
+
+
+def row_of_call(call):
+    asks, promises = [], []
+    for clause, cited in reading.cited_by(call):
+        (asks if clause.kind == "requires" else promises).append(told_clause(clause, cited))
+    does = call.documentation.replace("|", "\\|")
+    return f"| `{call.name}` | {does} | {'; '.join(asks)} | {'; '.join(promises)} |"
+
+
+def paragraph(text):
+    return textwrap.wrap(text, WIDEST, break_long_words=False, break_on_hyphens=False)
+
+
+def section(crate, cited):
+    """What a reader finds of one crate."""
+    lines = [f"## `{crate}`", ""]
+    rows = list(rows_of_definitions(crate, cited))
+    if rows:
+        lines += ["| Definition | What it says | File | Cited by |", "|---|---|---|---|", *rows, ""]
+    given = [reading.definitions()[key] for key in cited if key[0] == crate]
+    files = {}
+    for definition in beneath(given):
+        if definition.crate == crate and not definition.is_inner and definition.key not in cited:
+            files.setdefault(definition.spec, []).append(definition.name)
+    if files:
+        told = "; ".join(f"in `{spec}` {names(found)}" for spec, found in sorted(files.items()))
+        lines += [*paragraph(f"Beneath these: {told}."), ""]
+    calls = [row_of_call(call) for call in reading.public_calls() if call.crate == crate]
+    if calls:
+        lines += ["| Call | What it does | It asks | It promises |", "|---|---|---|---|", *calls, ""]
+    return lines if len(lines) > 2 else []
+
+
+def definitions_document():
+    cited, lines = citing(), []
+    for crate in reading.crates():
+        if not crate.startswith("tests_of_"):
+            lines += section(crate, cited)
+    return lines
+
+
+# ---- docs/HEADLINE.md
+
+
+class Reader:
+    """Goes down through definitions, and tells each once, with the one through which it was reached."""
+
+    def __init__(self):
+        self.told, self.types = set(), {}
+
+    def rows(self, parent, text):
+        found, types = reading.beneath(parent, text)
+        self.types.update(dict.fromkeys(types))
+        for definition in found:
+            if definition.key not in self.told:
+                self.told.add(definition.key)
+                yield f"| `{definition.name}` | `{parent.name}` | {said(definition)} | {link(definition)} |"
+                yield from self.rows(definition, definition.code)
+
+    def table(self, parent, text):
+        rows = list(self.rows(parent, text))
+        return ["| Definition | Of | What it says | File |", "|---|---|---|---|", *rows, ""] if rows else []
+
+    def chapters(self, record):
+        """A chapter of each field of a record that speaks of something not told before."""
+        comment = ""
+        for name, told, text in record.fields:
+            comment = told or comment
+            table = self.table(record, text)
+            if table:
+                yield from [f"### `{name}`", ""]
+                yield from [*paragraph(comment), ""] if comment else []
+                yield from table
+
+
+def shown(definition):
+    comment = [f"-- {line}" for line in textwrap.wrap(definition.comment, WIDEST - 3)]
+    return ["```", *comment, *definition.text.split("\n"), "```", ""]
+
+
+def types_table(types):
+    """The types of the code that are told of, each with what is written above it."""
+    rows = {}
+    for crate, path in types:
+        file, name = path.removeprefix("declared.").split(".")[:2]
+        source = reading.CRATES / crate / "src" / f"{file}.rt"
+        lines = source.read_text().split("\n") if source.exists() else []
+        for at, line in enumerate(lines):
+            if re.match(rf"pub (?:struct|enum) {name}\b", line):
+                does = reading.documentation(lines, at).replace("|", "\\|")
+                rows[crate, name] = f"| `{name}` | {does} | [`{crate}`](../{source.relative_to(ROOT)}) |"
+    return ["| Type | What it is | Crate |", "|---|---|---|", *(rows[key] for key in sorted(rows)), ""]
+
+
+def headline_document():
+    definitions = reading.definitions()
+    headline, text = (definitions["expresso", "Headline", name] for name in ("Headline", "IsHeadlineText"))
+    ends = definitions["expresso", "ProgramEnds", "ProgramEnds"]
+    reader = Reader()
+    reader.told |= {headline.key, text.key, ends.key}
+    lines = ["## The theorem", "", *shown(headline), *shown(text)]
+    lines += ["## What it supposes", "", *reader.table(headline, headline.code)]
+    lines += ["## What it says of the text", "", *reader.chapters(text)]
+    lines += ["## How every command ends", "", *shown(ends), *reader.chapters(ends)]
+    lines += ["## Types of the code", "", *types_table(reader.types)]
+    return lines
+
+
+# ---- both
+
+
+def documents():
+    yield ROOT / "docs" / "DEFINITIONS.md", definitions_document
+    yield ROOT / "docs" / "HEADLINE.md", headline_document
+
+
+def made(path, maker):
+    """What the document should be: its head, and what is made."""
+    head = path.read_text().partition(MARK)[0]
+    return "\n".join([head.rstrip(), "", MARK, "", *maker()]).rstrip() + "\n"
+
+
+def faults():
+    """What is wrong with the documents and the sentences, a line each."""
+    definitions = reading.definitions()
+    for key in sentences():
+        if key not in definitions:
+            yield f"tools/sentences.txt: `{'.'.join(key)}` is no definition"
+    for key in citing():
+        if not (sentences().get(key) or definitions[key].comment):
+            yield f"{definitions[key].path}: `{key[2]}`, which a public clause cites, has no comment"
+    for path, maker in documents():
+        if path.read_text() != made(path, maker):
+            yield f"{path.relative_to(ROOT)}: not what tools/definitions.py makes; run it"
+
+
+def main():
+    if sys.argv[1:] == ["--check"]:
+        found = list(faults())
+        print("\n".join(found) or "definitions: as they are made")
+        return 1 if found else 0
+    for path, maker in documents():
+        path.write_text(made(path, maker))
+    return 0
+
+
+if __name__ == "__main__":
+    sys.exit(main())
