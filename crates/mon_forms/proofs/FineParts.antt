@@ -3,19 +3,19 @@ use Rattle.std.proofs.Common.{◌≡◌, Bool, true, false, List, [], ◌∷◌,
 use Rattle.std.specs.Prelude.{if◌then◌else◌}
 use Rattle.std.specs.List.{flat_map}
 use Rattle.mon_base.specs.declared.kind.Kind.{Kind}
-use Rattle.mon_forms.specs.declared.fault.TypeFault.{TypeFault}
-use Rattle.mon_forms.specs.Faults.{◌or_else◌}
+use Rattle.mon_base.specs.declared.source_fault.SourceFault.{SourceFault}
+use Rattle.mon_base.specs.SourceFaults.{◌or_else◌}
 use Rattle.mon_forms.specs.Sense.{Sense, is_other, part_faults, wrong_type}
 
-pub append_none : (these those : List TypeFault) → these ++ those ≡ [] → (these ≡ []) × (those ≡ [])
+pub append_none : (these those : List SourceFault) → these ++ those ≡ [] → (these ≡ []) × (those ≡ [])
 append_none [] those none = (refl, none)
 append_none (fault ∷ these) those none = absurd (cc)
 
-pub or_else_none : (these those : List TypeFault) → (these or_else those) ≡ [] → (these ≡ []) × (those ≡ [])
+pub or_else_none : (these those : List SourceFault) → (these or_else those) ≡ [] → (these ≡ []) × (those ≡ [])
 or_else_none [] those none = (refl, none)
 or_else_none (fault ∷ these) those none = absurd (cc)
 
-pub no_fault : (test : Bool) (fault : TypeFault) → (if test then fault ∷ [] else []) ≡ [] → test ≡ false
+pub no_fault : (test : Bool) (fault : SourceFault) → (if test then fault ∷ [] else []) ≡ [] → test ≡ false
 no_fault true fault none = absurd (cc)
 no_fault false fault none = refl
 

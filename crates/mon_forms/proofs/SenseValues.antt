@@ -21,14 +21,14 @@ use Rattle.mon_linear.specs.Negation.{negation}
 use Rattle.mon_linear.specs.Truth.{Valuation, layer_truth, truth_of, value_of}
 use Rattle.mon_linear.proofs.NegationLemmas.{negation_flips}
 use Rattle.mon_base.specs.declared.kind.Kind.TheVariants as kinds
-use Rattle.mon_forms.specs.declared.fault.TypeFault.{TypeFault}
-use Rattle.mon_forms.specs.declared.fault.TypeFault.TheVariants as faults
+use Rattle.mon_base.specs.declared.source_fault.SourceFault.{SourceFault}
+use Rattle.mon_base.specs.declared.source_fault.Refusal.TheVariants as refusals
 use Rattle.mon_forms.specs.declared.scope.Meaning.{Meaning}
 use Rattle.mon_forms.specs.declared.scope.Meaning.TheVariants as meanings
 use Rattle.mon_forms.specs.declared.scope.Entry.{Entry}
 use Rattle.mon_forms.specs.Scope.{signed, index_of, entry_at, entry_named}
 use Rattle.mon_forms.specs.Forms.{Form, number_form, entry_form, plus, minus, scaled, raised, product, is_constant, linear_of}
-use Rattle.mon_forms.specs.Faults.{◌or_else◌}
+use Rattle.mon_base.specs.SourceFaults.{fault_at, ◌or_else◌}
 use Rattle.mon_forms.specs.Sense as senses
 use Rattle.mon_forms.specs.Sense.{Sense, AddendSense, FactorSense, is_other, part_faults, product_faults, large_form, product_form, sum_form, signed_form, sense_step, addend_step, factor_step, sense, truth_formula, entry_kind, entry_formula, unknown}
 use Rattle.mon_forms.specs.Plain as plains
@@ -202,7 +202,7 @@ module _ (valuation : Valuation) (scope : List Entry) where
     product_worth (x ∷ xs) at form n e fine none = by_test (is_constant form || is_constant (found x.0).of.form) refl none (λ is rest. product_worth xs at (product form (found x.0).of.form) (n *ℤ number x.0) is fine.1 rest)
       where
         by_test : (test : Bool) → (is_constant form || is_constant (found x.0).of.form) ≡ test
-            → cond test (large_form at (product form (found x.0).of.form) or_else product_faults at (product form (found x.0).of.form) (found_factors xs)) (faults.NotLinear (found x.0).at ∷ []) ≡ []
+            → cond test (large_form at (product form (found x.0).of.form) or_else product_faults at (product form (found x.0).of.form) (found_factors xs)) (fault_at refusals.NotLinear (found x.0).at ∷ []) ≡ []
             → (value valuation scope (product form (found x.0).of.form) ≡ n *ℤ number x.0 → product_faults at (product form (found x.0).of.form) (found_factors xs) ≡ []
             → value valuation scope (product_form (product form (found x.0).of.form) (found_factors xs)) ≡ fold ◌*ℤ◌ (n *ℤ number x.0) (map number (map (λ y. y.0) xs)))
             → value valuation scope (product_form (product form (found x.0).of.form) (found_factors xs)) ≡ fold ◌*ℤ◌ (n *ℤ number x.0) (map number (map (λ y. y.0) xs))
@@ -227,14 +227,14 @@ list_any-map h [] = refl
 list_any-map h (x ∷ xs) = ap (λ b. h x || b) (list_any-map h xs)
 
 module _ (valuation : Valuation) (scope : List Entry) where
-  int_agrees : (first : ℕ) (broken : List TypeFault) (form : Form) (number : ℤ) → length form.times ≡ length scope → (broken ≡ [] → value valuation scope form ≡ number)
+  int_agrees : (first : ℕ) (broken : List SourceFault) (form : Form) (number : ℤ) → length form.times ≡ length scope → (broken ≡ [] → value valuation scope form ≡ number)
       → Agrees valuation scope (senses.int_sense first broken form) (plains.number number)
   int_agrees first broken form number long worth = record {
     ints = record { entries = long; worth = λ fine. worth fine.0 };
     bools = λ fine. let other = fine.1 in absurd cc;
   }
 
-  bool_agrees : (first : ℕ) (broken : List TypeFault) (formula : Formula) (truth : Bool) → (broken ≡ [] → truth_of valuation formula ≡ truth) → Agrees valuation scope (senses.bool_sense scope first broken formula) (plains.truth truth)
+  bool_agrees : (first : ℕ) (broken : List SourceFault) (formula : Formula) (truth : Bool) → (broken ≡ [] → truth_of valuation formula ≡ truth) → Agrees valuation scope (senses.bool_sense scope first broken formula) (plains.truth truth)
   bool_agrees first broken formula truth worth = record {
     ints = record { entries = length_of_number scope (pos 0); worth = λ fine. let other = fine.1 in absurd cc };
     bools = λ fine. worth fine.0;

@@ -10,14 +10,14 @@ use Rattle.mon_tree.specs.declared.tree.Factor.{Factor, roll-Factor}
 use Rattle.mon_tree.specs.declared.tree.Expr.TheOpen.{Expr-F, Addend-F, Factor-F, Number, Truth, Named, Minus, Not, Product, Sum, Compare, Both, Either}
 use Rattle.mon_tree.specs.declared.tree.Expr.TheFolds.{fold-roll-Expr, fold-roll-Addend, fold-roll-Factor, map-Expr, ind-Expr}
 use Rattle.mon_base.specs.declared.kind.Kind.TheVariants as kinds
-use Rattle.mon_forms.specs.declared.fault.TypeFault.{TypeFault}
+use Rattle.mon_base.specs.declared.source_fault.SourceFault.{SourceFault}
 use Rattle.mon_forms.specs.declared.scope.Entry.{Entry}
 use Rattle.mon_base.specs.Limits.{GREATEST_NUMBER}
 use Rattle.mon_forms.specs.Scope.{entry_named}
 use Rattle.mon_forms.specs.Forms.{Form, scaled, plus, minus, product, is_constant, is_limited}
 use Rattle.mon_forms.specs.inner.FormBounds.{IsFormOf}
 use Rattle.mon_base.specs.Numbers.{is_within}
-use Rattle.mon_forms.specs.Faults.{◌or_else◌}
+use Rattle.mon_base.specs.SourceFaults.{◌or_else◌}
 use Rattle.mon_forms.specs.Sense.{Sense, AddendSense, FactorSense, is_other, part_faults, large_number, large_form, product_faults, product_form, signed_form, sum_form, sense, sense_step, addend_step, factor_step}
 use Rattle.mon_forms.specs.Making.{has_small_numbers}
 use Rattle.mon_forms.proofs.SenseLayers.{found_addend, found_factor}
@@ -29,7 +29,7 @@ use Rattle.mon_forms.proofs.ModestFormulas.{is_modest, modest-All, modest-Any, m
 
 -- ---- faults
 
-no_fault_unless : (test : Bool) (fault : TypeFault) → (if test then [] else fault ∷ []) ≡ [] → test ≡ true
+no_fault_unless : (test : Bool) (fault : SourceFault) → (if test then [] else fault ∷ []) ≡ [] → test ≡ true
 no_fault_unless true fault none = refl
 no_fault_unless false fault none = absurd (cc)
 
@@ -61,7 +61,7 @@ products_are_form scope form [] of_scope sound = of_scope
 products_are_form scope form (factor ∷ rest) of_scope sound = products_are_form scope (product form factor.of.form) rest (product_is_form scope form factor.of.form of_scope sound.0.of_scope) sound.1
 
 -- one turn of a product
-pub product_fine : (test : Bool) (at : ℕ) (form : Form) (fault : TypeFault) (later : List TypeFault) → (if test then large_form at form or_else later else fault ∷ []) ≡ [] → (test ≡ true) × (is_limited form ≡ true) × (later ≡ [])
+pub product_fine : (test : Bool) (at : ℕ) (form : Form) (fault : SourceFault) (later : List SourceFault) → (if test then large_form at form or_else later else fault ∷ []) ≡ [] → (test ≡ true) × (is_limited form ≡ true) × (later ≡ [])
 product_fine true at form fault later none = let both = or_else_none (large_form at form) later none in (refl, large_form_none at form both.0, both.1)
 product_fine false at form fault later none = absurd (cc)
 

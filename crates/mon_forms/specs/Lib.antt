@@ -1,6 +1,5 @@
 pub mod Scope
 pub mod Forms
-pub mod Faults
 pub mod Sense
 pub mod Plain
 pub mod KeptMeaning

@@ -16,15 +16,15 @@ use Rattle.mon_linear.specs.Negation.{negation}
 use Rattle.mon_base.specs.Limits.{GREATEST_NUMBER}
 use Rattle.mon_base.specs.declared.kind.Kind.{Kind}
 use Rattle.mon_base.specs.declared.kind.Kind.TheVariants as kinds
-use Rattle.mon_forms.specs.declared.fault.TypeFault.{TypeFault}
-use Rattle.mon_forms.specs.declared.fault.TypeFault.TheVariants as faults
+use Rattle.mon_base.specs.declared.source_fault.SourceFault.{SourceFault}
+use Rattle.mon_base.specs.declared.source_fault.Refusal.TheVariants as refusals
 use Rattle.mon_forms.specs.declared.scope.Meaning.{Meaning}
 use Rattle.mon_forms.specs.declared.scope.Meaning.TheVariants as meanings
 use Rattle.mon_forms.specs.declared.scope.Entry.{Entry}
 use Rattle.mon_forms.specs.Scope.{entry_named}
 use Rattle.mon_forms.specs.Forms.{Form, number_form, name_form, plus, minus, opposite, raised}
 use Rattle.mon_forms.specs.Forms.{product, is_constant, is_limited, linear_of}
-use Rattle.mon_forms.specs.Faults.{◌or_else◌}
+use Rattle.mon_base.specs.SourceFaults.{fault_at, ◌or_else◌}
 
 -- ---- kinds
 
@@ -82,7 +82,7 @@ entry_formula (Some entry) = meaning_formula entry.meaning
 pub record Sense : Type 0 where
   pub first : ℕ
   pub kind : Option Kind
-  pub faults : List TypeFault
+  pub faults : List SourceFault
   pub form : Form
   pub formula : Formula
 
@@ -98,35 +98,37 @@ pub record AddendSense : Type 0 where
 
 -- ---- the rules, each with its place
 
-abbrev pub unknown : ℕ → Option Entry → List TypeFault
-unknown at None = faults.Unknown at ∷ []
+abbrev pub unknown : ℕ → Option Entry → List SourceFault
+unknown at None = fault_at refusals.Unknown at ∷ []
 unknown at (Some entry) = []
 
-abbrev pub large_number : ℕ → ℕ → List TypeFault
-large_number at value = if nat_lt GREATEST_NUMBER value then faults.TooLarge at ∷ [] else []
+abbrev pub large_number : ℕ → ℕ → List SourceFault
+large_number at value =
+    if nat_lt GREATEST_NUMBER value then fault_at refusals.TooLarge at ∷ [] else []
 
-abbrev pub wrong_type : Kind → Sense → List TypeFault
-wrong_type wanted part = if is_other wanted part.kind then faults.WrongType part.first ∷ [] else []
+abbrev pub wrong_type : Kind → Sense → List SourceFault
+wrong_type wanted part =
+    if is_other wanted part.kind then fault_at refusals.WrongType part.first ∷ [] else []
 
-abbrev pub large_form : ℕ → Form → List TypeFault
-large_form at form = if is_limited form then [] else faults.TooLarge at ∷ []
+abbrev pub large_form : ℕ → Form → List SourceFault
+large_form at form = if is_limited form then [] else fault_at refusals.TooLarge at ∷ []
 
 -- what the parts break, or, where they break nothing, which of them are of another kind
-abbrev pub part_faults : Kind → List Sense → List TypeFault
+abbrev pub part_faults : Kind → List Sense → List SourceFault
 part_faults wanted parts =
     flat_map (λ part. part.faults) parts or_else flat_map (wrong_type wanted) parts
 
 -- From left to right: of the product before a `*` and the factor after it one is constant, and
 -- their product is not too large. Only the first break is listed: behind it there is no form to
 -- multiply.
-abbrev pub product_faults : ℕ → Form → List FactorSense → List TypeFault
+abbrev pub product_faults : ℕ → Form → List FactorSense → List SourceFault
 product_faults first form [] = []
 product_faults first form (factor ∷ rest) =
     if is_constant form || is_constant factor.of.form
     then
     large_form first (product form factor.of.form)
     or_else product_faults first (product form factor.of.form) rest
-    else faults.NotLinear factor.at ∷ []
+    else fault_at refusals.NotLinear factor.at ∷ []
 
 -- ---- forms of products and sums
 
@@ -146,7 +148,7 @@ first_of [] = 0
 first_of (part ∷ more) = part.first
 
 -- an int expression, and a bool one
-abbrev pub int_sense : ℕ → List TypeFault → Form → Sense
+abbrev pub int_sense : ℕ → List SourceFault → Form → Sense
 int_sense first broken form = record {
   first = first;
   kind = Some kinds.Int;
@@ -155,7 +157,7 @@ int_sense first broken form = record {
   formula = formulas.All [];
 }
 
-abbrev pub bool_sense : List Entry → ℕ → List TypeFault → Formula → Sense
+abbrev pub bool_sense : List Entry → ℕ → List SourceFault → Formula → Sense
 bool_sense scope first broken formula = record {
   first = first;
   kind = Some kinds.Bool;
@@ -218,7 +220,7 @@ first_in scope expression = (sense scope expression).first
 abbrev pub kind_in : List Entry → Expr → Option Kind
 kind_in scope expression = (sense scope expression).kind
 
-abbrev pub faults_in : List Entry → Expr → List TypeFault
+abbrev pub faults_in : List Entry → Expr → List SourceFault
 faults_in scope expression = (sense scope expression).faults
 
 abbrev pub form_in : List Entry → Expr → Form

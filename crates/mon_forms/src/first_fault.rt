@@ -2,19 +2,18 @@
 
 ghost use Rattle.std.specs.Prelude.{◌≡◌, IfOk, IsTrue};
 ghost use Rattle.mon_tree.specs.declared.tree.Expr.TheVariants as exprs;
-ghost use Rattle.mon_forms.specs.Faults.{least};
+ghost use Rattle.mon_base.specs.SourceFaults.{least};
 ghost use Rattle.mon_forms.specs.Making.{has_small_numbers};
 ghost use Rattle.mon_forms.specs.Scope.{entry_named};
 ghost use Rattle.mon_forms.specs.Sense.{faults_in, large_number, unknown};
 ghost use Rattle.mon_forms.specs.inner.Parts.{IsFirstOfBoth, IsFirstOfEither, IsFirstOfNot, faults_in_addends, faults_in_factors, faults_in_parts};
 
-use crate::fault::TypeFault;
 use crate::scope::{Entry, find};
 use crate::whole_fault::{
     fault_of_comparison, fault_of_minus, fault_of_not, fault_of_parts, fault_of_product,
     fault_of_sum,
 };
-use mon_base::{earlier_of, limits};
+use mon_base::{Refusal, SourceFault, earlier_of, limits};
 use mon_list::{Boxed, Seq};
 use mon_tree::{Addend, Expr, Factor};
 use std::alloc::{AllocError, Global};
@@ -25,7 +24,7 @@ pub fn fault_in(
     alloc: Global,
     scope: &[Entry],
     expression: &Expr,
-) -> Result<Option<TypeFault>, AllocError>
+) -> Result<Option<SourceFault>, AllocError>
     requires { IsTrue (has_small_numbers scope.now) }
     ensures { IfOk result (λ fault. fault ≡ least (faults_in scope.now expression.now)) }
 {
@@ -64,7 +63,7 @@ fn fault_in_minus(
     scope: &[Entry],
     at: u32,
     of: &Boxed<Expr>,
-) -> Result<Option<TypeFault>, AllocError>
+) -> Result<Option<SourceFault>, AllocError>
     requires { IsTrue (has_small_numbers scope.now) }
     ensures { IfOk result (λ fault. fault ≡ least (faults_in scope.now (exprs.Minus at of.now))) }
 {
@@ -78,7 +77,7 @@ fn fault_in_not(
     alloc: Global,
     scope: &[Entry],
     of: &Boxed<Expr>,
-) -> Result<Option<TypeFault>, AllocError>
+) -> Result<Option<SourceFault>, AllocError>
     requires { IsTrue (has_small_numbers scope.now) }
     ensures { IfOk result (IsFirstOfNot scope.now of.now) }
 {
@@ -93,7 +92,7 @@ fn fault_in_joined(
     alloc: Global,
     scope: &[Entry],
     parts: &Seq<Expr>,
-) -> Result<Option<TypeFault>, AllocError>
+) -> Result<Option<SourceFault>, AllocError>
     requires { IsTrue (has_small_numbers scope.now) }
     ensures both { IfOk result (IsFirstOfBoth scope.now parts.now) }
     ensures either { IfOk result (IsFirstOfEither scope.now parts.now) }
@@ -108,7 +107,7 @@ fn fault_in_factors(
     alloc: Global,
     scope: &[Entry],
     factors: &[Factor],
-) -> Result<Option<TypeFault>, AllocError>
+) -> Result<Option<SourceFault>, AllocError>
     requires { IsTrue (has_small_numbers scope.now) }
     ensures { IfOk result (λ fault. fault ≡ least (faults_in_factors scope.now factors.now)) }
 {
@@ -124,7 +123,7 @@ fn fault_in_addends(
     alloc: Global,
     scope: &[Entry],
     addends: &[Addend],
-) -> Result<Option<TypeFault>, AllocError>
+) -> Result<Option<SourceFault>, AllocError>
     requires { IsTrue (has_small_numbers scope.now) }
     ensures { IfOk result (λ fault. fault ≡ least (faults_in_addends scope.now addends.now)) }
 {
@@ -140,7 +139,7 @@ fn fault_in_parts(
     alloc: Global,
     scope: &[Entry],
     parts: &[Expr],
-) -> Result<Option<TypeFault>, AllocError>
+) -> Result<Option<SourceFault>, AllocError>
     requires { IsTrue (has_small_numbers scope.now) }
     ensures { IfOk result (λ fault. fault ≡ least (faults_in_parts scope.now parts.now)) }
 {
@@ -152,22 +151,28 @@ fn fault_in_parts(
 }
 
 /// A written number above the greatest one.
-pub fn large_number(at: u32, value: u128) -> Option<TypeFault>
+pub fn large_number(at: u32, value: u128) -> Option<SourceFault>
     ensures { result ≡ least (large_number at value) }
 {
     if value > limits::GREATEST_NUMBER {
-        Some(TypeFault::TooLarge { at })
+        Some(SourceFault {
+            at,
+            what: Refusal::TooLarge,
+        })
     } else {
         None
     }
 }
 
 /// A name that no entry has.
-fn unknown(scope: &[Entry], at: u32, name: &[u8]) -> Option<TypeFault>
+fn unknown(scope: &[Entry], at: u32, name: &[u8]) -> Option<SourceFault>
     ensures { result ≡ least (unknown at (entry_named scope.now name.now)) }
 {
     match find(scope, name) {
         Some(_) => None,
-        None => Some(TypeFault::Unknown { at }),
+        None => Some(SourceFault {
+            at,
+            what: Refusal::Unknown,
+        }),
     }
 }

@@ -3,11 +3,11 @@
 ghost use Rattle.std.specs.Prelude.{◌≡◌, List, [], None};
 ghost use Rattle.mon_tree.specs.declared.tree.Decl.{Decl};
 ghost use Rattle.mon_tree.specs.declared.tree.InputTree.{InputTree};
-ghost use Rattle.mon_forms.specs.declared.fault.TypeFault.{TypeFault};
+ghost use Rattle.mon_base.specs.declared.source_fault.SourceFault.{SourceFault};
 ghost use Rattle.mon_forms.specs.declared.scope.Entry.{Entry};
 ghost use Rattle.mon_forms.specs.Forms.{HasOrderedScope};
 ghost use Rattle.mon_forms.specs.Making.{HasSmallScope};
-ghost use Rattle.mon_forms.specs.Faults.{FindsLeast, least};
+ghost use Rattle.mon_base.specs.SourceFaults.{FindsLeast, least};
 ghost use Rattle.mon_forms.specs.KeptMeaning.{FormsKeepMeaning, FormulasKeepMeaning};
 
 /// Flattened forms and formulas keep the plain meaning of expressions that break no rule: a form has the value
@@ -19,8 +19,8 @@ pub fn forms_keep_meaning()
 
 /// The least of some faults is one of them that none comes before, and there is none only where there are no faults.
 pub fn least_is_least()
-    ensures one { (among : List TypeFault) → FindsLeast among }
-    ensures none { (among : List TypeFault) → least among ≡ None → among ≡ [] }
+    ensures one { (among : List SourceFault) → FindsLeast among }
+    ensures none { (among : List SourceFault) → least among ≡ None → among ≡ [] }
 {}
 
 /// With no more fields than a monitor has, the places of fields and inputs rise strictly in their scope.

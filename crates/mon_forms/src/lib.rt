@@ -2,22 +2,19 @@
 //!
 //! A scope, a list of [`Entry`], says what the names of a method's expressions stand for
 //! (`specs/Scope`). Of an expression in a scope [`fault_in`] finds the first rule that it breaks
-//! (`specs/Sense`, `specs/Faults`), and of one that breaks none [`form_of`] makes its flattened form
+//! (`specs/Sense`), and of one that breaks none [`form_of`] makes its flattened form
 //! and [`formula_of`] its formula (`specs/Forms`). [`forms_keep_meaning`] is the law that both keep the
 //! plain meaning of `specs/Plain`.
 #![tactic(auto)]
 
-mod fault;
 mod finding;
 mod first_fault;
 mod form;
 mod laws;
 mod making;
-mod placed;
 mod scope;
 mod whole_fault;
 
-pub use fault::TypeFault;
 pub use finding::{first_place, is_other, kind_of, kind_of_name};
 pub use first_fault::{fault_in, large_number};
 pub use laws::{forms_keep_meaning, least_is_least, scope_is_ordered, scope_numbers_are_small};

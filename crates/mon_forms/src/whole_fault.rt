@@ -2,18 +2,17 @@
 
 ghost use Rattle.std.specs.Prelude.{◌≡◌, ◌||◌, true, All, IfOk, IsTrue};
 ghost use Rattle.mon_tree.specs.declared.tree.Expr.TheVariants as exprs;
-ghost use Rattle.mon_forms.specs.Faults.{least};
+ghost use Rattle.mon_base.specs.SourceFaults.{least};
 ghost use Rattle.mon_forms.specs.Forms.{is_constant, is_limited};
 ghost use Rattle.mon_forms.specs.Making.{IsInt, has_small_numbers};
 ghost use Rattle.mon_forms.specs.Sense.{faults_in, large_form, sense, wrong_type};
 ghost use Rattle.mon_forms.specs.inner.Parts.{IsFirstOfBoth, IsFirstOfComparison, IsFirstOfEither, IsFirstOfNot, IsFirstOfProduct, IsFirstOfSum, broken_from, broken_product, faults_in_parts, first_in_product, first_in_sides, first_in_sum, large_difference, large_opposite, large_sum, wrong_addends, wrong_factors, wrong_parts};
 
-use crate::fault::TypeFault;
 use crate::finding::{first_place, is_other, kind_of};
 use crate::form::Flat;
 use crate::making::{add_all, difference, flat_of, multiply};
 use crate::scope::Entry;
-use mon_base::{Kind, earlier_of};
+use mon_base::{Kind, Refusal, SourceFault, earlier_of};
 use mon_tree::{Addend, Expr, Factor};
 use std::alloc::{AllocError, Global};
 
@@ -23,8 +22,8 @@ pub(crate) fn fault_of_minus(
     scope: &[Entry],
     at: u32,
     of: &Expr,
-    part: Option<TypeFault>,
-) -> Result<Option<TypeFault>, AllocError>
+    part: Option<SourceFault>,
+) -> Result<Option<SourceFault>, AllocError>
     requires numbers { IsTrue (has_small_numbers scope.now) }
     requires part { part ≡ least (faults_in scope.now of.now) }
     ensures { IfOk result (λ fault. fault ≡ least (faults_in scope.now (exprs.Minus at of.now))) }
@@ -36,7 +35,11 @@ pub(crate) fn fault_of_minus(
 }
 
 /// Of the negation of a condition.
-pub(crate) fn fault_of_not(scope: &[Entry], of: &Expr, part: Option<TypeFault>) -> Option<TypeFault>
+pub(crate) fn fault_of_not(
+    scope: &[Entry],
+    of: &Expr,
+    part: Option<SourceFault>,
+) -> Option<SourceFault>
     requires { part ≡ least (faults_in scope.now of.now) }
     ensures { IsFirstOfNot scope.now of.now result }
 {
@@ -49,8 +52,8 @@ pub(crate) fn fault_of_product(
     scope: &[Entry],
     first: &Expr,
     rest: &[Factor],
-    part: Option<TypeFault>,
-) -> Result<Option<TypeFault>, AllocError>
+    part: Option<SourceFault>,
+) -> Result<Option<SourceFault>, AllocError>
     requires numbers { IsTrue (has_small_numbers scope.now) }
     requires part { part ≡ first_in_product scope.now first.now rest.now }
     ensures { IfOk result (IsFirstOfProduct scope.now first.now rest.now) }
@@ -71,8 +74,8 @@ pub(crate) fn fault_of_sum(
     scope: &[Entry],
     first: &Expr,
     rest: &[Addend],
-    part: Option<TypeFault>,
-) -> Result<Option<TypeFault>, AllocError>
+    part: Option<SourceFault>,
+) -> Result<Option<SourceFault>, AllocError>
     requires numbers { IsTrue (has_small_numbers scope.now) }
     requires part { part ≡ first_in_sum scope.now first.now rest.now }
     ensures { IfOk result (IsFirstOfSum scope.now first.now rest.now) }
@@ -93,8 +96,8 @@ pub(crate) fn fault_of_comparison(
     scope: &[Entry],
     left: &Expr,
     right: &Expr,
-    part: Option<TypeFault>,
-) -> Result<Option<TypeFault>, AllocError>
+    part: Option<SourceFault>,
+) -> Result<Option<SourceFault>, AllocError>
     requires numbers { IsTrue (has_small_numbers scope.now) }
     requires part { part ≡ first_in_sides scope.now left.now right.now }
     ensures { IfOk result (IsFirstOfComparison scope.now left.now right.now) }
@@ -113,8 +116,8 @@ pub(crate) fn fault_of_comparison(
 pub(crate) fn fault_of_parts(
     scope: &[Entry],
     parts: &[Expr],
-    part: Option<TypeFault>,
-) -> Option<TypeFault>
+    part: Option<SourceFault>,
+) -> Option<SourceFault>
     requires { part ≡ least (faults_in_parts scope.now parts.now) }
     ensures both { IsFirstOfBoth scope.now parts.now result }
     ensures either { IsFirstOfEither scope.now parts.now result }
@@ -123,19 +126,20 @@ pub(crate) fn fault_of_parts(
 }
 
 /// A fault at an expression that is of a kind other than the wanted one.
-pub fn wrong_type(scope: &[Entry], wanted: Kind, part: &Expr) -> Option<TypeFault>
+pub fn wrong_type(scope: &[Entry], wanted: Kind, part: &Expr) -> Option<SourceFault>
     ensures { result ≡ least (wrong_type wanted (sense scope.now part.now)) }
 {
     if is_other(wanted, kind_of(scope, part)) {
-        Some(TypeFault::WrongType {
+        Some(SourceFault {
             at: first_place(part),
+            what: Refusal::WrongType,
         })
     } else {
         None
     }
 }
 
-fn wrong_factor(scope: &[Entry], factors: &[Factor]) -> Option<TypeFault>
+fn wrong_factor(scope: &[Entry], factors: &[Factor]) -> Option<SourceFault>
     ensures { result ≡ least (wrong_factors scope.now factors.now) }
 {
     let mut fault = None;
@@ -145,7 +149,7 @@ fn wrong_factor(scope: &[Entry], factors: &[Factor]) -> Option<TypeFault>
     fault
 }
 
-fn wrong_addend(scope: &[Entry], addends: &[Addend]) -> Option<TypeFault>
+fn wrong_addend(scope: &[Entry], addends: &[Addend]) -> Option<SourceFault>
     ensures { result ≡ least (wrong_addends scope.now addends.now) }
 {
     let mut fault = None;
@@ -155,7 +159,7 @@ fn wrong_addend(scope: &[Entry], addends: &[Addend]) -> Option<TypeFault>
     fault
 }
 
-fn wrong_part(scope: &[Entry], parts: &[Expr]) -> Option<TypeFault>
+fn wrong_part(scope: &[Entry], parts: &[Expr]) -> Option<SourceFault>
     ensures { result ≡ least (wrong_parts scope.now parts.now) }
 {
     let mut fault = None;
@@ -165,13 +169,16 @@ fn wrong_part(scope: &[Entry], parts: &[Expr]) -> Option<TypeFault>
     fault
 }
 
-fn large_form(at: u32, flat: &Flat) -> Option<TypeFault>
+fn large_form(at: u32, flat: &Flat) -> Option<SourceFault>
     ensures { result ≡ least (large_form at flat.now) }
 {
     if flat.is_limited() {
         None
     } else {
-        Some(TypeFault::TooLarge { at })
+        Some(SourceFault {
+            at,
+            what: Refusal::TooLarge,
+        })
     }
 }
 
@@ -180,7 +187,7 @@ fn large_opposite(
     scope: &[Entry],
     at: u32,
     of: &Expr,
-) -> Result<Option<TypeFault>, AllocError>
+) -> Result<Option<SourceFault>, AllocError>
     requires numbers { IsTrue (has_small_numbers scope.now) }
     requires of { IsInt scope.now of.now }
     ensures { IfOk result (λ fault. fault ≡ least (large_opposite scope.now at of.now)) }
@@ -195,7 +202,7 @@ fn large_sum(
     scope: &[Entry],
     first: &Expr,
     rest: &[Addend],
-) -> Result<Option<TypeFault>, AllocError>
+) -> Result<Option<SourceFault>, AllocError>
     requires numbers { IsTrue (has_small_numbers scope.now) }
     requires first { IsInt scope.now first.now }
     requires rest { All (λ addend. IsInt scope.now addend.of) rest.now }
@@ -211,7 +218,7 @@ fn large_difference(
     scope: &[Entry],
     left: &Expr,
     right: &Expr,
-) -> Result<Option<TypeFault>, AllocError>
+) -> Result<Option<SourceFault>, AllocError>
     requires numbers { IsTrue (has_small_numbers scope.now) }
     requires left { IsInt scope.now left.now }
     requires right { IsInt scope.now right.now }
@@ -226,7 +233,7 @@ fn fault_of_factors(
     scope: &[Entry],
     first: &Expr,
     rest: &[Factor],
-) -> Result<Option<TypeFault>, AllocError>
+) -> Result<Option<SourceFault>, AllocError>
     requires numbers { IsTrue (has_small_numbers scope.now) }
     requires first { IsInt scope.now first.now }
     requires rest { All (λ factor. IsInt scope.now factor.of) rest.now }
@@ -244,7 +251,7 @@ fn fault_of_product_from(
     at: u32,
     start: Flat,
     rest: &[Factor],
-) -> Result<Option<TypeFault>, AllocError>
+) -> Result<Option<SourceFault>, AllocError>
     requires numbers { IsTrue (has_small_numbers scope.now) }
     requires limited { is_limited start ≡ true }
     requires rest { All (λ factor. IsInt scope.now factor.of) rest.now }
@@ -254,11 +261,17 @@ fn fault_of_product_from(
     for factor in rest {
         let next = flat_of(alloc, scope, &factor.of)?;
         if !is_linear(&product, &next) {
-            return Ok(Some(TypeFault::NotLinear { at: factor.at }));
+            return Ok(Some(SourceFault {
+                at: factor.at,
+                what: Refusal::NotLinear,
+            }));
         }
         product = multiply(product, next);
         if !product.is_limited() {
-            return Ok(Some(TypeFault::TooLarge { at }));
+            return Ok(Some(SourceFault {
+                at,
+                what: Refusal::TooLarge,
+            }));
         }
     }
     Ok(None)

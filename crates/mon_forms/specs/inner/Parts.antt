@@ -8,9 +8,9 @@ use Rattle.mon_tree.specs.declared.tree.Addend.{Addend}
 use Rattle.mon_tree.specs.declared.tree.Factor.{Factor}
 use Rattle.mon_linear.specs.declared.formula.Formula.{Formula}
 use Rattle.mon_base.specs.declared.kind.Kind.TheVariants as kinds
-use Rattle.mon_forms.specs.declared.fault.TypeFault.{TypeFault}
+use Rattle.mon_base.specs.declared.source_fault.SourceFault.{SourceFault}
 use Rattle.mon_forms.specs.declared.scope.Entry.{Entry}
-use Rattle.mon_forms.specs.Faults.{least, earlier_of}
+use Rattle.mon_base.specs.SourceFaults.{least, earlier_of}
 use Rattle.mon_forms.specs.Forms.{Form, minus, opposite}
 use Rattle.mon_forms.specs.Sense.{AddendSense, FactorSense, at_most, comparison_formula, faults_in}
 use Rattle.mon_forms.specs.Sense.{first_in, form_in, formula_in, large_form, less, product_faults}
@@ -31,41 +31,41 @@ abbrev pub product_from : List Entry → Form → List Factor → Form
 product_from scope form rest = product_form form (map (factor_sense scope) rest)
 
 -- the rule of a product that begins at an offset with a form
-abbrev pub broken_from : List Entry → ℕ → Form → List Factor → List TypeFault
+abbrev pub broken_from : List Entry → ℕ → Form → List Factor → List SourceFault
 broken_from scope at form rest = product_faults at form (map (factor_sense scope) rest)
 
 -- ---- the faults in parts
 
-abbrev pub faults_in_parts : List Entry → List Expr → List TypeFault
+abbrev pub faults_in_parts : List Entry → List Expr → List SourceFault
 faults_in_parts scope parts = flat_map (λ part. faults_in scope part) parts
 
-abbrev pub faults_in_addends : List Entry → List Addend → List TypeFault
+abbrev pub faults_in_addends : List Entry → List Addend → List SourceFault
 faults_in_addends scope rest = flat_map (λ addend. faults_in scope addend.of) rest
 
-abbrev pub faults_in_factors : List Entry → List Factor → List TypeFault
+abbrev pub faults_in_factors : List Entry → List Factor → List SourceFault
 faults_in_factors scope rest = flat_map (λ factor. faults_in scope factor.of) rest
 
-abbrev pub first_in_sum : List Entry → Expr → List Addend → Option TypeFault
+abbrev pub first_in_sum : List Entry → Expr → List Addend → Option SourceFault
 first_in_sum scope first rest =
     earlier_of (least (faults_in scope first)) (least (faults_in_addends scope rest))
 
-abbrev pub first_in_product : List Entry → Expr → List Factor → Option TypeFault
+abbrev pub first_in_product : List Entry → Expr → List Factor → Option SourceFault
 first_in_product scope first rest =
     earlier_of (least (faults_in scope first)) (least (faults_in_factors scope rest))
 
-abbrev pub first_in_sides : List Entry → Expr → Expr → Option TypeFault
+abbrev pub first_in_sides : List Entry → Expr → Expr → Option SourceFault
 first_in_sides scope left right =
     earlier_of (least (faults_in scope left)) (least (faults_in scope right))
 
 -- ---- parts of another kind
 
-abbrev pub wrong_parts : List Entry → List Expr → List TypeFault
+abbrev pub wrong_parts : List Entry → List Expr → List SourceFault
 wrong_parts scope parts = flat_map (λ part. wrong_type kinds.Bool (sense scope part)) parts
 
-abbrev pub wrong_addends : List Entry → List Addend → List TypeFault
+abbrev pub wrong_addends : List Entry → List Addend → List SourceFault
 wrong_addends scope rest = flat_map (λ addend. wrong_type kinds.Int (sense scope addend.of)) rest
 
-abbrev pub wrong_factors : List Entry → List Factor → List TypeFault
+abbrev pub wrong_factors : List Entry → List Factor → List SourceFault
 wrong_factors scope rest = flat_map (λ factor. wrong_type kinds.Int (sense scope factor.of)) rest
 
 -- ---- wholes whose parts break no rule
@@ -73,38 +73,38 @@ wrong_factors scope rest = flat_map (λ factor. wrong_type kinds.Int (sense scop
 abbrev pub difference : List Entry → Expr → Expr → Form
 difference scope left right = minus (form_in scope left) (form_in scope right)
 
-abbrev pub large_opposite : List Entry → ℕ → Expr → List TypeFault
+abbrev pub large_opposite : List Entry → ℕ → Expr → List SourceFault
 large_opposite scope at of = large_form at (opposite (form_in scope of))
 
-abbrev pub large_sum : List Entry → Expr → List Addend → List TypeFault
+abbrev pub large_sum : List Entry → Expr → List Addend → List SourceFault
 large_sum scope first rest =
     large_form (first_in scope first) (sum_from scope (form_in scope first) rest)
 
-abbrev pub large_difference : List Entry → Expr → Expr → List TypeFault
+abbrev pub large_difference : List Entry → Expr → Expr → List SourceFault
 large_difference scope left right = large_form (first_in scope left) (difference scope left right)
 
-abbrev pub broken_product : List Entry → Expr → List Factor → List TypeFault
+abbrev pub broken_product : List Entry → Expr → List Factor → List SourceFault
 broken_product scope first rest =
     broken_from scope (first_in scope first) (form_in scope first) rest
 
 -- ---- the first fault of a whole; wherever a `!` stands, and whichever sign compares
 
-abbrev pub IsFirstOfProduct : List Entry → Expr → List Factor → Option TypeFault → Type 0
+abbrev pub IsFirstOfProduct : List Entry → Expr → List Factor → Option SourceFault → Type 0
 IsFirstOfProduct scope first rest fault = fault ≡ least (faults_in scope (exprs.Product first rest))
 
-abbrev pub IsFirstOfSum : List Entry → Expr → List Addend → Option TypeFault → Type 0
+abbrev pub IsFirstOfSum : List Entry → Expr → List Addend → Option SourceFault → Type 0
 IsFirstOfSum scope first rest fault = fault ≡ least (faults_in scope (exprs.Sum first rest))
 
-abbrev pub IsFirstOfBoth : List Entry → List Expr → Option TypeFault → Type 0
+abbrev pub IsFirstOfBoth : List Entry → List Expr → Option SourceFault → Type 0
 IsFirstOfBoth scope parts fault = fault ≡ least (faults_in scope (exprs.Both parts))
 
-abbrev pub IsFirstOfEither : List Entry → List Expr → Option TypeFault → Type 0
+abbrev pub IsFirstOfEither : List Entry → List Expr → Option SourceFault → Type 0
 IsFirstOfEither scope parts fault = fault ≡ least (faults_in scope (exprs.Either parts))
 
-abbrev pub IsFirstOfNot : List Entry → Expr → Option TypeFault → Type 0
+abbrev pub IsFirstOfNot : List Entry → Expr → Option SourceFault → Type 0
 IsFirstOfNot scope of fault = (at : ℕ) → fault ≡ least (faults_in scope (exprs.Not at of))
 
-abbrev pub IsFirstOfComparison : List Entry → Expr → Expr → Option TypeFault → Type 0
+abbrev pub IsFirstOfComparison : List Entry → Expr → Expr → Option SourceFault → Type 0
 IsFirstOfComparison scope left right fault =
     (op : Op) → fault ≡ least (faults_in scope (exprs.Compare op left right))
 

@@ -4,14 +4,14 @@ use Rattle.mon_tree.specs.declared.tree.Expr.{Expr}
 use Rattle.mon_tree.specs.declared.tree.Addend.{Addend}
 use Rattle.mon_tree.specs.declared.tree.Factor.{Factor}
 use Rattle.mon_tree.specs.declared.tree.Expr.TheVariants as exprs
-use Rattle.mon_forms.specs.declared.fault.TypeFault.{TypeFault}
+use Rattle.mon_base.specs.declared.source_fault.SourceFault.{SourceFault}
 use Rattle.mon_forms.specs.declared.scope.Entry.{Entry}
-use Rattle.mon_forms.specs.Faults.{least, order}
+use Rattle.mon_base.specs.SourceFaults.{least, order}
 use Rattle.mon_forms.specs.Sense.{sense}
 use Rattle.mon_base.proofs.Least.{least_turn}
 use Rattle.mon_forms.proofs.first_fault.+fault_in.Goals as goal
 
-of_comparison : {E : Type 0} (scope : List Entry) (op : Op) (here there left right expression : Expr) (r : Result (Option TypeFault) E) → here ≡ left → there ≡ right → expression ≡ exprs.Compare op left right
+of_comparison : {E : Type 0} (scope : List Entry) (op : Op) (here there left right expression : Expr) (r : Result (Option SourceFault) E) → here ≡ left → there ≡ right → expression ≡ exprs.Compare op left right
     → IfOk r (λ fault. (op : Op) → fault ≡ least (sense scope (exprs.Compare op here there)).faults)
     → IfOk r (λ fault. fault ≡ least (sense scope expression).faults)
 of_comparison scope op here there left right expression (Ok fault) here_is there_is is h =
@@ -21,7 +21,7 @@ of_comparison scope op here there left right expression (Ok fault) here_is there
     ∙ sym (ap (λ e. least (sense scope e).faults) is)
 of_comparison scope op here there left right expression (Err error) here_is there_is is h = h
 
-of_not : {E : Type 0} (scope : List Entry) (at : ℕ) (of expression : Expr) (r : Result (Option TypeFault) E) → expression ≡ exprs.Not at of
+of_not : {E : Type 0} (scope : List Entry) (at : ℕ) (of expression : Expr) (r : Result (Option SourceFault) E) → expression ≡ exprs.Not at of
     → IfOk r (λ fault. (at : ℕ) → fault ≡ least (sense scope (exprs.Not at of)).faults)
     → IfOk r (λ fault. fault ≡ least (sense scope expression).faults)
 of_not scope at of expression (Ok fault) is h = h at ∙ sym (ap (λ e. least (sense scope e).faults) is)

@@ -1,6 +1,6 @@
 use Rattle.mon_tree.specs.declared.tree.Op.{Op}
 use Rattle.mon_tree.specs.declared.tree.Expr.TheVariants as exprs
-use Rattle.mon_forms.specs.Faults.{least}
+use Rattle.mon_base.specs.SourceFaults.{least}
 use Rattle.mon_forms.specs.Sense.{sense}
 use Rattle.mon_forms.proofs.WholeFaults.{both_int, earlier_same, least_Compare, of_difference, whole_none_each, whole_some}
 use Rattle.mon_forms.proofs.whole_fault.fault_of_comparison.Goals as goal

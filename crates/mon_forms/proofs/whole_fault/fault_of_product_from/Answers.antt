@@ -1,7 +1,7 @@
 use Rattle.mon_forms.proofs.WholeFaults.{goes_on, int_at_index, int_limited, too_large}
 use Rattle.std.proofs.Common.{sym, ap, ◌∙◌}
 use Rattle.mon_tree.specs.declared.tree.Factor.{Factor}
-use Rattle.mon_forms.specs.Faults.{least}
+use Rattle.mon_base.specs.SourceFaults.{least}
 use Rattle.mon_forms.proofs.whole_fault.fault_of_product_from.Goals as goal
 
 pub multiply-product-requires-clause-right : goal.multiply-product-requires-clause-right

@@ -2,7 +2,7 @@ use Rattle.std.proofs.Common.{rules}
 use Rattle.mon_base.specs.declared.kind.Kind.TheVariants as kinds
 use Rattle.mon_forms.specs.Sense.{sense, wrong_type}
 use Rattle.mon_base.proofs.Least.{least_turn}
-use Rattle.mon_forms.specs.Faults.{order}
+use Rattle.mon_base.specs.SourceFaults.{order}
 use Rattle.mon_forms.proofs.whole_fault.wrong_part.Goals as goal
 
 pub loop-part-preserved : goal.loop-part-preserved

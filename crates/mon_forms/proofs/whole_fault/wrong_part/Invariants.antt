@@ -1,7 +1,7 @@
 use Rattle.std.proofs.Common.{◌≡◌, take}
 use Rattle.std.specs.List.{flat_map}
 use Rattle.mon_base.specs.declared.kind.Kind.TheVariants as kinds
-use Rattle.mon_forms.specs.Faults.{least}
+use Rattle.mon_base.specs.SourceFaults.{least}
 use Rattle.mon_forms.specs.Sense.{sense, wrong_type}
 use Rattle.mon_forms.proofs.whole_fault.wrong_part.Given as goal
 
