@@ -1,17 +1,18 @@
--- What a fault of the lexer says.
+-- What the lexer answers.
 use Rattle.std.specs.Prelude.{◌≡◌, ℕ, List, Result, Ok, Err}
 use Rattle.std.specs.Global.{Vec}
+use Rattle.mon_base.specs.declared.source_fault.Refusal.{Refusal}
+use Rattle.mon_base.specs.declared.source_fault.SourceError.{SourceError}
+use Rattle.mon_base.specs.declared.source_fault.SourceError.TheVariants.{Fault, OutOfMemory}
 use Rattle.mon_tokens.specs.declared.token.Token.{Token}
-use Rattle.mon_tokens.specs.declared.lexing.LexFault.{LexFault}
-use Rattle.mon_tokens.specs.declared.lexing.LexFault.TheVariants.{At, OutOfMemory}
 
--- the fact at the fault's place, unless memory ran out
-abbrev pub IsAt : LexFault → (ℕ → Type 0) → Type 0
-IsAt (At at) P = P at
-IsAt OutOfMemory P = Unit {0}
+-- a fault of this rule at an offset of which the fact holds, unless memory ran out
+abbrev pub IsAt : Refusal → (ℕ → Type 0) → SourceError → Type 0
+IsAt rule IsPlace (Fault fault) = (fault.what ≡ rule) × IsPlace fault.at
+IsAt rule IsPlace OutOfMemory = Unit {0}
 
 -- a read of these very tokens, unless memory ran out
-abbrev pub Reads : Result (Vec Token) LexFault → List Token → Type 0
+abbrev pub Reads : Result (Vec Token) SourceError → List Token → Type 0
 Reads (Ok v) ts = v.items ≡ ts
-Reads (Err (At at)) ts = ⊥
+Reads (Err (Fault fault)) ts = ⊥
 Reads (Err OutOfMemory) ts = Unit {0}

@@ -2,7 +2,7 @@
 
 ghost use Rattle.std.specs.Prelude.{◌≡◌, ◌++◌, ◌<◌, ◌≤◌, ◌^◌, List, length, IfOk, IfErr, OnOk};
 ghost use Rattle.mon_tokens.specs.declared.token.Token.{Token};
-ghost use Rattle.mon_tokens.specs.declared.lexing.LexFault.TheVariants.{OutOfMemory};
+ghost use Rattle.mon_base.specs.declared.source_fault.Refusal.TheVariants.{Lex};
 ghost use Rattle.mon_tokens.specs.Spelling.{Spells, StartsNoToken, token};
 ghost use Rattle.mon_tokens.specs.Lexing.{IsAt, Reads};
 ghost use Rattle.mon_base.specs.Limits.{FILE_BYTES};
@@ -10,34 +10,8 @@ ghost use Rattle.mon_tokens.specs.inner.Pieces.{meant};
 
 use super::piece::{Shape, kind_of_word, piece_at};
 use super::token::{Token, TokenKind};
-use std::alloc::{AllocError, AllocFailed, Global};
-use thiserror::Error;
-
-/// Why bytes could not be read as tokens.
-#[derive(Clone, Copy, Debug, Error)]
-pub enum LexFault {
-    /// No token, blank or comment starts at the offset, and all before it is read.
-    #[error("no token starts here: offset {at}")]
-    At { at: u32 },
-    #[error("out of memory")]
-    OutOfMemory,
-}
-
-impl From<AllocError> for LexFault {
-    ghost from_gives = { λ _ e. e ≡ OutOfMemory };
-
-    fn from(_: AllocError) -> Self {
-        LexFault::OutOfMemory
-    }
-}
-
-impl<T: Drop> From<AllocFailed<T>> for LexFault {
-    ghost from_gives = { λ _ e. e ≡ OutOfMemory };
-
-    fn from(_: AllocFailed<T>) -> Self {
-        LexFault::OutOfMemory
-    }
-}
+use mon_base::{Refusal, SourceError, SourceFault};
+use std::alloc::{AllocError, Global};
 
 /// Adds the token of a piece at an offset; a blank or a comment adds none.
 fn push_token(out: &mut Vec<Token>, shape: Shape, text: &[u8], at: u32) -> Result<(), AllocError>
@@ -62,11 +36,11 @@ fn push_token(out: &mut Vec<Token>, shape: Shape, text: &[u8], at: u32) -> Resul
 ///
 /// # Errors
 ///
-/// `At` gives the first offset at which no token, blank or comment starts.
-pub fn tokens(alloc: Global, bytes: &[u8]) -> Result<Vec<Token>, LexFault>
+/// A fault by [`Refusal::Lex`] at the first offset at which no token, blank or comment starts; or out of memory.
+pub fn tokens(alloc: Global, bytes: &[u8]) -> Result<Vec<Token>, SourceError>
     requires { length bytes.now ≤ FILE_BYTES }
     ensures spelled { IfOk result (λ v. Spells bytes.now v.items) }
-    ensures stuck { IfErr result (λ fault. IsAt fault (StartsNoToken bytes.now)) }
+    ensures stuck { IfErr result (IsAt Lex (StartsNoToken bytes.now)) }
 
     // Bytes that spell tokens are read as these, unless memory runs out.
     ensures complete { (spelled : List Token) → Spells bytes.now spelled → Reads result spelled }
@@ -82,7 +56,10 @@ pub fn tokens(alloc: Global, bytes: &[u8]) -> Result<Vec<Token>, LexFault>
                 at += len as u32;
                 rest = after;
             }
-            None => return Err(LexFault::At { at }),
+            None => return Err(SourceError::Fault(SourceFault {
+                at,
+                what: Refusal::Lex,
+            })),
         }
     }
     Ok(out)

@@ -1,7 +1,7 @@
 //! Tokens: what the bytes of a file spell.
 //!
-//! [`tokens`] cuts a file's bytes into the one list of tokens that they spell, or answers the first place where
-//! nothing starts (`specs/Spelling`). [`is_identifier`] tells whether a text is one name, and [`decimal_value`] gives
+//! [`tokens`] cuts a file's bytes into the one list of tokens that they spell (`specs/Spelling`), or answers the
+//! first place where nothing starts (`specs/Lexing`). [`is_identifier`] tells whether a text is one name, and [`decimal_value`] gives
 //! the number that a text of digits stands for. `specs/Words` says what tokens say, each with its offset; grammars speak
 //! of these words. The laws are functions of `laws`.
 #![tactic(auto)]
@@ -14,6 +14,6 @@ mod token;
 
 pub use decimal::decimal_value;
 pub use laws::{each_is_token, one_spelling};
-pub use lexing::{LexFault, tokens};
-pub use mon_base::is_identifier;
+pub use lexing::tokens;
+pub use mon_base::{Refusal, SourceError, SourceFault, is_identifier};
 pub use token::{Token, TokenKind};

@@ -1,4 +1,4 @@
-use Rattle.std.proofs.Common.{length, sym, ap, arith, false-eqb, ◌≢◌}
+use Rattle.std.proofs.Common.{length, refl, sym, ap, arith, false-eqb, ◌≢◌}
 use Rattle.std.proofs.lemmas.List.{length-drop}
 use Rattle.std.proofs.lemmas.Bool.{eqb-true}
 use Rattle.mon_tokens.proofs.Cutting.{goes_on, piece_within, piece_some, is_stuck, is_done, one_reading, stuck_is_none}
@@ -18,7 +18,7 @@ pieces-preserved c =
     rw (c.in_ok-push_token-in-Some.ensures, c.split_at.ensures.front, c.split_at.ensures.back) (goes_on _ _ _ _ _ _ (sym c.in-Some.ensures) c.pieces.invariant)
 
 pub returns-in-None-clause-stuck : goal.returns-in-None-clause-stuck
-returns-in-None-clause-stuck c = is_stuck _ _ _ _ (let not_zero : length c.pieces.rest.now ≢ 0 = false-eqb _ 0 c.pieces-test.ensures in omega arith) (sym c.in-None.ensures) c.pieces.invariant
+returns-in-None-clause-stuck c = (refl, is_stuck _ _ _ _ (let not_zero : length c.pieces.rest.now ≢ 0 = false-eqb _ 0 c.pieces-test.ensures in omega arith) (sym c.in-None.ensures) c.pieces.invariant)
 
 pub returns-in-None-clause-complete : goal.returns-in-None-clause-complete
 returns-in-None-clause-complete c = λ spelled are. stuck_is_none _ _ spelled (is_stuck _ _ _ _ (let not_zero : length c.pieces.rest.now ≢ 0 = false-eqb _ 0 c.pieces-test.ensures in omega arith) (sym c.in-None.ensures) c.pieces.invariant) are
