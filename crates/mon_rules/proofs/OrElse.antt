@@ -3,16 +3,16 @@ use Rattle.std.proofs.Common.{◌≡◌, List, [], ◌∷◌, refl, sym, subst, 
 use Rattle.std.specs.Prelude.{◌⊎◌}
 use Rattle.std.specs.List.{Contains}
 use Rattle.mon_base.proofs.Members.{none_in}
-use Rattle.mon_forms.specs.declared.fault.TypeFault.{TypeFault}
-use Rattle.mon_forms.specs.Faults.{◌or_else◌}
+use Rattle.mon_base.specs.declared.source_fault.SourceFault.{SourceFault}
+use Rattle.mon_base.specs.SourceFaults.{◌or_else◌}
 
-pub or_else_cases : (these those : List TypeFault) (fault : TypeFault) → Contains (these or_else those) fault → Contains these fault ⊎ ((these ≡ []) × Contains those fault)
+pub or_else_cases : (these those : List SourceFault) (fault : SourceFault) → Contains (these or_else those) fault → Contains these fault ⊎ ((these ≡ []) × Contains those fault)
 or_else_cases [] those fault within = inr (refl, within)
 or_else_cases (one ∷ these) those fault within = inl within
 
-pub in_these : (these those : List TypeFault) (fault : TypeFault) → Contains these fault → Contains (these or_else those) fault
+pub in_these : (these those : List SourceFault) (fault : SourceFault) → Contains these fault → Contains (these or_else those) fault
 in_these [] those fault within = none_in fault within
 in_these (one ∷ these) those fault within = within
 
-pub in_those : (these those : List TypeFault) (fault : TypeFault) → these ≡ [] → Contains those fault → Contains (these or_else those) fault
-in_those these those fault none within = subst (λ (front : List TypeFault). Contains (front or_else those) fault) (sym none) within
+pub in_those : (these those : List SourceFault) (fault : SourceFault) → these ≡ [] → Contains those fault → Contains (these or_else those) fault
+in_those these those fault none within = subst (λ (front : List SourceFault). Contains (front or_else those) fault) (sym none) within

@@ -8,10 +8,10 @@ use Rattle.mon_tree.specs.declared.tree.Expr.{Expr}
 use Rattle.mon_tree.specs.declared.tree.Expr.TheVariants as exprs
 use Rattle.mon_tree.specs.declared.tree.Factor.{Factor}
 use Rattle.mon_base.specs.declared.kind.Kind.TheVariants as kinds
-use Rattle.mon_forms.specs.declared.fault.TypeFault.{TypeFault}
-use Rattle.mon_forms.specs.declared.fault.TypeFault.TheVariants as faults
+use Rattle.mon_base.specs.declared.source_fault.SourceFault.{SourceFault}
+use Rattle.mon_base.specs.declared.source_fault.Refusal.TheVariants as refusals
 use Rattle.mon_forms.specs.declared.scope.Entry.{Entry}
-use Rattle.mon_forms.specs.Faults.{◌or_else◌}
+use Rattle.mon_base.specs.SourceFaults.{fault_at, ◌or_else◌}
 use Rattle.mon_forms.specs.Forms.{Form, is_constant, is_limited, product}
 use Rattle.mon_forms.specs.Sense.{Sense, FactorSense, faults_in, first_in, form_in, is_other, kind_in, large_form, part_faults, sense}
 use Rattle.mon_forms.specs.inner.Parts.{broken_from, broken_product, factor_sense, product_from}
@@ -24,19 +24,19 @@ use Rattle.mon_rules.proofs.PartRules.{fit_none}
 
 -- ---- a form with too large a number
 
-pub record LargeAt (at : ℕ) (form : Form) (fault : TypeFault) : Type 0 where
-  pub is : fault ≡ faults.TooLarge at
+pub record LargeAt (at : ℕ) (form : Form) (fault : SourceFault) : Type 0 where
+  pub is : fault ≡ fault_at refusals.TooLarge at
   pub large : is_limited form ≡ false
 
-pub from_large_form : (at : ℕ) (form : Form) (fault : TypeFault) → Contains (large_form at form) fault → LargeAt at form fault
+pub from_large_form : (at : ℕ) (form : Form) (fault : SourceFault) → Contains (large_form at form) fault → LargeAt at form fault
 from_large_form at form fault within = by_test (is_limited form) refl within
   where
-    by_test : (test : Bool) → is_limited form ≡ test → Contains (if test then [] else faults.TooLarge at ∷ []) fault → LargeAt at form fault
+    by_test : (test : Bool) → is_limited form ≡ test → Contains (if test then [] else fault_at refusals.TooLarge at ∷ []) fault → LargeAt at form fault
     by_test true limited within = none_in fault within
-    by_test false limited within = record { is = sym (only_in (faults.TooLarge at) fault within); large = limited }
+    by_test false limited within = record { is = sym (only_in (fault_at refusals.TooLarge at) fault within); large = limited }
 
-pub in_large_form : (at : ℕ) (form : Form) → is_limited form ≡ false → Contains (large_form at form) (faults.TooLarge at)
-in_large_form at form large = rw large (contains_head (faults.TooLarge at) [])
+pub in_large_form : (at : ℕ) (form : Form) → is_limited form ≡ false → Contains (large_form at form) (fault_at refusals.TooLarge at)
+in_large_form at form large = rw large (contains_head (fault_at refusals.TooLarge at) [])
 
 -- ---- the first fault of a product
 
@@ -45,12 +45,12 @@ abbrev pub one_constant : List Entry → Form → List Factor → Factor → Boo
 one_constant scope start before factor = is_constant (product_from scope start before) || is_constant (form_in scope factor.of)
 
 -- what is broken at a factor
-abbrev pub AtFactor : List Entry → ℕ → Form → List Factor → Factor → TypeFault → Type 0
+abbrev pub AtFactor : List Entry → ℕ → Form → List Factor → Factor → SourceFault → Type 0
 AtFactor scope at start before factor fault =
-    ((one_constant scope start before factor ≡ false) × (fault ≡ faults.NotLinear factor.at))
+    ((one_constant scope start before factor ≡ false) × (fault ≡ fault_at refusals.NotLinear factor.at))
     ⊎ ((one_constant scope start before factor ≡ true) × LargeAt at (product (product_from scope start before) (form_in scope factor.of)) fault)
 
-pub record FirstBreak (scope : List Entry) (at : ℕ) (start : Form) (rest : List Factor) (fault : TypeFault) : Type 0 where
+pub record FirstBreak (scope : List Entry) (at : ℕ) (start : Form) (rest : List Factor) (fault : SourceFault) : Type 0 where
   pub before : List Factor
   pub factor : Factor
   pub after : List Factor
@@ -59,7 +59,7 @@ pub record FirstBreak (scope : List Entry) (at : ℕ) (start : Form) (rest : Lis
   pub broken : AtFactor scope at start before factor fault
 
 -- one more factor in front, at which nothing is broken
-later_break : (scope : List Entry) (at : ℕ) (start : Form) (factor : Factor) (rest : List Factor) (fault : TypeFault)
+later_break : (scope : List Entry) (at : ℕ) (start : Form) (factor : Factor) (rest : List Factor) (fault : SourceFault)
     → (is_constant start || is_constant (form_in scope factor.of)) ≡ true
     → large_form at (product start (form_in scope factor.of)) ≡ []
     → FirstBreak scope at (product start (form_in scope factor.of)) rest fault
@@ -74,10 +74,10 @@ later_break scope at start factor rest fault one none found = record {
 }
 
 -- at one factor, where the rest breaks first what it breaks
-at_factor : (scope : List Entry) (at : ℕ) (start : Form) (factor : Factor) (rest : List Factor) (fault : TypeFault) (test : Bool)
+at_factor : (scope : List Entry) (at : ℕ) (start : Form) (factor : Factor) (rest : List Factor) (fault : SourceFault) (test : Bool)
     → (is_constant start || is_constant (form_in scope factor.of)) ≡ test
     → (Contains (broken_from scope at (product start (form_in scope factor.of)) rest) fault → FirstBreak scope at (product start (form_in scope factor.of)) rest fault)
-    → Contains (if test then large_form at (product start (form_in scope factor.of)) or_else broken_from scope at (product start (form_in scope factor.of)) rest else faults.NotLinear factor.at ∷ []) fault
+    → Contains (if test then large_form at (product start (form_in scope factor.of)) or_else broken_from scope at (product start (form_in scope factor.of)) rest else fault_at refusals.NotLinear factor.at ∷ []) fault
     → FirstBreak scope at start (factor ∷ rest) fault
 at_factor scope at start factor rest fault true one more within =
     elim (or_else_cases (large_form at (product start (form_in scope factor.of))) (broken_from scope at (product start (form_in scope factor.of)) rest) fault within) [
@@ -85,9 +85,9 @@ at_factor scope at start factor rest fault true one more within =
       | inr later ↦ later_break scope at start factor rest fault one later.0 (more later.1)
     ]
 at_factor scope at start factor rest fault false one more within =
-    record { before = []; factor = factor; after = rest; split = refl; fine = refl; broken = inl (one, sym (only_in (faults.NotLinear factor.at) fault within)) }
+    record { before = []; factor = factor; after = rest; split = refl; fine = refl; broken = inl (one, sym (only_in (fault_at refusals.NotLinear factor.at) fault within)) }
 
-pub first_break : (scope : List Entry) (at : ℕ) (start : Form) (rest : List Factor) (fault : TypeFault) → Contains (broken_from scope at start rest) fault → FirstBreak scope at start rest fault
+pub first_break : (scope : List Entry) (at : ℕ) (start : Form) (rest : List Factor) (fault : SourceFault) → Contains (broken_from scope at start rest) fault → FirstBreak scope at start rest fault
 first_break scope at start [] fault within = none_in fault within
 first_break scope at start (factor ∷ rest) fault within =
     at_factor scope at start factor rest fault (is_constant start || is_constant (form_in scope factor.of)) refl (λ later. first_break scope at (product start (form_in scope factor.of)) rest fault later) within
@@ -103,7 +103,7 @@ record Passed (scope : List Entry) (at : ℕ) (start : Form) (factor : Factor) (
 passed : (scope : List Entry) (at : ℕ) (start : Form) (factor : Factor) (rest : List Factor) → broken_from scope at start (factor ∷ rest) ≡ [] → Passed scope at start factor rest
 passed scope at start factor rest none = by_test (is_constant start || is_constant (form_in scope factor.of)) refl none
   where
-    by_test : (test : Bool) → (is_constant start || is_constant (form_in scope factor.of)) ≡ test → (if test then large_form at (product start (form_in scope factor.of)) or_else broken_from scope at (product start (form_in scope factor.of)) rest else faults.NotLinear factor.at ∷ []) ≡ [] → Passed scope at start factor rest
+    by_test : (test : Bool) → (is_constant start || is_constant (form_in scope factor.of)) ≡ test → (if test then large_form at (product start (form_in scope factor.of)) or_else broken_from scope at (product start (form_in scope factor.of)) rest else fault_at refusals.NotLinear factor.at ∷ []) ≡ [] → Passed scope at start factor rest
     by_test true one none = let both = or_else_none (large_form at (product start (form_in scope factor.of))) (broken_from scope at (product start (form_in scope factor.of)) rest) none in record { one = one; small = both.0; more = both.1 }
     by_test false one none = absurd cc
 
@@ -166,12 +166,12 @@ longer_is : (scope : List Entry) (first : Expr) (before : List Factor) (factor :
 longer_is scope first before factor = product_form_is scope first (before ++ factor ∷ []) ∙ product_push scope (form_in scope first) before factor
 
 -- the two rules that a product may break at a factor
-abbrev pub BreaksProduct : List Entry → Expr → List Factor → TypeFault → Type 0
+abbrev pub BreaksProduct : List Entry → Expr → List Factor → SourceFault → Type 0
 BreaksProduct scope first rest fault =
-    ((reached : Reached scope first rest) × (has_constant reached ≡ false) × (fault ≡ faults.NotLinear reached.factor.at))
-    ⊎ (HasLargeProduct scope first rest × (fault ≡ faults.TooLarge (first_in scope first)))
+    ((reached : Reached scope first rest) × (has_constant reached ≡ false) × (fault ≡ fault_at refusals.NotLinear reached.factor.at))
+    ⊎ (HasLargeProduct scope first rest × (fault ≡ fault_at refusals.TooLarge (first_in scope first)))
 
-abbrev reached_at : (scope : List Entry) (first : Expr) (rest : List Factor) (fault : TypeFault) → Fit scope kinds.Int (first ∷ map (λ factor. factor.of) rest) → FirstBreak scope (first_in scope first) (form_in scope first) rest fault → Reached scope first rest
+abbrev reached_at : (scope : List Entry) (first : Expr) (rest : List Factor) (fault : SourceFault) → Fit scope kinds.Int (first ∷ map (λ factor. factor.of) rest) → FirstBreak scope (first_in scope first) (form_in scope first) rest fault → Reached scope first rest
 reached_at scope first rest fault fit found = record {
   before = found.before;
   factor = found.factor;
@@ -180,14 +180,14 @@ reached_at scope first rest fault fit found = record {
   fine = fine_front scope first found.before (front_fits scope first rest found.before (found.factor ∷ found.after) found.split fit) found.fine;
 }
 
-broken_at : (scope : List Entry) (first : Expr) (rest : List Factor) (fault : TypeFault) → Fit scope kinds.Int (first ∷ map (λ factor. factor.of) rest) → FirstBreak scope (first_in scope first) (form_in scope first) rest fault → BreaksProduct scope first rest fault
+broken_at : (scope : List Entry) (first : Expr) (rest : List Factor) (fault : SourceFault) → Fit scope kinds.Int (first ∷ map (λ factor. factor.of) rest) → FirstBreak scope (first_in scope first) (form_in scope first) rest fault → BreaksProduct scope first rest fault
 broken_at scope first rest fault fit found =
     elim found.broken [
       | inl broken ↦ inl (reached_at scope first rest fault fit found, constant_is scope first found.before found.factor ∙ broken.0, broken.1)
       | inr broken ↦ inr ((reached_at scope first rest fault fit found, constant_is scope first found.before found.factor ∙ broken.0, ap is_limited (longer_is scope first found.before found.factor) ∙ broken.1.large), broken.1.is)
     ]
 
-pub from_product : (scope : List Entry) (first : Expr) (rest : List Factor) (fault : TypeFault) → Fit scope kinds.Int (first ∷ map (λ factor. factor.of) rest) → Contains (broken_product scope first rest) fault → BreaksProduct scope first rest fault
+pub from_product : (scope : List Entry) (first : Expr) (rest : List Factor) (fault : SourceFault) → Fit scope kinds.Int (first ∷ map (λ factor. factor.of) rest) → Contains (broken_product scope first rest) fault → BreaksProduct scope first rest fault
 from_product scope first rest fault fit within = broken_at scope first rest fault fit (first_break scope (first_in scope first) (form_in scope first) rest fault within)
 
 -- the faults from a factor on that a product reaches
@@ -196,19 +196,19 @@ reached_faults scope first rest reached =
     ap (λ list. broken_product scope first list) reached.split
     ∙ after_front scope (first_in scope first) (form_in scope first) reached.before (reached.factor ∷ reached.after) (unbroken_front scope first reached.before reached.fine)
 
-nonlinear_first : (scope : List Entry) (at : ℕ) (form : Form) (factor : Factor) (after : List Factor) → (is_constant form || is_constant (form_in scope factor.of)) ≡ false → Contains (broken_from scope at form (factor ∷ after)) (faults.NotLinear factor.at)
-nonlinear_first scope at form factor after neither = rw neither (contains_head (faults.NotLinear factor.at) [])
+nonlinear_first : (scope : List Entry) (at : ℕ) (form : Form) (factor : Factor) (after : List Factor) → (is_constant form || is_constant (form_in scope factor.of)) ≡ false → Contains (broken_from scope at form (factor ∷ after)) (fault_at refusals.NotLinear factor.at)
+nonlinear_first scope at form factor after neither = rw neither (contains_head (fault_at refusals.NotLinear factor.at) [])
 
-large_first : (scope : List Entry) (at : ℕ) (form : Form) (factor : Factor) (after : List Factor) → (is_constant form || is_constant (form_in scope factor.of)) ≡ true → is_limited (product form (form_in scope factor.of)) ≡ false → Contains (broken_from scope at form (factor ∷ after)) (faults.TooLarge at)
+large_first : (scope : List Entry) (at : ℕ) (form : Form) (factor : Factor) (after : List Factor) → (is_constant form || is_constant (form_in scope factor.of)) ≡ true → is_limited (product form (form_in scope factor.of)) ≡ false → Contains (broken_from scope at form (factor ∷ after)) (fault_at refusals.TooLarge at)
 large_first scope at form factor after one large =
-    rw one (in_these (large_form at (product form (form_in scope factor.of))) (broken_from scope at (product form (form_in scope factor.of)) after) (faults.TooLarge at) (in_large_form at (product form (form_in scope factor.of)) large))
+    rw one (in_these (large_form at (product form (form_in scope factor.of))) (broken_from scope at (product form (form_in scope factor.of)) after) (fault_at refusals.TooLarge at) (in_large_form at (product form (form_in scope factor.of)) large))
 
-pub nonlinear_in : (scope : List Entry) (first : Expr) (rest : List Factor) (reached : Reached scope first rest) → has_constant reached ≡ false → Contains (broken_product scope first rest) (faults.NotLinear reached.factor.at)
+pub nonlinear_in : (scope : List Entry) (first : Expr) (rest : List Factor) (reached : Reached scope first rest) → has_constant reached ≡ false → Contains (broken_product scope first rest) (fault_at refusals.NotLinear reached.factor.at)
 nonlinear_in scope first rest reached neither =
-    subst (λ (list : List TypeFault). Contains list (faults.NotLinear reached.factor.at)) (sym (reached_faults scope first rest reached))
+    subst (λ (list : List SourceFault). Contains list (fault_at refusals.NotLinear reached.factor.at)) (sym (reached_faults scope first rest reached))
     (nonlinear_first scope (first_in scope first) (product_from scope (form_in scope first) reached.before) reached.factor reached.after (sym (constant_is scope first reached.before reached.factor) ∙ neither))
 
-pub large_product_in : (scope : List Entry) (first : Expr) (rest : List Factor) → HasLargeProduct scope first rest → Contains (broken_product scope first rest) (faults.TooLarge (first_in scope first))
+pub large_product_in : (scope : List Entry) (first : Expr) (rest : List Factor) → HasLargeProduct scope first rest → Contains (broken_product scope first rest) (fault_at refusals.TooLarge (first_in scope first))
 large_product_in scope first rest (reached, one, large) =
-    subst (λ (list : List TypeFault). Contains list (faults.TooLarge (first_in scope first))) (sym (reached_faults scope first rest reached))
+    subst (λ (list : List SourceFault). Contains list (fault_at refusals.TooLarge (first_in scope first))) (sym (reached_faults scope first rest reached))
     (large_first scope (first_in scope first) (product_from scope (form_in scope first) reached.before) reached.factor reached.after (sym (constant_is scope first reached.before reached.factor) ∙ one) (sym (ap is_limited (longer_is scope first reached.before reached.factor)) ∙ large))

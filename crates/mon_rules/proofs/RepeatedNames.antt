@@ -5,11 +5,11 @@ use Rattle.std.specs.Str.{bytes_eq}
 use Rattle.std.proofs.lemmas.List.{append-nil, append_assoc, map_more, take_all}
 use Rattle.std.proofs.lemmas.List.Folds.{list_any-append}
 use Rattle.mon_base.proofs.Names.{any-map, test_among}
-use Rattle.mon_forms.specs.declared.fault.TypeFault.{TypeFault}
-use Rattle.mon_forms.specs.declared.fault.TypeFault.TheVariants.{Duplicate}
-use Rattle.mon_forms.specs.Faults.{least, order}
+use Rattle.mon_base.specs.declared.source_fault.SourceFault.{SourceFault}
+use Rattle.mon_base.specs.declared.source_fault.Refusal.TheVariants.{Duplicate}
+use Rattle.mon_base.specs.SourceFaults.{fault_at, least, order}
 use Rattle.mon_rules.specs.Rules.{PlacedName, repeated}
-use Rattle.mon_forms.specs.Faults.{earlier_of}
+use Rattle.mon_base.specs.SourceFaults.{earlier_of}
 use Rattle.mon_base.proofs.Least.{least_both}
 
 -- the name is one of these
@@ -44,20 +44,20 @@ repeated-append front (x ∷ xs) ys =
     let more = repeated-append (front ++ x ∷ []) xs ys in
     let same : (front ++ x ∷ []) ++ xs ≡ front ++ x ∷ xs = append_assoc front (x ∷ []) xs in
     let rest = more ∙ ap (λ names. repeated (front ++ x ∷ []) xs ++ repeated names ys) same in
-    ap (λ faults. (if is_among front x.name then Duplicate x.at ∷ [] else []) ++ faults) rest ∙ sym (append_assoc (if is_among front x.name then Duplicate x.at ∷ [] else []) (repeated (front ++ x ∷ []) xs) (repeated (front ++ x ∷ xs) ys))
+    ap (λ faults. (if is_among front x.name then fault_at Duplicate x.at ∷ [] else []) ++ faults) rest ∙ sym (append_assoc (if is_among front x.name then fault_at Duplicate x.at ∷ [] else []) (repeated (front ++ x ∷ []) xs) (repeated (front ++ x ∷ xs) ys))
 
-one_least : (again : Bool) (at : ℕ) → (if again then Some (Duplicate at) else None) ≡ least ((if again then Duplicate at ∷ [] else []) ++ [])
+one_least : (again : Bool) (at : ℕ) → (if again then Some (fault_at Duplicate at) else None) ≡ least ((if again then fault_at Duplicate at ∷ [] else []) ++ [])
 one_least true at = refl
 one_least false at = refl
 
-pub repeated_more : {X : Type 0} (front : List PlacedName) (f : X → PlacedName) (xs : List X) (i : ℕ) (x : X) (again : Bool) (before this : Option TypeFault) → i < length xs → x ≡ get_or xs i x → before ≡ least (repeated front (map f (take i xs))) → again ≡ is_among (front ++ map f (take i xs)) (f x).name → this ≡ (if again then Some (Duplicate (f x).at) else None) → earlier_of before this ≡ least (repeated front (map f (take (i + 1) xs)))
+pub repeated_more : {X : Type 0} (front : List PlacedName) (f : X → PlacedName) (xs : List X) (i : ℕ) (x : X) (again : Bool) (before this : Option SourceFault) → i < length xs → x ≡ get_or xs i x → before ≡ least (repeated front (map f (take i xs))) → again ≡ is_among (front ++ map f (take i xs)) (f x).name → this ≡ (if again then Some (fault_at Duplicate (f x).at) else None) → earlier_of before this ≡ least (repeated front (map f (take (i + 1) xs)))
 repeated_more front f xs i x again before this lt is past among here =
-    let last : this ≡ least (repeated (front ++ map f (take i xs)) (f x ∷ [])) = here ∙ one_least again (f x).at ∙ ap (λ b. least ((if b then Duplicate (f x).at ∷ [] else []) ++ [])) among in
+    let last : this ≡ least (repeated (front ++ map f (take i xs)) (f x ∷ [])) = here ∙ one_least again (f x).at ∙ ap (λ b. least ((if b then fault_at Duplicate (f x).at ∷ [] else []) ++ [])) among in
     rw (map_more f xs i x lt, ← is, repeated-append) (least_both order before this (repeated front (map f (take i xs))) (repeated (front ++ map f (take i xs)) (f x ∷ [])) past last)
 
-pub repeated_all : {X : Type 0} (front : List PlacedName) (f : X → PlacedName) (xs : List X) (i : ℕ) (a : Option TypeFault) → length xs ≤ i → a ≡ least (repeated front (map f (take i xs))) → a ≡ least (repeated front (map f xs))
+pub repeated_all : {X : Type 0} (front : List PlacedName) (f : X → PlacedName) (xs : List X) (i : ℕ) (a : Option SourceFault) → length xs ≤ i → a ≡ least (repeated front (map f (take i xs))) → a ≡ least (repeated front (map f xs))
 repeated_all front f xs i a past is = is ∙ ap (λ ys. least (repeated front (map f ys))) (take_all i xs past)
 
 -- declarations and then methods
-pub repeated_both : (xs ys : List PlacedName) (a b : Option TypeFault) → a ≡ least (repeated [] xs) → b ≡ least (repeated xs ys) → earlier_of a b ≡ least (repeated [] (xs ++ ys))
+pub repeated_both : (xs ys : List PlacedName) (a b : Option SourceFault) → a ≡ least (repeated [] xs) → b ≡ least (repeated xs ys) → earlier_of a b ≡ least (repeated [] (xs ++ ys))
 repeated_both xs ys a b left right = rw repeated-append (least_both order a b (repeated [] xs) (repeated xs ys) left right)

@@ -11,8 +11,10 @@ use Rattle.mon_tree.specs.declared.tree.StmtTree.TheOpen.{StmtTree-F, Set, If, R
 use Rattle.mon_tree.specs.declared.tree.StmtTree.TheFolds.{fold_out-StmtTree, map-StmtTree, ind-StmtTree}
 use Rattle.mon_base.specs.declared.kind.Kind.{Kind}
 use Rattle.mon_base.specs.declared.kind.Kind.TheVariants as kinds
-use Rattle.mon_forms.specs.declared.fault.TypeFault.{TypeFault}
-use Rattle.mon_forms.specs.declared.fault.TypeFault.TheVariants as faults
+use Rattle.mon_base.specs.SourceFaults.{fault_at}
+use Rattle.mon_base.specs.declared.source_fault.SourceFault.{SourceFault}
+use Rattle.mon_base.specs.declared.source_fault.Refusal.{Refusal}
+use Rattle.mon_base.specs.declared.source_fault.Refusal.TheVariants as refusals
 use Rattle.mon_forms.specs.declared.scope.Entry.{Entry}
 use Rattle.mon_forms.specs.Scope.{entry_named}
 use Rattle.mon_forms.specs.Sense.{entry_kind, faults_in, first_in, sense, wrong_type}
@@ -49,7 +51,7 @@ by_inner P step =
 
 -- ---- an expression of a wanted kind
 
-pub expected_cases : (scope : List Entry) (wanted : Option Kind) (value : Expr) (fault : TypeFault) → Contains (expected wanted (sense scope value)) fault
+pub expected_cases : (scope : List Entry) (wanted : Option Kind) (value : Expr) (fault : SourceFault) → Contains (expected wanted (sense scope value)) fault
     → Contains (faults_in scope value) fault ⊎ ((kind : Kind) × (wanted ≡ Some kind) × IsFine scope value × WrongAt scope kind value fault)
 expected_cases scope None value fault within = inl within
 expected_cases scope (Some kind) value fault within = elim (or_else_cases (faults_in scope value) (wrong_type kind (sense scope value)) fault within) [
@@ -57,35 +59,35 @@ expected_cases scope (Some kind) value fault within = elim (or_else_cases (fault
   | inr later ↦ inr (kind, refl, later.0, from_wrong_type scope kind value fault later.1)
 ]
 
-pub fault_expected : (scope : List Entry) (wanted : Option Kind) (value : Expr) (fault : TypeFault) → Contains (faults_in scope value) fault → Contains (expected wanted (sense scope value)) fault
+pub fault_expected : (scope : List Entry) (wanted : Option Kind) (value : Expr) (fault : SourceFault) → Contains (faults_in scope value) fault → Contains (expected wanted (sense scope value)) fault
 fault_expected scope None value fault within = within
 fault_expected scope (Some kind) value fault within = in_these (faults_in scope value) (wrong_type kind (sense scope value)) fault within
 
-pub other_expected : (scope : List Entry) (kind : Kind) (place : ℕ) (value : Expr) → IsOther scope kind place value → Contains (expected (Some kind) (sense scope value)) (faults.WrongType place)
+pub other_expected : (scope : List Entry) (kind : Kind) (place : ℕ) (value : Expr) → IsOther scope kind place value → Contains (expected (Some kind) (sense scope value)) (fault_at refusals.WrongType place)
 other_expected scope kind place value other =
-    in_those (faults_in scope value) (wrong_type kind (sense scope value)) (faults.WrongType place) other.fine
-    (subst (λ at. Contains (wrong_type kind (sense scope value)) (faults.WrongType at)) other.begins (in_wrong_type scope kind value other.other))
+    in_those (faults_in scope value) (wrong_type kind (sense scope value)) (fault_at refusals.WrongType place) other.fine
+    (subst (λ at. Contains (wrong_type kind (sense scope value)) (fault_at refusals.WrongType at)) other.begins (in_wrong_type scope kind value other.other))
 
 -- ---- targets
 
-abbrev TargetCases : ℕ → Option Entry → TypeFault → Type 0
+abbrev TargetCases : ℕ → Option Entry → SourceFault → Type 0
 TargetCases at target fault =
-    ((fault ≡ faults.Unknown at) × (target ≡ None))
-    ⊎ ((fault ≡ faults.ReadOnly at) × ((entry : Entry) × (target ≡ Some entry) × (entry.is_field ≡ false)))
+    ((fault ≡ fault_at refusals.Unknown at) × (target ≡ None))
+    ⊎ ((fault ≡ fault_at refusals.ReadOnly at) × ((entry : Entry) × (target ≡ Some entry) × (entry.is_field ≡ false)))
 
-target_cases : (at : ℕ) (target : Option Entry) (fault : TypeFault) → Contains (target_faults at target) fault → TargetCases at target fault
-target_cases at None fault within = inl (sym (only_in (faults.Unknown at) fault within), refl)
+target_cases : (at : ℕ) (target : Option Entry) (fault : SourceFault) → Contains (target_faults at target) fault → TargetCases at target fault
+target_cases at None fault within = inl (sym (only_in (fault_at refusals.Unknown at) fault within), refl)
 target_cases at (Some entry) fault within = by_test entry.is_field refl within
   where
-    by_test : (test : Bool) → entry.is_field ≡ test → Contains (if test then [] else faults.ReadOnly at ∷ []) fault → TargetCases at (Some entry) fault
+    by_test : (test : Bool) → entry.is_field ≡ test → Contains (if test then [] else fault_at refusals.ReadOnly at ∷ []) fault → TargetCases at (Some entry) fault
     by_test true is within = none_in fault within
-    by_test false is within = inr (sym (only_in (faults.ReadOnly at) fault within), (entry, refl, is))
+    by_test false is within = inr (sym (only_in (fault_at refusals.ReadOnly at) fault within), (entry, refl, is))
 
-unknown_target : (at : ℕ) (target : Option Entry) → target ≡ None → Contains (target_faults at target) (faults.Unknown at)
-unknown_target at target none = rw none (contains_head (faults.Unknown at) [])
+unknown_target : (at : ℕ) (target : Option Entry) → target ≡ None → Contains (target_faults at target) (fault_at refusals.Unknown at)
+unknown_target at target none = rw none (contains_head (fault_at refusals.Unknown at) [])
 
-read_only_target : (at : ℕ) (target : Option Entry) (entry : Entry) → target ≡ Some entry → entry.is_field ≡ false → Contains (target_faults at target) (faults.ReadOnly at)
-read_only_target at target entry is other = rw (is, other) (contains_head (faults.ReadOnly at) [])
+read_only_target : (at : ℕ) (target : Option Entry) (entry : Entry) → target ≡ Some entry → entry.is_field ≡ false → Contains (target_faults at target) (fault_at refusals.ReadOnly at)
+read_only_target at target entry is other = rw (is, other) (contains_head (fault_at refusals.ReadOnly at) [])
 
 -- ---- one layer
 
@@ -100,19 +102,18 @@ abbrev ReturnsIn : ℕ → StmtTree-F StmtTree → Type 0
 ReturnsIn at layer = (inner : StmtTree) × Contains (layer_inner layer) inner × IsReturn at (out-StmtTree inner)
 
 -- a layer breaks the rule of a fault itself
-abbrev pub BreaksLayer : List Entry → StmtTree-F StmtTree → TypeFault → Type 0
-BreaksLayer scope layer (faults.Unknown at) = HasUnknownTarget scope at layer
-BreaksLayer scope layer (faults.Duplicate at) = ⊥
-BreaksLayer scope layer (faults.WrongType at) = HasWrongValue scope at layer
-BreaksLayer scope layer (faults.NotLinear at) = ⊥
-BreaksLayer scope layer (faults.TooLarge at) = ⊥
-BreaksLayer scope layer (faults.TooMany what at) = ⊥
-BreaksLayer scope layer (faults.ReadOnly at) = HasReadOnlyTarget scope at layer
-BreaksLayer scope layer (faults.Misplaced at) = ReturnsIn at layer
-BreaksLayer scope layer faults.OutOfMemory = ⊥
+abbrev pub BreaksRule : List Entry → StmtTree-F StmtTree → Refusal → ℕ → Type 0
+BreaksRule scope layer refusals.Unknown at = HasUnknownTarget scope at layer
+BreaksRule scope layer refusals.WrongType at = HasWrongValue scope at layer
+BreaksRule scope layer refusals.ReadOnly at = HasReadOnlyTarget scope at layer
+BreaksRule scope layer refusals.Misplaced at = ReturnsIn at layer
+BreaksRule scope layer what at = ⊥
+
+abbrev pub BreaksLayer : List Entry → StmtTree-F StmtTree → SourceFault → Type 0
+BreaksLayer scope layer fault = BreaksRule scope layer fault.what fault.at
 
 -- what a fault of a layer comes from
-abbrev LayerCases : List Entry → StmtTree-F StmtTree → TypeFault → Type 0
+abbrev LayerCases : List Entry → StmtTree-F StmtTree → SourceFault → Type 0
 LayerCases scope layer fault =
     ((inner : StmtTree) × Contains (layer_inner layer) inner × Contains (finding scope inner).faults fault)
     ⊎ BreaksLayer scope layer fault
@@ -136,48 +137,48 @@ return_in scope statement at is = subst (λ (found : Finding). Contains found.re
 
 -- ---- statements that stand in an `if`
 
-abbrev InnerCases : List Entry → List StmtTree → TypeFault → Type 0
+abbrev InnerCases : List Entry → List StmtTree → SourceFault → Type 0
 InnerCases scope body fault =
     (inner : StmtTree) × Contains body inner
-    × (Contains (finding scope inner).faults fault ⊎ ((at : ℕ) × (fault ≡ faults.Misplaced at) × IsReturn at (out-StmtTree inner)))
+    × (Contains (finding scope inner).faults fault ⊎ ((at : ℕ) × (fault ≡ fault_at refusals.Misplaced at) × IsReturn at (out-StmtTree inner)))
 
 block_is : (scope : List Entry) (body : List StmtTree) → inner_faults (map (finding scope) body) ≡ flat_map (λ inner. (finding scope inner).faults ++ misplaced (finding scope inner).returns) body
 block_is scope body = flat_map-map (λ inner. inner.faults ++ misplaced inner.returns) (finding scope) body
 
-pub from_misplaced : (places : List ℕ) (fault : TypeFault) → Contains (misplaced places) fault → (at : ℕ) × (fault ≡ faults.Misplaced at) × Contains places at
-from_misplaced places fault within = let found = from_map (λ at. faults.Misplaced at) places fault within in (found.from, sym found.is, found.one)
+pub from_misplaced : (places : List ℕ) (fault : SourceFault) → Contains (misplaced places) fault → (at : ℕ) × (fault ≡ fault_at refusals.Misplaced at) × Contains places at
+from_misplaced places fault within = let found = from_map (λ at. fault_at refusals.Misplaced at) places fault within in (found.from, sym found.is, found.one)
 
-inner_cases : (scope : List Entry) (body : List StmtTree) (fault : TypeFault) → Contains (inner_faults (map (finding scope) body)) fault → InnerCases scope body fault
+inner_cases : (scope : List Entry) (body : List StmtTree) (fault : SourceFault) → Contains (inner_faults (map (finding scope) body)) fault → InnerCases scope body fault
 inner_cases scope body fault within =
-    let source = from_flat_map (λ inner. (finding scope inner).faults ++ misplaced (finding scope inner).returns) body fault (subst (λ (list : List TypeFault). Contains list fault) (block_is scope body) within) in
+    let source = from_flat_map (λ inner. (finding scope inner).faults ++ misplaced (finding scope inner).returns) body fault (subst (λ (list : List SourceFault). Contains list fault) (block_is scope body) within) in
     elim (Contains-append_cases (finding scope source.from).faults (misplaced (finding scope source.from).returns) fault source.within) [
       | inl here ↦ (source.from, source.one, inl here)
       | inr returns ↦ let found = from_misplaced (finding scope source.from).returns fault returns in (source.from, source.one, inr (found.0, found.1, is_return scope source.from found.0 found.2))
     ]
 
-inner_in : (scope : List Entry) (body : List StmtTree) (inner : StmtTree) (fault : TypeFault) → Contains body inner → Contains ((finding scope inner).faults ++ misplaced (finding scope inner).returns) fault → Contains (inner_faults (map (finding scope) body)) fault
+inner_in : (scope : List Entry) (body : List StmtTree) (inner : StmtTree) (fault : SourceFault) → Contains body inner → Contains ((finding scope inner).faults ++ misplaced (finding scope inner).returns) fault → Contains (inner_faults (map (finding scope) body)) fault
 inner_in scope body inner fault one within =
-    subst (λ (list : List TypeFault). Contains list fault) (sym (block_is scope body)) (in_flat_map (λ inner. (finding scope inner).faults ++ misplaced (finding scope inner).returns) body inner fault one within)
+    subst (λ (list : List SourceFault). Contains list fault) (sym (block_is scope body)) (in_flat_map (λ inner. (finding scope inner).faults ++ misplaced (finding scope inner).returns) body inner fault one within)
 
 -- ---- from the faults of a layer
 
-wrong_value : (scope : List Entry) (layer : StmtTree-F StmtTree) (kind : Kind) (value : Expr) (fault : TypeFault) → IsFine scope value → WrongAt scope kind value fault → (IsOther scope kind (first_in scope value) value → HasWrongValue scope (first_in scope value) layer) → BreaksLayer scope layer fault
+wrong_value : (scope : List Entry) (layer : StmtTree-F StmtTree) (kind : Kind) (value : Expr) (fault : SourceFault) → IsFine scope value → WrongAt scope kind value fault → (IsOther scope kind (first_in scope value) value → HasWrongValue scope (first_in scope value) layer) → BreaksLayer scope layer fault
 wrong_value scope layer kind value fault fine wrong breaks = subst (BreaksLayer scope layer) (sym wrong.is) (breaks (record { begins = refl; fine = fine; other = wrong.other }))
 
-target_layer : (scope : List Entry) (at : ℕ) (name : List ℕ) (value : Expr) (fault : TypeFault) → TargetCases at (entry_named scope name) fault → BreaksLayer scope (Set at name value) fault
+target_layer : (scope : List Entry) (at : ℕ) (name : List ℕ) (value : Expr) (fault : SourceFault) → TargetCases at (entry_named scope name) fault → BreaksLayer scope (Set at name value) fault
 target_layer scope at name value fault (inl unknown) = subst (BreaksLayer scope (Set at name value)) (sym unknown.0) (refl, unknown.1)
 target_layer scope at name value fault (inr other) = subst (BreaksLayer scope (Set at name value)) (sym other.0) (refl, other.1)
 
-inner_layer : (scope : List Entry) (layer : StmtTree-F StmtTree) (body : List StmtTree) (fault : TypeFault) → ((inner : StmtTree) → Contains body inner → Contains (layer_inner layer) inner) → InnerCases scope body fault → LayerCases scope layer fault
+inner_layer : (scope : List Entry) (layer : StmtTree-F StmtTree) (body : List StmtTree) (fault : SourceFault) → ((inner : StmtTree) → Contains body inner → Contains (layer_inner layer) inner) → InnerCases scope body fault → LayerCases scope layer fault
 inner_layer scope layer body fault within (inner, one, inl here) = inl (inner, within inner one, here)
 inner_layer scope layer body fault within (inner, one, inr (at, is, returns)) = inr (inl (subst (BreaksLayer scope layer) (sym is) (inner, within inner one, returns)))
 
-condition_layer : (scope : List Entry) (at : ℕ) (when : Expr) (body other : List StmtTree) (fault : TypeFault) (kind : Kind) → Some kinds.Bool ≡ Some kind → IsFine scope when → WrongAt scope kind when fault → BreaksLayer scope (If at when body other) fault
+condition_layer : (scope : List Entry) (at : ℕ) (when : Expr) (body other : List StmtTree) (fault : SourceFault) (kind : Kind) → Some kinds.Bool ≡ Some kind → IsFine scope when → WrongAt scope kind when fault → BreaksLayer scope (If at when body other) fault
 condition_layer scope at when body other fault kind is fine wrong =
     let same : kinds.Bool ≡ kind = cc in
     wrong_value scope (If at when body other) kinds.Bool when fault fine (subst (λ (kind : Kind). WrongAt scope kind when fault) (sym same) wrong) (λ other. other)
 
-layer_cases : (scope : List Entry) (layer : StmtTree-F StmtTree) (fault : TypeFault) → Contains (finding_of_layer scope layer).faults fault → LayerCases scope layer fault
+layer_cases : (scope : List Entry) (layer : StmtTree-F StmtTree) (fault : SourceFault) → Contains (finding_of_layer scope layer).faults fault → LayerCases scope layer fault
 layer_cases scope (Set at name value) fault within =
     elim (Contains-append_cases (target_faults at (entry_named scope name)) (expected (entry_kind (entry_named scope name)) (sense scope value)) fault within) [
       | inl target ↦ inr (inl (target_layer scope at name value fault (target_cases at (entry_named scope name) fault target)))
@@ -201,10 +202,10 @@ layer_cases scope (Return at value) fault within = inr (inr within)
 
 -- ---- what a layer breaks is among its faults
 
-first_in_if : (scope : List Entry) (at : ℕ) (when : Expr) (body other : List StmtTree) (fault : TypeFault) → Contains (expected (Some kinds.Bool) (sense scope when)) fault → Contains (finding_of_layer scope (If at when body other)).faults fault
+first_in_if : (scope : List Entry) (at : ℕ) (when : Expr) (body other : List StmtTree) (fault : SourceFault) → Contains (expected (Some kinds.Bool) (sense scope when)) fault → Contains (finding_of_layer scope (If at when body other)).faults fault
 first_in_if scope at when body other fault within = Contains-append_left (expected (Some kinds.Bool) (sense scope when)) (inner_faults (map (finding scope) body) ++ inner_faults (map (finding scope) other)) fault within
 
-inner_in_if : (scope : List Entry) (at : ℕ) (when : Expr) (body other : List StmtTree) (inner : StmtTree) (fault : TypeFault) → Contains (body ++ other) inner → Contains ((finding scope inner).faults ++ misplaced (finding scope inner).returns) fault → Contains (finding_of_layer scope (If at when body other)).faults fault
+inner_in_if : (scope : List Entry) (at : ℕ) (when : Expr) (body other : List StmtTree) (inner : StmtTree) (fault : SourceFault) → Contains (body ++ other) inner → Contains ((finding scope inner).faults ++ misplaced (finding scope inner).returns) fault → Contains (finding_of_layer scope (If at when body other)).faults fault
 inner_in_if scope at when body other inner fault one within =
     let first = inner_faults (map (finding scope) body) in
     let second = inner_faults (map (finding scope) other) in
@@ -214,71 +215,70 @@ inner_in_if scope at when body other inner fault one within =
       | inr there ↦ Contains-append_right (inner_faults (map (finding scope) body)) (inner_faults (map (finding scope) other)) fault (inner_in scope other inner fault there within)
     ])
 
-inner_reach : (scope : List Entry) (layer : StmtTree-F StmtTree) (inner : StmtTree) (fault : TypeFault) → Contains (layer_inner layer) inner → Contains ((finding scope inner).faults ++ misplaced (finding scope inner).returns) fault → Contains (finding_of_layer scope layer).faults fault
+inner_reach : (scope : List Entry) (layer : StmtTree-F StmtTree) (inner : StmtTree) (fault : SourceFault) → Contains (layer_inner layer) inner → Contains ((finding scope inner).faults ++ misplaced (finding scope inner).returns) fault → Contains (finding_of_layer scope layer).faults fault
 inner_reach scope (Set at name value) inner fault one within = none_in inner one
 inner_reach scope (If at when body other) inner fault one within = inner_in_if scope at when body other inner fault one within
 inner_reach scope (Return at value) inner fault one within = none_in inner one
 
-expression_reach : (scope : List Entry) (layer : StmtTree-F StmtTree) (fault : TypeFault) → Contains (faults_in scope (layer_expression layer)) fault → Contains (finding_of_layer scope layer).faults fault
+expression_reach : (scope : List Entry) (layer : StmtTree-F StmtTree) (fault : SourceFault) → Contains (faults_in scope (layer_expression layer)) fault → Contains (finding_of_layer scope layer).faults fault
 expression_reach scope (Set at name value) fault within =
     Contains-append_right (target_faults at (entry_named scope name)) (expected (entry_kind (entry_named scope name)) (sense scope value)) fault (fault_expected scope (entry_kind (entry_named scope name)) value fault within)
 expression_reach scope (If at when body other) fault within = first_in_if scope at when body other fault (fault_expected scope (Some kinds.Bool) when fault within)
 expression_reach scope (Return at value) fault within = within
 
-value_in_set : (scope : List Entry) (place at : ℕ) (name : List ℕ) (value : Expr) (kind : Kind) → entry_kind (entry_named scope name) ≡ Some kind → IsOther scope kind place value → Contains (finding_of_layer scope (Set at name value)).faults (faults.WrongType place)
+value_in_set : (scope : List Entry) (place at : ℕ) (name : List ℕ) (value : Expr) (kind : Kind) → entry_kind (entry_named scope name) ≡ Some kind → IsOther scope kind place value → Contains (finding_of_layer scope (Set at name value)).faults (fault_at refusals.WrongType place)
 value_in_set scope place at name value kind is other =
-    Contains-append_right (target_faults at (entry_named scope name)) (expected (entry_kind (entry_named scope name)) (sense scope value)) (faults.WrongType place)
-    (subst (λ (wanted : Option Kind). Contains (expected wanted (sense scope value)) (faults.WrongType place)) (sym is) (other_expected scope kind place value other))
+    Contains-append_right (target_faults at (entry_named scope name)) (expected (entry_kind (entry_named scope name)) (sense scope value)) (fault_at refusals.WrongType place)
+    (subst (λ (wanted : Option Kind). Contains (expected wanted (sense scope value)) (fault_at refusals.WrongType place)) (sym is) (other_expected scope kind place value other))
 
-value_reach : (scope : List Entry) (place : ℕ) (layer : StmtTree-F StmtTree) → HasWrongValue scope place layer → Contains (finding_of_layer scope layer).faults (faults.WrongType place)
+value_reach : (scope : List Entry) (place : ℕ) (layer : StmtTree-F StmtTree) → HasWrongValue scope place layer → Contains (finding_of_layer scope layer).faults (fault_at refusals.WrongType place)
 value_reach scope place (Set at name value) (kind, is, other) = value_in_set scope place at name value kind is other
-value_reach scope place (If at when body other) wrong = first_in_if scope at when body other (faults.WrongType place) (other_expected scope kinds.Bool place when wrong)
+value_reach scope place (If at when body other) wrong = first_in_if scope at when body other (fault_at refusals.WrongType place) (other_expected scope kinds.Bool place when wrong)
 value_reach scope place (Return at value) wrong = absurd wrong
 
-unknown_reach : (scope : List Entry) (place : ℕ) (layer : StmtTree-F StmtTree) → HasUnknownTarget scope place layer → Contains (finding_of_layer scope layer).faults (faults.Unknown place)
+unknown_reach : (scope : List Entry) (place : ℕ) (layer : StmtTree-F StmtTree) → HasUnknownTarget scope place layer → Contains (finding_of_layer scope layer).faults (fault_at refusals.Unknown place)
 unknown_reach scope place (Set at name value) (is, none) =
-    subst (λ place. Contains (finding_of_layer scope (Set at name value)).faults (faults.Unknown place)) is
-    (Contains-append_left (target_faults at (entry_named scope name)) (expected (entry_kind (entry_named scope name)) (sense scope value)) (faults.Unknown at) (unknown_target at (entry_named scope name) none))
+    subst (λ place. Contains (finding_of_layer scope (Set at name value)).faults (fault_at refusals.Unknown place)) is
+    (Contains-append_left (target_faults at (entry_named scope name)) (expected (entry_kind (entry_named scope name)) (sense scope value)) (fault_at refusals.Unknown at) (unknown_target at (entry_named scope name) none))
 unknown_reach scope place layer breaks = absurd breaks
 
-read_only_reach : (scope : List Entry) (place : ℕ) (layer : StmtTree-F StmtTree) → HasReadOnlyTarget scope place layer → Contains (finding_of_layer scope layer).faults (faults.ReadOnly place)
+read_only_reach : (scope : List Entry) (place : ℕ) (layer : StmtTree-F StmtTree) → HasReadOnlyTarget scope place layer → Contains (finding_of_layer scope layer).faults (fault_at refusals.ReadOnly place)
 read_only_reach scope place (Set at name value) (is, (entry, found, other)) =
-    subst (λ place. Contains (finding_of_layer scope (Set at name value)).faults (faults.ReadOnly place)) is
-    (Contains-append_left (target_faults at (entry_named scope name)) (expected (entry_kind (entry_named scope name)) (sense scope value)) (faults.ReadOnly at) (read_only_target at (entry_named scope name) entry found other))
+    subst (λ place. Contains (finding_of_layer scope (Set at name value)).faults (fault_at refusals.ReadOnly place)) is
+    (Contains-append_left (target_faults at (entry_named scope name)) (expected (entry_kind (entry_named scope name)) (sense scope value)) (fault_at refusals.ReadOnly at) (read_only_target at (entry_named scope name) entry found other))
 read_only_reach scope place layer breaks = absurd breaks
 
-pub in_misplaced : (places : List ℕ) (at : ℕ) → Contains places at → Contains (misplaced places) (faults.Misplaced at)
-in_misplaced places at within = in_map (λ at. faults.Misplaced at) places at within
+pub in_misplaced : (places : List ℕ) (at : ℕ) → Contains places at → Contains (misplaced places) (fault_at refusals.Misplaced at)
+in_misplaced places at within = in_map (λ at. fault_at refusals.Misplaced at) places at within
 
-layer_reach : (scope : List Entry) (layer : StmtTree-F StmtTree) (fault : TypeFault) → BreaksLayer scope layer fault → Contains (finding_of_layer scope layer).faults fault
-layer_reach scope layer (faults.Unknown at) breaks = unknown_reach scope at layer breaks
-layer_reach scope layer (faults.Duplicate at) breaks = absurd breaks
-layer_reach scope layer (faults.WrongType at) breaks = value_reach scope at layer breaks
-layer_reach scope layer (faults.NotLinear at) breaks = absurd breaks
-layer_reach scope layer (faults.TooLarge at) breaks = absurd breaks
-layer_reach scope layer (faults.TooMany what at) breaks = absurd breaks
-layer_reach scope layer (faults.ReadOnly at) breaks = read_only_reach scope at layer breaks
-layer_reach scope layer (faults.Misplaced at) (inner, one, returns) =
-    inner_reach scope layer inner (faults.Misplaced at) one
-    (Contains-append_right (finding scope inner).faults (misplaced (finding scope inner).returns) (faults.Misplaced at) (in_misplaced (finding scope inner).returns at (return_in scope inner at returns)))
-layer_reach scope layer faults.OutOfMemory breaks = absurd breaks
+rule_reach : (scope : List Entry) (layer : StmtTree-F StmtTree) (what : Refusal) (at : ℕ) → BreaksLayer scope layer (fault_at what at) → Contains (finding_of_layer scope layer).faults (fault_at what at)
+rule_reach scope layer refusals.Unknown at breaks = unknown_reach scope at layer breaks
+rule_reach scope layer refusals.WrongType at breaks = value_reach scope at layer breaks
+rule_reach scope layer refusals.ReadOnly at breaks = read_only_reach scope at layer breaks
+rule_reach scope layer refusals.Misplaced at (inner, one, returns) =
+    inner_reach scope layer inner (fault_at refusals.Misplaced at) one
+    (Contains-append_right (finding scope inner).faults (misplaced (finding scope inner).returns) (fault_at refusals.Misplaced at) (in_misplaced (finding scope inner).returns at (return_in scope inner at returns)))
+rule_reach scope layer what at breaks = absurd breaks
+
+layer_reach : (scope : List Entry) (layer : StmtTree-F StmtTree) (fault : SourceFault) → BreaksLayer scope layer fault → Contains (finding_of_layer scope layer).faults fault
+layer_reach scope layer fault breaks = rule_reach scope layer fault.what fault.at breaks
 
 -- ---- a statement with all its inner ones
 
-abbrev pub BreaksStatement : List Entry → StmtTree → TypeFault → Type 0
+abbrev pub BreaksStatement : List Entry → StmtTree → SourceFault → Type 0
 BreaksStatement scope statement fault = BreaksLayer scope (out-StmtTree statement) fault
 
 -- a statement that stands in another breaks the rule of a fault, or its expression does
-pub record BrokenStatement (scope : List Entry) (statement : StmtTree) (fault : TypeFault) : Type 0 where
+pub record BrokenStatement (scope : List Entry) (statement : StmtTree) (fault : SourceFault) : Type 0 where
   pub inner : StmtTree
   pub stands : StandsIn inner_of statement inner
   pub breaks : BreaksStatement scope inner fault ⊎ BrokenIn scope (expression_of inner) fault
 
-deeper : (scope : List Entry) (statement inner : StmtTree) (fault : TypeFault) → Contains (inner_of statement) inner → BrokenStatement scope inner fault → BrokenStatement scope statement fault
+deeper : (scope : List Entry) (statement inner : StmtTree) (fault : SourceFault) → Contains (inner_of statement) inner → BrokenStatement scope inner fault → BrokenStatement scope statement fault
 deeper scope statement inner fault one broken = record { inner = broken.inner; stands = (suc broken.stands.0, (inner, one, broken.stands.1)); breaks = broken.breaks }
 
 abbrev AllBroken : List Entry → StmtTree → Type 0
-AllBroken scope statement = (fault : TypeFault) → Contains (finding scope statement).faults fault → BrokenStatement scope statement fault
+AllBroken scope statement = (fault : SourceFault) → Contains (finding scope statement).faults fault → BrokenStatement scope statement fault
 
 broken_step : (scope : List Entry) (statement : StmtTree) → ((inner : StmtTree) → Contains (inner_of statement) inner → AllBroken scope inner) → AllBroken scope statement
 broken_step scope statement more fault within =
@@ -290,19 +290,19 @@ broken_step scope statement more fault within =
       ]
     ]
 
-pub from_statement : (scope : List Entry) (statement : StmtTree) (fault : TypeFault) → Contains (finding scope statement).faults fault → BrokenStatement scope statement fault
+pub from_statement : (scope : List Entry) (statement : StmtTree) (fault : SourceFault) → Contains (finding scope statement).faults fault → BrokenStatement scope statement fault
 from_statement scope = by_inner (AllBroken scope) (broken_step scope)
 
-statement_reach : (scope : List Entry) (statement : StmtTree) (fault : TypeFault) → Contains (finding_of_layer scope (out-StmtTree statement)).faults fault → Contains (finding scope statement).faults fault
+statement_reach : (scope : List Entry) (statement : StmtTree) (fault : SourceFault) → Contains (finding_of_layer scope (out-StmtTree statement)).faults fault → Contains (finding scope statement).faults fault
 statement_reach scope statement fault within = subst (λ (found : Finding). Contains found.faults fault) (sym (finding_is scope statement)) within
 
-pub break_in : (scope : List Entry) (statement : StmtTree) (fault : TypeFault) → BreaksStatement scope statement fault → Contains (finding scope statement).faults fault
+pub break_in : (scope : List Entry) (statement : StmtTree) (fault : SourceFault) → BreaksStatement scope statement fault → Contains (finding scope statement).faults fault
 break_in scope statement fault breaks = statement_reach scope statement fault (layer_reach scope (out-StmtTree statement) fault breaks)
 
-pub expression_in : (scope : List Entry) (statement : StmtTree) (fault : TypeFault) → Contains (faults_in scope (expression_of statement)) fault → Contains (finding scope statement).faults fault
+pub expression_in : (scope : List Entry) (statement : StmtTree) (fault : SourceFault) → Contains (faults_in scope (expression_of statement)) fault → Contains (finding scope statement).faults fault
 expression_in scope statement fault within = statement_reach scope statement fault (expression_reach scope (out-StmtTree statement) fault within)
 
-pub below_in : (scope : List Entry) (depth : ℕ) (statement inner : StmtTree) (fault : TypeFault) → IsBelow inner_of depth statement inner → Contains (finding scope inner).faults fault → Contains (finding scope statement).faults fault
+pub below_in : (scope : List Entry) (depth : ℕ) (statement inner : StmtTree) (fault : SourceFault) → IsBelow inner_of depth statement inner → Contains (finding scope inner).faults fault → Contains (finding scope statement).faults fault
 below_in scope zero statement inner fault is within = subst (λ (s : StmtTree). Contains (finding scope s).faults fault) is within
 below_in scope (suc depth) statement inner fault (part, one, below) within =
     statement_reach scope statement fault

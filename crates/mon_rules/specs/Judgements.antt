@@ -19,8 +19,9 @@ use Rattle.mon_base.specs.declared.kind.Kind.{Kind}
 use Rattle.mon_base.specs.declared.kind.Kind.TheVariants as kinds
 use Rattle.mon_base.specs.declared.counted.Counted.{Counted}
 use Rattle.mon_base.specs.declared.counted.Counted.TheVariants as counted
-use Rattle.mon_forms.specs.declared.fault.TypeFault.{TypeFault}
-use Rattle.mon_forms.specs.declared.fault.TypeFault.TheVariants as faults
+use Rattle.mon_base.specs.declared.source_fault.SourceFault.{SourceFault}
+use Rattle.mon_base.specs.declared.source_fault.Refusal.{Refusal}
+use Rattle.mon_base.specs.declared.source_fault.Refusal.TheVariants as refusals
 use Rattle.mon_forms.specs.declared.scope.Entry.{Entry}
 use Rattle.mon_forms.specs.Scope.{entry_named}
 use Rattle.mon_forms.specs.Forms.{Form, is_constant, is_limited, minus}
@@ -238,20 +239,24 @@ BreaksMisplaced tree place =
     OfStatement tree (λ scope statement. HasInnerReturn place statement)
     ⊎ OfMethod tree (λ scope method. HasEarlyReturn place method.body)
 
--- The tree breaks the rule of a fault at its place. Of a product the first `*` with a break is
--- named,
--- and of too many things the first over the limit.
-abbrev pub Breaks : MonitorTree → TypeFault → Type 0
-Breaks tree (faults.Unknown at) = BreaksUnknown tree at
-Breaks tree (faults.Duplicate at) = BreaksDuplicate tree at
-Breaks tree (faults.WrongType at) = BreaksWrongType tree at
-Breaks tree (faults.NotLinear at) = BreaksNotLinear tree at
-Breaks tree (faults.TooLarge at) = BreaksTooLarge tree at
-Breaks tree (faults.TooMany what at) = BreaksTooMany tree what at
-Breaks tree (faults.ReadOnly at) = BreaksReadOnly tree at
-Breaks tree (faults.Misplaced at) = BreaksMisplaced tree at
-Breaks tree faults.OutOfMemory = ⊥
+-- The tree breaks this rule at this place. Of a product the first `*` with a break is named, and of
+-- too many things the first over the limit. Rules of tokens, of the grammar and of clients are no
+-- rules of trees.
+abbrev pub BreaksRule : MonitorTree → Refusal → ℕ → Type 0
+BreaksRule tree refusals.Unknown at = BreaksUnknown tree at
+BreaksRule tree refusals.Duplicate at = BreaksDuplicate tree at
+BreaksRule tree refusals.WrongType at = BreaksWrongType tree at
+BreaksRule tree refusals.NotLinear at = BreaksNotLinear tree at
+BreaksRule tree refusals.TooLarge at = BreaksTooLarge tree at
+BreaksRule tree (refusals.TooMany what) at = BreaksTooMany tree what at
+BreaksRule tree refusals.ReadOnly at = BreaksReadOnly tree at
+BreaksRule tree refusals.Misplaced at = BreaksMisplaced tree at
+BreaksRule tree what at = ⊥
+
+-- the tree breaks the rule of a fault at its place
+abbrev pub Breaks : MonitorTree → SourceFault → Type 0
+Breaks tree fault = BreaksRule tree fault.what fault.at
 
 -- the faults that are listed are exactly the rules that the tree breaks, each at its place
 abbrev pub ListsBrokenRules : MonitorTree → Type 0
-ListsBrokenRules tree = (fault : TypeFault) → Contains (faults_of tree) fault ↔ Breaks tree fault
+ListsBrokenRules tree = (fault : SourceFault) → Contains (faults_of tree) fault ↔ Breaks tree fault

@@ -19,13 +19,13 @@ use Rattle.mon_base.specs.declared.kind.Kind.TheVariants as kinds
 use Rattle.mon_base.specs.declared.counted.Counted.{Counted}
 use Rattle.mon_base.specs.declared.counted.Counted.TheVariants.{Constants, Fields, Methods}
 use Rattle.mon_base.specs.declared.counted.Counted.TheVariants.{Parameters, Statements}
-use Rattle.mon_forms.specs.declared.fault.TypeFault.{TypeFault}
-use Rattle.mon_forms.specs.declared.fault.TypeFault.TheVariants.{Unknown, Duplicate, TooMany}
-use Rattle.mon_forms.specs.declared.fault.TypeFault.TheVariants.{ReadOnly, Misplaced}
+use Rattle.mon_base.specs.declared.source_fault.SourceFault.{SourceFault}
+use Rattle.mon_base.specs.declared.source_fault.Refusal.TheVariants.{Unknown, Duplicate, TooMany}
+use Rattle.mon_base.specs.declared.source_fault.Refusal.TheVariants.{ReadOnly, Misplaced}
 use Rattle.mon_forms.specs.declared.scope.Entry.{Entry}
 use Rattle.mon_forms.specs.Scope.{scope_of, entry_named}
 use Rattle.mon_forms.specs.Sense.{Sense, sense, entry_kind, wrong_type, large_number}
-use Rattle.mon_forms.specs.Faults.{◌or_else◌}
+use Rattle.mon_base.specs.SourceFaults.{fault_at, ◌or_else◌}
 
 -- ---- names and numbers of things
 
@@ -58,20 +58,20 @@ abbrev pub method_names : List MethodTree → List PlacedName
 method_names methods = map method_name methods
 
 -- names that are those of earlier ones
-abbrev pub repeated : List PlacedName → List PlacedName → List TypeFault
+abbrev pub repeated : List PlacedName → List PlacedName → List SourceFault
 repeated earlier [] = []
 repeated earlier (name ∷ more) =
     (if list_any (λ other. bytes_eq other.name name.name) earlier
-    then Duplicate name.at ∷ []
+    then fault_at Duplicate name.at ∷ []
     else [])
     ++ repeated (earlier ++ name ∷ []) more
 
-abbrev pub over_at : Counted → Option ℕ → List TypeFault
+abbrev pub over_at : Counted → Option ℕ → List SourceFault
 over_at what None = []
-over_at what (Some at) = TooMany what at ∷ []
+over_at what (Some at) = fault_at (TooMany what) at ∷ []
 
 -- the first one over the limit, by the places of all; those behind it are not listed
-abbrev pub over : ℕ → Counted → List ℕ → List TypeFault
+abbrev pub over : ℕ → Counted → List ℕ → List SourceFault
 over limit what places = over_at what (slice_get places limit)
 
 -- ---- statements
@@ -90,25 +90,25 @@ abbrev pub places_in : List StmtTree → List ℕ
 places_in body = flat_map statement_places body
 
 -- an expression, of the wanted kind where one is wanted
-abbrev pub expected : Option Kind → Sense → List TypeFault
+abbrev pub expected : Option Kind → Sense → List SourceFault
 expected None value = value.faults
 expected (Some wanted) value = value.faults or_else wrong_type wanted value
 
 -- the target of an assignment is a field
-abbrev pub target_faults : ℕ → Option Entry → List TypeFault
-target_faults at None = Unknown at ∷ []
-target_faults at (Some entry) = if entry.is_field then [] else ReadOnly at ∷ []
+abbrev pub target_faults : ℕ → Option Entry → List SourceFault
+target_faults at None = fault_at Unknown at ∷ []
+target_faults at (Some entry) = if entry.is_field then [] else fault_at ReadOnly at ∷ []
 
 -- What is found of a statement: the rules that it and its inner ones break, and where it returns.
 pub record Finding : Type 0 where
-  pub faults : List TypeFault
+  pub faults : List SourceFault
   pub returns : List ℕ
 
-abbrev pub misplaced : List ℕ → List TypeFault
-misplaced places = map (λ at. Misplaced at) places
+abbrev pub misplaced : List ℕ → List SourceFault
+misplaced places = map (λ at. fault_at Misplaced at) places
 
 -- no `return` stands in an `if`
-abbrev pub inner_faults : List Finding → List TypeFault
+abbrev pub inner_faults : List Finding → List SourceFault
 inner_faults found = flat_map (λ inner. inner.faults ++ misplaced inner.returns) found
 
 abbrev pub finding_step : List Entry → StmtTree-F Finding → Finding
@@ -133,13 +133,13 @@ early_returns [] = []
 early_returns (last ∷ []) = []
 early_returns (first ∷ next ∷ more) = first.returns ++ early_returns (next ∷ more)
 
-abbrev pub faults_in_each : List Entry → List StmtTree → List TypeFault
+abbrev pub faults_in_each : List Entry → List StmtTree → List SourceFault
 faults_in_each scope body = flat_map (λ statement. (finding scope statement).faults) body
 
-abbrev pub early_faults : List Entry → List StmtTree → List TypeFault
+abbrev pub early_faults : List Entry → List StmtTree → List SourceFault
 early_faults scope body = misplaced (early_returns (map (finding scope) body))
 
-abbrev pub body_faults : List Entry → List StmtTree → List TypeFault
+abbrev pub body_faults : List Entry → List StmtTree → List SourceFault
 body_faults scope body =
     faults_in_each scope body
     ++ early_faults scope body
@@ -148,20 +148,20 @@ body_faults scope body =
 -- ---- methods
 
 -- inputs have names distinct from each other and from declarations
-abbrev pub method_faults : List Decl → MethodTree → List TypeFault
+abbrev pub method_faults : List Decl → MethodTree → List SourceFault
 method_faults declared method =
     repeated (declared_names declared) (input_names method.inputs)
     ++ over INPUTS Parameters (map (λ input. input.at) method.inputs)
     ++ expected (Some kinds.Bool) (sense (scope_of declared method.inputs) method.guard)
     ++ body_faults (scope_of declared method.inputs) method.body
 
-abbrev pub faults_in_methods : List Decl → List MethodTree → List TypeFault
+abbrev pub faults_in_methods : List Decl → List MethodTree → List SourceFault
 faults_in_methods declared methods = flat_map (method_faults declared) methods
 
 -- ---- files
 
 -- a written number of a declaration is at most the greatest one
-abbrev pub literal_faults : Decl → List TypeFault
+abbrev pub literal_faults : Decl → List SourceFault
 literal_faults (decls.Const at name value) = large_number value.at value.digits
 literal_faults (decls.Int at name value) = large_number value.at value.digits
 literal_faults (decls.Flag at name value) = []
@@ -177,7 +177,7 @@ field_place (decls.Int at name value) = at ∷ []
 field_place (decls.Flag at name value) = at ∷ []
 
 -- constants, fields and methods have distinct names
-abbrev pub faults_of : MonitorTree → List TypeFault
+abbrev pub faults_of : MonitorTree → List SourceFault
 faults_of tree =
     flat_map literal_faults tree.decls
     ++ repeated [] (declared_names tree.decls ++ method_names tree.methods)

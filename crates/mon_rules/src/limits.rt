@@ -6,55 +6,57 @@ ghost use Rattle.std.specs.List.{flat_map};
 ghost use Rattle.mon_base.specs.Limits.{CONSTANTS, FIELDS, INPUTS, METHODS, STATEMENTS};
 ghost use Rattle.mon_tree.specs.declared.tree.StmtTree.{out-StmtTree};
 ghost use Rattle.mon_base.specs.declared.counted.Counted.TheVariants.{Constants, Fields, Methods, Parameters, Statements};
-ghost use Rattle.mon_forms.specs.Faults.{least};
+ghost use Rattle.mon_base.specs.SourceFaults.{least};
 ghost use Rattle.mon_rules.specs.Rules.{constant_place, field_place, over, over_at, places_in, statement_places};
 ghost use Rattle.mon_rules.specs.inner.Counting.{counted, declares_constant, statement_place};
 
 use crate::names::place_of_name;
-use mon_base::limits;
-use mon_forms::{Counted, TypeFault};
+use mon_base::{Counted, Refusal, SourceFault, limits};
 use mon_tree::{Decl, InputTree, MethodTree, StmtTree};
 
 /// There are no more constants than a monitor may have.
-pub(crate) fn over_constants(decls: &[Decl]) -> Option<TypeFault>
+pub(crate) fn over_constants(decls: &[Decl]) -> Option<SourceFault>
     ensures { result ≡ least (over CONSTANTS Constants (flat_map constant_place decls.now)) }
 {
     over_at(Counted::Constants, constant_at(decls, limits::CONSTANTS))
 }
 
 /// There are no more fields than a monitor may have.
-pub(crate) fn over_fields(decls: &[Decl]) -> Option<TypeFault>
+pub(crate) fn over_fields(decls: &[Decl]) -> Option<SourceFault>
     ensures { result ≡ least (over FIELDS Fields (flat_map field_place decls.now)) }
 {
     over_at(Counted::Fields, field_at(decls, limits::FIELDS))
 }
 
 /// There are no more methods than a monitor may have.
-pub(crate) fn over_methods(methods: &[MethodTree]) -> Option<TypeFault>
+pub(crate) fn over_methods(methods: &[MethodTree]) -> Option<SourceFault>
     ensures { result ≡ least (over METHODS Methods (map (λ method. method.at) methods.now)) }
 {
     over_at(Counted::Methods, method_at(methods, limits::METHODS))
 }
 
 /// There are no more inputs than a method may have.
-pub(crate) fn over_inputs(inputs: &[InputTree]) -> Option<TypeFault>
+pub(crate) fn over_inputs(inputs: &[InputTree]) -> Option<SourceFault>
     ensures { result ≡ least (over INPUTS Parameters (map (λ input. input.at) inputs.now)) }
 {
     over_at(Counted::Parameters, input_at(inputs, limits::INPUTS))
 }
 
 /// There are no more statements than a body may have, inner ones counted.
-pub(crate) fn over_statements(body: &[StmtTree]) -> Option<TypeFault>
+pub(crate) fn over_statements(body: &[StmtTree]) -> Option<SourceFault>
     ensures { result ≡ least (over STATEMENTS Statements (places_in body.now)) }
 {
     over_at(Counted::Statements, statement_at(body, limits::STATEMENTS))
 }
 
-fn over_at(what: Counted, place: Option<u32>) -> Option<TypeFault>
+fn over_at(what: Counted, place: Option<u32>) -> Option<SourceFault>
     ensures { result ≡ least (over_at what place) }
 {
     match place {
-        Some(at) => Some(TypeFault::TooMany { what, at }),
+        Some(at) => Some(SourceFault {
+            at,
+            what: Refusal::TooMany(what),
+        }),
         None => None,
     }
 }

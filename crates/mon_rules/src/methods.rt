@@ -2,14 +2,14 @@
 
 ghost use Rattle.std.specs.Prelude.{◌≡◌, ◌≤◌, All, IfOk, length};
 ghost use Rattle.mon_base.specs.Limits.{FILE_BYTES};
-ghost use Rattle.mon_forms.specs.Faults.{least};
+ghost use Rattle.mon_base.specs.SourceFaults.{least};
 ghost use Rattle.mon_rules.specs.Rules.{faults_in_methods, method_faults};
 
 use crate::limits::over_inputs;
 use crate::names::repeated_input;
 use crate::statements::{fault_in_body, fault_in_expected};
-use mon_base::{Kind, earlier_of};
-use mon_forms::{TypeFault, scope_numbers_are_small, scope_of};
+use mon_base::{Kind, SourceFault, earlier_of};
+use mon_forms::{scope_numbers_are_small, scope_of};
 use mon_tree::{Decl, MethodTree};
 use std::alloc::{AllocError, Global};
 
@@ -18,7 +18,7 @@ pub(crate) fn fault_in_methods(
     alloc: Global,
     decls: &[Decl],
     methods: &[MethodTree],
-) -> Result<Option<TypeFault>, AllocError>
+) -> Result<Option<SourceFault>, AllocError>
     requires declared { length decls.now ≤ FILE_BYTES }
     requires taken { All (λ method. length method.inputs ≤ FILE_BYTES) methods.now }
     ensures { IfOk result (λ fault. fault ≡ least (faults_in_methods decls.now methods.now)) }
@@ -34,7 +34,7 @@ fn fault_in_method(
     alloc: Global,
     decls: &[Decl],
     method: &MethodTree,
-) -> Result<Option<TypeFault>, AllocError>
+) -> Result<Option<SourceFault>, AllocError>
     requires declared { length decls.now ≤ FILE_BYTES }
     requires taken { length method.now.inputs ≤ FILE_BYTES }
     ensures { IfOk result (λ fault. fault ≡ least (method_faults decls.now method.now)) }

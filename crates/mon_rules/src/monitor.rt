@@ -1,25 +1,27 @@
 //! The first fault in a monitor file.
 
 ghost use Rattle.std.specs.Prelude.{◌≡◌, IfOk};
-ghost use Rattle.mon_forms.specs.Faults.{least};
+ghost use Rattle.mon_base.specs.SourceFaults.{least};
 ghost use Rattle.mon_rules.specs.Rules.{HasFewNames, faults_of};
 
 use crate::limits::{over_constants, over_fields, over_methods};
 use crate::methods::fault_in_methods;
 use crate::names::repeated_name;
 use crate::numbers::large_literal;
-use mon_base::earlier_of;
-use mon_forms::TypeFault;
+use mon_base::{SourceFault, earlier_of};
 use mon_tree::MonitorTree;
 use std::alloc::{AllocError, Global};
 
 /// The first rule that the tree of a monitor file breaks: the one at the least place, and at one place the
-/// first in the order of [`TypeFault`]. There is none only where the tree keeps all the rules.
+/// first in the order of [`Refusal`](mon_base::Refusal). There is none only where the tree keeps all the rules.
 ///
 /// # Errors
 ///
 /// Out of memory.
-pub fn fault_in_monitor(alloc: Global, tree: &MonitorTree) -> Result<Option<TypeFault>, AllocError>
+pub fn fault_in_monitor(
+    alloc: Global,
+    tree: &MonitorTree,
+) -> Result<Option<SourceFault>, AllocError>
     requires few { HasFewNames tree.now }
     ensures { IfOk result (λ fault. fault ≡ least (faults_of tree.now)) }
 {

@@ -2,22 +2,21 @@
 
 ghost use Rattle.std.specs.Prelude.{◌≡◌, ◌↔◌, ◌<◌, [], ◌++◌, Contains, IsTrue, Some, None, if◌then◌else◌, length, map, slice_get, take};
 ghost use Rattle.mon_tree.specs.Names.{declared_name as bare_name};
-ghost use Rattle.mon_forms.specs.declared.fault.TypeFault.TheVariants as faults;
-ghost use Rattle.mon_forms.specs.Faults.{least};
+ghost use Rattle.mon_base.specs.declared.source_fault.Refusal.TheVariants as refusals;
+ghost use Rattle.mon_base.specs.SourceFaults.{fault_at, least};
 ghost use Rattle.mon_rules.specs.Rules.{declared_name, declared_names, input_names, method_names, repeated};
 
-use mon_base::{Named, earlier_of, is_among, is_repeated};
-use mon_forms::TypeFault;
+use mon_base::{Named, Refusal, SourceFault, earlier_of, is_among, is_repeated};
 use mon_tree::{Decl, InputTree, MethodTree};
 
 /// The first of the constants, fields and methods with the name of an earlier one.
-pub(crate) fn repeated_name(decls: &[Decl], methods: &[MethodTree]) -> Option<TypeFault>
+pub(crate) fn repeated_name(decls: &[Decl], methods: &[MethodTree]) -> Option<SourceFault>
     ensures { result ≡ least (repeated [] (declared_names decls.now ++ method_names methods.now)) }
 {
     earlier_of(repeated_declaration(decls), repeated_method(decls, methods))
 }
 
-fn repeated_declaration(decls: &[Decl]) -> Option<TypeFault>
+fn repeated_declaration(decls: &[Decl]) -> Option<SourceFault>
     ensures { result ≡ least (repeated [] (declared_names decls.now)) }
 {
     let mut fault = None;
@@ -28,7 +27,7 @@ fn repeated_declaration(decls: &[Decl]) -> Option<TypeFault>
     fault
 }
 
-fn repeated_method(decls: &[Decl], methods: &[MethodTree]) -> Option<TypeFault>
+fn repeated_method(decls: &[Decl], methods: &[MethodTree]) -> Option<SourceFault>
     ensures { result ≡ least (repeated (declared_names decls.now) (method_names methods.now)) }
 {
     let mut fault = None;
@@ -40,7 +39,7 @@ fn repeated_method(decls: &[Decl], methods: &[MethodTree]) -> Option<TypeFault>
 }
 
 /// The first of the inputs with the name of a declaration or of an earlier input.
-pub(crate) fn repeated_input(decls: &[Decl], inputs: &[InputTree]) -> Option<TypeFault>
+pub(crate) fn repeated_input(decls: &[Decl], inputs: &[InputTree]) -> Option<SourceFault>
     ensures { result ≡ least (repeated (declared_names decls.now) (input_names inputs.now)) }
 {
     let mut fault = None;
@@ -52,11 +51,14 @@ pub(crate) fn repeated_input(decls: &[Decl], inputs: &[InputTree]) -> Option<Typ
 }
 
 /// The name that stands here repeats one.
-fn repeated_at(again: bool, at: u32) -> Option<TypeFault>
-    ensures { result ≡ (if again then Some (faults.Duplicate at) else None) }
+fn repeated_at(again: bool, at: u32) -> Option<SourceFault>
+    ensures { result ≡ (if again then Some (fault_at refusals.Duplicate at) else None) }
 {
     if again {
-        Some(TypeFault::Duplicate { at })
+        Some(SourceFault {
+            at,
+            what: Refusal::Duplicate,
+        })
     } else {
         None
     }

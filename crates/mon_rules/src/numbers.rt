@@ -2,15 +2,15 @@
 
 ghost use Rattle.std.specs.Prelude.{◌≡◌};
 ghost use Rattle.std.specs.List.{flat_map};
-ghost use Rattle.mon_forms.specs.Faults.{least};
+ghost use Rattle.mon_base.specs.SourceFaults.{least};
 ghost use Rattle.mon_rules.specs.Rules.{literal_faults};
 
-use mon_base::earlier_of;
-use mon_forms::{TypeFault, large_number};
+use mon_base::{SourceFault, earlier_of};
+use mon_forms::large_number;
 use mon_tree::Decl;
 
 /// The first of the written numbers of declarations that is too large.
-pub(crate) fn large_literal(decls: &[Decl]) -> Option<TypeFault>
+pub(crate) fn large_literal(decls: &[Decl]) -> Option<SourceFault>
     ensures { result ≡ least (flat_map literal_faults decls.now) }
 {
     let mut fault = None;
@@ -20,7 +20,7 @@ pub(crate) fn large_literal(decls: &[Decl]) -> Option<TypeFault>
     fault
 }
 
-fn literal_fault(decl: &Decl) -> Option<TypeFault>
+fn literal_fault(decl: &Decl) -> Option<SourceFault>
     ensures { result ≡ least (literal_faults decl.now) }
 {
     match decl {

@@ -2,7 +2,7 @@
 
 ghost use Rattle.std.specs.Prelude.{◌≡◌, IfOk, IsTrue, List};
 ghost use Rattle.mon_forms.specs.declared.scope.Entry.{Entry};
-ghost use Rattle.mon_forms.specs.Faults.{least};
+ghost use Rattle.mon_base.specs.SourceFaults.{least};
 ghost use Rattle.mon_forms.specs.Making.{has_small_numbers};
 ghost use Rattle.mon_forms.specs.Scope.{entry_named};
 ghost use Rattle.mon_forms.specs.Sense.{sense};
@@ -10,8 +10,8 @@ ghost use Rattle.mon_rules.specs.Rules.{body_faults, early_faults, expected, fau
 ghost use Rattle.mon_rules.specs.inner.Parts.{block_faults, misplaced_in, misplaced_in_each, set_faults, unwanted};
 
 use crate::limits::over_statements;
-use mon_base::{Kind, earlier_of};
-use mon_forms::{Entry, TypeFault, fault_in, find, kind_of_name, wrong_type};
+use mon_base::{Kind, Refusal, SourceFault, earlier_of};
+use mon_forms::{Entry, fault_in, find, kind_of_name, wrong_type};
 use mon_tree::{Expr, StmtTree};
 use std::alloc::{AllocError, Global};
 
@@ -21,7 +21,7 @@ pub(crate) fn fault_in_expected(
     scope: &[Entry],
     wanted: Option<Kind>,
     value: &Expr,
-) -> Result<Option<TypeFault>, AllocError>
+) -> Result<Option<SourceFault>, AllocError>
     requires numbers { IsTrue (has_small_numbers scope.now) }
     ensures { IfOk result (λ fault. fault ≡ least (expected wanted (sense scope.now value.now))) }
 {
@@ -32,7 +32,7 @@ pub(crate) fn fault_in_expected(
 }
 
 /// An expression without faults is of another kind than the wanted one.
-fn unwanted(scope: &[Entry], wanted: Option<Kind>, value: &Expr) -> Option<TypeFault>
+fn unwanted(scope: &[Entry], wanted: Option<Kind>, value: &Expr) -> Option<SourceFault>
     ensures { result ≡ least (unwanted wanted (sense scope.now value.now)) }
 {
     match wanted {
@@ -48,7 +48,7 @@ fn fault_in_set(
     at: u32,
     name: &[u8],
     value: &Expr,
-) -> Result<Option<TypeFault>, AllocError>
+) -> Result<Option<SourceFault>, AllocError>
     requires numbers { IsTrue (has_small_numbers scope.now) }
     ensures { IfOk result (λ fault. fault ≡ least (set_faults scope.now at name.now value.now)) }
 {
@@ -58,15 +58,21 @@ fn fault_in_set(
 }
 
 /// The target of an assignment is a field.
-fn target_fault(scope: &[Entry], at: u32, name: &[u8]) -> Option<TypeFault>
+fn target_fault(scope: &[Entry], at: u32, name: &[u8]) -> Option<SourceFault>
     ensures { result ≡ least (target_faults at (entry_named scope.now name.now)) }
 {
     match find(scope, name) {
-        None => Some(TypeFault::Unknown { at }),
+        None => Some(SourceFault {
+            at,
+            what: Refusal::Unknown,
+        }),
         Some(index) => if scope[index].is_field {
             None
         } else {
-            Some(TypeFault::ReadOnly { at })
+            Some(SourceFault {
+                at,
+                what: Refusal::ReadOnly,
+            })
         },
     }
 }
@@ -77,7 +83,7 @@ fn fault_in_statement(
     alloc: Global,
     scope: &[Entry],
     statement: &StmtTree,
-) -> Result<Option<TypeFault>, AllocError>
+) -> Result<Option<SourceFault>, AllocError>
     requires numbers { IsTrue (has_small_numbers scope.now) }
     ensures { IfOk result (λ fault. fault ≡ least (finding scope.now statement.now).faults) }
 {
@@ -104,7 +110,7 @@ fn fault_in_block(
     alloc: Global,
     scope: &[Entry],
     statements: &[StmtTree],
-) -> Result<Option<TypeFault>, AllocError>
+) -> Result<Option<SourceFault>, AllocError>
     requires numbers { IsTrue (has_small_numbers scope.now) }
     ensures { IfOk result (λ fault. fault ≡ least (block_faults scope.now statements.now)) }
 {
@@ -117,13 +123,16 @@ fn fault_in_block(
 }
 
 /// A `return` where none may stand.
-fn misplaced_return(statement: &StmtTree) -> Option<TypeFault>
+fn misplaced_return(statement: &StmtTree) -> Option<SourceFault>
     ensures { (scope : List Entry) → result ≡ least (misplaced_in scope statement.now) }
 {
     match statement {
         StmtTree::Set { .. } => None,
         StmtTree::If { .. } => None,
-        StmtTree::Return { at, .. } => Some(TypeFault::Misplaced { at: *at }),
+        StmtTree::Return { at, .. } => Some(SourceFault {
+            at: *at,
+            what: Refusal::Misplaced,
+        }),
     }
 }
 
@@ -132,7 +141,7 @@ pub(crate) fn fault_in_body(
     alloc: Global,
     scope: &[Entry],
     body: &[StmtTree],
-) -> Result<Option<TypeFault>, AllocError>
+) -> Result<Option<SourceFault>, AllocError>
     requires numbers { IsTrue (has_small_numbers scope.now) }
     ensures { IfOk result (λ fault. fault ≡ least (body_faults scope.now body.now)) }
 {
@@ -144,7 +153,7 @@ fn fault_in_each(
     alloc: Global,
     scope: &[Entry],
     body: &[StmtTree],
-) -> Result<Option<TypeFault>, AllocError>
+) -> Result<Option<SourceFault>, AllocError>
     requires numbers { IsTrue (has_small_numbers scope.now) }
     ensures { IfOk result (λ fault. fault ≡ least (faults_in_each scope.now body.now)) }
 {
@@ -156,7 +165,7 @@ fn fault_in_each(
 }
 
 /// The first `return` that is not the last statement of its body.
-fn early_return(body: &[StmtTree]) -> Option<TypeFault>
+fn early_return(body: &[StmtTree]) -> Option<SourceFault>
     ensures { (scope : List Entry) → result ≡ least (early_faults scope body.now) }
 {
     match body.len().checked_sub(1) {
@@ -166,7 +175,7 @@ fn early_return(body: &[StmtTree]) -> Option<TypeFault>
 }
 
 /// The first `return` of statements among which none may stand.
-fn any_return(statements: &[StmtTree]) -> Option<TypeFault>
+fn any_return(statements: &[StmtTree]) -> Option<SourceFault>
     ensures { (scope : List Entry) → result ≡ least (misplaced_in_each scope statements.now) }
 {
     let mut fault = None;

@@ -4,7 +4,7 @@ use Rattle.std.specs.List.{flat_map}
 use Rattle.mon_tree.specs.declared.tree.Expr.{Expr}
 use Rattle.mon_tree.specs.declared.tree.StmtTree.{StmtTree}
 use Rattle.mon_base.specs.declared.kind.Kind.{Kind}
-use Rattle.mon_forms.specs.declared.fault.TypeFault.{TypeFault}
+use Rattle.mon_base.specs.declared.source_fault.SourceFault.{SourceFault}
 use Rattle.mon_forms.specs.declared.scope.Entry.{Entry}
 use Rattle.mon_forms.specs.Scope.{entry_named}
 use Rattle.mon_forms.specs.Sense.{Sense, entry_kind, sense, wrong_type}
@@ -13,25 +13,25 @@ use Rattle.mon_rules.specs.Rules.{expected, finding, misplaced, target_faults}
 -- ---- statements
 
 -- an expression that breaks no rule is of the wanted kind
-abbrev pub unwanted : Option Kind → Sense → List TypeFault
+abbrev pub unwanted : Option Kind → Sense → List SourceFault
 unwanted None value = []
 unwanted (Some wanted) value = wrong_type wanted value
 
-abbrev pub set_faults : List Entry → ℕ → List ℕ → Expr → List TypeFault
+abbrev pub set_faults : List Entry → ℕ → List ℕ → Expr → List SourceFault
 set_faults scope at name value =
     target_faults at (entry_named scope name)
     ++ expected (entry_kind (entry_named scope name)) (sense scope value)
 
 -- a `return` where none may stand
-abbrev pub misplaced_in : List Entry → StmtTree → List TypeFault
+abbrev pub misplaced_in : List Entry → StmtTree → List SourceFault
 misplaced_in scope statement = misplaced (finding scope statement).returns
 
-abbrev pub misplaced_in_each : List Entry → List StmtTree → List TypeFault
+abbrev pub misplaced_in_each : List Entry → List StmtTree → List SourceFault
 misplaced_in_each scope statements =
     misplaced (flat_map (λ statement. (finding scope statement).returns) statements)
 
 -- the faults in statements among which no `return` may stand
-abbrev pub block_faults : List Entry → List StmtTree → List TypeFault
+abbrev pub block_faults : List Entry → List StmtTree → List SourceFault
 block_faults scope statements =
     flat_map
     (λ statement. (finding scope statement).faults ++ misplaced_in scope statement)

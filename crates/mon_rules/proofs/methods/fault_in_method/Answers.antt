@@ -2,7 +2,7 @@ use Rattle.std.proofs.Common.{◌++◌, map, Some, ◌∙◌, ap}
 use Rattle.mon_base.specs.Limits.{INPUTS}
 use Rattle.mon_base.specs.declared.counted.Counted.TheVariants.{Parameters}
 use Rattle.mon_base.specs.declared.kind.Kind.TheVariants as kinds
-use Rattle.mon_forms.specs.Faults.{least, order}
+use Rattle.mon_base.specs.SourceFaults.{least, order}
 use Rattle.mon_forms.specs.Scope.{scope_of}
 use Rattle.mon_forms.specs.Sense.{sense}
 use Rattle.mon_rules.specs.Rules.{body_faults, declared_name, expected, input_name, over, repeated}

@@ -3,15 +3,15 @@ use Rattle.std.specs.List.{flat_map}
 use Rattle.mon_tree.specs.declared.tree.Decl.{Decl}
 use Rattle.mon_tree.specs.declared.tree.MethodTree.{MethodTree}
 use Rattle.mon_base.specs.Limits.{CONSTANTS, FIELDS, METHODS}
-use Rattle.mon_forms.specs.declared.fault.TypeFault.{TypeFault}
+use Rattle.mon_base.specs.declared.source_fault.SourceFault.{SourceFault}
 use Rattle.mon_base.specs.declared.counted.Counted.TheVariants.{Constants, Fields, Methods}
-use Rattle.mon_forms.specs.Faults.{least, order}
+use Rattle.mon_base.specs.SourceFaults.{least, order}
 use Rattle.mon_rules.specs.Rules.{constant_place, declared_name, field_place, literal_faults, method_faults, method_name, over, repeated}
 use Rattle.mon_base.proofs.Least.{least_both}
 use Rattle.mon_rules.proofs.monitor.fault_in_monitor.Goals as goal
 
 -- the faults of a tree, by its lists
-abbrev faults_in : List Decl → List MethodTree → List TypeFault
+abbrev faults_in : List Decl → List MethodTree → List SourceFault
 faults_in decls methods =
     flat_map literal_faults decls
     ++ repeated [] (map declared_name decls ++ map method_name methods)

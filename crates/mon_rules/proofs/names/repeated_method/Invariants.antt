@@ -1,5 +1,5 @@
 use Rattle.std.proofs.Common.{◌≡◌, map, take}
-use Rattle.mon_forms.specs.Faults.{least}
+use Rattle.mon_base.specs.SourceFaults.{least}
 use Rattle.mon_rules.specs.Rules.{declared_name, method_name, repeated}
 use Rattle.mon_rules.proofs.names.repeated_method.Given as goal
 

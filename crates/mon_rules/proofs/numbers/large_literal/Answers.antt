@@ -1,7 +1,7 @@
 use Rattle.std.proofs.Common.{arith, rules}
 use Rattle.mon_rules.specs.Rules.{literal_faults}
 use Rattle.mon_base.proofs.Least.{least_all, least_turn}
-use Rattle.mon_forms.specs.Faults.{order}
+use Rattle.mon_base.specs.SourceFaults.{order}
 use Rattle.mon_rules.proofs.numbers.large_literal.Goals as goal
 
 pub loop-decl-preserved : goal.loop-decl-preserved

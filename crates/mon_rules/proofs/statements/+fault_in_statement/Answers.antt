@@ -1,5 +1,5 @@
 use Rattle.std.proofs.Common.{◌++◌, Some, arith, rules, ◌∙◌, ap, sym}
-use Rattle.mon_forms.specs.Faults.{least, order}
+use Rattle.mon_base.specs.SourceFaults.{least, order}
 use Rattle.mon_base.specs.declared.kind.Kind.TheVariants as kinds
 use Rattle.mon_forms.specs.Sense.{sense}
 use Rattle.mon_rules.specs.Rules.{expected, finding, misplaced}

@@ -1,5 +1,5 @@
 use Rattle.std.proofs.Common.{◌≡◌, take}
-use Rattle.mon_forms.specs.Faults.{least}
+use Rattle.mon_base.specs.SourceFaults.{least}
 use Rattle.mon_rules.specs.inner.Parts.{block_faults}
 use Rattle.mon_rules.proofs.statements.+fault_in_statement.Given as goal
 

@@ -1,5 +1,5 @@
 use Rattle.std.proofs.Common.{arith, rules, ◌∙◌, ap, sym}
-use Rattle.mon_forms.specs.Faults.{least, order}
+use Rattle.mon_base.specs.SourceFaults.{least, order}
 use Rattle.mon_rules.specs.Rules.{finding, misplaced}
 use Rattle.mon_base.proofs.Least.{least_all, least_turn}
 use Rattle.mon_rules.proofs.Findings.{misplaced-flat_map}

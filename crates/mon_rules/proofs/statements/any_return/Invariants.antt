@@ -1,7 +1,7 @@
 use Rattle.std.proofs.Common.{◌≡◌, List, take}
 use Rattle.std.specs.List.{flat_map}
 use Rattle.mon_forms.specs.declared.scope.Entry.{Entry}
-use Rattle.mon_forms.specs.Faults.{least}
+use Rattle.mon_base.specs.SourceFaults.{least}
 use Rattle.mon_rules.specs.Rules.{finding, misplaced}
 use Rattle.mon_rules.proofs.statements.any_return.Given as goal
 

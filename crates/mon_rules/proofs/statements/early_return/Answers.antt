@@ -1,6 +1,6 @@
 use Rattle.std.proofs.Common.{◌≡◌, ◌+◌, length, arith, ◌∙◌, ap}
 use Rattle.std.proofs.lemmas.Bool.Decides.{nat_tests}
-use Rattle.mon_forms.specs.Faults.{least}
+use Rattle.mon_base.specs.SourceFaults.{least}
 use Rattle.mon_rules.specs.Rules.{misplaced}
 use Rattle.mon_rules.proofs.Findings.{early_is}
 use Rattle.mon_rules.proofs.statements.early_return.Goals as goal

@@ -3,7 +3,7 @@ use Rattle.mon_base.specs.Limits.{STATEMENTS}
 use Rattle.mon_base.specs.declared.counted.Counted.TheVariants.{Statements}
 use Rattle.mon_rules.specs.Rules.{early_faults, faults_in_each, over, places_in}
 use Rattle.mon_base.proofs.Least.{least_both}
-use Rattle.mon_forms.specs.Faults.{order}
+use Rattle.mon_base.specs.SourceFaults.{order}
 use Rattle.mon_rules.proofs.statements.fault_in_body.Goals as goal
 
 pub returns : goal.returns
