@@ -26,14 +26,14 @@ use Rattle.mon_monitor.specs.MonitorParts.{MonitorParts, AreOfKinds}
 use Rattle.mon_implicit.specs.declared.script.Call.{Call as ScriptCall}
 use Rattle.mon_implicit.specs.declared.script.Client.{Client}
 use Rattle.mon_implicit.specs.Scripted.{AreClients, FitsCall, FitsScripts}
-use Rattle.mon_script.specs.declared.fault.ScriptFault.{ScriptFault}
-use Rattle.mon_script.specs.declared.fault.ScriptFault.TheVariants as faults
+use Rattle.mon_base.specs.declared.source_fault.SourceFault.{SourceFault}
+use Rattle.mon_base.specs.declared.source_fault.Refusal.TheVariants as refusals
 use Rattle.mon_script.specs.Scripts.{call_count, call_of, calls_of_item, client_of, clients_of, joined, method_named, value_of}
-use Rattle.mon_script.specs.Faults.{HasCause, IsLeast, PlacedCall, argument_faults, argument_place, call_faults, doubled, faults_of, inputs_of, is_for, item_faults, items_in, least, method_faults, number_faults, order, over_calls, over_clients, placed_calls, too_many_at, type_faults}
+use Rattle.mon_base.specs.SourceFaults.{fault_at}
+use Rattle.mon_script.specs.Faults.{PlacedCall, argument_faults, argument_place, call_faults, doubled, faults_of, inputs_of, is_for, item_faults, items_in, method_faults, number_faults, over_calls, over_clients, placed_calls, too_many_at, type_faults}
 use Rattle.mon_script.specs.inner.Making.{AreSmallItems, HasSmallArguments, IsSmallArgument, IsSmallItem}
 use Rattle.mon_script.proofs.Doubled.{in_doubled}
 use Rattle.mon_script.proofs.Items.{as_many_calls, by_items, calls-Call, calls-Repeat, faults-Call, faults-Repeat, length-flat_map, placed-Call, placed-Repeat}
-use Rattle.mon_base.proofs.Least.{some_is_least}
 use Rattle.mon_base.proofs.Members.{each_empty, in_map, none_in}
 use Rattle.mon_script.proofs.OverCalls.{within_calls}
 
@@ -69,7 +69,7 @@ parts_of_all f P (x ∷ xs) all = All-cons (λ y. All P (f y)) x xs (front P (f 
 number_small : (argument : Arg) → number_faults argument ≡ [] → IsSmallArgument argument
 number_small (args.Bool at value) none = tt
 number_small (args.Int at value) none = elim (cases_Bool (nat_lt GREATEST_NUMBER value.digits)) [
-  | inl large ↦ let h : faults.TooLarge value.at ∷ [] ≡ [] = rw large at none in absurd cc
+  | inl large ↦ let h : fault_at refusals.TooLarge value.at ∷ [] ≡ [] = rw large at none in absurd cc
   | inr small ↦ not_less GREATEST_NUMBER value.digits small
 ]
   where
@@ -79,7 +79,7 @@ number_small (args.Int at value) none = elim (cases_Bool (nat_lt GREATEST_NUMBER
 right_kind : (kind : Kind) (argument : Arg) → type_faults (kind, argument) ≡ [] → is_for kind argument ≡ true
 right_kind kind argument none = elim (cases_Bool (is_for kind argument)) [
   | inl fits ↦ fits
-  | inr other ↦ let h : faults.WrongType (argument_place argument) ∷ [] ≡ [] = rw other at none in absurd cc
+  | inr other ↦ let h : fault_at refusals.WrongType (argument_place argument) ∷ [] ≡ [] = rw other at none in absurd cc
 ]
 
 of_kinds : (inputs : List Kind) (given : List Arg) → length given ≡ length inputs → flat_map type_faults (zip inputs given) ≡ [] → AreOfKinds inputs (map value_of given)
@@ -99,7 +99,7 @@ of_kinds (kind ∷ inputs) (argument ∷ given) same none =
 arguments_fit : (inputs : List Kind) (at : ℕ) (given : List Arg) → argument_faults inputs at given ≡ [] → AreOfKinds inputs (map value_of given)
 arguments_fit inputs at given none = by_test (length given == length inputs) refl none
   where
-    by_test : (test : Bool) → (length given == length inputs) ≡ test → (if test then flat_map type_faults (zip inputs given) else faults.WrongCount at ∷ []) ≡ [] → AreOfKinds inputs (map value_of given)
+    by_test : (test : Bool) → (length given == length inputs) ≡ test → (if test then flat_map type_faults (zip inputs given) else fault_at refusals.WrongCount at ∷ []) ≡ [] → AreOfKinds inputs (map value_of given)
     by_test true same found = of_kinds inputs given (equal_from (length given) (length inputs) same) found
       where
         equal_from : (a b : ℕ) → (a == b) ≡ true → a ≡ b
@@ -207,7 +207,7 @@ module _ (monitor : MonitorParts) (tree : ClientsTree) (unbroken : faults_of mon
       let named : Contains (map (λ (other : ClientTree). other.name) (take j tree.clients)) client.name =
       subst (λ (name : List ℕ). Contains (map (λ (other : ClientTree). other.name) (take j tree.clients)) name) same (in_map (λ (other : ClientTree). other.name) (take j tree.clients) earlier earlier_in) in
       let found = in_doubled tree.clients (take j tree.clients) client (drop (j + 1) tree.clients) (parts_at tree.clients j d within) named in
-      none_in (faults.DuplicateClient client.at) (subst (λ (list : List ScriptFault). Contains list (faults.DuplicateClient client.at)) (no_back (flat_map (item_faults monitor) (items_in tree.clients)) (doubled [] tree.clients) names_and_items) found)
+      none_in (fault_at refusals.DuplicateClient client.at) (subst (λ (list : List SourceFault). Contains list (fault_at refusals.DuplicateClient client.at)) (no_back (flat_map (item_faults monitor) (items_in tree.clients)) (doubled [] tree.clients) names_and_items) found)
     where
       parts_at : {X : Type 0} (xs : List X) (i : ℕ) (d : X) → i < length xs → xs ≡ take i xs ++ get_or xs i d ∷ drop (i + 1) xs
       parts_at xs i d within =
@@ -258,18 +258,3 @@ pub small_inner : (item : Item) (at times : ℕ) (inner slice : List Item) → i
 small_inner item at times inner slice is same small =
     All-same IsSmallItem slice inner same
     (parts_of_all placed_calls HasSmallArguments inner (All-same HasSmallArguments (flat_map placed_calls inner) (placed_calls item) (sym (ap placed_calls is ∙ placed-Repeat at times inner)) small))
-
--- ---- a cause
-
-pub is_cause : (monitor : MonitorParts) (tree : ClientsTree) (fault : ScriptFault) → Some fault ≡ least (faults_of monitor tree) → HasCause monitor tree fault
-is_cause monitor tree fault is = of_least fault (some_is_least order (faults_of monitor tree) fault (sym is))
-  where
-    of_least : (fault : ScriptFault) → IsLeast (faults_of monitor tree) fault → HasCause monitor tree fault
-    of_least (faults.UnknownMethod at) first = first
-    of_least (faults.WrongCount at) first = first
-    of_least (faults.WrongType at) first = first
-    of_least (faults.TooLarge at) first = first
-    of_least (faults.DuplicateClient at) first = first
-    of_least (faults.TooManyClients at) first = first
-    of_least (faults.TooManyCalls at) first = first
-    of_least faults.OutOfMemory first = tt

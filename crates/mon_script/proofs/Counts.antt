@@ -12,9 +12,10 @@ use Rattle.mon_tree.specs.declared.tree.Arg.{Arg}
 use Rattle.mon_tree.specs.declared.tree.Item.{Item}
 use Rattle.mon_tree.specs.declared.tree.Item.TheVariants as items
 use Rattle.mon_base.specs.declared.kind.Kind.{Kind}
-use Rattle.mon_script.specs.declared.fault.ScriptFault.{ScriptFault}
+use Rattle.mon_base.specs.declared.source_fault.SourceFault.{SourceFault}
 use Rattle.mon_script.specs.Scripts.{call_count, joined}
-use Rattle.mon_script.specs.Faults.{earlier_of, least, number_faults, order, type_faults}
+use Rattle.mon_base.specs.SourceFaults.{earlier_of, least, order}
+use Rattle.mon_script.specs.Faults.{number_faults, type_faults}
 use Rattle.mon_script.specs.inner.Counting.{ABOVE}
 use Rattle.mon_script.proofs.Items.{count-Call, count-Repeat}
 use Rattle.mon_base.proofs.Least.{least_all, least_turn}
@@ -97,7 +98,7 @@ length-zip (x ∷ xs) [] same = refl
 length-zip (x ∷ xs) (y ∷ ys) same = ap suc (length-zip xs ys (omega (arith, same)))
 
 -- one more argument and its input
-pub pair_turn : (inputs : List Kind) (given : List Arg) (i : ℕ) (kind : Kind) (argument : Arg) (before here after : Option ScriptFault) → length given ≡ length inputs → i < length given
+pub pair_turn : (inputs : List Kind) (given : List Arg) (i : ℕ) (kind : Kind) (argument : Arg) (before here after : Option SourceFault) → length given ≡ length inputs → i < length given
     → before ≡ least (flat_map type_faults (take i (zip inputs given))) → here ≡ least (type_faults (get_or inputs i kind, get_or given i argument)) → after ≡ earlier_of before here
     → after ≡ least (flat_map type_faults (take (i + 1) (zip inputs given)))
 pair_turn inputs given i kind argument before here after same lt before_is here_is after_is =
@@ -107,10 +108,10 @@ pair_turn inputs given i kind argument before here after same lt before_is here_
     let ai = get_or_default given i argument a lt in
     least_turn order type_faults (zip inputs given) i (k, a) before here after (omega (arith, lt, length-zip inputs given same)) (zip_at inputs given i k a (omega (arith, lt, same)) lt ki ai) before_is here_is after_is
 
-pub pairs_all : (inputs : List Kind) (given : List Arg) (i : ℕ) (fault : Option ScriptFault) → length given ≡ length inputs → length given ≤ i → fault ≡ least (flat_map type_faults (take i (zip inputs given))) → fault ≡ least (flat_map type_faults (zip inputs given))
+pub pairs_all : (inputs : List Kind) (given : List Arg) (i : ℕ) (fault : Option SourceFault) → length given ≡ length inputs → length given ≤ i → fault ≡ least (flat_map type_faults (take i (zip inputs given))) → fault ≡ least (flat_map type_faults (zip inputs given))
 pairs_all inputs given i fault same past is = least_all order type_faults (zip inputs given) i fault (omega (arith, past, length-zip inputs given same)) is
 
-pub argument_turn : (given : List Arg) (i : ℕ) (argument : Arg) (before here after : Option ScriptFault) → i < length given
+pub argument_turn : (given : List Arg) (i : ℕ) (argument : Arg) (before here after : Option SourceFault) → i < length given
     → before ≡ least (flat_map number_faults (take i given)) → here ≡ least (number_faults (get_or given i argument)) → after ≡ earlier_of before here → after ≡ least (flat_map number_faults (take (i + 1) given))
 argument_turn given i argument before here after lt before_is here_is after_is =
     least_turn order number_faults given i (get_or given i argument) before here after lt (get_or_default given i argument (get_or given i argument) lt) before_is here_is after_is

@@ -10,8 +10,9 @@ use Rattle.std.proofs.lemmas.List.Sums.{sum_by-cons}
 use Rattle.mon_base.specs.Limits.{CALLS}
 use Rattle.mon_tree.specs.declared.tree.Item.{Item}
 use Rattle.mon_tree.specs.declared.tree.ClientTree.{ClientTree}
-use Rattle.mon_script.specs.declared.fault.ScriptFault.{ScriptFault}
-use Rattle.mon_script.specs.declared.fault.ScriptFault.TheVariants.{TooManyCalls}
+use Rattle.mon_base.specs.SourceFaults.{fault_at}
+use Rattle.mon_base.specs.declared.source_fault.SourceFault.{SourceFault}
+use Rattle.mon_base.specs.declared.source_fault.Refusal.TheVariants as refusals
 use Rattle.mon_script.specs.Scripts.{call_count}
 use Rattle.mon_script.specs.Faults.{over_calls, place_of}
 use Rattle.mon_script.specs.inner.Counting.{ABOVE, counted}
@@ -118,7 +119,7 @@ no_over before (x ∷ xs) next is = elim (cases_Bool (nat_lt CALLS (before + cal
   | inr below ↦ rw below (no_over (before + call_count x) xs next (rw below at is))
 ]
 
-pub one_over : (before : ℕ) (items : List Item) (at : ℕ) → Err at ≡ counted before items → over_calls before items ≡ TooManyCalls at ∷ []
+pub one_over : (before : ℕ) (items : List Item) (at : ℕ) → Err at ≡ counted before items → over_calls before items ≡ fault_at refusals.TooManyCalls at ∷ []
 one_over before [] at is = cc
 one_over before (x ∷ xs) at is = elim (cases_Bool (nat_lt CALLS (before + call_count x))) [
   | inl above ↦ let h : Err at ≡ Err (place_of x) = rw above at is in let e : place_of x ≡ at = cc in rw (above, e) refl
@@ -128,22 +129,22 @@ one_over before (x ∷ xs) at is = elim (cases_Bool (nat_lt CALLS (before + call
 pub within_calls : (before : ℕ) (items : List Item) → before ≤ CALLS → over_calls before items ≡ [] → before + sum_by call_count items ≤ CALLS
 within_calls before [] within none = omega (arith, within)
 within_calls before (x ∷ xs) within none = elim (cases_Bool (nat_lt CALLS (before + call_count x))) [
-  | inl above ↦ let h : TooManyCalls (place_of x) ∷ [] ≡ [] = rw above at none in absurd cc
+  | inl above ↦ let h : fault_at refusals.TooManyCalls (place_of x) ∷ [] ≡ [] = rw above at none in absurd cc
   | inr below ↦ let rest = within_calls (before + call_count x) xs (below_from (before + call_count x) below) (rw below at none) in omega (arith, rest, sum_by-cons call_count x xs)
 ]
 
 -- ---- the rule
 
-pub record OverAt (start : ℕ) (items : List Item) (fault : ScriptFault) : Type 0 where
+pub record OverAt (start : ℕ) (items : List Item) (fault : SourceFault) : Type 0 where
   pub before : List Item
   pub item : Item
   pub after : List Item
   pub split : items ≡ before ++ item ∷ after
   pub within : start + sum_by call_count before ≤ CALLS
   pub above : CALLS < start + sum_by call_count (before ++ item ∷ [])
-  pub is : fault ≡ TooManyCalls (place_of item)
+  pub is : fault ≡ fault_at refusals.TooManyCalls (place_of item)
 
-pub from_over : (start : ℕ) (items : List Item) (fault : ScriptFault) → start ≤ CALLS → Contains (over_calls start items) fault → OverAt start items fault
+pub from_over : (start : ℕ) (items : List Item) (fault : SourceFault) → start ≤ CALLS → Contains (over_calls start items) fault → OverAt start items fault
 from_over start [] fault within found = none_in fault found
 from_over start (x ∷ xs) fault within found = elim (cases_Bool (nat_lt CALLS (start + call_count x))) [
   | inl above ↦ record {
@@ -153,7 +154,7 @@ from_over start (x ∷ xs) fault within found = elim (cases_Bool (nat_lt CALLS (
     split = refl;
     within = omega (arith, within);
     above = omega (arith, above_from (start + call_count x) above, sum_by-cons call_count x []);
-    is = sym (only_in (TooManyCalls (place_of x)) fault (rw above at found));
+    is = sym (only_in (fault_at refusals.TooManyCalls (place_of x)) fault (rw above at found));
   }
   | inr below ↦
       let later = from_over (start + call_count x) xs fault (below_from (start + call_count x) below) (rw below at found) in
@@ -169,10 +170,10 @@ from_over start (x ∷ xs) fault within found = elim (cases_Bool (nat_lt CALLS (
 ]
 
 pub in_over : (start : ℕ) (before : List Item) (item : Item) (after : List Item) → start + sum_by call_count before ≤ CALLS → CALLS < start + sum_by call_count (before ++ item ∷ [])
-    → Contains (over_calls start (before ++ item ∷ after)) (TooManyCalls (place_of item))
+    → Contains (over_calls start (before ++ item ∷ after)) (fault_at refusals.TooManyCalls (place_of item))
 in_over start [] item after within above =
     let test = is_above start (call_count item) (omega (arith, above, sum_by-cons call_count item [])) in
-    rw test (contains_head (TooManyCalls (place_of item)) [])
+    rw test (contains_head (fault_at refusals.TooManyCalls (place_of item)) [])
 in_over start (x ∷ before) item after within above =
     let cons = sum_by-cons call_count x before in
     let test = is_below start (call_count x) (omega (arith, within, cons)) in

@@ -1,5 +1,4 @@
--- The faults of a client file's tree, as a list, and their order: by place, and at one place by
--- rule.
+-- The faults of a client file's tree, as a list.
 use Rattle.std.specs.Prelude.{ℕ, ◌+◌, Bool, true, false, ◌==◌, nat_lt, if◌then◌else◌, List, [], ◌∷◌}
 use Rattle.std.specs.Prelude.{◌++◌, length, map, Option, Some, None, slice_get, zip}
 use Rattle.std.specs.List.{flat_map, list_any}
@@ -11,18 +10,14 @@ use Rattle.mon_tree.specs.declared.tree.Item.TheOpen.{Item-F, Call, Repeat}
 use Rattle.mon_tree.specs.declared.tree.Item.TheFolds.{fold-Item}
 use Rattle.mon_tree.specs.declared.tree.ClientTree.{ClientTree}
 use Rattle.mon_tree.specs.declared.tree.ClientsTree.{ClientsTree}
-use Rattle.mon_base.specs.Least as ordered
-use Rattle.mon_base.specs.Least.{Order}
 use Rattle.mon_base.specs.Limits.{CALLS, CLIENTS, GREATEST_NUMBER}
+use Rattle.mon_base.specs.SourceFaults.{fault_at}
+use Rattle.mon_base.specs.declared.source_fault.SourceFault.{SourceFault}
+use Rattle.mon_base.specs.declared.source_fault.Refusal.TheVariants as refusals
 use Rattle.mon_base.specs.declared.kind.Kind.{Kind}
 use Rattle.mon_base.specs.declared.kind.Kind.TheVariants as kinds
 use Rattle.mon_monitor.specs.MonitorParts.{MonitorParts}
 use Rattle.mon_implicit.specs.Steps.{kinds_in}
-use Rattle.mon_script.specs.declared.fault.ScriptFault.{ScriptFault}
-use Rattle.mon_script.specs.declared.fault.ScriptFault.TheVariants.{UnknownMethod, WrongCount}
-use Rattle.mon_script.specs.declared.fault.ScriptFault.TheVariants.{WrongType, TooLarge}
-use Rattle.mon_script.specs.declared.fault.ScriptFault.TheVariants.{DuplicateClient, TooManyClients}
-use Rattle.mon_script.specs.declared.fault.ScriptFault.TheVariants.{TooManyCalls, OutOfMemory}
 use Rattle.mon_script.specs.Scripts.{call_count, joined, method_named}
 
 -- ---- what stands in a tree
@@ -66,14 +61,14 @@ is_for kinds.Int (args.Int at value) = true
 is_for kinds.Bool (args.Bool at value) = true
 is_for kind argument = false
 
-abbrev pub number_faults : Arg → List ScriptFault
+abbrev pub number_faults : Arg → List SourceFault
 number_faults (args.Int at value) =
-    if nat_lt GREATEST_NUMBER value.digits then TooLarge value.at ∷ [] else []
+    if nat_lt GREATEST_NUMBER value.digits then fault_at refusals.TooLarge value.at ∷ [] else []
 number_faults (args.Bool at value) = []
 
-abbrev pub type_faults : Kind × Arg → List ScriptFault
+abbrev pub type_faults : Kind × Arg → List SourceFault
 type_faults (kind, argument) =
-    if is_for kind argument then [] else WrongType (argument_place argument) ∷ []
+    if is_for kind argument then [] else fault_at refusals.WrongType (argument_place argument) ∷ []
 
 -- ---- calls
 
@@ -82,22 +77,22 @@ abbrev pub inputs_of : MonitorParts → ℕ → List Kind
 inputs_of monitor method = kinds_in (slice_get monitor.methods method)
 
 -- there are as many arguments as inputs, and then each is for its input
-abbrev pub argument_faults : List Kind → ℕ → List Arg → List ScriptFault
+abbrev pub argument_faults : List Kind → ℕ → List Arg → List SourceFault
 argument_faults inputs at given =
     if length given == length inputs then flat_map type_faults (zip inputs given)
-    else WrongCount at ∷ []
+    else fault_at refusals.WrongCount at ∷ []
 
 -- the name is a method's, and then the arguments are for its inputs
-abbrev pub method_faults : MonitorParts → ℕ → List Arg → Option ℕ → List ScriptFault
-method_faults monitor at given None = UnknownMethod at ∷ []
+abbrev pub method_faults : MonitorParts → ℕ → List Arg → Option ℕ → List SourceFault
+method_faults monitor at given None = fault_at refusals.UnknownMethod at ∷ []
 method_faults monitor at given (Some method) = argument_faults (inputs_of monitor method) at given
 
-abbrev pub call_faults : MonitorParts → PlacedCall → List ScriptFault
+abbrev pub call_faults : MonitorParts → PlacedCall → List SourceFault
 call_faults monitor call =
     method_faults monitor call.at call.arguments (method_named monitor call.name)
     ++ flat_map number_faults call.arguments
 
-abbrev pub item_faults : MonitorParts → Item → List ScriptFault
+abbrev pub item_faults : MonitorParts → Item → List SourceFault
 item_faults monitor item = flat_map (call_faults monitor) (placed_calls item)
 
 -- ---- clients
@@ -106,77 +101,34 @@ abbrev pub is_among : List ClientTree → List ℕ → Bool
 is_among clients name = list_any (λ other. bytes_eq other.name name) clients
 
 -- clients with the name of an earlier one
-abbrev pub doubled : List ClientTree → List ClientTree → List ScriptFault
+abbrev pub doubled : List ClientTree → List ClientTree → List SourceFault
 doubled before [] = []
 doubled before (client ∷ more) =
-    (if is_among before client.name then DuplicateClient client.at ∷ [] else [])
+    (if is_among before client.name then fault_at refusals.DuplicateClient client.at ∷ [] else [])
     ++ doubled (before ++ client ∷ []) more
 
-abbrev pub too_many_at : Option ℕ → List ScriptFault
+abbrev pub too_many_at : Option ℕ → List SourceFault
 too_many_at None = []
-too_many_at (Some at) = TooManyClients at ∷ []
+too_many_at (Some at) = fault_at refusals.TooManyClients at ∷ []
 
 -- the first client over the limit
-abbrev pub over_clients : List ClientTree → List ScriptFault
+abbrev pub over_clients : List ClientTree → List SourceFault
 over_clients clients = too_many_at (slice_get (map (λ client. client.at) clients) CLIENTS)
 
 -- after so many calls, the first item with which there are more than the limit
-abbrev pub over_calls : ℕ → List Item → List ScriptFault
+abbrev pub over_calls : ℕ → List Item → List SourceFault
 over_calls before [] = []
 over_calls before (item ∷ more) =
-    if nat_lt CALLS (before + call_count item) then TooManyCalls (place_of item) ∷ []
+    if nat_lt CALLS (before + call_count item)
+    then fault_at refusals.TooManyCalls (place_of item) ∷ []
     else over_calls (before + call_count item) more
 
 -- ---- files
 
 -- each rule that the tree breaks, and where; of too many things the first over the limit
-abbrev pub faults_of : MonitorParts → ClientsTree → List ScriptFault
+abbrev pub faults_of : MonitorParts → ClientsTree → List SourceFault
 faults_of monitor tree =
     flat_map (item_faults monitor) (items_in tree.clients)
     ++ doubled [] tree.clients
     ++ over_clients tree.clients
     ++ over_calls 0 (items_in tree.clients)
-
--- ---- the order of faults
-
--- where the rule is broken; want of memory breaks no rule and is in no list
-abbrev pub place : ScriptFault → ℕ
-place (UnknownMethod at) = at
-place (WrongCount at) = at
-place (WrongType at) = at
-place (TooLarge at) = at
-place (DuplicateClient at) = at
-place (TooManyClients at) = at
-place (TooManyCalls at) = at
-place OutOfMemory = 0
-
--- in the order of the variants
-abbrev pub rank : ScriptFault → ℕ
-rank (UnknownMethod at) = 0
-rank (WrongCount at) = 1
-rank (WrongType at) = 2
-rank (TooLarge at) = 3
-rank (DuplicateClient at) = 4
-rank (TooManyClients at) = 5
-rank (TooManyCalls at) = 6
-rank OutOfMemory = 7
-
-abbrev pub order : Order ScriptFault
-order = record { place = place; rank = rank }
-
--- a fault of the list, and none of the list comes before it
-abbrev pub IsLeast : List ScriptFault → ScriptFault → Type 0
-IsLeast = ordered.IsLeast order
-
--- the fault that stands first, at one place the first in the order of the rules
-abbrev pub least : List ScriptFault → Option ScriptFault
-least = ordered.least order
-
--- the earlier of two faults that may be, and the one where neither comes before the other
-abbrev pub earlier_of : Option ScriptFault → Option ScriptFault → Option ScriptFault
-earlier_of = ordered.earlier_of order
-
--- the fault is the first of those in the tree, unless memory ran out
-abbrev pub HasCause : MonitorParts → ClientsTree → ScriptFault → Type 0
-HasCause monitor tree OutOfMemory = Unit {0}
-HasCause monitor tree fault = IsLeast (faults_of monitor tree) fault

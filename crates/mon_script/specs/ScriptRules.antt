@@ -11,8 +11,9 @@ use Rattle.mon_tree.specs.declared.tree.ClientsTree.{ClientsTree}
 use Rattle.mon_base.specs.Limits.{CALLS, CLIENTS, GREATEST_NUMBER}
 use Rattle.mon_base.specs.declared.kind.Kind.{Kind}
 use Rattle.mon_monitor.specs.MonitorParts.{MonitorParts}
-use Rattle.mon_script.specs.declared.fault.ScriptFault.{ScriptFault}
-use Rattle.mon_script.specs.declared.fault.ScriptFault.TheVariants as faults
+use Rattle.mon_base.specs.declared.source_fault.SourceFault.{SourceFault}
+use Rattle.mon_base.specs.declared.source_fault.Refusal.{Refusal}
+use Rattle.mon_base.specs.declared.source_fault.Refusal.TheVariants as refusals
 use Rattle.mon_script.specs.Scripts.{call_count, method_named}
 use Rattle.mon_script.specs.Faults.{PlacedCall, argument_place, faults_of, inputs_of, is_for}
 use Rattle.mon_script.specs.Faults.{items_in, place_of, placed_calls}
@@ -65,8 +66,7 @@ BreaksTooManyClients tree place =
     slice_get (map (λ client. client.at) tree.clients) CLIENTS ≡ Some place
 
 -- it is the first item, of those that stand directly in clients, with which the calls of the file
--- are above
--- the limit, with each `repeat` written out
+-- are above the limit, with each `repeat` written out
 abbrev pub BreaksTooManyCalls : ClientsTree → ℕ → Type 0
 BreaksTooManyCalls tree place =
     (before : List Item) × (item : Item) × (after : List Item)
@@ -75,18 +75,23 @@ BreaksTooManyCalls tree place =
     × (CALLS < sum_by call_count (before ++ item ∷ []))
     × (place_of item ≡ place)
 
--- The tree breaks the rule of a fault at its place.
-abbrev pub Breaks : MonitorParts → ClientsTree → ScriptFault → Type 0
-Breaks monitor tree (faults.UnknownMethod at) = BreaksUnknownMethod monitor tree at
-Breaks monitor tree (faults.WrongCount at) = BreaksWrongCount monitor tree at
-Breaks monitor tree (faults.WrongType at) = BreaksWrongType monitor tree at
-Breaks monitor tree (faults.TooLarge at) = BreaksTooLarge tree at
-Breaks monitor tree (faults.DuplicateClient at) = BreaksDuplicateClient tree at
-Breaks monitor tree (faults.TooManyClients at) = BreaksTooManyClients tree at
-Breaks monitor tree (faults.TooManyCalls at) = BreaksTooManyCalls tree at
-Breaks monitor tree faults.OutOfMemory = ⊥
+-- the tree breaks this rule at this place; rules of tokens, of the grammar and of monitors are no
+-- rules of clients
+abbrev pub BreaksRule : MonitorParts → ClientsTree → Refusal → ℕ → Type 0
+BreaksRule monitor tree refusals.UnknownMethod place = BreaksUnknownMethod monitor tree place
+BreaksRule monitor tree refusals.WrongCount place = BreaksWrongCount monitor tree place
+BreaksRule monitor tree refusals.WrongType place = BreaksWrongType monitor tree place
+BreaksRule monitor tree refusals.TooLarge place = BreaksTooLarge tree place
+BreaksRule monitor tree refusals.DuplicateClient place = BreaksDuplicateClient tree place
+BreaksRule monitor tree refusals.TooManyClients place = BreaksTooManyClients tree place
+BreaksRule monitor tree refusals.TooManyCalls place = BreaksTooManyCalls tree place
+BreaksRule monitor tree what place = ⊥
+
+-- the tree breaks the rule of a fault at its place
+abbrev pub Breaks : MonitorParts → ClientsTree → SourceFault → Type 0
+Breaks monitor tree fault = BreaksRule monitor tree fault.what fault.at
 
 -- the faults that are listed are exactly the rules that the tree breaks, each at its place
 abbrev pub ListsBrokenRules : MonitorParts → ClientsTree → Type 0
 ListsBrokenRules monitor tree =
-    (fault : ScriptFault) → Contains (faults_of monitor tree) fault ↔ Breaks monitor tree fault
+    (fault : SourceFault) → Contains (faults_of monitor tree) fault ↔ Breaks monitor tree fault

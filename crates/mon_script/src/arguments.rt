@@ -3,17 +3,17 @@
 ghost use Rattle.std.specs.Prelude.{◌≡◌, ◌≤◌, length, zip};
 ghost use Rattle.std.specs.List.{flat_map};
 ghost use Rattle.mon_base.specs.Limits.{GREATEST_NUMBER};
-ghost use Rattle.mon_script.specs.Faults.{argument_faults, argument_place, is_for, least, number_faults, type_faults};
+ghost use Rattle.mon_base.specs.SourceFaults.{least};
+ghost use Rattle.mon_script.specs.Faults.{argument_faults, argument_place, is_for, number_faults, type_faults};
 ghost use Rattle.mon_script.specs.Scripts.{number_of, value_of};
 ghost use Rattle.mon_script.specs.inner.Making.{IsSmallArgument};
 
-use crate::fault::ScriptFault;
 use mon_base::limits::GREATEST_NUMBER;
-use mon_base::{Kind, Value, earlier_of};
+use mon_base::{Kind, Refusal, SourceFault, Value, earlier_of};
 use mon_tree::{Arg, Lit};
 
 /// The first of the written numbers that is too large.
-pub(crate) fn large_number(arguments: &[Arg]) -> Option<ScriptFault>
+pub(crate) fn large_number(arguments: &[Arg]) -> Option<SourceFault>
     ensures { result ≡ least (flat_map number_faults arguments.now) }
 {
     let mut fault = None;
@@ -23,12 +23,15 @@ pub(crate) fn large_number(arguments: &[Arg]) -> Option<ScriptFault>
     fault
 }
 
-fn number_fault(argument: &Arg) -> Option<ScriptFault>
+fn number_fault(argument: &Arg) -> Option<SourceFault>
     ensures { result ≡ least (number_faults argument.now) }
 {
     match argument {
         Arg::Int { value, .. } => if GREATEST_NUMBER < value.digits {
-            Some(ScriptFault::TooLarge { at: value.at })
+            Some(SourceFault {
+                at: value.at,
+                what: Refusal::TooLarge,
+            })
         } else {
             None
         },
@@ -37,18 +40,21 @@ fn number_fault(argument: &Arg) -> Option<ScriptFault>
 }
 
 /// There are as many arguments as inputs, and then each is for its input.
-pub(crate) fn argument_fault(inputs: &[Kind], at: u32, arguments: &[Arg]) -> Option<ScriptFault>
+pub(crate) fn argument_fault(inputs: &[Kind], at: u32, arguments: &[Arg]) -> Option<SourceFault>
     ensures { result ≡ least (argument_faults inputs.now at arguments.now) }
 {
     if arguments.len() == inputs.len() {
         wrong_type(inputs, arguments)
     } else {
-        Some(ScriptFault::WrongCount { at })
+        Some(SourceFault {
+            at,
+            what: Refusal::WrongCount,
+        })
     }
 }
 
 /// The first argument that is not for its input.
-fn wrong_type(inputs: &[Kind], arguments: &[Arg]) -> Option<ScriptFault>
+fn wrong_type(inputs: &[Kind], arguments: &[Arg]) -> Option<SourceFault>
     requires { length arguments.now ≡ length inputs.now }
     ensures { result ≡ least (flat_map type_faults (zip inputs.now arguments.now)) }
 {
@@ -59,14 +65,15 @@ fn wrong_type(inputs: &[Kind], arguments: &[Arg]) -> Option<ScriptFault>
     fault
 }
 
-fn type_fault(kind: Kind, argument: &Arg) -> Option<ScriptFault>
+fn type_fault(kind: Kind, argument: &Arg) -> Option<SourceFault>
     ensures { result ≡ least (type_faults (kind, argument.now)) }
 {
     if is_for(kind, argument) {
         None
     } else {
-        Some(ScriptFault::WrongType {
+        Some(SourceFault {
             at: argument_place(argument),
+            what: Refusal::WrongType,
         })
     }
 }

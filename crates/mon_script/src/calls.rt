@@ -3,17 +3,17 @@
 ghost use Rattle.std.specs.Prelude.{◌≡◌, ◌<◌, IfSome, length, position};
 ghost use Rattle.std.specs.List.{flat_map};
 ghost use Rattle.std.specs.Str.{bytes_eq};
-ghost use Rattle.mon_script.specs.Faults.{PlacedCall, call_faults, item_faults, items_in, least, method_faults};
+ghost use Rattle.mon_base.specs.SourceFaults.{least};
+ghost use Rattle.mon_script.specs.Faults.{PlacedCall, call_faults, item_faults, items_in, method_faults};
 ghost use Rattle.mon_script.specs.Scripts.{method_named};
 
 use crate::arguments::{argument_fault, large_number};
-use crate::fault::ScriptFault;
-use mon_base::{Name, earlier_of};
+use mon_base::{Name, Refusal, SourceFault, earlier_of};
 use mon_monitor::{Method, Monitor};
 use mon_tree::{Arg, ClientTree, Item};
 
 /// The first fault in the calls of clients.
-pub(crate) fn fault_in_clients(monitor: &Monitor, clients: &[ClientTree]) -> Option<ScriptFault>
+pub(crate) fn fault_in_clients(monitor: &Monitor, clients: &[ClientTree]) -> Option<SourceFault>
     ensures { result ≡ least (flat_map (item_faults monitor.now) (items_in clients.now)) }
 {
     let mut fault = None;
@@ -24,7 +24,7 @@ pub(crate) fn fault_in_clients(monitor: &Monitor, clients: &[ClientTree]) -> Opt
 }
 
 #[cycle(fault_in_item)]
-fn fault_in_items(monitor: &Monitor, items: &[Item]) -> Option<ScriptFault>
+fn fault_in_items(monitor: &Monitor, items: &[Item]) -> Option<SourceFault>
     ensures { result ≡ least (flat_map (item_faults monitor.now) items.now) }
 {
     let mut fault = None;
@@ -36,7 +36,7 @@ fn fault_in_items(monitor: &Monitor, items: &[Item]) -> Option<ScriptFault>
 
 /// The first fault in a call, or in the calls of a `repeat`.
 #[cycle(fault_in_item)]
-fn fault_in_item(monitor: &Monitor, item: &Item) -> Option<ScriptFault>
+fn fault_in_item(monitor: &Monitor, item: &Item) -> Option<SourceFault>
     ensures { result ≡ least (item_faults monitor.now item.now) }
 {
     match item {
@@ -45,7 +45,7 @@ fn fault_in_item(monitor: &Monitor, item: &Item) -> Option<ScriptFault>
     }
 }
 
-fn fault_in_call(monitor: &Monitor, at: u32, name: &Name, arguments: &[Arg]) -> Option<ScriptFault>
+fn fault_in_call(monitor: &Monitor, at: u32, name: &Name, arguments: &[Arg]) -> Option<SourceFault>
     ensures { result ≡ least (call_faults monitor.now
         (record { at = at; name = name.now; arguments = arguments.now })) }
 {
@@ -62,7 +62,7 @@ fn method_fault(
     at: u32,
     arguments: &[Arg],
     method: Option<u32>,
-) -> Option<ScriptFault>
+) -> Option<SourceFault>
     requires { IfSome method (λ number. number < length monitor.now.methods) }
     ensures { result ≡ least (method_faults monitor.now at arguments.now method) }
 {
@@ -72,7 +72,10 @@ fn method_fault(
             at,
             arguments,
         ),
-        None => Some(ScriptFault::UnknownMethod { at }),
+        None => Some(SourceFault {
+            at,
+            what: Refusal::UnknownMethod,
+        }),
     }
 }
 

@@ -2,24 +2,28 @@
 
 ghost use Rattle.std.specs.Prelude.{◌≡◌, ◌≤◌, ◌+◌, ◌*◌, min, sum_by};
 ghost use Rattle.mon_base.specs.Limits.{CALLS};
-ghost use Rattle.mon_script.specs.Faults.{items_in, least, over_calls, place_of};
+ghost use Rattle.mon_base.specs.SourceFaults.{least};
+ghost use Rattle.mon_script.specs.Faults.{items_in, over_calls, place_of};
 ghost use Rattle.mon_script.specs.Scripts.{call_count};
 ghost use Rattle.mon_script.specs.inner.Counting.{ABOVE, counted};
 
-use crate::fault::ScriptFault;
 use mon_base::limits::CALLS;
+use mon_base::{Refusal, SourceFault};
 use mon_tree::{ClientTree, Item};
 
 /// One more than the limit stands for every greater count.
 const ABOVE: usize = CALLS + 1;
 
 /// The first item with which there are too many calls.
-pub(crate) fn over_calls(clients: &[ClientTree]) -> Option<ScriptFault>
+pub(crate) fn over_calls(clients: &[ClientTree]) -> Option<SourceFault>
     ensures { result ≡ least (over_calls 0 (items_in clients.now)) }
 {
     match calls_of_clients(clients) {
         Ok(_) => None,
-        Err(at) => Some(ScriptFault::TooManyCalls { at }),
+        Err(at) => Some(SourceFault {
+            at,
+            what: Refusal::TooManyCalls,
+        }),
     }
 }
 

@@ -8,13 +8,10 @@
 mod arguments;
 mod calls;
 mod counting;
-mod fault;
 mod laws;
 mod making;
 mod names;
-mod placed;
 mod scripts;
 
-pub use fault::ScriptFault;
-pub use laws::{faults_are_broken_rules, least_is_least};
+pub use laws::faults_are_broken_rules;
 pub use scripts::clients;

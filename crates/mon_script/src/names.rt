@@ -1,16 +1,16 @@
 //! The rules of clients: distinct names, and not too many.
 
 ghost use Rattle.std.specs.Prelude.{◌≡◌, [], None, Some, if◌then◌else◌};
-ghost use Rattle.mon_script.specs.declared.fault.ScriptFault.TheVariants.{DuplicateClient};
-ghost use Rattle.mon_script.specs.Faults.{doubled, least, over_clients};
+ghost use Rattle.mon_base.specs.declared.source_fault.Refusal.TheVariants.{DuplicateClient};
+ghost use Rattle.mon_base.specs.SourceFaults.{fault_at, least};
+ghost use Rattle.mon_script.specs.Faults.{doubled, over_clients};
 
-use crate::fault::ScriptFault;
 use mon_base::limits::CLIENTS;
-use mon_base::{earlier_of, is_repeated};
+use mon_base::{Refusal, SourceFault, earlier_of, is_repeated};
 use mon_tree::ClientTree;
 
 /// The first client with the name of an earlier one.
-pub(crate) fn doubled_client(clients: &[ClientTree]) -> Option<ScriptFault>
+pub(crate) fn doubled_client(clients: &[ClientTree]) -> Option<SourceFault>
     ensures { result ≡ least (doubled [] clients.now) }
 {
     let mut fault = None;
@@ -22,22 +22,28 @@ pub(crate) fn doubled_client(clients: &[ClientTree]) -> Option<ScriptFault>
 }
 
 /// The name that stands here is an earlier one's.
-fn doubled_at(again: bool, at: u32) -> Option<ScriptFault>
-    ensures { result ≡ (if again then Some (DuplicateClient at) else None) }
+fn doubled_at(again: bool, at: u32) -> Option<SourceFault>
+    ensures { result ≡ (if again then Some (fault_at DuplicateClient at) else None) }
 {
     if again {
-        Some(ScriptFault::DuplicateClient { at })
+        Some(SourceFault {
+            at,
+            what: Refusal::DuplicateClient,
+        })
     } else {
         None
     }
 }
 
 /// The first client over the limit.
-pub(crate) fn over_clients(clients: &[ClientTree]) -> Option<ScriptFault>
+pub(crate) fn over_clients(clients: &[ClientTree]) -> Option<SourceFault>
     ensures { result ≡ least (over_clients clients.now) }
 {
     match clients.get(CLIENTS) {
-        Some(client) => Some(ScriptFault::TooManyClients { at: client.at }),
+        Some(client) => Some(SourceFault {
+            at: client.at,
+            what: Refusal::TooManyClients,
+        }),
         None => None,
     }
 }

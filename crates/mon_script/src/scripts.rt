@@ -2,17 +2,17 @@
 
 ghost use Rattle.std.specs.Prelude.{◌≡◌, [], All, IfErr, IfOk};
 ghost use Rattle.mon_base.specs.Identifiers.{IsIdentifier};
+ghost use Rattle.mon_base.specs.SourceFaults.{IsFirstOf, least};
 ghost use Rattle.mon_tree.specs.Names.{names_in_clients};
 ghost use Rattle.mon_implicit.specs.Scripted.{FitsScripts};
-ghost use Rattle.mon_script.specs.Faults.{HasCause, faults_of, least};
+ghost use Rattle.mon_script.specs.Faults.{faults_of};
 ghost use Rattle.mon_script.specs.Scripts.{IsScripted};
 
 use crate::calls::fault_in_clients;
 use crate::counting::over_calls;
-use crate::fault::ScriptFault;
 use crate::making::make_clients;
 use crate::names::{doubled_client, over_clients};
-use mon_base::earlier_of;
+use mon_base::{SourceError, SourceFault, earlier_of};
 use mon_implicit::Scripts;
 use mon_monitor::Monitor;
 use mon_tree::ClientsTree;
@@ -24,8 +24,8 @@ use std::alloc::Global;
 /// # Errors
 ///
 /// The first rule that is broken: the one at the least place, and at one place the first in the order of
-/// [`ScriptFault`]; or out of memory.
-pub fn clients(alloc: Global, tree: &ClientsTree, monitor: &Monitor) -> Result<Scripts, ScriptFault>
+/// [`Refusal`](mon_base::Refusal); or out of memory.
+pub fn clients(alloc: Global, tree: &ClientsTree, monitor: &Monitor) -> Result<Scripts, SourceError>
     requires named { All IsIdentifier (names_in_clients tree.now) }
     // The scripts are those that the tree stands for,
     ensures scripted { IfOk result (λ scripts. IsScripted tree.now monitor.now scripts) }
@@ -34,16 +34,16 @@ pub fn clients(alloc: Global, tree: &ClientsTree, monitor: &Monitor) -> Result<S
     // No rule is broken where there are scripts,
     ensures unbroken { IfOk result (λ _. faults_of monitor.now tree.now ≡ []) }
     // and a fault is the first of those that are.
-    ensures fault { IfErr result (λ fault. HasCause monitor.now tree.now fault) }
+    ensures fault { IfErr result (λ error. IsFirstOf (faults_of monitor.now tree.now) error) }
 {
     match first_fault(tree, monitor) {
-        Some(fault) => Err(fault),
+        Some(fault) => Err(SourceError::Fault(fault)),
         None => Ok(Scripts::of(make_clients(alloc, monitor, tree.clients.items())?)),
     }
 }
 
 /// The first rule that the tree breaks.
-fn first_fault(tree: &ClientsTree, monitor: &Monitor) -> Option<ScriptFault>
+fn first_fault(tree: &ClientsTree, monitor: &Monitor) -> Option<SourceFault>
     ensures { result ≡ least (faults_of monitor.now tree.now) }
 {
     let clients = tree.clients.items();

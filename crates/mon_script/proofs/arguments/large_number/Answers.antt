@@ -1,4 +1,5 @@
-use Rattle.mon_script.specs.Faults.{number_faults, order}
+use Rattle.mon_base.specs.SourceFaults.{order}
+use Rattle.mon_script.specs.Faults.{number_faults}
 use Rattle.mon_script.proofs.Counts.{argument_turn}
 use Rattle.mon_base.proofs.Least.{least_all}
 use Rattle.mon_script.proofs.arguments.large_number.Goals as goal

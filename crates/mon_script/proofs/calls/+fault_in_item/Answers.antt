@@ -2,7 +2,8 @@ use Rattle.std.proofs.Common.{arith, rules, ap, sym, ◌∙◌}
 use Rattle.std.specs.List.{flat_map}
 use Rattle.std.proofs.lemmas.List.{append-nil}
 use Rattle.mon_tree.specs.declared.tree.Item.{Item}
-use Rattle.mon_script.specs.Faults.{call_faults, item_faults, least, order}
+use Rattle.mon_base.specs.SourceFaults.{least, order}
+use Rattle.mon_script.specs.Faults.{call_faults, item_faults}
 use Rattle.mon_script.proofs.Items.{faults-Call, faults-Repeat}
 use Rattle.mon_base.proofs.Least.{least_all, least_turn}
 use Rattle.mon_script.proofs.calls.+fault_in_item.Goals as goal

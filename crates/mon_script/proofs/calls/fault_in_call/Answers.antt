@@ -1,6 +1,7 @@
 use Rattle.std.proofs.Common.{◌∙◌, ap}
 use Rattle.std.specs.List.{flat_map}
-use Rattle.mon_script.specs.Faults.{least, method_faults, number_faults, order}
+use Rattle.mon_base.specs.SourceFaults.{least, order}
+use Rattle.mon_script.specs.Faults.{method_faults, number_faults}
 use Rattle.mon_script.specs.Scripts.{method_named}
 use Rattle.mon_base.proofs.Least.{least_both}
 use Rattle.mon_script.proofs.calls.fault_in_call.Goals as goal

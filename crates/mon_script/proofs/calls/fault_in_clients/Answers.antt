@@ -1,7 +1,8 @@
 use Rattle.std.proofs.Common.{arith, rules, ap, sym, ◌∙◌}
 use Rattle.std.specs.List.{flat_map}
 use Rattle.mon_tree.specs.declared.tree.ClientTree.{ClientTree}
-use Rattle.mon_script.specs.Faults.{item_faults, least, order}
+use Rattle.mon_base.specs.SourceFaults.{least, order}
+use Rattle.mon_script.specs.Faults.{item_faults}
 use Rattle.mon_script.proofs.Items.{flat_map-flat_map}
 use Rattle.mon_base.proofs.Least.{least_all, least_turn}
 use Rattle.mon_script.proofs.calls.fault_in_clients.Goals as goal

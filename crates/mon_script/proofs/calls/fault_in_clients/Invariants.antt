@@ -1,6 +1,7 @@
 use Rattle.std.proofs.Common.{◌≡◌, take}
 use Rattle.std.specs.List.{flat_map}
-use Rattle.mon_script.specs.Faults.{item_faults, least}
+use Rattle.mon_base.specs.SourceFaults.{least}
+use Rattle.mon_script.specs.Faults.{item_faults}
 use Rattle.mon_script.proofs.calls.fault_in_clients.Given as goal
 
 abbrev pub invariant-loop-client : goal.invariant-loop-client

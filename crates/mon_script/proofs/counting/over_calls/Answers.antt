@@ -1,5 +1,6 @@
 use Rattle.std.proofs.Common.{ap, sym}
-use Rattle.mon_script.specs.Faults.{items_in, least}
+use Rattle.mon_base.specs.SourceFaults.{least}
+use Rattle.mon_script.specs.Faults.{items_in}
 use Rattle.mon_script.proofs.OverCalls.{no_over, one_over}
 use Rattle.mon_script.proofs.counting.over_calls.Goals as goal
 

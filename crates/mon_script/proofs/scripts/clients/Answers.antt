@@ -1,11 +1,12 @@
 use Rattle.std.proofs.Common.{map, ap, subst, sym, ◌∙◌}
 use Rattle.std.proofs.lemmas.List.Elements.{All-same}
 use Rattle.mon_implicit.specs.Scripted.{AreClients, FitsScripts}
+use Rattle.mon_script.specs.Faults.{faults_of}
 use Rattle.mon_script.specs.Scripts.{client_of}
 use Rattle.mon_script.specs.inner.Making.{AreSmallItems}
-use Rattle.mon_script.proofs.Accepted.{are_clients, is_cause, scripts_fit, small_items}
-use Rattle.mon_base.proofs.Least.{none_is_least}
-use Rattle.mon_script.specs.Faults.{order}
+use Rattle.mon_script.proofs.Accepted.{are_clients, scripts_fit, small_items}
+use Rattle.mon_base.proofs.Least.{none_is_least, some_is_least}
+use Rattle.mon_base.specs.SourceFaults.{order}
 use Rattle.mon_script.proofs.scripts.clients.Goals as goal
 
 pub make_clients-requires : goal.make_clients-requires
@@ -19,7 +20,7 @@ of-requires c =
     (are_clients c.args.monitor.now c.args.tree.now (none_is_least order _ (sym c.in-None.ensures)) c.requires.named)
 
 pub returns-in-Some-clause-fault : goal.returns-in-Some-clause-fault
-returns-in-Some-clause-fault c = is_cause c.args.monitor.now c.args.tree.now _ c.in-Some.ensures
+returns-in-Some-clause-fault c = some_is_least order (faults_of c.args.monitor.now c.args.tree.now) _ (sym c.in-Some.ensures)
 
 pub returns-in_ok-make_clients-in-None-clause-fits : goal.returns-in_ok-make_clients-in-None-clause-fits
 returns-in_ok-make_clients-in-None-clause-fits c =

@@ -2,12 +2,13 @@ use Rattle.std.proofs.Common.{List, [], ◌++◌, ◌∙◌, ap}
 use Rattle.std.specs.List.{flat_map}
 use Rattle.mon_tree.specs.declared.tree.ClientTree.{ClientTree}
 use Rattle.mon_monitor.specs.MonitorParts.{MonitorParts}
-use Rattle.mon_script.specs.declared.fault.ScriptFault.{ScriptFault}
-use Rattle.mon_script.specs.Faults.{doubled, item_faults, items_in, least, order, over_calls, over_clients}
+use Rattle.mon_base.specs.declared.source_fault.SourceFault.{SourceFault}
+use Rattle.mon_base.specs.SourceFaults.{least, order}
+use Rattle.mon_script.specs.Faults.{doubled, item_faults, items_in, over_calls, over_clients}
 use Rattle.mon_base.proofs.Least.{least_both}
 use Rattle.mon_script.proofs.scripts.first_fault.Goals as goal
 
-abbrev faults_in : MonitorParts → List ClientTree → List ScriptFault
+abbrev faults_in : MonitorParts → List ClientTree → List SourceFault
 faults_in monitor clients = flat_map (item_faults monitor) (items_in clients) ++ doubled [] clients ++ over_clients clients ++ over_calls 0 (items_in clients)
 
 pub returns : goal.returns
