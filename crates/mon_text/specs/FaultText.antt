@@ -4,8 +4,9 @@ use Rattle.std.specs.List.{prefix_len}
 pub use Rattle.mon_base.specs.Lines.{is_in_line}
 use Rattle.mon_base.specs.declared.counted.Counted.{Counted}
 use Rattle.mon_base.specs.declared.counted.Counted.TheVariants as counted
-use Rattle.mon_text.specs.declared.refusal.Refusal.{Refusal}
-use Rattle.mon_text.specs.declared.refusal.Refusal.TheVariants as refusals
+use Rattle.mon_base.specs.declared.source_fault.SourceFault.{SourceFault}
+use Rattle.mon_base.specs.declared.source_fault.Refusal.{Refusal}
+use Rattle.mon_base.specs.declared.source_fault.Refusal.TheVariants as refusals
 
 -- the line of an offset: 1, and 1 more for each line feed before it
 abbrev pub line_at : List ℕ → ℕ → ℕ
@@ -50,8 +51,8 @@ too_long_text file = codes "refused: " ++ file ++ codes ": more than 65536 bytes
 abbrev pub unread_text : List ℕ → List ℕ
 unread_text file = codes "read fault: " ++ file ++ codes "\n"
 
--- what is wrong stands at an offset of the file's bytes
-abbrev pub place_text : List ℕ → List ℕ → ℕ → Refusal → List ℕ
-place_text file bytes at what =
-    codes "refused: " ++ file ++ codes ":" ++ decimal (line_at bytes at) ++ codes ":"
-    ++ decimal (column_at bytes at) ++ codes ": " ++ refusal_text what ++ codes "\n"
+-- a file breaks a rule at an offset of its bytes
+abbrev pub place_text : List ℕ → List ℕ → SourceFault → List ℕ
+place_text file bytes fault =
+    codes "refused: " ++ file ++ codes ":" ++ decimal (line_at bytes fault.at) ++ codes ":"
+    ++ decimal (column_at bytes fault.at) ++ codes ": " ++ refusal_text fault.what ++ codes "\n"

@@ -7,4 +7,4 @@ use Rattle.mon_text.specs.FaultText.{too_long_text, unread_text, place_text}
 abbrev pub fault_text : Fault → List ℕ
 fault_text (faults.TooLong file) = too_long_text file.now
 fault_text (faults.Unread file) = unread_text file.now
-fault_text (faults.Place file bytes at what) = place_text file.now bytes.now at what
+fault_text (faults.Place file bytes fault) = place_text file.now bytes.now fault

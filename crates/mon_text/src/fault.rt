@@ -6,9 +6,8 @@ ghost use Rattle.mon_text.specs.FaultText.{counted_text, place_text, refusal_tex
 ghost use Rattle.mon_text.specs.Faults.{fault_text};
 
 use crate::position::{column_at, line_at};
-use crate::refusal::Refusal;
 use itoa::Buffer;
-use mon_base::Counted;
+use mon_base::{Counted, Refusal, SourceFault};
 use mon_io::{Sink, SinkFailed, write_pieces};
 
 /// Why a file isn't accepted. `file` is the word that names it.
@@ -22,12 +21,11 @@ pub enum Fault<'a> {
     Unread {
         file: &'a str,
     },
-    /// Something is wrong at an offset of its bytes.
+    /// It breaks a rule at an offset of its bytes.
     Place {
         file: &'a str,
         bytes: &'a [u8],
-        at: u32,
-        what: Refusal,
+        fault: SourceFault,
     },
 }
 
@@ -43,12 +41,7 @@ pub fn write_fault<S: Sink>(fault: &Fault, out: &mut S) -> Result<(), SinkFailed
             out,
         ),
         Fault::Unread { file } => write_pieces(&[b"read fault: ", file.as_bytes(), b"\n"], out),
-        Fault::Place {
-            file,
-            bytes,
-            at,
-            what,
-        } => write_place(file, bytes, *at, *what, out),
+        Fault::Place { file, bytes, fault } => write_place(file, bytes, *fault, out),
     }
 }
 
@@ -56,18 +49,20 @@ pub fn write_fault<S: Sink>(fault: &Fault, out: &mut S) -> Result<(), SinkFailed
 fn write_place<S: Sink>(
     file: &str,
     bytes: &[u8],
-    at: u32,
-    what: Refusal,
+    fault: SourceFault,
     out: &mut S,
 ) -> Result<(), SinkFailed>
     ensures { Wrote (S.seen out.old) (S.seen out.new) result
-        (place_text file.now bytes.now at what) }
+        (place_text file.now bytes.now fault) }
 {
     let mut digits = Buffer::new();
-    let line = digits.format(line_at(bytes, at)).as_bytes();
+    let line = digits.format(line_at(bytes, fault.at)).as_bytes();
     write_pieces(&[b"refused: ", file.as_bytes(), b":", line], out)?;
-    let column = digits.format(column_at(bytes, at)).as_bytes();
-    write_pieces(&[b":", column, b": ", refusal_bytes(what), b"\n"], out)
+    let column = digits.format(column_at(bytes, fault.at)).as_bytes();
+    write_pieces(
+        &[b":", column, b": ", refusal_bytes(fault.what), b"\n"],
+        out,
+    )
 }
 
 // What is wrong, as bytes.

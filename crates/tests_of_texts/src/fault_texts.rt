@@ -1,7 +1,7 @@
 //! The line of a fault.
 
 use mon_io::{MemSink, SinkFailed};
-use mon_text::{Counted, Fault, Refusal, write_fault};
+use mon_text::{Counted, Fault, Refusal, SourceFault, write_fault};
 use std::alloc::{AllocError, Global};
 use std::test::Fail;
 
@@ -20,15 +20,8 @@ fn line(alloc: Global, fault: &Fault) -> Result<MemSink, Fail> {
 /// The line of a fault at an offset of these bytes of `m.mon`.
 fn line_of_place(alloc: Global, bytes: &[u8], at: u32, what: Refusal) -> Result<MemSink, Fail> {
     let file = "m.mon";
-    line(
-        alloc,
-        &Fault::Place {
-            file,
-            bytes,
-            at,
-            what,
-        },
-    )
+    let fault = SourceFault { at, what };
+    line(alloc, &Fault::Place { file, bytes, fault })
 }
 
 /// Refusals at the first byte of a file, and the line of each.
@@ -186,8 +179,10 @@ const LINES: [(Fault, &[u8]); 3] = [
         Fault::Place {
             file: "m.mon",
             bytes: b"a\nbc",
-            at: 3,
-            what: Refusal::Lex,
+            fault: SourceFault {
+                at: 3,
+                what: Refusal::Lex,
+            },
         },
         b"refused: m.mon:2:2: no token starts here\n",
     ),
