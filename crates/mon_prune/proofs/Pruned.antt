@@ -1,6 +1,7 @@
 -- What is left after rounds, and that it is an invariant, with few limits the greatest.
-use Rattle.std.proofs.Common.{◌≡◌, true, List, length, get_or, sym, subst}
-use Rattle.std.specs.List.{All, Contains, filter}
+use Rattle.std.proofs.Common.{◌≡◌, ◌∙◌, ℕ, ◌<◌, true, List, length, get_or, sym, subst}
+use Rattle.std.specs.List.{All, Contains, filter, remove}
+use Rattle.std.proofs.lemmas.List.{get_or_default}
 use Rattle.std.proofs.lemmas.List.Elements.{All-contains, Contains-get_or, filter_passes}
 use Rattle.mon_monitor.specs.declared.candidate.Candidate.{Candidate}
 use Rattle.mon_monitor.specs.declared.claim.Claim.TheVariants as claims
@@ -14,7 +15,7 @@ use Rattle.mon_prune.specs.Invariants.{ContainsEasy, IsGreatest, IsInvariant, No
 use Rattle.mon_prune.specs.inner.Asking.{MustStay}
 use Rattle.mon_prune.specs.inner.Pruning.{IsLeft, IsRoundOf}
 use Rattle.mon_prune.proofs.HardClaims.{open_hard}
-use Rattle.mon_prune.proofs.SomeOf.{filter_contains, some_filter, some_hold, some_same, some_trans}
+use Rattle.mon_prune.proofs.SomeOf.{filter_contains, remove_contains, some_filter, some_hold, some_remove, some_same, some_trans}
 
 -- ---- at the start
 
@@ -40,16 +41,29 @@ stays monitor kept other one some invariant none within is = record {
   easy = λ block low. record { closed = λ open_query. none one block is low (open_hard monitor (claims.Keeps one block) kept some open_query) };
 }
 
-pub left_after : (monitor : MonitorParts) (kept next : List Candidate) (proofs : List Kept)
-    → IsLeft monitor kept → IsRoundOf monitor kept kept next proofs → IsLeft monitor next
-left_after monitor kept next proofs left round = record {
-  candidates = some_trans next kept (candidates_of monitor) round.candidates left.candidates;
-  starts = some_hold (λ candidate. candidate_truth (start_of monitor) candidate ≡ true) next kept round.candidates left.starts;
+pub left_some : (monitor : MonitorParts) (kept next : List Candidate)
+    → IsLeft monitor kept → AreSomeOf next kept → All (λ candidate. MustStay monitor kept candidate → Contains next candidate) kept → IsLeft monitor next
+left_some monitor kept next left some stay = record {
+  candidates = some_trans next kept (candidates_of monitor) some left.candidates;
+  starts = some_hold (λ candidate. candidate_truth (start_of monitor) candidate ≡ true) next kept some left.starts;
   easy = λ other invariant none k d low.
       let within = left.easy other invariant none in
-      All-contains (λ candidate. MustStay monitor kept candidate → Contains next candidate) kept (get_or other k d) round.stay (within k d low)
+      All-contains (λ candidate. MustStay monitor kept candidate → Contains next candidate) kept (get_or other k d) stay (within k d low)
       (stays monitor kept other (get_or other k d) left.candidates invariant none within (Contains-get_or other k d low));
 }
+
+pub left_after : (monitor : MonitorParts) (kept next : List Candidate) (proofs : List Kept)
+    → IsLeft monitor kept → IsRoundOf monitor kept kept next proofs → IsLeft monitor next
+left_after monitor kept next proofs left round = left_some monitor kept next left round.candidates round.stay
+
+-- one that need not stay is dropped
+pub left_without : (monitor : MonitorParts) (kept : List Candidate) (i : ℕ) (candidate : Candidate)
+    → i < length kept → candidate ≡ get_or kept i candidate → IsLeft monitor kept → (MustStay monitor kept candidate → ⊥)
+    → IsLeft monitor (remove kept i)
+left_without monitor kept i candidate low is left none =
+    left_some monitor kept (remove kept i) left (some_remove kept i)
+    (λ k d within must. remove_contains kept i (get_or kept k d) (Contains-get_or kept k d within)
+    (λ same. none (subst (MustStay monitor kept) (sym (is ∙ get_or_default kept i candidate (get_or kept k d) low ∙ same)) must)))
 
 -- a round that drops none
 pub none_dropped : (monitor : MonitorParts) (kept next : List Candidate) (proofs : List Kept)

@@ -1,6 +1,6 @@
 -- Some of the candidates, in their order.
 use Rattle.std.proofs.Common.{◌≡◌, inl, inr, ℕ, zero, suc, ◌<◌, ◌≤◌, Bool, true, false, cond, List, [], ◌∷◌, ◌++◌, length, get_or, arith, ap, refl, ◌∙◌}
-use Rattle.std.specs.List.{All, Contains, filter, list_all}
+use Rattle.std.specs.List.{All, Contains, filter, list_all, remove}
 use Rattle.std.proofs.lemmas.Bool.{and_parts, and_from}
 use Rattle.std.proofs.lemmas.List.Elements.{All-contains, All-weaker}
 use Rattle.mon_monitor.specs.declared.candidate.Candidate.{Candidate}
@@ -25,6 +25,16 @@ some_more candidate [] all are = tt
 some_more candidate (one ∷ kept) [] are = absurd are
 some_more candidate (one ∷ kept) (first ∷ all) (inl both) = inl (both.0, some_more candidate kept all both.1)
 some_more candidate (one ∷ kept) (first ∷ all) (inr are) = inr (some_more candidate (one ∷ kept) all are)
+
+some_all : (all : List Candidate) → AreSomeOf all all
+some_all [] = tt
+some_all (first ∷ all) = inl (refl, some_all all)
+
+pub some_remove : (all : List Candidate) (i : ℕ) → AreSomeOf (remove all i) all
+some_remove [] zero = tt
+some_remove [] (suc i) = tt
+some_remove (first ∷ all) zero = some_skip first all all (some_all all)
+some_remove (first ∷ all) (suc i) = inl (refl, some_remove all i)
 
 -- ---- some of some
 
@@ -97,3 +107,16 @@ filter_at test (first ∷ all) one (suc k) low at e = later (test first) (filter
 
 pub filter_contains : (test : Candidate → Bool) (all : List Candidate) (one : Candidate) → Contains all one → test one ≡ true → Contains (filter test all) one
 filter_contains test all one is e = filter_at test all one is.0 is.1 is.2 e
+
+-- ---- without one
+
+remove_at : (all : List Candidate) (i : ℕ) (one : Candidate) (k : ℕ) → k < length all → get_or all k one ≡ one → (get_or all i one ≡ one → ⊥)
+    → Contains (remove all i) one
+remove_at [] i one k low at other = absurd (omega arith)
+remove_at (first ∷ all) zero one zero low at other = absurd (other at)
+remove_at (first ∷ all) zero one (suc k) low at other = (k, omega arith, at)
+remove_at (first ∷ all) (suc i) one zero low at other = (0, omega arith, at)
+remove_at (first ∷ all) (suc i) one (suc k) low at other = contains_later first one (remove all i) (remove_at all i one k (omega arith) at other)
+
+pub remove_contains : (all : List Candidate) (i : ℕ) (one : Candidate) → Contains all one → (get_or all i one ≡ one → ⊥) → Contains (remove all i) one
+remove_contains all i one is other = remove_at all i one is.0 is.1 is.2 other

@@ -9,12 +9,14 @@
 
 mod bounds;
 mod certificate;
+mod grounds;
 mod kept;
 mod laws;
 mod listing;
 mod pool;
 mod pruning;
 mod rounds;
+mod sifting;
 mod starts;
 
 pub use certificate::certificate_of;

@@ -11,6 +11,7 @@ ghost use Rattle.mon_prune.specs.inner.Pruning.{IsLeft, IsPruned};
 
 use super::kept::Invariant;
 use super::rounds::{Round, next_round};
+use super::sifting::sifted;
 use super::starts::{read_starts, true_at_start};
 use mon_list::Seq;
 use mon_monitor::{Candidate, Monitor};
@@ -23,7 +24,7 @@ fn pruned(alloc: Global, monitor: &Monitor, first: Vec<Candidate>) -> Result<Rou
     requires first { IsLeft monitor.now first.items }
     ensures { IfOk result (IsPruned monitor.now) }
 {
-    let mut kept = first;
+    let mut kept = sifted(alloc, monitor, first)?;
     loop {
         let round = next_round(alloc, monitor, &kept)?;
         if round.kept.len() == kept.len() {

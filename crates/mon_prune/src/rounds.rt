@@ -19,7 +19,7 @@ pub(crate) struct Round {
 }
 
 /// The proof that the block keeps the candidate under the others, where it is found.
-fn proof_of(
+pub(crate) fn proof_of(
     alloc: Global,
     monitor: &Monitor,
     hyps: &[Candidate],

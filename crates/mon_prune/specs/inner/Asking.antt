@@ -1,5 +1,5 @@
 -- What is asked of blocks, and what is found.
-use Rattle.std.specs.Prelude.{◌≡◌, ℕ, ◌<◌, true, List, map, length, All, Option, Some, None}
+use Rattle.std.specs.Prelude.{◌≡◌, ℕ, ◌<◌, Bool, true, false, List, map, length, All, Option, Some, None}
 use Rattle.std.specs.List.{list_all, range_with_len}
 use Rattle.mon_monitor.specs.declared.candidate.Candidate.{Candidate}
 use Rattle.mon_monitor.specs.declared.claim.Claim.TheVariants as claims
@@ -65,3 +65,16 @@ abbrev pub AreFound : MonitorParts → List Candidate → Candidate → Option (
 AreFound monitor hyps candidate (Some proofs) =
     AreProofsBelow monitor hyps candidate (length monitor.blocks) proofs
 AreFound monitor hyps candidate None = MustStay monitor hyps candidate → ⊥
+
+-- ---- what stands
+
+-- a claim that does not stand may stay open, or does not hold
+abbrev pub StandsAt : MonitorParts → List Candidate → Candidate → ℕ → Bool → Type 0
+StandsAt monitor hyps candidate block true = Unit {0}
+StandsAt monitor hyps candidate block false =
+    IsEasyAt monitor hyps candidate block → Keeps monitor hyps candidate block → ⊥
+
+-- a candidate that does not stand need not stay
+abbrev pub Stands : MonitorParts → List Candidate → Candidate → Bool → Type 0
+Stands monitor hyps candidate true = Unit {0}
+Stands monitor hyps candidate false = MustStay monitor hyps candidate → ⊥

@@ -1,5 +1,5 @@
 -- Rounds: what stays of the candidates, and what is known of those that are left.
-use Rattle.std.specs.Prelude.{List, [], ◌∷◌, ◌++◌, All}
+use Rattle.std.specs.Prelude.{◌≡◌, List, [], ◌∷◌, ◌++◌, length, All}
 use Rattle.std.specs.List.{Contains}
 use Rattle.mon_monitor.specs.declared.candidate.Candidate.{Candidate}
 use Rattle.mon_monitor.specs.Candidates.{AllHold, AreSomeOf, candidates_of}
@@ -31,6 +31,12 @@ pub record IsLeft (monitor : MonitorParts) (kept : List Candidate) : Type 0 wher
   pub candidates : AreSomeOf kept (candidates_of monitor)
   pub starts : AllHold (start_of monitor) kept
   pub easy : ContainsEasy monitor kept
+
+-- candidates that are left, with as many lists of grounds
+pub record IsSieve {G : Type 0} (monitor : MonitorParts) (kept : List Candidate) (grounds : List G) :
+    Type 0 where
+  pub left : IsLeft monitor kept
+  pub many : length grounds ≡ length kept
 
 -- what is left when a round drops none
 pub record IsPruned (monitor : MonitorParts) (round : Round) : Type 0 where

@@ -1,0 +1,145 @@
+//! Candidates sifted before the rounds: a claim is asked again only where its certificate may have lost a hypothesis.
+
+ghost use Rattle.std.specs.Prelude.{◌≡◌, ◌<◌, ◌≤◌, IfOk, length};
+ghost use Rattle.mon_monitor.specs.Candidates.{candidates_of};
+ghost use Rattle.mon_prune.specs.inner.Asking.{AreAskable, IsAskable, Stands, StandsAt};
+ghost use Rattle.mon_prune.specs.inner.Pruning.{IsLeft, IsSieve};
+
+use super::grounds::{Ground, has_ground, note_ground};
+use super::rounds::proof_of;
+use mon_monitor::{Candidate, Monitor};
+use std::alloc::{AllocError, Global};
+
+/// Candidates that are left, what the claims of each rest on, and the candidates that were dropped, in this order.
+#[derive(Debug, Drop)]
+struct Sieve {
+    kept: Vec<Candidate>,
+    grounds: Vec<Vec<Ground>>,
+    dropped: Vec<Candidate>,
+}
+
+/// Whether the block keeps the candidate under the others, as far as is found. It is asked, unless what an earlier
+/// certificate used is left.
+fn stands_at(
+    alloc: Global,
+    monitor: &Monitor,
+    kept: &[Candidate],
+    dropped: &[Candidate],
+    candidate: Candidate,
+    block: u32,
+    grounds: &mut Vec<Ground>,
+) -> Result<bool, AllocError>
+    requires kept { AreAskable kept.now }
+    requires candidate { IsAskable candidate }
+    requires block { block < length monitor.now.blocks }
+    ensures { IfOk result (StandsAt monitor.now kept.now candidate block) }
+{
+    if has_ground(grounds, block, dropped) {
+        return Ok(true);
+    }
+    match proof_of(alloc, monitor, kept, candidate, block)? {
+        None => Ok(false),
+        Some(proof) => {
+            note_ground(alloc, grounds, block, &proof.cert, kept, dropped)?;
+            Ok(true)
+        }
+    }
+}
+
+/// Whether each block keeps the candidate under the others, as far as is found.
+fn stands(
+    alloc: Global,
+    monitor: &Monitor,
+    kept: &[Candidate],
+    dropped: &[Candidate],
+    candidate: Candidate,
+    grounds: &mut Vec<Ground>,
+) -> Result<bool, AllocError>
+    requires kept { AreAskable kept.now }
+    requires candidate { IsAskable candidate }
+    ensures { IfOk result (Stands monitor.now kept.now candidate) }
+{
+    for block in 0..monitor.blocks().len() {
+        if !stands_at(
+            alloc,
+            monitor,
+            kept,
+            dropped,
+            candidate,
+            block as u32,
+            grounds,
+        )? {
+            return Ok(false);
+        }
+    }
+    Ok(true)
+}
+
+/// Drops candidates that do not stand, each at once, so that those after it are asked under those that are left.
+fn sweep(alloc: Global, monitor: &Monitor, sieve: Sieve) -> Result<Sieve, AllocError>
+    requires askable { AreAskable (candidates_of monitor.now) }
+    requires sieve { IsSieve monitor.now sieve.kept.items sieve.grounds.items }
+    ensures sieve { IfOk result (λ left. IsSieve monitor.now left.kept.items left.grounds.items) }
+    ensures fewer { IfOk result (λ left. length left.kept.items ≤ length sieve.kept.items) }
+{
+    let Sieve {
+        kept,
+        grounds,
+        dropped,
+    } = sieve;
+    let mut kept = kept;
+    let mut grounds = grounds;
+    let mut dropped = dropped;
+    let mut at = 0;
+    while at < kept.len() {
+        let candidate = kept[at];
+        if stands(alloc, monitor, &kept, &dropped, candidate, &mut grounds[at])? {
+            at += 1;
+        } else {
+            kept.remove(at);
+            grounds.remove(at);
+            dropped.push(candidate)?;
+        }
+    }
+    Ok(Sieve {
+        kept,
+        grounds,
+        dropped,
+    })
+}
+
+/// No grounds for each of so many candidates.
+fn no_grounds(alloc: Global, count: usize) -> Result<Vec<Vec<Ground>>, AllocError>
+    ensures { IfOk result (λ grounds. length grounds.items ≡ count) }
+{
+    let mut grounds = Vec::new(alloc);
+    for _ in 0..count {
+        grounds.push(Vec::new(alloc))?;
+    }
+    Ok(grounds)
+}
+
+/// What is left of the candidates where no claim is found to fail any more.
+pub(crate) fn sifted(
+    alloc: Global,
+    monitor: &Monitor,
+    first: Vec<Candidate>,
+) -> Result<Vec<Candidate>, AllocError>
+    requires askable { AreAskable (candidates_of monitor.now) }
+    requires first { IsLeft monitor.now first.items }
+    ensures { IfOk result (λ left. IsLeft monitor.now left.items) }
+{
+    let grounds = no_grounds(alloc, first.len())?;
+    let mut sieve = Sieve {
+        kept: first,
+        grounds,
+        dropped: Vec::new(alloc),
+    };
+    loop {
+        let before = sieve.kept.len();
+        sieve = sweep(alloc, monitor, sieve)?;
+        if sieve.kept.len() == before {
+            return Ok(sieve.kept);
+        }
+    }
+}
