@@ -220,7 +220,7 @@ def types_table(types):
         source = reading.CRATES / crate / "src" / f"{file}.rt"
         lines = source.read_text().split("\n") if source.exists() else []
         for at, line in enumerate(lines):
-            if re.match(rf"pub (?:struct|enum) {name}\b", line):
+            if re.match(rf"pub(?:\([a-z]+\))? (?:struct|enum) {name}\b", line):
                 does = reading.documentation(lines, at).replace("|", "\\|")
                 rows[crate, name] = f"| `{name}` | {does} | [`{crate}`](../{source.relative_to(ROOT)}) |"
     return ["| Type | What it is | Crate |", "|---|---|---|", *(rows[key] for key in sorted(rows)), ""]
