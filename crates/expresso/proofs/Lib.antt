@@ -1,5 +1,5 @@
 pub mod Answering
-pub mod MonitorFaults
+pub mod FirstFaults
 pub mod OneMonitor
 pub mod OneClientList
 pub mod OneSimulation
@@ -8,7 +8,6 @@ pub mod Telling
 pub mod RunFiles
 pub mod Simulating
 pub mod Simulated
-pub mod ClientFaults
 pub mod Ending
 pub mod Outcomes
 pub mod OneFile

@@ -7,8 +7,7 @@ use Rattle.mon_monitor.specs.MonitorParts.{MonitorParts}
 use Rattle.mon_implicit.specs.declared.script.Client.{Client}
 use Rattle.mon_script.specs.Scripts.{clients_of}
 use Rattle.expresso.specs.ClientFiles.{AreAccepted}
-use Rattle.expresso.proofs.ClientFaults.{OneClientsTree}
-use Rattle.expresso.proofs.MonitorFaults.{OneSpelling}
+use Rattle.expresso.proofs.FirstFaults.{OneClientsTree, OneSpelling}
 
 pub one_client_list : OneSpelling → OneClientsTree → (bytes : List ℕ) (monitor : MonitorParts) (clients others : List Client) → AreAccepted bytes monitor clients → AreAccepted bytes monitor others
     → clients ≡ others

@@ -1,8 +1,10 @@
 -- How a command that works on the monitor of one file ends.
-use Rattle.std.proofs.Common.{◌≡◌, ◌≢◌, ℕ, true, List, Option, refl, sym, subst, arith}
-use Rattle.std.specs.Prelude.{Any}
+use Rattle.std.proofs.Common.{◌≡◌, ℕ, true, List, Option, Result, Ok, Err, refl, sym, subst, ◌∙◌, arith, inl, inr}
+use Rattle.std.specs.Prelude.{Any, IfErr, IfOk}
 use Rattle.mon_io.specs.Outside.{FilesSeen, SinkSeen, IsRead}
 use Rattle.mon_tree.specs.declared.tree.MonitorTree.{MonitorTree}
+use Rattle.mon_syntax.specs.Grammar.{IsMonitorFile}
+use Rattle.mon_rules.specs.Rules.{faults_of}
 use Rattle.mon_printer.specs.Canonical.{tree_text}
 use Rattle.mon_monitor.specs.MonitorParts.{MonitorParts}
 use Rattle.mon_events.specs.declared.plan.Plan.{Plan}
@@ -10,17 +12,17 @@ use Rattle.mon_events.specs.PlanText.{plan_text}
 use Rattle.mon_text.specs.FaultText.{unread_text}
 use Rattle.expresso.specs.declared.status.Status.{Status}
 use Rattle.expresso.specs.declared.status.Status.TheVariants as statuses
-use Rattle.expresso.specs.declared.source_fault.SourceFault.{SourceFault}
-use Rattle.expresso.specs.declared.source_fault.SourceFault.TheVariants as faults
+use Rattle.expresso.specs.declared.monitor_file.MonitorFile.{MonitorFile}
 use Rattle.mon_command.specs.CommandLine.{Command, check, compile}
 use Rattle.expresso.specs.Placements.{IsPlacement}
-use Rattle.expresso.specs.SourceFaults.{source_fault_text}
-use Rattle.expresso.specs.MonitorFiles.{HasMonitorCause, IsAccepted, IsFirstFault}
+use Rattle.expresso.specs.FirstFaults.{IsRefusalLine}
+use Rattle.expresso.specs.MonitorFiles.{IsAccepted, IsFirstOfMonitor}
 use Rattle.expresso.specs.Answers.{AcceptsMonitor, HoldsMonitor, IsUnreadText, RejectsMonitor}
-use Rattle.expresso.specs.inner.Ending.{CommandEnds, IsUnread, IsWritten}
+use Rattle.expresso.specs.inner.Ending.{CommandEnds, IsTurnedAway, IsUnread, IsWritten}
 use Rattle.expresso.specs.inner.Input.{CommandsEndOn, WorksOn}
-use Rattle.expresso.proofs.Telling.{told, is_told, accepted_told, fault_told, refusal_told, holds_same}
-use Rattle.expresso.proofs.MonitorFaults.{OneSpelling, NoSpelling, OneTree, accepted_faultless, first_fault}
+use Rattle.expresso.proofs.Telling.{told, is_told, accepted_told, line_told, holds_same}
+use Rattle.expresso.proofs.FirstFaults.{OneSpelling, NoSpelling, OneTree, no_line}
+use Rattle.expresso.proofs.Outcomes.{written_since}
 use Rattle.expresso.proofs.Ending.{memory_ended, no_bytes_ended, refused_ended, work_ended}
 
 -- ---- the commands that work on one file
@@ -40,31 +42,37 @@ pub file_unread : (file : List ℕ) (files files_now : FilesSeen) (result : Stat
 file_unread file files files_now result out out_now unread command works =
     no_bytes_ended command file files files_now result out out_now (names_file command file works) unread
 
--- memory ran out
-pub monitor_unmade : (file : List ℕ) (files files_now : FilesSeen) (result : Status) (out out_now : SinkSeen) → result ≡ statuses.OutOfMemory → out_now ≡ out → CommandsEndOn file files files_now result out out_now
-monitor_unmade file files files_now result out out_now is silent command works = memory_ended command files files_now result out out_now is silent
+-- ---- the bytes that were read are refused
 
--- ---- the bytes that were read have a fault
-
--- a file with a fault is not accepted
-no_fault : OneSpelling → NoSpelling → OneTree → (held : List ℕ → Option (List ℕ)) (file bytes : List ℕ) (fault : SourceFault) → IsRead (held file) 65536 bytes → IsFirstFault bytes fault → AcceptsMonitor held file → ⊥
-no_fault one_spelling no_spelling one_tree held file bytes fault read first (all, tree, monitor, is, accepted) =
+-- a file that a line refuses is not accepted
+no_line_of : OneSpelling → NoSpelling → OneTree → (held : List ℕ → Option (List ℕ)) (file bytes text : List ℕ) → IsRead (held file) 65536 bytes → IsRefusalLine (IsFirstOfMonitor bytes) file bytes text → AcceptsMonitor held file → ⊥
+no_line_of one_spelling no_spelling one_tree held file bytes text read line (all, tree, monitor, is, accepted) =
     let same = holds_same held file all (told (held file) bytes) is (is_told (held file) bytes) in
-    accepted_faultless one_spelling no_spelling one_tree all tree monitor fault accepted (subst (λ (b : List ℕ). IsFirstFault b fault) same (fault_told (held file) bytes fault read first))
+    no_line IsMonitorFile faults_of one_spelling no_spelling one_tree all accepted.tokens tree accepted.spelled accepted.derived accepted.unbroken file text accepted.short
+    (subst (λ (b : List ℕ). IsRefusalLine (IsFirstOfMonitor b) file b text) same (line_told IsMonitorFile faults_of (held file) file bytes text read line))
 
-pub file_refused : OneSpelling → NoSpelling → OneTree → (file bytes judged shown : List ℕ) (fault : SourceFault) (files files_now : FilesSeen) (result : Status) (out out_now : SinkSeen)
-    → judged ≡ bytes → shown ≡ bytes → IsRead (files.held file) 65536 bytes → HasMonitorCause judged fault → fault ≢ faults.OutOfMemory → files_now.faults ≡ files.faults
-    → IsWritten statuses.Refused (source_fault_text file shown fault) result out out_now → CommandsEndOn file files files_now result out out_now
-file_refused one_spelling no_spelling one_tree file bytes judged shown fault files files_now result out out_now judged_is shown_is read cause other steady written command works =
-    let first : IsFirstFault bytes fault = subst (λ (b : List ℕ). IsFirstFault b fault) judged_is (first_fault judged fault other cause) in
-    refused_ended command files files_now (source_fault_text file bytes fault) result out out_now
-    (works.refused files.held (source_fault_text file bytes fault) (refusal_told files.held file bytes fault read first))
-    (λ accepts. no_fault one_spelling no_spelling one_tree files.held file bytes fault read first (works.accepted files.held accepts)) steady
-    (subst (λ (b : List ℕ). IsWritten statuses.Refused (source_fault_text file b fault) result out out_now) shown_is written)
+file_refused : OneSpelling → NoSpelling → OneTree → (file bytes slice : List ℕ) (files files_now : FilesSeen) (result : Status) (out mid out_now : SinkSeen)
+    → slice ≡ bytes → IsRead (files.held file) 65536 bytes → files_now.faults ≡ files.faults → mid ≡ out
+    → IsTurnedAway (IsRefusalLine (IsFirstOfMonitor slice) file slice) result mid out_now → CommandsEndOn file files files_now result out out_now
+file_refused one_spelling no_spelling one_tree file bytes slice files files_now result out mid out_now same read steady silent (inl (memory, nothing)) command works =
+    memory_ended command files files_now result out out_now memory (nothing ∙ silent)
+file_refused one_spelling no_spelling one_tree file bytes slice files files_now result out mid out_now same read steady silent (inr (text, line, written)) command works =
+    let here : IsRead (files.held file) 65536 slice = subst (λ (b : List ℕ). IsRead (files.held file) 65536 b) (sym same) read in
+    refused_ended command files files_now text result out out_now
+    (works.refused files.held text (record { bytes = told (files.held file) slice; told = is_told (files.held file) slice; line = line_told IsMonitorFile faults_of (files.held file) file slice text here line }))
+    (λ accepts. no_line_of one_spelling no_spelling one_tree files.held file slice text here line (works.accepted files.held accepts)) steady
+    (written_since statuses.Refused text result out mid out_now silent written)
+
+pub file_judged : OneSpelling → NoSpelling → OneTree → (file bytes slice : List ℕ) (files files_now : FilesSeen) (result : Result MonitorFile Status) (out mid out_now : SinkSeen)
+    → slice ≡ bytes → IsRead (files.held file) 65536 bytes → files_now.faults ≡ files.faults → mid ≡ out
+    → IfErr result (λ status. IsTurnedAway (IsRefusalLine (IsFirstOfMonitor slice) file slice) status mid out_now) → IfErr result (λ status. CommandsEndOn file files files_now status out out_now)
+file_judged one_spelling no_spelling one_tree file bytes slice files files_now (Ok found) out mid out_now same read steady silent away = tt
+file_judged one_spelling no_spelling one_tree file bytes slice files files_now (Err status) out mid out_now same read steady silent away =
+    file_refused one_spelling no_spelling one_tree file bytes slice files files_now status out mid out_now same read steady silent away
 
 -- ---- the bytes that were read are accepted
 
-pub monitor_held : (held : List ℕ → Option (List ℕ)) (file bytes slice : List ℕ) (tree : MonitorTree) (monitor : MonitorParts)
+monitor_held : (held : List ℕ → Option (List ℕ)) (file bytes slice : List ℕ) (tree : MonitorTree) (monitor : MonitorParts)
     → slice ≡ bytes → IsRead (held file) 65536 bytes → IsAccepted slice tree monitor → HoldsMonitor held file tree monitor
 monitor_held held file bytes slice tree monitor same read accepted =
     let here : IsRead (held file) 65536 slice = subst (λ (b : List ℕ). IsRead (held file) 65536 b) (sym same) read in
@@ -73,6 +81,11 @@ monitor_held held file bytes slice tree monitor same read accepted =
       told = is_told (held file) slice;
       accepted = accepted_told (held file) slice tree monitor here accepted;
     }
+
+pub each_held : (held : List ℕ → Option (List ℕ)) (file bytes slice : List ℕ) (result : Result MonitorFile Status) → slice ≡ bytes → IsRead (held file) 65536 bytes
+    → IfOk result (λ found. IsAccepted slice found.tree found.monitor) → IfOk result (λ found. HoldsMonitor held file found.tree found.monitor)
+each_held held file bytes slice (Ok found) same read accepted = monitor_held held file bytes slice found.tree found.monitor same read accepted
+each_held held file bytes slice (Err status) same read accepted = tt
 
 -- an accepted file is not rejected
 no_rejection : (held : List ℕ → Option (List ℕ)) (file : List ℕ) (tree : MonitorTree) (monitor : MonitorParts) → HoldsMonitor held file tree monitor → RejectsMonitor held file → ⊥

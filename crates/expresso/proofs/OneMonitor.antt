@@ -14,7 +14,7 @@ use Rattle.mon_monitor.specs.declared.monitor.Condition.{Condition}
 use Rattle.mon_monitor.specs.MonitorParts.{MonitorParts}
 use Rattle.mon_types.specs.Typed.{IsTyped, IsBlockOf, AreBlocksOf, AreConditions, condition_of}
 use Rattle.expresso.specs.MonitorFiles.{IsAccepted}
-use Rattle.expresso.proofs.MonitorFaults.{OneSpelling, OneTree}
+use Rattle.expresso.proofs.FirstFaults.{OneSpelling, OneTree}
 
 -- ---- conditions with distinct guards
 

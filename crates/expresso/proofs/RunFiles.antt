@@ -1,27 +1,28 @@
 -- How a command that runs the clients of one file on the monitor of another ends before they are run.
-use Rattle.std.proofs.Common.{◌≡◌, ℕ, List, Option, Some, None, refl, sym, subst, inl, inr, arith}
+use Rattle.std.proofs.Common.{◌≡◌, ℕ, List, Option, Some, None, refl, sym, subst, ◌∙◌, inl, inr, arith}
 use Rattle.std.specs.Prelude.{Any}
 use Rattle.mon_io.specs.Outside.{FilesSeen, SinkSeen, IsRead, Rises}
+use Rattle.mon_tree.specs.declared.tree.MonitorTree.{MonitorTree}
+use Rattle.mon_syntax.specs.Grammar.{IsMonitorFile}
+use Rattle.mon_syntax.specs.ClientGrammar.{IsClientFile}
+use Rattle.mon_rules.specs.Rules.{faults_of as monitor_faults}
+use Rattle.mon_script.specs.Faults.{faults_of as clients_faults}
 use Rattle.mon_monitor.specs.MonitorParts.{MonitorParts}
 use Rattle.mon_implicit.specs.declared.script.Client.{Client}
 use Rattle.mon_text.specs.FaultText.{unread_text}
 use Rattle.expresso.specs.declared.status.Status.{Status}
 use Rattle.expresso.specs.declared.status.Status.TheVariants as statuses
-use Rattle.expresso.specs.declared.source_fault.SourceFault.{SourceFault}
 use Rattle.mon_command.specs.declared.schedule.Schedule.{Schedule}
-use Rattle.expresso.specs.declared.input.Input.{Input}
-use Rattle.expresso.specs.declared.input.InputFault.{InputFault}
-use Rattle.expresso.specs.declared.input.InputFault.TheVariants as input_faults
 use Rattle.mon_command.specs.CommandLine.{Command, turns, simulate, run}
-use Rattle.expresso.specs.MonitorFiles.{IsAccepted, IsFirstFault}
-use Rattle.expresso.specs.SourceFaults.{source_fault_text}
+use Rattle.expresso.specs.FirstFaults.{IsRefusalLine}
+use Rattle.expresso.specs.MonitorFiles.{IsAccepted, IsFirstOfMonitor}
 use Rattle.expresso.specs.Answers.{AcceptsRun, RejectsRun, HoldRun, IsUnreadText}
 use Rattle.expresso.specs.ClientFiles.{AreAccepted, IsFirstOfClients}
-use Rattle.expresso.specs.inner.Ending.{CommandEnds, IsUnread, IsWritten}
-use Rattle.expresso.specs.inner.Input.{HasInputCause, RunsEnd, IsInput, RunsFiles}
-use Rattle.expresso.proofs.Telling.{told, is_told, accepted_told, scripts_told, fault_told, clients_fault_told, clients_text_told, refusal_told, holds_same}
-use Rattle.expresso.proofs.MonitorFaults.{OneSpelling, NoSpelling, OneTree, accepted_faultless}
-use Rattle.expresso.proofs.ClientFaults.{OneClientsTree, clients_faultless}
+use Rattle.expresso.specs.inner.Ending.{CommandEnds, IsTurnedAway, IsUnread, IsWritten}
+use Rattle.expresso.specs.inner.Input.{RunsEnd, RunsFiles}
+use Rattle.expresso.proofs.Telling.{told, is_told, accepted_told, scripts_told, line_told, holds_same}
+use Rattle.expresso.proofs.FirstFaults.{OneSpelling, NoSpelling, OneTree, OneClientsTree, no_line}
+use Rattle.expresso.proofs.Outcomes.{written_since}
 use Rattle.expresso.proofs.OneMonitor.{one_monitor}
 use Rattle.expresso.proofs.Ending.{memory_ended, no_bytes_ended, refused_ended}
 
@@ -81,14 +82,9 @@ clients_unread monitor clients files between files_now result out mid out_now st
     later_unread (inl memory) = inl memory
     later_unread (inr (risen, written)) = inr (subst (λ (n : ℕ). Rises n files_now.faults) steady risen, written)
 
--- memory ran out
-pub run_unmade : (monitor clients : List ℕ) (files files_now : FilesSeen) (result : Status) (out out_now : SinkSeen) → result ≡ statuses.OutOfMemory → out_now ≡ out → RunsEnd monitor clients files files_now result out out_now
-run_unmade monitor clients files files_now result out out_now is silent command runs = memory_ended command files files_now result out out_now is silent
-
 -- ---- both files were read
 
-module _ (one_spelling : OneSpelling) (one_tree : OneTree) (monitor clients ms cs : List ℕ) (files files_now : FilesSeen) (read : AreRead files.held monitor clients ms cs)
-    (steady : files_now.faults ≡ files.faults) (result : Status) (out out_now : SinkSeen) where
+module _ (one_spelling : OneSpelling) (one_tree : OneTree) (monitor clients ms cs : List ℕ) (files : FilesSeen) (read : AreRead files.held monitor clients ms cs) where
   -- where a file's bytes are told they are these
   same_monitor : (bytes : List ℕ) → files.held monitor ≡ Some bytes → told (files.held monitor) ms ≡ bytes
   same_monitor bytes tells = holds_same files.held monitor bytes (told (files.held monitor) ms) tells (is_told (files.held monitor) ms)
@@ -96,67 +92,65 @@ module _ (one_spelling : OneSpelling) (one_tree : OneTree) (monitor clients ms c
   same_clients : (bytes : List ℕ) → files.held clients ≡ Some bytes → told (files.held clients) cs ≡ bytes
   same_clients bytes tells = holds_same files.held clients bytes (told (files.held clients) cs) tells (is_told (files.held clients) cs)
 
-  -- the monitor file has a fault
-  pub monitor_refused : NoSpelling → (answered : InputFault) (fault : SourceFault) (shown : List ℕ) → answered ≡ input_faults.Monitor fault → shown ≡ ms → HasInputCause ms cs answered
-      → IsWritten statuses.Refused (source_fault_text monitor shown fault) result out out_now → RunsEnd monitor clients files files_now result out out_now
-  monitor_refused no_spelling answered fault shown is same cause written command runs =
-      refused_ended command files files_now (source_fault_text monitor ms fault) result out out_now
-      (runs.refused files.held (source_fault_text monitor ms fault) (inl (refusal_told files.held monitor ms fault read.monitor_read first)))
-      (λ accepts. none (runs.accepted files.held accepts)) steady
-      (subst (λ (b : List ℕ). IsWritten statuses.Refused (source_fault_text monitor b fault) result out out_now) same written)
-    where
-      first : IsFirstFault ms fault
-      first = subst (HasInputCause ms cs) is cause
+  module _ (no_spelling : NoSpelling) (files_now : FilesSeen) (steady : files_now.faults ≡ files.faults) (result : Status) (out mid out_now : SinkSeen) (silent : mid ≡ out) where
+    -- the monitor file isn't accepted
+    no_monitor : (text : List ℕ) → IsRefusalLine (IsFirstOfMonitor ms) monitor ms text → AcceptsRun files.held monitor clients → ⊥
+    no_monitor text line (mb, cb, tree, parts, scripts, monitor_tells, clients_tells, accepted, are) =
+        no_line IsMonitorFile monitor_faults one_spelling no_spelling one_tree mb accepted.tokens tree accepted.spelled accepted.derived accepted.unbroken monitor text accepted.short
+        (subst (λ (b : List ℕ). IsRefusalLine (IsFirstOfMonitor b) monitor b text) (same_monitor mb monitor_tells) (line_told IsMonitorFile monitor_faults (files.held monitor) monitor ms text read.monitor_read line))
 
-      none : AcceptsRun files.held monitor clients → ⊥
-      none (mb, cb, tree, parts, scripts, monitor_tells, clients_tells, accepted, are) =
-          accepted_faultless one_spelling no_spelling one_tree mb tree parts fault accepted
-          (subst (λ (b : List ℕ). IsFirstFault b fault) (same_monitor mb monitor_tells) (fault_told (files.held monitor) ms fault read.monitor_read first))
+    pub monitor_refused : IsTurnedAway (IsRefusalLine (IsFirstOfMonitor ms) monitor ms) result mid out_now → RunsEnd monitor clients files files_now result out out_now
+    monitor_refused (inl (memory, nothing)) command runs = memory_ended command files files_now result out out_now memory (nothing ∙ silent)
+    monitor_refused (inr (text, line, written)) command runs =
+        refused_ended command files files_now text result out out_now
+        (runs.refused files.held text (inl (record {
+          bytes = told (files.held monitor) ms;
+          told = is_told (files.held monitor) ms;
+          line = line_told IsMonitorFile monitor_faults (files.held monitor) monitor ms text read.monitor_read line;
+        }))) (λ accepts. no_monitor text line (runs.accepted files.held accepts)) steady
+        (written_since statuses.Refused text result out mid out_now silent written)
 
-  -- the monitor file is accepted, and the client file has a fault
-  pub clients_refused : NoSpelling → OneClientsTree → (answered : InputFault) (fault : SourceFault) (shown : List ℕ) → answered ≡ input_faults.Clients fault → shown ≡ cs → HasInputCause ms cs answered
-      → IsWritten statuses.Refused (source_fault_text clients shown fault) result out out_now → RunsEnd monitor clients files files_now result out out_now
-  clients_refused no_spelling one_clients answered fault shown is same cause written command runs =
-      refused_ended command files files_now (source_fault_text clients cs fault) result out out_now
-      (runs.refused files.held (source_fault_text clients cs fault) (inr (record {
-        monitor_bytes = told (files.held monitor) ms;
-        clients_bytes = told (files.held clients) cs;
-        tree = why.0;
-        monitor = why.1;
-        monitor_told = is_told (files.held monitor) ms;
-        clients_told = is_told (files.held clients) cs;
-        monitor_accepted = of_held;
-        fault = fault;
-        first = first_held;
-        printed = clients_text_told (files.held clients) clients cs why.1 fault read.clients_read why.3;
-      }))) (λ accepts. none (runs.accepted files.held accepts)) steady
-      (subst (λ (b : List ℕ). IsWritten statuses.Refused (source_fault_text clients b fault) result out out_now) same written)
-    where
-      why : HasInputCause ms cs (input_faults.Clients fault)
-      why = subst (HasInputCause ms cs) is cause
+    -- the monitor file is accepted, and the client file isn't
+    module _ (one_clients : OneClientsTree) (tree : MonitorTree) (parts : MonitorParts) (judged : IsAccepted ms tree parts) where
+      held_monitor : IsAccepted (told (files.held monitor) ms) tree parts
+      held_monitor = accepted_told (files.held monitor) ms tree parts read.monitor_read judged
 
-      of_held : IsAccepted (told (files.held monitor) ms) why.0 why.1
-      of_held = accepted_told (files.held monitor) ms why.0 why.1 read.monitor_read why.2
+      held_line : (text : List ℕ) → IsRefusalLine (IsFirstOfClients cs parts) clients cs text → IsRefusalLine (IsFirstOfClients (told (files.held clients) cs) parts) clients (told (files.held clients) cs) text
+      held_line text line = line_told IsClientFile (clients_faults parts) (files.held clients) clients cs text read.clients_read line
 
-      first_held : IsFirstOfClients (told (files.held clients) cs) why.1 fault
-      first_held = clients_fault_told (files.held clients) cs why.1 fault read.clients_read why.3
+      no_clients : (text : List ℕ) → IsRefusalLine (IsFirstOfClients cs parts) clients cs text → AcceptsRun files.held monitor clients → ⊥
+      no_clients text line (mb, cb, other, also, scripts, monitor_tells, clients_tells, accepted, are) =
+          let theirs : IsAccepted (told (files.held monitor) ms) other also = subst (λ (b : List ℕ). IsAccepted b other also) (sym (same_monitor mb monitor_tells)) accepted in
+          let one : also ≡ parts = one_monitor one_spelling one_tree (told (files.held monitor) ms) other tree also parts theirs held_monitor in
+          let here : AreAccepted cb parts scripts = subst (λ (m : MonitorParts). AreAccepted cb m scripts) one are in
+          no_line IsClientFile (clients_faults parts) one_spelling no_spelling one_clients cb here.tokens here.tree here.spelled here.derived here.unbroken clients text here.short
+          (subst (λ (b : List ℕ). IsRefusalLine (IsFirstOfClients b parts) clients b text) (same_clients cb clients_tells) (held_line text line))
 
-      none : AcceptsRun files.held monitor clients → ⊥
-      none (mb, cb, tree, parts, scripts, monitor_tells, clients_tells, accepted, are) =
-          let theirs : IsAccepted (told (files.held monitor) ms) tree parts = subst (λ (b : List ℕ). IsAccepted b tree parts) (sym (same_monitor mb monitor_tells)) accepted in
-          let one : parts ≡ why.1 = one_monitor one_spelling one_tree (told (files.held monitor) ms) tree why.0 parts why.1 theirs of_held in
-          let here : AreAccepted (told (files.held clients) cs) parts scripts = subst (λ (b : List ℕ). AreAccepted b parts scripts) (sym (same_clients cb clients_tells)) are in
-          clients_faultless one_spelling no_spelling one_clients (told (files.held clients) cs) why.1 scripts fault
-          (subst (λ (m : MonitorParts). AreAccepted (told (files.held clients) cs) m scripts) one here) first_held
+      pub clients_refused : IsTurnedAway (IsRefusalLine (IsFirstOfClients cs parts) clients cs) result mid out_now → RunsEnd monitor clients files files_now result out out_now
+      clients_refused (inl (memory, nothing)) command runs = memory_ended command files files_now result out out_now memory (nothing ∙ silent)
+      clients_refused (inr (text, line, written)) command runs =
+          refused_ended command files files_now text result out out_now
+          (runs.refused files.held text (inr (record {
+            monitor_bytes = told (files.held monitor) ms;
+            clients_bytes = told (files.held clients) cs;
+            tree = tree;
+            monitor = parts;
+            monitor_told = is_told (files.held monitor) ms;
+            clients_told = is_told (files.held clients) cs;
+            monitor_accepted = held_monitor;
+            line = held_line text line;
+          }))) (λ accepts. no_clients text line (runs.accepted files.held accepts)) steady
+          (written_since statuses.Refused text result out mid out_now silent written)
 
-  -- both are accepted
-  pub input_held : (input : Input) → IsInput ms cs input → HoldRun files.held monitor clients input.monitor input.scripts
-  input_held input is = record {
-    monitor_bytes = told (files.held monitor) ms;
-    clients_bytes = told (files.held clients) cs;
-    tree = is.tree;
-    monitor_told = is_told (files.held monitor) ms;
-    clients_told = is_told (files.held clients) cs;
-    monitor_accepted = accepted_told (files.held monitor) ms is.tree input.monitor read.monitor_read is.monitor_accepted;
-    clients_accepted = scripts_told (files.held clients) cs input.monitor input.scripts read.clients_read is.clients_accepted;
-  }
+-- both are accepted
+pub input_held : (held : List ℕ → Option (List ℕ)) (monitor clients ms cs : List ℕ) → AreRead held monitor clients ms cs → (tree : MonitorTree) (parts : MonitorParts) (scripts : List Client)
+    → IsAccepted ms tree parts → AreAccepted cs parts scripts → HoldRun held monitor clients parts scripts
+input_held held monitor clients ms cs read tree parts scripts accepted are = record {
+  monitor_bytes = told (held monitor) ms;
+  clients_bytes = told (held clients) cs;
+  tree = tree;
+  monitor_told = is_told (held monitor) ms;
+  clients_told = is_told (held clients) cs;
+  monitor_accepted = accepted_told (held monitor) ms tree parts read.monitor_read accepted;
+  clients_accepted = scripts_told (held clients) cs parts scripts read.clients_read are;
+}

@@ -1,19 +1,17 @@
 -- What was judged of the bytes that were read is true of the bytes that are held.
-use Rattle.std.proofs.Common.{◌≡◌, ℕ, ◌<◌, ◌≤◌, List, length, Option, Some, None, refl, sym, ap, subst, ◌∙◌, arith}
+use Rattle.std.proofs.Common.{◌≡◌, ℕ, ◌<◌, ◌≤◌, List, length, Option, Some, None, refl, sym, ap, subst, ◌∙◌, arith, inl, inr}
 use Rattle.std.proofs.lemmas.List.{take_all, length-take}
 use Rattle.std.specs.Prelude.{IfSome}
 use Rattle.mon_io.specs.Outside.{IsRead}
 use Rattle.mon_tree.specs.declared.tree.MonitorTree.{MonitorTree}
 use Rattle.mon_monitor.specs.MonitorParts.{MonitorParts}
 use Rattle.mon_implicit.specs.declared.script.Client.{Client}
-use Rattle.mon_text.specs.declared.refusal.Refusal.{Refusal}
-use Rattle.mon_text.specs.declared.refusal.Refusal.TheVariants as refusals
-use Rattle.expresso.specs.declared.source_fault.SourceFault.{SourceFault}
-use Rattle.expresso.specs.declared.source_fault.SourceFault.TheVariants as faults
-use Rattle.expresso.specs.SourceFaults.{source_fault_text}
-use Rattle.expresso.specs.MonitorFiles.{IsAccepted, IsFirstFault}
-use Rattle.expresso.specs.Answers.{HoldsBytes, IsMonitorRefusal}
-use Rattle.expresso.specs.ClientFiles.{AreAccepted, IsFirstOfClients}
+use Rattle.mon_base.specs.declared.source_fault.SourceFault.{SourceFault}
+use Rattle.mon_syntax.specs.Grammar.{Rule}
+use Rattle.expresso.specs.FirstFaults.{IsFirstFault, IsRefusalLine}
+use Rattle.expresso.specs.MonitorFiles.{IsAccepted}
+use Rattle.expresso.specs.Answers.{HoldsBytes}
+use Rattle.expresso.specs.ClientFiles.{AreAccepted}
 
 -- the bytes that are held, where they are told, or else those that were read
 pub told : Option (List ℕ) → List ℕ → List ℕ
@@ -48,52 +46,14 @@ accepted_told o bytes tree monitor read accepted = subst (λ (b : List ℕ). IsA
 pub scripts_told : (o : Option (List ℕ)) (bytes : List ℕ) (monitor : MonitorParts) (clients : List Client) → IsRead o 65536 bytes → AreAccepted bytes monitor clients → AreAccepted (told o bytes) monitor clients
 scripts_told o bytes monitor clients read accepted = subst (λ (b : List ℕ). AreAccepted b monitor clients) (read_short o bytes read accepted.short) accepted
 
--- ---- the first fault
+-- ---- the line that refuses a file
 
--- a fault at a place is one of a short file
-placed_short : (bytes : List ℕ) (at : ℕ) (what : Refusal) → IsFirstFault bytes (faults.At at what) → length bytes ≤ 65536
-placed_short bytes at refusals.Lex first = first.short
-placed_short bytes at refusals.Syntax first = first.short
-placed_short bytes at what first = first.short
-
-pub fault_told : (o : Option (List ℕ)) (bytes : List ℕ) (fault : SourceFault) → IsRead o 65536 bytes → IsFirstFault bytes fault → IsFirstFault (told o bytes) fault
-fault_told o bytes faults.TooLong read first = held_long o bytes read first
-fault_told o bytes (faults.At at what) read first = subst (λ (b : List ℕ). IsFirstFault b (faults.At at what)) (read_short o bytes read (placed_short bytes at what first)) first
-fault_told o bytes faults.OutOfMemory read first = first
-
-fault_text_told : (o : Option (List ℕ)) (file bytes : List ℕ) (fault : SourceFault) → IsRead o 65536 bytes → IsFirstFault bytes fault → source_fault_text file bytes fault ≡ source_fault_text file (told o bytes) fault
-fault_text_told o file bytes faults.TooLong read first = refl
-fault_text_told o file bytes (faults.At at what) read first = ap (λ (b : List ℕ). source_fault_text file b (faults.At at what)) (read_short o bytes read (placed_short bytes at what first))
-fault_text_told o file bytes faults.OutOfMemory read first = refl
-
--- the line of the fault of what was read is that of what is held
-pub refusal_told : (held : List ℕ → Option (List ℕ)) (file bytes : List ℕ) (fault : SourceFault) → IsRead (held file) 65536 bytes → IsFirstFault bytes fault → IsMonitorRefusal held file (source_fault_text file bytes fault)
-refusal_told held file bytes fault read first = record {
-  bytes = told (held file) bytes;
-  fault = fault;
-  told = is_told (held file) bytes;
-  first = fault_told (held file) bytes fault read first;
-  printed = fault_text_told (held file) file bytes fault read first;
-}
-
--- ---- the first fault of the clients
-
-placed_clients : (bytes : List ℕ) (monitor : MonitorParts) (at : ℕ) (what : Refusal) → IsFirstOfClients bytes monitor (faults.At at what) → length bytes ≤ 65536
-placed_clients bytes monitor at refusals.Lex first = first.short
-placed_clients bytes monitor at refusals.Syntax first = first.short
-placed_clients bytes monitor at what first = first.short
-
-pub clients_fault_told : (o : Option (List ℕ)) (bytes : List ℕ) (monitor : MonitorParts) (fault : SourceFault) → IsRead o 65536 bytes → IsFirstOfClients bytes monitor fault → IsFirstOfClients (told o bytes) monitor fault
-clients_fault_told o bytes monitor faults.TooLong read first = held_long o bytes read first
-clients_fault_told o bytes monitor (faults.At at what) read first =
-    subst (λ (b : List ℕ). IsFirstOfClients b monitor (faults.At at what)) (read_short o bytes read (placed_clients bytes monitor at what first)) first
-clients_fault_told o bytes monitor faults.OutOfMemory read first = first
-
-pub clients_text_told : (o : Option (List ℕ)) (file bytes : List ℕ) (monitor : MonitorParts) (fault : SourceFault) → IsRead o 65536 bytes → IsFirstOfClients bytes monitor fault
-    → source_fault_text file bytes fault ≡ source_fault_text file (told o bytes) fault
-clients_text_told o file bytes monitor faults.TooLong read first = refl
-clients_text_told o file bytes monitor (faults.At at what) read first = ap (λ (b : List ℕ). source_fault_text file b (faults.At at what)) (read_short o bytes read (placed_clients bytes monitor at what first))
-clients_text_told o file bytes monitor faults.OutOfMemory read first = refl
+-- the line of what was read is that of what is held
+pub line_told : {Tree : Type 0} (IsTree : Rule Tree) (faults_of : Tree → List SourceFault) (o : Option (List ℕ)) (file bytes text : List ℕ) → IsRead o 65536 bytes
+    → IsRefusalLine (IsFirstFault IsTree faults_of bytes) file bytes text → IsRefusalLine (IsFirstFault IsTree faults_of (told o bytes)) file (told o bytes) text
+line_told IsTree faults_of o file bytes text read (inl (long, is)) = inl (held_long o bytes read long, is)
+line_told IsTree faults_of o file bytes text read (inr (fault, first, is)) =
+    subst (λ (b : List ℕ). IsRefusalLine (IsFirstFault IsTree faults_of b) file b text) (read_short o bytes read first.short) (inr (fault, first, is))
 
 -- ---- bytes that are told
 

@@ -20,7 +20,6 @@ use Rattle.mon_text.specs.FaultText.{unread_text}
 use Rattle.expresso.specs.declared.status.Status.{Status}
 use Rattle.expresso.specs.declared.status.Status.TheVariants.{Done, Refused, Usage, ReadFault}
 use Rattle.expresso.specs.declared.status.Status.TheVariants.{WriteFault, OutOfMemory, Stalled}
-use Rattle.expresso.specs.declared.source_fault.SourceFault.{SourceFault}
 use Rattle.mon_command.specs.declared.schedule.Schedule.{Schedule}
 use Rattle.mon_command.specs.CommandLine.{Command, check, turns, compile, simulate, run, stress}
 use Rattle.mon_command.specs.CommandLine.{Takes, TakesNone, files_of}
@@ -31,8 +30,8 @@ use Rattle.expresso.specs.Simulations.{IsSimulation}
 use Rattle.mon_events.specs.Configurations.{system_under}
 use Rattle.mon_text.specs.Laws.{plan_and_log_text}
 use Rattle.mon_text.specs.SummaryText.{summary_text}
-use Rattle.expresso.specs.SourceFaults.{source_fault_text}
-use Rattle.expresso.specs.MonitorFiles.{IsAccepted, IsFirstFault}
+use Rattle.expresso.specs.FirstFaults.{IsRefusalLine}
+use Rattle.expresso.specs.MonitorFiles.{IsAccepted, IsFirstOfMonitor}
 use Rattle.expresso.specs.ClientFiles.{AreAccepted, IsFirstOfClients}
 use Rattle.expresso.specs.Texts.{usage_text}
 
@@ -160,15 +159,13 @@ IsStalledText held (stress number workers) text = ⊥
 
 -- ---- refusals
 
--- the line of the first fault of the monitor file
+-- the line that refuses the monitor file
 pub record IsMonitorRefusal (held : List ℕ → Option (List ℕ)) (file text : List ℕ) : Type 0 where
   pub bytes : List ℕ
-  pub fault : SourceFault
   pub told : HoldsBytes held file bytes
-  pub first : IsFirstFault bytes fault
-  pub printed : text ≡ source_fault_text file bytes fault
+  pub line : IsRefusalLine (IsFirstOfMonitor bytes) file bytes text
 
--- the monitor file is accepted, and the line is that of the first fault of the client file
+-- the monitor file is accepted, and the line refuses the client file
 pub record IsClientsRefusal (held : List ℕ
     → Option (List ℕ)) (monitor_file clients_file text : List ℕ) : Type 0 where
   pub monitor_bytes : List ℕ
@@ -178,9 +175,7 @@ pub record IsClientsRefusal (held : List ℕ
   pub monitor_told : HoldsBytes held monitor_file monitor_bytes
   pub clients_told : HoldsBytes held clients_file clients_bytes
   pub monitor_accepted : IsAccepted monitor_bytes tree monitor
-  pub fault : SourceFault
-  pub first : IsFirstOfClients clients_bytes monitor fault
-  pub printed : text ≡ source_fault_text clients_file clients_bytes fault
+  pub line : IsRefusalLine (IsFirstOfClients clients_bytes monitor) clients_file clients_bytes text
 
 -- the line of the first of both files that is not accepted
 abbrev pub IsRunRefusal : (List ℕ → Option (List ℕ)) → List ℕ → List ℕ → List ℕ → Type 0

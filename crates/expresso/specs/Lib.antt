@@ -2,7 +2,7 @@ pub mod Placements
 pub mod ProgramEnds
 pub mod PlacedRuns
 pub mod Simulations
-pub mod SourceFaults
+pub mod FirstFaults
 pub mod MonitorFiles
 pub mod ClientFiles
 pub mod Texts

@@ -1,11 +1,12 @@
 //! From the bytes of a client file to its scripts.
 
-ghost use Rattle.std.specs.Prelude.{◌≡◌, IfErr, IfOk};
+ghost use Rattle.std.specs.Prelude.{◌≤◌, IfErr, IfOk, length};
+ghost use Rattle.mon_base.specs.Limits.{FILE_BYTES};
 ghost use Rattle.mon_implicit.specs.Scripted.{FitsScripts};
-ghost use Rattle.expresso.specs.ClientFiles.{AreAccepted, HasClientsCause};
+ghost use Rattle.expresso.specs.ClientFiles.{AreAccepted, IsFirstOfClients};
+ghost use Rattle.expresso.specs.inner.Input.{HasCause};
 
-use crate::source_fault::SourceFault;
-use mon_base::limits::FILE_BYTES;
+use mon_base::SourceError;
 use mon_implicit::Scripts;
 use mon_monitor::Monitor;
 use mon_script::clients;
@@ -17,19 +18,17 @@ use std::alloc::Global;
 ///
 /// # Errors
 ///
-/// The first fault of the bytes, by their size, their tokens, the grammar and the rules; or out of memory.
+/// The first fault of the bytes, by their tokens, the grammar and the rules; or out of memory.
 pub(crate) fn read_clients(
     alloc: Global,
     bytes: &[u8],
     monitor: &Monitor,
-) -> Result<Scripts, SourceFault>
+) -> Result<Scripts, SourceError>
+    requires { length bytes.now ≤ FILE_BYTES }
     ensures accepted { IfOk result (λ scripts. AreAccepted bytes.now monitor.now scripts) }
     ensures fits { IfOk result (λ scripts. FitsScripts monitor.now scripts) }
-    ensures fault { IfErr result (λ fault. HasClientsCause bytes.now monitor.now fault) }
+    ensures fault { IfErr result (HasCause (IsFirstOfClients bytes.now monitor.now)) }
 {
-    if bytes.len() > FILE_BYTES {
-        return Err(SourceFault::TooLong);
-    }
     let tokens = tokens(alloc, bytes)?;
     let tree = parse_clients(alloc, bytes, &tokens)?;
     names_are_identifiers();

@@ -2,23 +2,77 @@
 
 ghost use Rattle.std.specs.Prelude.{◌≡◌, IfErr, IfOk, OnOk};
 ghost use Rattle.mon_implicit.specs.Scripted.{FitsScripts};
+ghost use Rattle.expresso.specs.FirstFaults.{IsRefusalLine};
+ghost use Rattle.expresso.specs.MonitorFiles.{IsAccepted, IsFirstOfMonitor};
+ghost use Rattle.expresso.specs.ClientFiles.{AreAccepted, IsFirstOfClients};
 ghost use Rattle.expresso.specs.Answers.{HoldRun, HoldsMonitor};
 ghost use Rattle.expresso.specs.ProgramEnds.{KeepsFiles};
-ghost use Rattle.expresso.specs.inner.Input.{CommandsEndOn, RunsEnd, HasInputCause, IsInput, fault_of_input};
+ghost use Rattle.expresso.specs.inner.Ending.{IsTurnedAway};
+ghost use Rattle.expresso.specs.inner.Input.{CommandsEndOn, RunsEnd};
 
 use crate::client_file::read_clients;
 use crate::monitor_file::{MonitorFile, read_monitor};
 use crate::reading::bytes_of;
-use crate::source_fault::SourceFault;
 use crate::status::Status;
-use crate::text::show_fault;
+use crate::text::{show_fault, show_too_long};
+use mon_base::SourceError;
+use mon_base::limits::FILE_BYTES;
 use mon_implicit::Scripts;
 use mon_io::{Files, Sink};
 use mon_monitor::Monitor;
 use mon_syntax::derives_one_tree;
 use mon_tokens::one_spelling;
 use std::alloc::Global;
-use thiserror::Error;
+
+/// The tree and the monitor that the bytes of a file stand for. Where there is no monitor, the status of the command:
+/// the line of the first fault is written then.
+fn monitor_in<S: Sink>(
+    alloc: Global,
+    file: &str,
+    bytes: &[u8],
+    out: &mut S,
+) -> Result<MonitorFile, Status>
+    ensures accepted { IfOk result (λ found. IsAccepted bytes.now found.tree found.monitor) }
+    ensures silent { OnOk result (out.new ≡ out.old) }
+    ensures refused { IfErr result (λ status. IsTurnedAway
+        (IsRefusalLine (IsFirstOfMonitor bytes.now) file.now bytes.now)
+        status (S.seen out.old) (S.seen out.new)) }
+{
+    if bytes.len() > FILE_BYTES {
+        return Err(show_too_long(file, out));
+    }
+    match read_monitor(alloc, bytes) {
+        Ok(found) => Ok(found),
+        Err(SourceError::Fault(fault)) => Err(show_fault(file, bytes, fault, out)),
+        Err(SourceError::OutOfMemory) => Err(Status::OutOfMemory),
+    }
+}
+
+/// The scripts that the bytes of a file stand for, of clients of this monitor. Where there are none, the status of the
+/// command: the line of the first fault is written then.
+fn scripts_in<S: Sink>(
+    alloc: Global,
+    file: &str,
+    bytes: &[u8],
+    monitor: &Monitor,
+    out: &mut S,
+) -> Result<Scripts, Status>
+    ensures accepted { IfOk result (λ scripts. AreAccepted bytes.now monitor.now scripts) }
+    ensures fits { IfOk result (λ scripts. FitsScripts monitor.now scripts) }
+    ensures silent { OnOk result (out.new ≡ out.old) }
+    ensures refused { IfErr result (λ status. IsTurnedAway
+        (IsRefusalLine (IsFirstOfClients bytes.now monitor.now) file.now bytes.now)
+        status (S.seen out.old) (S.seen out.new)) }
+{
+    if bytes.len() > FILE_BYTES {
+        return Err(show_too_long(file, out));
+    }
+    match read_clients(alloc, bytes, monitor) {
+        Ok(scripts) => Ok(scripts),
+        Err(SourceError::Fault(fault)) => Err(show_fault(file, bytes, fault, out)),
+        Err(SourceError::OutOfMemory) => Err(Status::OutOfMemory),
+    }
+}
 
 /// Reads a monitor file. Where there is no monitor, the status of its command: the line of the first fault is written
 /// then.
@@ -40,15 +94,8 @@ pub(crate) fn monitor_of<F: Files, S: Sink>(
 {
     one_spelling();
     derives_one_tree();
-    let bytes = match bytes_of(alloc, file, files, out) {
-        Ok(bytes) => bytes,
-        Err(status) => return Err(status),
-    };
-    match read_monitor(alloc, &bytes) {
-        Ok(found) => Ok(found),
-        Err(SourceFault::OutOfMemory) => Err(Status::OutOfMemory),
-        Err(fault) => Err(show_fault(file, &bytes, fault, out)),
-    }
+    let bytes = bytes_of(alloc, file, files, out)?;
+    monitor_in(alloc, file, &bytes, out)
 }
 
 /// A monitor, and what its clients call.
@@ -56,45 +103,6 @@ pub(crate) fn monitor_of<F: Files, S: Sink>(
 pub(crate) struct Input {
     pub monitor: Monitor,
     pub scripts: Scripts,
-}
-
-/// Why two files are no monitor and its clients.
-#[derive(Clone, Copy, Debug, Drop, Error)]
-enum InputFault {
-    /// The first fault of the monitor file.
-    #[error("the monitor: {0:?}")]
-    Monitor(SourceFault),
-    /// The first fault of the client file.
-    #[error("the clients: {0:?}")]
-    Clients(SourceFault),
-    #[error("out of memory")]
-    OutOfMemory,
-}
-
-impl From<SourceFault> for InputFault {
-    ghost from_gives = { λ fault made. made ≡ fault_of_input fault };
-
-    fn from(fault: SourceFault) -> InputFault {
-        match fault {
-            SourceFault::OutOfMemory => InputFault::OutOfMemory,
-            fault => InputFault::Monitor(fault),
-        }
-    }
-}
-
-/// What the bytes of the two files stand for.
-fn read_input(alloc: Global, monitor: &[u8], clients: &[u8]) -> Result<Input, InputFault>
-    ensures input { IfOk result (λ input. IsInput monitor.now clients.now input) }
-    ensures fits { IfOk result (λ input. FitsScripts input.monitor input.scripts) }
-    ensures fault { IfErr result (λ fault. HasInputCause monitor.now clients.now fault) }
-{
-    let monitor = read_monitor(alloc, monitor)?.monitor;
-    let scripts = match read_clients(alloc, clients, &monitor) {
-        Ok(scripts) => scripts,
-        Err(SourceFault::OutOfMemory) => return Err(InputFault::OutOfMemory),
-        Err(fault) => return Err(InputFault::Clients(fault)),
-    };
-    Ok(Input { monitor, scripts })
 }
 
 /// Reads both files, the monitor first. Where there are no monitor and clients, the status of their command: the line
@@ -120,18 +128,12 @@ pub(crate) fn input_of<F: Files, S: Sink>(
 {
     one_spelling();
     derives_one_tree();
-    let monitor_bytes = match bytes_of(alloc, monitor, files, out) {
-        Ok(bytes) => bytes,
-        Err(status) => return Err(status),
-    };
-    let clients_bytes = match bytes_of(alloc, clients, files, out) {
-        Ok(bytes) => bytes,
-        Err(status) => return Err(status),
-    };
-    match read_input(alloc, &monitor_bytes, &clients_bytes) {
-        Ok(input) => Ok(input),
-        Err(InputFault::Monitor(fault)) => Err(show_fault(monitor, &monitor_bytes, fault, out)),
-        Err(InputFault::Clients(fault)) => Err(show_fault(clients, &clients_bytes, fault, out)),
-        Err(InputFault::OutOfMemory) => Err(Status::OutOfMemory),
-    }
+    let monitor_bytes = bytes_of(alloc, monitor, files, out)?;
+    let clients_bytes = bytes_of(alloc, clients, files, out)?;
+    let found = monitor_in(alloc, monitor, &monitor_bytes, out)?;
+    let scripts = scripts_in(alloc, clients, &clients_bytes, &found.monitor, out)?;
+    Ok(Input {
+        monitor: found.monitor,
+        scripts,
+    })
 }

@@ -22,7 +22,6 @@ mod program;
 mod reading;
 mod run;
 mod simulate;
-mod source_fault;
 mod status;
 mod stress;
 mod text;

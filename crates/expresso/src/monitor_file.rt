@@ -1,10 +1,11 @@
 //! From the bytes of a monitor file to its tree and its monitor.
 
-ghost use Rattle.std.specs.Prelude.{◌≡◌, IfErr, IfOk};
-ghost use Rattle.expresso.specs.MonitorFiles.{HasMonitorCause, IsAccepted};
+ghost use Rattle.std.specs.Prelude.{◌≤◌, IfErr, IfOk, length};
+ghost use Rattle.mon_base.specs.Limits.{FILE_BYTES};
+ghost use Rattle.expresso.specs.MonitorFiles.{IsAccepted, IsFirstOfMonitor};
+ghost use Rattle.expresso.specs.inner.Input.{HasCause};
 
-use crate::source_fault::SourceFault;
-use mon_base::limits::FILE_BYTES;
+use mon_base::SourceError;
 use mon_monitor::Monitor;
 use mon_syntax::parse_monitor;
 use mon_tokens::tokens;
@@ -23,14 +24,12 @@ pub(crate) struct MonitorFile {
 ///
 /// # Errors
 ///
-/// The first fault of the bytes, by their size, their tokens, the grammar and the rules; or out of memory.
-pub(crate) fn read_monitor(alloc: Global, bytes: &[u8]) -> Result<MonitorFile, SourceFault>
+/// The first fault of the bytes, by their tokens, the grammar and the rules; or out of memory.
+pub(crate) fn read_monitor(alloc: Global, bytes: &[u8]) -> Result<MonitorFile, SourceError>
+    requires { length bytes.now ≤ FILE_BYTES }
     ensures accepted { IfOk result (λ file. IsAccepted bytes.now file.tree file.monitor) }
-    ensures fault { IfErr result (λ fault. HasMonitorCause bytes.now fault) }
+    ensures fault { IfErr result (HasCause (IsFirstOfMonitor bytes.now)) }
 {
-    if bytes.len() > FILE_BYTES {
-        return Err(SourceFault::TooLong);
-    }
     let tokens = tokens(alloc, bytes)?;
     let tree = parse_monitor(alloc, bytes, &tokens)?;
     let monitor = check(alloc, &tree)?;

@@ -1,28 +1,26 @@
 //! What the program itself prints, written whole to a sink and handed on, with the status that it comes to.
 //! No writer takes memory.
 
-ghost use Rattle.std.specs.Prelude.{◌≡◌, ◌≢◌, ℕ, List};
+ghost use Rattle.std.specs.Prelude.{◌≡◌, ℕ, List};
 ghost use Rattle.mon_io.specs.Outside.{SinkSeen};
 ghost use Rattle.mon_io.specs.Writing.{Wrote};
 ghost use Rattle.mon_events.specs.Logs.{IsClosed, commits_of};
 ghost use Rattle.mon_events.specs.PlanText.{plan_text};
 ghost use Rattle.mon_printer.specs.Canonical.{tree_text};
-ghost use Rattle.mon_text.specs.FaultText.{unread_text};
-ghost use Rattle.mon_text.specs.Faults.{fault_text};
+ghost use Rattle.mon_text.specs.FaultText.{place_text, too_long_text, unread_text};
 ghost use Rattle.mon_text.specs.LogText.{are_done};
 ghost use Rattle.mon_text.specs.TurnsText.{turns_text};
 ghost use Rattle.mon_text.specs.Laws.{plan_and_log_text};
 ghost use Rattle.mon_text.specs.SummaryText.{summary_text};
-ghost use Rattle.expresso.specs.SourceFaults.{source_fault_text};
 ghost use Rattle.expresso.specs.Texts.{usage_text};
 ghost use Rattle.expresso.specs.inner.Ending.{IsWritten, ended};
 
-use crate::source_fault::SourceFault;
 use crate::status::Status;
+use mon_base::SourceFault;
 use mon_events::Plan;
 use mon_explicit::FreeMonitor;
 use mon_implicit::{Scripts, Turns};
-use mon_io::{Sink, SinkFailed, write_piece};
+use mon_io::{Sink, SinkFailed, write_pieces};
 use mon_monitor::Monitor;
 use mon_printer::print_monitor;
 use mon_text::{Fault, are_done, write_fault, write_log, write_plan, write_summary, write_turns};
@@ -47,8 +45,16 @@ fn finish<S: Sink>(status: Status, outcome: Result<(), SinkFailed>, out: &mut S)
 pub(crate) fn show_usage<S: Sink>(out: &mut S) -> Status
     ensures { IsWritten Status.Usage usage_text result (S.seen out.old) (S.seen out.new) }
 {
-    let outcome = write_piece(
-        b"usage:\nexpresso check FILE\nexpresso turns FILE CLIENTS\nexpresso compile FILE\nexpresso simulate FILE CLIENTS [--seed N] [--spurious K]\nexpresso run FILE CLIENTS [--workers N]\nexpresso stress N [--workers N]\n",
+    let outcome = write_pieces(
+        &[
+            b"usage:\n",
+            b"expresso check FILE\n",
+            b"expresso turns FILE CLIENTS\n",
+            b"expresso compile FILE\n",
+            b"expresso simulate FILE CLIENTS [--seed N] [--spurious K]\n",
+            b"expresso run FILE CLIENTS [--workers N]\n",
+            b"expresso stress N [--workers N]\n",
+        ],
         out,
     );
     finish(Status::Usage, outcome, out)
@@ -63,36 +69,26 @@ pub(crate) fn show_unread<S: Sink>(file: &str, out: &mut S) -> Status
     finish(Status::ReadFault, outcome, out)
 }
 
-/// The fault of a file as one that is printed.
-fn shown_fault<'a>(file: &'a str, bytes: &'a [u8], fault: SourceFault) -> Fault<'a>
-    requires { fault ≢ SourceFault.OutOfMemory }
-    ensures { fault_text result ≡ source_fault_text file.now bytes.now fault }
+/// Writes the line of a file that is too long.
+pub(crate) fn show_too_long<S: Sink>(file: &str, out: &mut S) -> Status
+    ensures { IsWritten Status.Refused (too_long_text file.now) result
+        (S.seen out.old) (S.seen out.new) }
 {
-    match fault {
-        SourceFault::TooLong => Fault::TooLong { file },
-        SourceFault::At { at, what } => Fault::Place {
-            file,
-            bytes,
-            at,
-            what,
-        },
-        SourceFault::OutOfMemory => unreachable!(),
-    }
+    let outcome = write_fault(&Fault::TooLong { file }, out);
+    finish(Status::Refused, outcome, out)
 }
 
-/// Writes the line of a file's fault.
+/// Writes the line of a file's fault, with its place.
 pub(crate) fn show_fault<S: Sink>(
     file: &str,
     bytes: &[u8],
     fault: SourceFault,
     out: &mut S,
 ) -> Status
-    requires { fault ≢ SourceFault.OutOfMemory }
-    ensures { IsWritten Status.Refused (source_fault_text file.now bytes.now fault) result
+    ensures { IsWritten Status.Refused (place_text file.now bytes.now fault) result
         (S.seen out.old) (S.seen out.new) }
 {
-    let shown = shown_fault(file, bytes, fault);
-    let outcome = write_fault(&shown, out);
+    let outcome = write_fault(&Fault::Place { file, bytes, fault }, out);
     finish(Status::Refused, outcome, out)
 }
 

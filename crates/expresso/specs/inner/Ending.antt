@@ -37,6 +37,13 @@ IsUnread file files files_now status out out_now =
     ⊎ (Rises files.faults files_now.faults
     × IsWritten statuses.ReadFault (unread_text file) status out out_now)
 
+-- A file is none that is accepted: memory ran out and nothing was written, or a line was written
+-- that refuses it.
+abbrev pub IsTurnedAway : (List ℕ → Type 0) → Status → SinkSeen → SinkSeen → Type 0
+IsTurnedAway IsLine status out out_now =
+    ((status ≡ statuses.OutOfMemory) × (out_now ≡ out))
+    ⊎ ((text : List ℕ) × IsLine text × IsWritten statuses.Refused text status out out_now)
+
 -- the status of a run
 abbrev pub ended : Bool → Status
 ended true = statuses.Done

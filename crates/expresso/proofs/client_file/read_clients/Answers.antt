@@ -1,8 +1,10 @@
-use Rattle.std.proofs.Common.{List, arith, subst, sym}
+use Rattle.std.proofs.Common.{List, subst, sym}
 use Rattle.std.proofs.lemmas.Result.{err_from_is_err_and}
 use Rattle.mon_tokens.specs.declared.token.Token.{Token}
 use Rattle.mon_tokens.specs.Spelling.{Spells}
-use Rattle.expresso.proofs.ClientFaults.{parser_cause, rule_cause}
+use Rattle.mon_syntax.specs.ClientGrammar.{IsClientFile}
+use Rattle.mon_script.specs.Faults.{faults_of}
+use Rattle.expresso.proofs.FirstFaults.{broken_cause, stuck_cause, unfit_cause}
 use Rattle.expresso.proofs.client_file.read_clients.Goals as goal
 
 pub clients-requires : goal.clients-requires
@@ -12,14 +14,19 @@ clients-requires c = record {
       (subst (λ (t : List Token). Spells c.args.bytes.now t) (sym c.deref.ensures.value) c.in_ok-tokens.ensures.spelled) c.in_ok-tree.ensures.derived;
 }
 
+pub returns-in_err-tokens-clause-fault : goal.returns-in_err-tokens-clause-fault
+returns-in_err-tokens-clause-fault c =
+    let returned = err_from_is_err_and c.from_residual.result c.from_residual.ensures.1 in
+    rw (returned.1, returned.2) (stuck_cause IsClientFile (faults_of c.args.monitor.now) c.args.bytes.now c.in_err-tokens.field-0.0 c.requires c.in_err-tokens.ensures.stuck)
+
 pub returns-in_err-tree-clause-fault : goal.returns-in_err-tree-clause-fault
 returns-in_err-tree-clause-fault c =
     let returned = err_from_is_err_and c.from_residual-in_err-tree.result c.from_residual-in_err-tree.ensures.1 in
-    rw (returned.1) (parser_cause c.args.monitor.now c.args.bytes.now c.in_ok-tokens.tokens.items c.deref.result.now c.in_err-tree.field-0.0 returned.0 returned.2 (omega arith)
+    rw (returned.1, returned.2) (unfit_cause IsClientFile (faults_of c.args.monitor.now) c.args.bytes.now c.in_ok-tokens.tokens.items c.deref.result.now c.in_err-tree.field-0.0 c.requires
     c.in_ok-tokens.ensures.spelled c.deref.ensures.value c.in_err-tree.ensures.complete c.in_err-tree.ensures.place)
 
 pub returns-in_err-scripts-clause-fault : goal.returns-in_err-scripts-clause-fault
 returns-in_err-scripts-clause-fault c =
     let returned = err_from_is_err_and c.from_residual-in_err-scripts.result c.from_residual-in_err-scripts.ensures.1 in
-    rw (returned.1) (rule_cause c.args.monitor.now c.args.bytes.now c.in_ok-tokens.tokens.items c.deref.result.now c.in_ok-tree.tree c.in_err-scripts.field-0.0 returned.0 returned.2 (omega arith)
+    rw (returned.1, returned.2) (broken_cause IsClientFile (faults_of c.args.monitor.now) c.args.bytes.now c.in_ok-tokens.tokens.items c.deref.result.now c.in_ok-tree.tree c.in_err-scripts.field-0.0 c.requires
     c.in_ok-tokens.ensures.spelled c.deref.ensures.value c.in_ok-tree.ensures.derived c.in_err-scripts.ensures.fault)
