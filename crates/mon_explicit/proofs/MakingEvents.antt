@@ -18,17 +18,20 @@ use Rattle.mon_implicit.proofs.Schedule.{call_number_small}
 use Rattle.mon_events.specs.declared.plan.Note.{Note}
 use Rattle.mon_events.specs.declared.plan.Plan.{Plan}
 use Rattle.mon_events.specs.declared.event.Event.TheVariants as events
+use Rattle.mon_explicit.specs.declared.config.Tested.{Tested}
 use Rattle.mon_explicit.specs.declared.position.Doing.{Doing}
 use Rattle.mon_explicit.specs.declared.position.Doing.TheVariants as doings
 use Rattle.mon_explicit.specs.declared.position.Position.{Position}
 use Rattle.mon_events.specs.Plans.{notes_at}
 use Rattle.mon_events.specs.Configurations.{System, Phase, Standing, StandsAt, put, call_at, guard_of, block_condition, waited_condition, notes_of}
 use Rattle.mon_events.specs.Configurations.Phase.{Waiting, Inside, Notifying}
-use Rattle.mon_events.specs.Events.{IsEvent, notes_after}
+use Rattle.mon_events.specs.Events.{IsEvent, Runs, notes_after}
 use Rattle.mon_events.specs.Pending.{IsSystem, is_idle}
 use Rattle.mon_explicit.specs.Machines.{Machine, IsMachine, NotAllowed}
 use Rattle.mon_explicit.specs.inner.Positions.{phase_of, standing_of, machine_of, made_of, done_in, calls_left, PositionAt, doing_after, HasFinished}
+use Rattle.mon_explicit.specs.inner.Waiting.{IsInside, IsTested}
 use Rattle.mon_events.proofs.Facing.{all_at, at_index, calls_fit, is_some_and}
+use Rattle.mon_events.proofs.Standings.{one_past, put_same, stands_within}
 use Rattle.mon_explicit.proofs.Making.{position_stands, standing_position, map_put, one_past_made}
 
 inside_doing : (plan : Plan) (doing : Doing) → phase_of plan doing ≡ Inside → doing ≡ doings.Inside
@@ -170,11 +173,12 @@ waits monitor plan clients state owner commits positions client past condition c
   },
 )
 
-pub waits_not : (monitor : MonitorParts) (plan : Plan) (clients : List Client) (state : List Value) (owner : Option ℕ) (commits : List Commit) (positions : List Position) (client : ℕ)
-    → ((past : ℕ) → PositionAt positions client past doings.Inside → guard_of (record { monitor = monitor; plan = plan; clients = clients }) state client past ≡ false → ⊥)
-    → NotAllowed (machine_of monitor plan clients state owner commits positions) (events.Wait client)
-waits_not monitor plan clients state owner commits positions client never next happens =
-    never happens.0 (inside_made plan positions client happens.0 happens.1.inside) happens.1.guard
+-- a client inside that waits now, waits on its condition
+pub waits_now : (plan : Plan) (positions : List Position) (client past condition : ℕ) → StandsAt (map (standing_of plan) positions) client past Inside
+    → StandsAt (map (standing_of plan) (set positions client (record { past = past; doing = doings.Waiting condition }))) client past (Waiting condition)
+waits_now plan positions client past condition inside =
+    subst (λ (standings : List Standing). StandsAt standings client past (Waiting condition)) (sym (map_put plan positions client past (doings.Waiting condition)))
+    (put_same (map (standing_of plan) positions) client past (Waiting condition) (stands_within (map (standing_of plan) positions) client past Inside inside))
 
 notes_next : (monitor : MonitorParts) (plan : Plan) (clients : List Client) (client past block condition : ℕ) (call : Call) (reply : Reply)
     → call_at (record { monitor = monitor; plan = plan; clients = clients }) client past ≡ Some call → block ≡ call.method → condition ≡ block_condition monitor call.method
@@ -194,28 +198,36 @@ doing_made block condition (replies.Bool truth) = refl
 pub runs : (monitor : MonitorParts) (plan : Plan) (clients : List Client) (state : List Value) (owner : Option ℕ) (commits : List Commit) (positions : List Position) (client past block condition : ℕ) (call : Call) (reply : Reply) (next : List Value)
     → PositionAt positions client past doings.Inside → call_at (record { monitor = monitor; plan = plan; clients = clients }) client past ≡ Some call
     → IsImplicitStep monitor call.method call.inputs state reply next → block ≡ call.method → condition ≡ block_condition monitor call.method
-    → IsEvent (record { monitor = monitor; plan = plan; clients = clients }) (events.Run client) (machine_of monitor plan clients state owner commits positions).now
+    → Runs (record { monitor = monitor; plan = plan; clients = clients }) client past reply next (machine_of monitor plan clients state owner commits positions).now
     (machine_of monitor plan clients next owner (commits ++ record { client = client; call = past + 1; reply = reply } ∷ []) (set positions client (record { past = past; doing = doing_after block condition reply }))).now
-runs monitor plan clients state owner commits positions client past block condition call reply next at is step same conditions = (
-  past,
-  reply,
-  next,
-  record {
-    inside = position_stands plan positions client past doings.Inside at;
-    step = subst (λ (one : Option Call). IsSomeAnd one (λ call. IsImplicitStep monitor call.method call.inputs state reply next)) (sym is) step;
-    becomes = ap (λ (standings : List Standing). record { state = next; owner = owner; commits = commits ++ record { client = client; call = past + 1; reply = reply } ∷ []; standings = standings })
-        (map_put plan positions client past (doing_after block condition reply)
-        ∙ ap (put (map (standing_of plan) positions) client past) (notes_next monitor plan clients client past block condition call reply is same conditions));
-  },
-)
+runs monitor plan clients state owner commits positions client past block condition call reply next at is step same conditions = record {
+  inside = position_stands plan positions client past doings.Inside at;
+  step = subst (λ (one : Option Call). IsSomeAnd one (λ call. IsImplicitStep monitor call.method call.inputs state reply next)) (sym is) step;
+  becomes = ap (λ (standings : List Standing). record { state = next; owner = owner; commits = commits ++ record { client = client; call = past + 1; reply = reply } ∷ []; standings = standings })
+      (map_put plan positions client past (doing_after block condition reply)
+      ∙ ap (put (map (standing_of plan) positions) client past) (notes_next monitor plan clients client past block condition call reply is same conditions));
+}
 
-pub runs_not : (monitor : MonitorParts) (plan : Plan) (clients : List Client) (state : List Value) (owner : Option ℕ) (commits : List Commit) (positions : List Position) (client : ℕ)
-    → ((past : ℕ) → PositionAt positions client past doings.Inside → guard_of (record { monitor = monitor; plan = plan; clients = clients }) state client past ≡ true → ⊥)
-    → NotAllowed (machine_of monitor plan clients state owner commits positions) (events.Run client)
-runs_not monitor plan clients state owner commits positions client never next happens =
-    let system = Told monitor plan clients in
-    let found = is_some_and (call_at system client happens.0) (λ (one : Call). IsImplicitStep monitor one.method one.inputs state happens.1 happens.2) happens.3.step in
-    never happens.0 (inside_made plan positions client happens.0 happens.3.inside) (guard_at system state client happens.0 found.0 found.1 ∙ found.2.guard)
+-- ---- a client that is tested
+
+pub waits_not : (machine : Machine) (client : ℕ) (tested : Tested) → IsTested machine client tested → tested.guard ≡ true → NotAllowed machine (events.Wait client)
+waits_not machine client tested is holds next happens =
+    let same = one_past machine.now.standings client tested.past happens.0 Inside Inside is.0 happens.1.inside in
+    true≢false (sym holds ∙ is.1 ∙ ap (guard_of machine.system machine.now.state client) same ∙ happens.1.guard)
+
+pub none_waits_inside : (machine : Machine) (client : ℕ) → (IsInside machine client → ⊥) → NotAllowed machine (events.Wait client)
+none_waits_inside machine client never next happens = never (happens.0, happens.1.inside)
+
+pub runs_not : (machine : Machine) (client : ℕ) (tested : Tested) → IsTested machine client tested → tested.guard ≡ false → NotAllowed machine (events.Run client)
+runs_not machine client tested is fails next happens =
+    let system = machine.system in
+    let found = is_some_and (call_at system client happens.0) (λ (one : Call). IsImplicitStep system.monitor one.method one.inputs machine.now.state happens.1 happens.2) happens.3.step in
+    let same = one_past machine.now.standings client tested.past happens.0 Inside Inside is.0 happens.3.inside in
+    let held : guard_of system machine.now.state client happens.0 ≡ true = guard_at system machine.now.state client happens.0 found.0 found.1 ∙ found.2.guard in
+    true≢false (sym held ∙ sym (ap (guard_of system machine.now.state client) same) ∙ sym is.1 ∙ fails)
+
+pub none_runs_inside : (machine : Machine) (client : ℕ) → (IsInside machine client → ⊥) → NotAllowed machine (events.Run client)
+none_runs_inside machine client never next happens = never (happens.0, happens.3.inside)
 
 -- ---- who is inside
 
@@ -223,9 +235,6 @@ pub guard_here : (system : System) (state : List Value) (client past other : ℕ
     → call_at system client past ≡ Some call → guard_of system state client other ≡ guard_truth system.monitor state call.method call.inputs
 guard_here system state client past other positions call at also is =
     ap (guard_of system state client) (sym (one_past_made positions client past other doings.Inside doings.Inside at also)) ∙ guard_at system state client past call is
-
-pub not_both_here : (b : Bool) → b ≡ true → b ≡ false → ⊥
-not_both_here b held fails = true≢false (sym held ∙ fails)
 
 -- ---- a client that has positions all its notes
 

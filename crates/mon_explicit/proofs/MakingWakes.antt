@@ -19,9 +19,9 @@ use Rattle.mon_explicit.specs.declared.notes.Next.{Next}
 use Rattle.mon_events.specs.Configurations.{System, Phase, Standing, Configuration, StandsAt, put}
 use Rattle.mon_events.specs.Configurations.Phase.{Waiting, Woken, Notifying}
 use Rattle.mon_events.specs.Events.{waking, wake_all, waits_on, fires, Wakes, NoneWaits, IsEvent}
-use Rattle.mon_explicit.specs.Machines.{NotAllowed}
+use Rattle.mon_explicit.specs.Machines.{Machine, NotAllowed}
 use Rattle.mon_explicit.specs.inner.Positions.{phase_of, standing_of, machine_of, done_in, calls_left, PositionAt, HasNoNext, IsNext, fires_in, doing_waits, position_waits, waking_position}
-use Rattle.mon_explicit.specs.inner.Waiting.{Passes}
+use Rattle.mon_explicit.specs.inner.Waiting.{IsComing, NoneComes, Passes}
 use Rattle.mon_events.proofs.Standings.{one_phase, waits_is}
 use Rattle.mon_explicit.proofs.Making.{position_stands, standing_position, map_put, position_within, room_kept}
 use Rattle.mon_explicit.proofs.MakingEvents.{waiting_made, notifying_made}
@@ -133,11 +133,25 @@ same_note standings client past other note others_note more others_more at also 
     first_of_same : Notifying (note ∷ more) ≡ Notifying (others_note ∷ others_more) → note ≡ others_note
     first_of_same same = cc same
 
-pub notifies_not_at_all : (monitor : MonitorParts) (plan : Plan) (clients : List Client) (state : List Value) (owner : Option ℕ) (commits : List Commit) (positions : List Position) (client : ℕ) (target : Option ℕ)
-    → HasNoNext plan positions client → NotAllowed (machine_of monitor plan clients state owner commits positions) (events.Notify client target)
-notifies_not_at_all monitor plan clients state owner commits positions client target never next (past, event) =
-    let found = standing_position plan positions client past (Notifying (event.note ∷ event.more)) event.notifying in
-    never past found.0 event.note event.more found.1 found.2
+-- the same of the machine
+pub coming_made : (monitor : MonitorParts) (plan : Plan) (clients : List Client) (state : List Value) (owner : Option ℕ) (commits : List Commit) (positions : List Position) (client : ℕ) (next : Next)
+    → IsComing (machine_of monitor plan clients state owner commits positions) client next → IsNext plan positions client next
+coming_made monitor plan clients state owner commits positions client next is =
+    let found = standing_position plan positions client next.past (Notifying (next.note ∷ is.more)) is.at in
+    record { doing = found.0; more = is.more; at = found.1; first = found.2; then_more = is.then_more; source = is.source }
+
+pub made_coming : (monitor : MonitorParts) (plan : Plan) (clients : List Client) (state : List Value) (owner : Option ℕ) (commits : List Commit) (positions : List Position) (client : ℕ) (next : Next)
+    → IsNext plan positions client next → IsComing (machine_of monitor plan clients state owner commits positions) client next
+made_coming monitor plan clients state owner commits positions client next is = record { more = is.more; at = stands_next plan positions client next is; then_more = is.then_more; source = is.source }
+
+pub none_comes : (monitor : MonitorParts) (plan : Plan) (clients : List Client) (state : List Value) (owner : Option ℕ) (commits : List Commit) (positions : List Position) (client : ℕ)
+    → HasNoNext plan positions client → NoneComes (machine_of monitor plan clients state owner commits positions) client
+none_comes monitor plan clients state owner commits positions client never past note more at =
+    let found = standing_position plan positions client past (Notifying (note ∷ more)) at in
+    never past found.0 note more found.1 found.2
+
+pub none_notifies : (machine : Machine) (client : ℕ) (target : Option ℕ) → NoneComes machine client → NotAllowed machine (events.Notify client target)
+none_notifies machine client target never next (past, event) = never past event.note event.more event.notifying
 
 -- ---- each waiter is woken
 
@@ -169,23 +183,6 @@ room_broadcast plan clients positions client next is =
 
 -- ---- a note that passes
 
-pub passes : (monitor : MonitorParts) (plan : Plan) (clients : List Client) (state : List Value) (owner : Option ℕ) (commits : List Commit) (positions : List Position) (client : ℕ) (next : Next)
-    → IsNext plan positions client next → (fires_in monitor state next.note ≡ false) ⊎ ((next.note.all ≡ false) × NoneWaits (map (standing_of plan) positions) next.note.condition)
-    → IsEvent (record { monitor = monitor; plan = plan; clients = clients }) (events.Notify client None) (machine_of monitor plan clients state owner commits positions).now
-    (machine_of monitor plan clients state owner commits (set positions client (record { past = next.past; doing = next.rest }))).now
-passes monitor plan clients state owner commits positions client next is nobody = (
-  next.past,
-  record {
-    note = next.note;
-    more = is.more;
-    woken = map (standing_of plan) positions;
-    notifying = stands_next plan positions client next is;
-    wakes = inr (record { nobody = nobody; becomes = refl });
-    becomes = ap (λ (standings : List Standing). record { state = state; owner = owner; commits = commits; standings = standings })
-        (map_put plan positions client next.past next.rest ∙ ap (put (map (standing_of plan) positions) client next.past) is.then_more);
-  },
-)
-
 pub room_next : (plan : Plan) (clients : List Client) (positions : List Position) (client : ℕ) (next : Next) → IsNext plan positions client next
     → calls_left clients (set positions client (record { past = next.past; doing = next.rest })) ≡ calls_left clients positions
 room_next plan clients positions client next is =
@@ -212,12 +209,6 @@ wakes_nobody system c note false all fires_not is why = inr (record { nobody = i
 wakes_nobody system c note true all fired is (inl fires_not) = absurd (true≢false (sym fired ∙ fires_not))
 wakes_nobody system c note true true fired is (inr none) = inl (record { fired = fired; each = is; becomes = sym (wakes_none c.standings note.condition none) })
 wakes_nobody system c note true false fired is (inr none) = inr (record { nobody = inr (is, none); becomes = refl })
-
-pub has_next : (monitor : MonitorParts) (plan : Plan) (clients : List Client) (state : List Value) (owner : Option ℕ) (commits : List Commit) (positions : List Position) (client : ℕ)
-    → Passes (machine_of monitor plan clients state owner commits positions) client → HasNoNext plan positions client → ⊥
-has_next monitor plan clients state owner commits positions client passes never =
-    let found = standing_position plan positions client passes.0 (Notifying (passes.1 ∷ passes.2)) passes.3 in
-    never passes.0 found.0 passes.1 passes.2 found.1 found.2
 
 pub passed : (monitor : MonitorParts) (plan : Plan) (clients : List Client) (state : List Value) (owner : Option ℕ) (commits : List Commit) (positions : List Position) (client : ℕ) (next : Next)
     → Passes (machine_of monitor plan clients state owner commits positions) client → IsNext plan positions client next

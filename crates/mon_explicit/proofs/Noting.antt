@@ -15,34 +15,15 @@ use Rattle.mon_events.specs.Events.{Wakes, NoneWaits, IsEvent, fires, wake_all}
 use Rattle.mon_events.specs.Logs.{IsChosen}
 use Rattle.mon_events.specs.Logs.IsNotified.{all_made, one_made}
 use Rattle.mon_events.proofs.Standings.{put_same, put_length, woken_length, one_past, one_phase, stands_within, apart, stays, unwoken_stays}
-use Rattle.mon_explicit.specs.Machines.{Machine, NotAllowed, Happened}
-use Rattle.mon_explicit.specs.inner.Waiting.{KeepsWaits, HasNote, IsNotifying, IsFirst, IsFired, IsNotFired, IsTarget, Targets, NamesNobody, Passes, IsChosenBy, MadeNote, MadeNoteOf, MadeNotesOf, MadeSome, AreMaking, CountsNotes, AreBits, WokeThese}
+use Rattle.mon_explicit.specs.declared.notes.Next.{Next}
+use Rattle.mon_explicit.specs.Machines.{Machine, Happened}
+use Rattle.mon_explicit.specs.inner.Waiting.{KeepsWaits, HasNote, IsNotifying, IsFirst, IsFired, IsComing, IsTarget, Passes, IsChosenBy, MadeNote, MadeNoteOf, MadeNotesOf, MadeSome, AreMaking, CountsNotes, AreBits, WokeThese}
 use Rattle.mon_explicit.specs.inner.Rings.{line_of, IsLine, AreLines, HaveLines}
 use Rattle.mon_explicit.proofs.MakingWakes.{none_woken}
 use Rattle.mon_explicit.proofs.Lining.{WaitsAfter, Anyone, ButOne, ButOn, notifying_is_quiet, nobody_left, one_left, each_left, quiet_put, lines_kept, lines_cleared, lines_left, without_first}
 use Rattle.mon_explicit.proofs.Waking.{notifying_is_calm, woke_put, woke_nobody, woke_one, woke_each, woke_more}
 
--- ---- a note can be made
-
-nobody_is_woken : (machine : Machine) (note : Note) (fired all : Bool) → fires machine.system machine.now.state note ≡ fired → note.all ≡ all → NamesNobody machine note
-    → (woken : List Standing) × Wakes machine.system machine.now note None woken
-nobody_is_woken machine note false all fires_not is nobody = (machine.now.standings, inr (record { nobody = inl fires_not; becomes = refl }))
-nobody_is_woken machine note true true fired is nobody = (wake_all note.condition machine.now.standings, inl (record { fired = fired; each = is; becomes = refl }))
-nobody_is_woken machine note true false fired is (inl fires_not) = absurd (true≢false (sym fired ∙ fires_not))
-nobody_is_woken machine note true false fired is (inr (inl all)) = absurd (true≢false (sym all ∙ is))
-nobody_is_woken machine note true false fired is (inr (inr none)) = (machine.now.standings, inr (record { nobody = inr (is, none); becomes = refl }))
-
-some_wakes : (since : List ℕ) (machine : Machine) (note : Note) (target : Option ℕ) → IsTarget since machine note target → (woken : List Standing) × Wakes machine.system machine.now note target woken
-some_wakes since machine note None nobody = nobody_is_woken machine note (fires machine.system machine.now.state note) note.all refl refl nobody
-some_wakes since machine note (Some target) names = (
-  put machine.now.standings target names.first.past (Woken note.condition),
-  (names.first.past, record { fired = names.fired; one = names.one; waits = names.first.waits; becomes = refl }),
-)
-
-pub can_notify : (since : List ℕ) (machine : Machine) (client : ℕ) (target : Option ℕ) → HasNote machine client → Targets since machine client target → NotAllowed machine (events.Notify client target) → ⊥
-can_notify since machine client target has targets never =
-    let wakes = some_wakes since machine has.1 target (targets has.0 has.1 has.2 has.3) in
-    never _ (has.0, record { note = has.1; more = has.2; woken = wakes.0; notifying = has.3; wakes = wakes.1; becomes = refl })
+-- ---- whom a note names
 
 chosen_of : (since : List ℕ) (machine : Machine) (note : Note) (target : Option ℕ) → IsTarget since machine note target → IsChosenBy since machine target
 chosen_of since machine note None is = tt
@@ -204,28 +185,24 @@ made_note : (since : List ℕ) (client : ℕ) (before next : Machine) (note : No
 made_note since client before next note target names happened = (target, chosen_of since before note target names, happened)
 
 -- the first note does not fire
-pub unfired_made : (client : ℕ) (before next : Machine) (rings : List (List ℕ)) → HasNote before client → IsNotFired before client → Happened (events.Notify client None) before next → MadeNoteOf client before rings next rings 0
-unfired_made client before next rings has not_fired happened = λ since are.
-    let is_not = not_fired has.0 has.1 has.2 has.3 in
-    let woke = woke_for before next client has.0 has.1 has.2 None has.3 happened in (
-      made_note since client before next has.1 None (inl is_not) happened,
+pub unfired_made : (client : ℕ) (before next : Machine) (rings : List (List ℕ)) (one : Next) → IsComing before client one → fires before.system before.now.state one.note ≡ false → Happened (events.Notify client None) before next
+    → MadeNoteOf client before rings next rings 0
+unfired_made client before next rings one is not_fired happened = λ since are.
+    let woke = woke_for before next client one.past one.note is.more None is.at happened in
+    let same = none_woken before.system before.now one.note woke.woken (inl not_fired) woke.wakes in (
+      made_note since client before next one.note None (inl not_fired) happened,
       lines_kept since before.system next.system before.now.standings next.now.standings rings happened.0 woke.lengths
-          (after_note Anyone before next client has.1 None woke (nobody_left before.now.standings woke.woken (none_woken before.system before.now has.1 woke.woken (inl is_not) woke.wakes))) are,
-      nobody_woke before next client has.1 None woke (none_woken before.system before.now has.1 woke.woken (inl is_not) woke.wakes),
+          (after_note Anyone before next client one.note None woke (nobody_left before.now.standings woke.woken same)) are,
+      nobody_woke before next client one.note None woke same,
     )
 
-pub unfired_passes : (client : ℕ) (machine : Machine) → HasNote machine client → IsNotFired machine client → Passes machine client
-unfired_passes client machine has not_fired = (has.0, has.1, has.2, has.3, inl (not_fired has.0 has.1 has.2 has.3))
+pub unfired_passes : (client : ℕ) (machine : Machine) (one : Next) → IsComing machine client one → fires machine.system machine.now.state one.note ≡ false → Passes machine client
+unfired_passes client machine one is not_fired = (one.past, one.note, is.more, is.at, inl not_fired)
 
-fired_names : (since : List ℕ) (client : ℕ) (machine : Machine) (note : Note) (target : Option ℕ) → IsFired machine client note → IsTarget since machine note target → Targets since machine client target
-fired_names since client machine note target fired names past other more at =
-    subst (λ (one : Note). IsTarget since machine one target)
-    (same_first note other fired.1 more (one_phase machine.now.standings client fired.0 past (Notifying (note ∷ fired.1)) (Notifying (other ∷ more)) fired.2 at)) names
+pub fired_of : (client : ℕ) (machine : Machine) (one : Next) → IsComing machine client one → fires machine.system machine.now.state one.note ≡ true → IsFired machine client one.note
+fired_of client machine one is fired = (one.past, is.more, is.at, fired)
 
 -- a broadcast that fires
-pub broadcast_names : (since : List ℕ) (client : ℕ) (machine : Machine) (note : Note) → IsFired machine client note → note.all ≡ true → Targets since machine client None
-broadcast_names since client machine note fired all = fired_names since client machine note None fired (inr (inl all))
-
 pub broadcast_made : (client bits : ℕ) (before next : Machine) (rings : List (List ℕ)) (note : Note) → IsFired before client note → note.all ≡ true → AreBits (λ one. Contains (line_of rings note.condition) one) bits
     → Happened (events.Notify client None) before next → MadeNoteOf client before rings next (set rings note.condition []) bits
 broadcast_made client bits before next rings note fired all listed happened = λ since are.
@@ -285,9 +262,12 @@ first_named since machine rings note target are fired one first = record {
   first = first_is_first since machine.now.standings note.condition target (line_of rings note.condition) are.one_each (are.each note.condition) first;
 }
 
-pub signal_names : (since : List ℕ) (client : ℕ) (machine : Machine) (rings : List (List ℕ)) (note : Note) (target : ℕ) → AreLines since machine.system machine.now.standings rings → IsFired machine client note → note.all ≡ false
-    → slice_get (line_of rings note.condition) 0 ≡ Some target → Targets since machine client (Some target)
-signal_names since client machine rings note target are fired one first = fired_names since client machine note (Some target) fired (first_named since machine rings note target are fired.3 one first)
+-- it waits
+pub first_waits : (machine : Machine) (rings : List (List ℕ)) (condition target : ℕ) → HaveLines machine.system machine.now.standings rings → slice_get (line_of rings condition) 0 ≡ Some target
+    → (past : ℕ) × StandsAt machine.now.standings target past (Waiting condition)
+first_waits machine rings condition target lines first =
+    let is = first_is_first lines.0 machine.now.standings condition target (line_of rings condition) lines.1.one_each (lines.1.each condition) first in
+    (is.past, is.waits)
 
 pub signal_made : (client bits : ℕ) (before next : Machine) (rings : List (List ℕ)) (note : Note) (target : ℕ) → IsFired before client note → note.all ≡ false → slice_get (line_of rings note.condition) 0 ≡ Some target
     → Happened (events.Notify client (Some target)) before next → AreBits (λ other. other ≡ target) bits

@@ -15,7 +15,7 @@ use Rattle.mon_events.specs.Logs.IsSection.{waited, replied}
 use Rattle.mon_events.proofs.Standings.{put_same, put_length, one_past, one_phase, stands_within}
 use Rattle.mon_explicit.specs.Machines.{Machine, Happened}
 use Rattle.mon_explicit.specs.Sections.{IsWaiting}
-use Rattle.mon_explicit.specs.inner.Waiting.{IsSettled, NoneEnters, Started, KeepsWaits, AreBits, WasWoken, WokeThese, HasReplied, WentOn, MakesSection, IsNotifying, LastReplies, MadeNotes, MadeNotesOf, MakesSectionOf, WaitsOn, WentOnOf}
+use Rattle.mon_explicit.specs.inner.Waiting.{IsSettled, NoneEnters, Started, KeepsWaits, AreBits, WasWoken, WokeThese, HasReplied, WentOn, MakesSection, IsNotifying, HasRun, MadeNotes, MadeNotesOf, MakesSectionOf, WaitsOn, WentOnOf}
 use Rattle.mon_explicit.specs.inner.Rings.{line_of, AreLines, HaveLines, LinesAfter}
 use Rattle.mon_explicit.proofs.Came.{CameFrom, came_waited, came_replied}
 use Rattle.mon_explicit.proofs.Waking.{idle_is_calm, notifying_is_calm, woke_put, woken_since}
@@ -106,6 +106,9 @@ section_made since client at before locked next outcomes.Spurious settled starte
 
 -- ---- what came of a client inside
 
+pub ran_event : (client : ℕ) (before ran : Machine) (reply : Reply) → HasRun client before ran reply → Happened (events.Run client) before ran
+ran_event client before ran reply has = (has.0, (has.1.0, reply, has.1.1, has.1.2))
+
 pub ran_notifies : (client : ℕ) (before ran : Machine) → Happened (events.Run client) before ran → IsNotifying ran client
 ran_notifies client before ran happened =
     let past = happened.1.0 in
@@ -117,26 +120,23 @@ ran_notifies client before ran happened =
           (put_same before.now.standings client past (Notifying notes) (stands_within before.now.standings client past Inside runs.inside)),
     )
 
-pub replied_of : (since : List ℕ) (client : ℕ) (before ran notified next : Machine) (reply : Reply) → Happened (events.Run client) before ran → LastReplies ran.now.commits reply → MadeNotes since client ran notified
+pub replied_of : (since : List ℕ) (client : ℕ) (before ran notified next : Machine) (reply : Reply) → HasRun client before ran reply → MadeNotes since client ran notified
     → Happened (events.Unlock client) notified next → HasReplied since client before next reply
-unfolding ran_notifies
-replied_of since client before ran notified next reply happened last made unlocked =
-    let past = happened.1.0 in
-    let own_reply = happened.1.1 in
-    let runs = happened.1.3 in
-    let stands = ran_notifies client before ran happened in
+unfolding ran_notifies ran_event
+replied_of since client before ran notified next reply has made unlocked =
+    let past = has.1.0 in
+    let stands = ran_notifies client before ran (ran_event client before ran reply has) in
     let done = made.done past stands.1 stands.2 in
     let same_past = one_past notified.now.standings client unlocked.1.0 past (Notifying []) (Notifying []) unlocked.1.1.notifying done in
-    let same_reply : reply ≡ own_reply = last before.now.commits (record { client = client; call = past + 1; reply = own_reply }) (ap (λ (c : Configuration). c.commits) runs.becomes) in
     record {
-      system = unlocked.0 ∙ made.system ∙ happened.0;
+      system = unlocked.0 ∙ made.system ∙ has.0;
       past = past;
-      state = happened.1.2;
+      state = has.1.1;
       ran = ran.now;
       notified = notified.now;
-      runs = subst (λ (one : Reply). Runs before.system client past one happened.1.2 before.now ran.now) (sym same_reply) runs;
-      notes = λ log keeps. subst (λ (system : System). IsNotified system log client ran.now notified.now) happened.0
-          (made.notified log (subst (λ (system : System). KeepsWaits log system.clients since) (sym happened.0) keeps));
+      runs = has.1.2;
+      notes = λ log keeps. subst (λ (system : System). IsNotified system log client ran.now notified.now) has.0
+          (made.notified log (subst (λ (system : System). KeepsWaits log system.clients since) (sym has.0) keeps));
       unlocks = subst (λ (one : ℕ). Unlocks client one notified.now next.now) same_past unlocked.1.1;
     }
 
@@ -211,13 +211,12 @@ pub waited_length : (client : ℕ) (before next : Machine) → Happened (events.
 waited_length client before next happened =
     ap (λ (c : Configuration). length c.standings) happened.1.1.becomes ∙ put_length before.now.standings client happened.1.0 (Waiting (waited_condition before.system client happened.1.0))
 
-pub waited_told : (client condition : ℕ) (before ran next : Machine) (rings next_rings : List (List ℕ)) → ran ≡ before → Happened (events.Wait client) ran next → WaitsOn next client condition
+pub waited_told : (client condition : ℕ) (before next : Machine) (rings next_rings : List (List ℕ)) → Happened (events.Wait client) before next → WaitsOn next client condition
     → next_rings ≡ set rings condition (line_of rings condition ++ client ∷ []) → WentOnOf client before rings next next_rings outcomes.Waits
-waited_told client condition before ran next rings next_rings same happened on is since are =
-    let waits : Happened (events.Wait client) before next = subst (λ (m : Machine). Happened (events.Wait client) m next) same happened in (
-      waits,
-      subst (λ (some : List (List ℕ)). LinesAfter since next.system next.now.standings client outcomes.Waits some) (sym is) (waited_lines client condition before next rings waits on since are),
-    )
+waited_told client condition before next rings next_rings happened on is since are = (
+  happened,
+  subst (λ (some : List (List ℕ)). LinesAfter since next.system next.now.standings client outcomes.Waits some) (sym is) (waited_lines client condition before next rings happened on since are),
+)
 
 unlocked_woken : (client bits : ℕ) (before ran notified next : Machine) → Happened (events.Run client) before ran → WokeThese ran.now.standings notified.now.standings bits → Happened (events.Unlock client) notified next
     → AreBits (λ other. WasWoken before.now.standings next.now.standings other) bits
@@ -227,12 +226,13 @@ unlocked_woken client bits before ran notified next happened woke unlocked =
     let these = woke_put client (past + 1) past bits Idle (Notifying []) ran.now.standings notified.now.standings next.now.standings (ap standings_of unlocks.becomes) unlocks.notifying (notifying_is_calm []) idle_is_calm woke in
     woken_since before.now.standings ran.now.standings next.now.standings bits (ran_waits client before ran happened) these.woken
 
-pub replied_told : (client bits : ℕ) (before ran notified next : Machine) (rings notified_rings : List (List ℕ)) (reply : Reply) → Happened (events.Run client) before ran → LastReplies ran.now.commits reply
+pub replied_told : (client bits : ℕ) (before ran notified next : Machine) (rings notified_rings : List (List ℕ)) (reply : Reply) → HasRun client before ran reply
     → MadeNotesOf client ran rings notified notified_rings bits → Happened (events.Unlock client) notified next → WentOnOf client before rings next notified_rings (outcomes.Replies reply bits)
-replied_told client bits before ran notified next rings notified_rings reply happened last makes unlocked since are =
+replied_told client bits before ran notified next rings notified_rings reply has makes unlocked since are =
+    let happened = ran_event client before ran reply has in
     let made = makes since (ran_lines client before ran rings happened since are) in
     let woken = unlocked_woken client bits before ran notified next happened made.2 unlocked in (
-      (replied_of since client before ran notified next reply happened last made.0 unlocked, woken),
+      (replied_of since client before ran notified next reply has made.0 unlocked, woken),
       (λ place early. unlocked_lines client notified next notified_rings unlocked since made.1),
     )
 

@@ -5,10 +5,10 @@ use Rattle.mon_events.specs.declared.event.Event.TheVariants as events
 use Rattle.mon_events.specs.Configurations.{System, Configuration, StandsAt}
 use Rattle.mon_events.specs.Configurations.Phase.{Idle, Entering, Woken, Inside}
 use Rattle.mon_events.specs.Events.{Begins, Locks, WantsLock, IsEvent}
-use Rattle.std.specs.Prelude.{is_err, true, false, IfErr}
+use Rattle.std.specs.Prelude.{is_err, true, false}
 use Rattle.std.proofs.lemmas.Bool.{true≢false}
 use Rattle.mon_explicit.specs.Machines.{Machine, Happened, Refused, Steps, NotAllowed}
-use Rattle.mon_explicit.specs.inner.Waiting.{NoneEnters, Started, NotStarted, IsInside, CannotRun, CanWait, CanUnlock}
+use Rattle.mon_explicit.specs.inner.Waiting.{NoneEnters, Started, NotStarted, IsInside, CanUnlock}
 use Rattle.mon_events.proofs.Standings.{put_same, stands_within, one_past}
 
 -- a client that began enters, and the lock is as before
@@ -82,20 +82,9 @@ pub happened_when : {E : Type 0} (event : Event) (before next : Machine) (result
 happened_when event before next (Ok done) works steps = steps
 happened_when event before next (Err error) works steps = absurd (true≢false works)
 
-pub guard_when : {E : Type 0} (before : Machine) (client : ℕ) (result : Result (Unit {0}) E) → is_err result ≡ true → IfErr result (λ _. CannotRun before client) → CannotRun before client
-guard_when before client (Ok done) fails guard = absurd (true≢false (sym fails))
-guard_when before client (Err error) fails guard = guard
-
 pub started_when : {E : Type 0} (before next : Machine) (client : ℕ) (result : Result (Unit {0}) E) → is_err result ≡ false → MatchResult result (λ _. Started before client next) (λ _. NotStarted before client next) → Started before client next
 started_when before next client (Ok done) works told = told
 started_when before next client (Err error) works told = absurd (true≢false works)
 
-pub can_wait : (machine : Machine) (client : ℕ) → CanWait machine client → NotAllowed machine (events.Wait client) → ⊥
-can_wait machine client can never = never _ (can.0.0, record { inside = can.0.1; guard = can.1 can.0.0 can.0.1; becomes = refl })
-
 pub can_unlock : (machine : Machine) (client : ℕ) → CanUnlock machine client → NotAllowed machine (events.Unlock client) → ⊥
 can_unlock machine client can never = never _ (can.0, record { notifying = can.1; becomes = refl })
-
-pub refused_same : {E : Type 0} (event : Event) (before next : Machine) (result : Result (Unit {0}) E) → is_err result ≡ true → Steps event before next result → next ≡ before
-refused_same event before next (Ok done) fails steps = absurd (true≢false (sym fails))
-refused_same event before next (Err error) fails steps = steps.0

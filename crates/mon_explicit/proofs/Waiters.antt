@@ -15,53 +15,14 @@ use Rattle.mon_events.specs.declared.plan.Plan.{Plan}
 use Rattle.mon_events.specs.Configurations.{Phase, Standing, StandsAt, System, call_at, block_condition, waited_condition}
 use Rattle.mon_events.specs.Configurations.Phase.{Waiting, Notifying}
 use Rattle.mon_events.specs.declared.plan.Note.{Note}
-use Rattle.mon_events.specs.Events.{fires}
-use Rattle.mon_events.proofs.Standings.{one_phase}
 use Rattle.mon_events.specs.Logs.{rests}
 use Rattle.mon_explicit.specs.declared.position.Doing.{Doing}
 use Rattle.mon_explicit.specs.declared.position.Doing.TheVariants as doings
 use Rattle.mon_explicit.specs.declared.position.Position.{Position}
-use Rattle.mon_explicit.specs.declared.notes.Next.{Next}
 use Rattle.mon_explicit.specs.Machines.{Machine, IsMachine}
-use Rattle.mon_explicit.specs.inner.Positions.{phase_of, standing_of, HasNoNext, HasNotes, IsNext}
-use Rattle.mon_explicit.specs.inner.Waiting.{AllRest, doing_rests, position_rests, EachRests, IsFired, IsNotFired, WaitsOn, CountsNotes}
+use Rattle.mon_explicit.specs.inner.Positions.{phase_of, standing_of, HasNotes}
+use Rattle.mon_explicit.specs.inner.Waiting.{AllRest, doing_rests, position_rests, EachRests, WaitsOn, CountsNotes}
 use Rattle.mon_explicit.proofs.Making.{position_stands, standing_position}
-use Rattle.mon_explicit.proofs.MakingWakes.{stands_next}
-
--- ---- whom a note names
-
-note_in : Note → Phase → Note
-note_in other (Notifying (note ∷ more)) = note
-note_in other (Notifying []) = other
-note_in other phase = other
-
-same_notes : (note other : Note) (more others : List Note) → Notifying (note ∷ more) ≡ Notifying (other ∷ others) → note ≡ other
-unfolding note_in
-same_notes note other more others is = ap (note_in other) is
-
-not_fired_of : (machine : Machine) (client past : ℕ) (note : Note) (more : List Note) → StandsAt machine.now.standings client past (Notifying (note ∷ more)) → fires machine.system machine.now.state note ≡ false → IsNotFired machine client
-not_fired_of machine client past note more stands not_fired others_past other others at =
-    subst (λ (one : Note). fires machine.system machine.now.state one ≡ false)
-    (same_notes note other more others (one_phase machine.now.standings client past others_past (Notifying (note ∷ more)) (Notifying (other ∷ others)) stands at)) not_fired
-
-next_stands : (machine : Machine) (positions : List Position) (client : ℕ) (next : Next) → machine.now.standings ≡ map (standing_of machine.system.plan) positions
-    → (is : IsNext machine.system.plan positions client next) → StandsAt machine.now.standings client next.past (Notifying (next.note ∷ is.more))
-next_stands machine positions client next are is =
-    subst (λ (some : List Standing). StandsAt some client next.past (Notifying (next.note ∷ is.more))) (sym are) (stands_next machine.system.plan positions client next is)
-
-pub next_fired : (machine : Machine) (positions : List Position) (client : ℕ) (next : Next) → machine.now.standings ≡ map (standing_of machine.system.plan) positions
-    → IsNext machine.system.plan positions client next → fires machine.system machine.now.state next.note ≡ true → IsFired machine client next.note
-next_fired machine positions client next are is fired = (next.past, is.more, next_stands machine positions client next are is, fired)
-
-pub next_not_fired : (machine : Machine) (positions : List Position) (client : ℕ) (next : Next) → machine.now.standings ≡ map (standing_of machine.system.plan) positions
-    → IsNext machine.system.plan positions client next → fires machine.system machine.now.state next.note ≡ false → IsNotFired machine client
-next_not_fired machine positions client next are is not_fired = not_fired_of machine client next.past next.note is.more (next_stands machine positions client next are is) not_fired
-
-pub no_next_fired : (machine : Machine) (positions : List Position) (client : ℕ) → machine.now.standings ≡ map (standing_of machine.system.plan) positions
-    → HasNoNext machine.system.plan positions client → IsNotFired machine client
-no_next_fired machine positions client are none past note more at =
-    let found = standing_position machine.system.plan positions client past (Notifying (note ∷ more)) (subst (λ (some : List Standing). StandsAt some client past (Notifying (note ∷ more))) are at) in
-    absurd (none past found.0 note more found.1 found.2)
 
 -- ---- on which condition a client waits
 

@@ -1,21 +1,23 @@
 //! The event machine.
 
-ghost use Rattle.std.specs.Prelude.{◌≡◌, ◌<◌, ◌↔◌, IfErr, IfOk, IsSomeAnd, IsTrue, MatchOption, None, Some};
+ghost use Rattle.std.specs.Prelude.{◌≡◌, ◌<◌, ◌↔◌, ℕ, false, true, IfOk, IsSomeAnd, IsTrue, MatchOption, None, Some};
 ghost use Rattle.std.specs.Prelude.{length, map};
 ghost use Rattle.std.specs.Prelude.{slice_get};
 ghost use Rattle.mon_implicit.specs.Scripted.{FitsScripts};
+ghost use Rattle.mon_events.specs.Configurations.{StandsAt, guard_of};
+ghost use Rattle.mon_events.specs.Configurations.Phase.{Inside, Waiting};
+ghost use Rattle.mon_events.specs.Events.{fires};
 ghost use Rattle.mon_events.specs.Logs.{all_calls};
 ghost use Rattle.mon_events.specs.Plans.{FitsPlan};
 ghost use Rattle.mon_explicit.specs.Machines.{Happened, IsMachine, KeepsWakeUps, Steps};
 ghost use Rattle.mon_explicit.specs.Machines.{opened, stage_of};
 ghost use Rattle.mon_explicit.specs.inner.Positions.{idle_position};
-ghost use Rattle.mon_explicit.specs.Sections.{IsWaiting, can_start};
-ghost use Rattle.mon_explicit.specs.inner.Waiting.{CannotRun, CountsNotes, EachRests};
-ghost use Rattle.mon_explicit.specs.inner.Waiting.{HasCommit, LastReplies};
-ghost use Rattle.mon_explicit.specs.inner.Waiting.{IsFired, IsNotFired, Passes, WaitsOn};
+ghost use Rattle.mon_explicit.specs.Sections.{can_start};
+ghost use Rattle.mon_explicit.specs.inner.Waiting.{Comes, CountsNotes, EachRests, HasRun, IsComing, IsInside};
+ghost use Rattle.mon_explicit.specs.inner.Waiting.{IsTested, NoneComes, Passes, WaitsOn, WentIn};
 
 use super::calls::{all_calls, calls, holds, waited_condition};
-use super::notes::{count_notes, doing_after, finished, fires, next_note};
+use super::notes::{Next, count_notes, doing_after, finished, fires, next_note};
 use super::position::{
     Doing, Position, idle, inside, ready, some_waits, waiting, waiting_on, wake_all,
 };
@@ -31,6 +33,27 @@ use thiserror::Error;
 #[derive(Clone, Copy, Debug, Drop, PartialEq, Eq, Error)]
 #[error("the event isn't allowed now")]
 pub struct NotEnabled;
+
+/// A client inside: how many calls it is past, and whether the guard of its next is true.
+#[derive(Clone, Copy)]
+pub struct Tested {
+    pub past: u32,
+    pub guard: bool,
+}
+
+/// What a client inside does: it waits on a condition, or runs its block with a reply.
+#[derive(Clone, Copy)]
+pub enum Went {
+    Waits(u32),
+    Ran(Reply),
+}
+
+/// A client's first note to come, and whether it fires.
+#[derive(Clone, Copy)]
+pub struct Coming {
+    pub next: Next,
+    pub fires: bool,
+}
 
 /// A configuration of the explicit machine, and what it runs: a monitor, a plan for it, and what its clients call.
 #[derive(Drop)]
@@ -258,14 +281,6 @@ impl Config {
         all_rest(&self.scripts, &self.positions)
     }
 
-    /// The reply of the last commit.
-    pub(crate) fn last_reply(&self) -> Reply
-        requires { HasCommit self.now.now.commits }
-        ensures { LastReplies self.now.now.commits result }
-    {
-        self.commits[self.commits.len() - 1].reply
-    }
-
     /// How many notes of a client are to come.
     pub(crate) fn notes_left(&self, client: u32) -> usize
         ensures { CountsNotes self.now.now.standings client result }
@@ -273,30 +288,30 @@ impl Config {
         count_notes(&self.plan, &self.positions, client)
     }
 
-    /// The first note to come of a client, where it fires.
-    pub(crate) fn fired(&self, client: u32) -> Option<Note>
-        ensures { MatchOption result (IsNotFired self.now client)
-            (λ note. IsFired self.now client note) }
+    /// The first note to come of a client, and whether it fires.
+    pub(crate) fn coming(&self, client: u32) -> Option<Coming>
+        ensures comes { MatchOption result (NoneComes self.now client)
+            (λ coming. Comes self.now client coming) }
+        ensures rule { IsMachine self.now }
     {
         let Some(next) = next_note(&self.plan, &self.positions, client) else {
             return None;
         };
-        if !fires(&self.monitor, &self.state, next.note) {
-            return None;
-        }
-        Some(next.note)
+        let fires = fires(&self.monitor, &self.state, next.note);
+        Some(Coming { next, fires })
     }
 
-    /// The condition on which a client waits.
-    pub(crate) fn condition(&self, client: u32) -> u32
-        requires { IsWaiting self.now.now.standings client }
-        ensures waits { WaitsOn self.now client result }
-        ensures rule { IsMachine self.now }
+    /// Whether the guard of a client inside is true.
+    fn test(&self, client: u32) -> Option<Tested>
+        ensures { MatchOption result (IsInside self.now client → ⊥)
+            (λ tested. IsTested self.now client tested) }
     {
-        let Some((_past, condition)) = waiting(&self.positions, client) else {
-            unreachable!()
+        let Some(past) = inside(&self.positions, client) else {
+            return None;
         };
-        condition
+        let call = &calls(&self.scripts, client)[past as usize];
+        let guard = holds(&self.monitor, &self.state, call);
+        Some(Tested { past, guard })
     }
 
     /// An idle client with a call left enters.
@@ -334,38 +349,73 @@ impl Config {
         Ok(())
     }
 
-    /// A client inside whose guard is false gives the lock back and waits.
-    pub(crate) fn wait(&mut self, client: u32) -> Result<(), NotEnabled>
+    /// A client inside waits where its guard is false, and makes its step where it is true.
+    pub(crate) fn go_on(&mut self, client: u32) -> Went
+        requires { IsInside self.old client }
+        ensures { WentIn client self.old self.new result }
+    {
+        let Some(tested) = self.test(client) else {
+            unreachable!()
+        };
+        if tested.guard {
+            return Went::Ran(self.run_inside(client, tested.past));
+        }
+        Went::Waits(self.wait_inside(client, tested.past))
+    }
+
+    /// A client inside whose guard is false waits.
+    fn wait(&mut self, client: u32) -> Result<(), NotEnabled>
         ensures { Steps (Event.Wait client) self.old self.new result }
     {
-        let Some(past) = inside(&self.positions, client) else {
+        let Some(tested) = self.test(client) else {
             return Err(NotEnabled);
         };
-        let call = &calls(&self.scripts, client)[past as usize];
-        if holds(&self.monitor, &self.state, call) {
+        if tested.guard {
             return Err(NotEnabled);
         }
+        let _condition = self.wait_inside(client, tested.past);
+        Ok(())
+    }
+
+    /// A client inside whose guard is true makes its step.
+    fn run(&mut self, client: u32) -> Result<(), NotEnabled>
+        ensures { Steps (Event.Run client) self.old self.new result }
+    {
+        let Some(tested) = self.test(client) else {
+            return Err(NotEnabled);
+        };
+        if !tested.guard {
+            return Err(NotEnabled);
+        }
+        let _reply = self.run_inside(client, tested.past);
+        Ok(())
+    }
+
+    /// A client inside whose guard is false gives the lock back and waits; on which condition.
+    fn wait_inside(&mut self, client: u32, past: u32) -> u32
+        requires inside { StandsAt self.old.now.standings client past Inside }
+        requires guard { guard_of self.old.system self.old.now.state client past ≡ false }
+        ensures happened { Happened (Event.Wait client) self.old self.new }
+        ensures condition { WaitsOn self.new client result }
+        ensures rule { IsMachine self.new }
+    {
+        let call = &calls(&self.scripts, client)[past as usize];
         let condition = waited_condition(&self.monitor, call);
         self.owner = None;
         self.positions[client as usize] = Position {
             past,
             doing: Doing::Waiting(condition),
         };
-        Ok(())
+        condition
     }
 
-    /// A client inside whose guard is true makes its step.
-    pub(crate) fn run(&mut self, client: u32) -> Result<(), NotEnabled>
-        ensures steps { Steps (Event.Run client) self.old self.new result }
-        ensures guard { IfErr result (λ _. CannotRun self.old client) }
+    /// A client inside whose guard is true makes its step, with this reply.
+    fn run_inside(&mut self, client: u32, past: u32) -> Reply
+        requires inside { StandsAt self.old.now.standings client past Inside }
+        requires guard { guard_of self.old.system self.old.now.state client past ≡ true }
+        ensures { HasRun client self.old self.new result }
     {
-        let Some(past) = inside(&self.positions, client) else {
-            return Err(NotEnabled);
-        };
         let call = &calls(&self.scripts, client)[past as usize];
-        if !holds(&self.monitor, &self.state, call) {
-            return Err(NotEnabled);
-        }
         let block = first_block(&self.monitor, call);
         let condition = waited_condition(&self.monitor, call);
         let reply = run_block(&self.monitor, &mut self.state, block, call.inputs.items());
@@ -378,16 +428,50 @@ impl Config {
             past,
             doing: doing_after(block, condition, reply),
         };
-        Ok(())
+        reply
     }
 
     /// A client makes its first note to come, which wakes nobody.
-    pub(crate) fn pass(&mut self, client: u32)
-        requires { Passes self.old client }
+    pub(crate) fn pass(&mut self, client: u32, next: Next)
+        requires next { IsComing self.old client next }
+        requires nobody { Passes self.old client }
         ensures { Happened (Event.Notify client None) self.old self.new }
     {
-        let Some(next) = next_note(&self.plan, &self.positions, client) else {
+        self.positions[client as usize] = Position {
+            past: next.past,
+            doing: next.rest,
+        };
+    }
+
+    /// A client makes its first note to come, a broadcast that fires: it wakes each client that waits.
+    pub(crate) fn wake_each(&mut self, client: u32, next: Next)
+        requires next { IsComing self.old client next }
+        requires fires { fires self.old.system self.old.now.state next.note ≡ true }
+        requires each { next.note.all ≡ true }
+        ensures { Happened (Event.Notify client None) self.old self.new }
+    {
+        wake_all(&mut self.positions, next.note.condition);
+        self.positions[client as usize] = Position {
+            past: next.past,
+            doing: next.rest,
+        };
+    }
+
+    /// A client makes its first note to come, a signal that fires: it wakes this client, which waits.
+    pub(crate) fn wake_one(&mut self, client: u32, next: Next, target: u32)
+        requires next { IsComing self.old client next }
+        requires fires { fires self.old.system self.old.now.state next.note ≡ true }
+        requires one { next.note.all ≡ false }
+        requires waits { (past : ℕ)
+            × StandsAt self.old.now.standings target past (Waiting next.note.condition) }
+        ensures { Happened (Event.Notify client (Some target)) self.old self.new }
+    {
+        let Some(past) = waiting_on(&self.positions, target, next.note.condition) else {
             unreachable!()
+        };
+        self.positions[target as usize] = Position {
+            past,
+            doing: Doing::Woken(next.note.condition),
         };
         self.positions[client as usize] = Position {
             past: next.past,
@@ -399,31 +483,22 @@ impl Config {
     fn notify_none(&mut self, client: u32) -> Result<(), NotEnabled>
         ensures { Steps (Event.Notify client None) self.old self.new result }
     {
-        let Some(next) = next_note(&self.plan, &self.positions, client) else {
+        let Some(coming) = self.coming(client) else {
             return Err(NotEnabled);
         };
-        if !fires(&self.monitor, &self.state, next.note) {
-            self.positions[client as usize] = Position {
-                past: next.past,
-                doing: next.rest,
-            };
+        let next = coming.next;
+        if !coming.fires {
+            self.pass(client, next);
             return Ok(());
         }
         if next.note.all {
-            wake_all(&mut self.positions, next.note.condition);
-            self.positions[client as usize] = Position {
-                past: next.past,
-                doing: next.rest,
-            };
+            self.wake_each(client, next);
             return Ok(());
         }
         if some_waits(&self.positions, next.note.condition) {
             return Err(NotEnabled);
         }
-        self.positions[client as usize] = Position {
-            past: next.past,
-            doing: next.rest,
-        };
+        self.pass(client, next);
         Ok(())
     }
 
@@ -431,26 +506,20 @@ impl Config {
     fn notify_one(&mut self, client: u32, target: u32) -> Result<(), NotEnabled>
         ensures { Steps (Event.Notify client (Some target)) self.old self.new result }
     {
-        let Some(next) = next_note(&self.plan, &self.positions, client) else {
+        let Some(coming) = self.coming(client) else {
             return Err(NotEnabled);
         };
+        let next = coming.next;
         if next.note.all {
             return Err(NotEnabled);
         }
-        if !fires(&self.monitor, &self.state, next.note) {
+        if !coming.fires {
             return Err(NotEnabled);
         }
-        let Some(past) = waiting_on(&self.positions, target, next.note.condition) else {
+        let Some(_past) = waiting_on(&self.positions, target, next.note.condition) else {
             return Err(NotEnabled);
         };
-        self.positions[target as usize] = Position {
-            past,
-            doing: Doing::Woken(next.note.condition),
-        };
-        self.positions[client as usize] = Position {
-            past: next.past,
-            doing: next.rest,
-        };
+        self.wake_one(client, next, target);
         Ok(())
     }
 

@@ -7,6 +7,7 @@
 #![tactic(auto)]
 
 mod calls;
+mod clients;
 mod config;
 mod free;
 mod notes;

@@ -7,6 +7,7 @@ ghost use Rattle.mon_base.specs.Limits.{CLIENTS};
 ghost use Rattle.mon_explicit.specs.inner.Rings.{line_of, without};
 ghost use Rattle.mon_explicit.specs.inner.Waiting.{AreBits};
 
+use super::clients::Clients;
 use circular_buffer::HeapCircularBuffer;
 use mon_base::limits::CLIENTS;
 use std::alloc::{AllocError, Global};
@@ -52,15 +53,15 @@ impl Rings {
         self.rings[condition as usize].front().copied()
     }
 
-    /// A bit for each client that waits on a condition.
-    pub fn bits(&self, condition: u32) -> u32
+    /// The clients that wait on a condition.
+    pub fn clients(&self, condition: u32) -> Clients
         requires { All (λ client. client < CLIENTS) (line_of self.now condition) }
-        ensures { AreBits (λ client. Contains (line_of self.now condition) client) result }
+        ensures { AreBits (λ client. Contains (line_of self.now condition) client) result.bits }
     {
         if condition as usize >= self.rings.len() {
-            return 0;
+            return Clients::none();
         }
-        ring_bits(&self.rings[condition as usize])
+        ring_clients(&self.rings[condition as usize])
     }
 
     /// A client begins to wait on a condition: it is the last of its ring.
@@ -105,35 +106,28 @@ impl Rings {
     }
 }
 
-/// The bit of a client.
-pub fn bit_of(client: u32) -> u32
-    requires { client < CLIENTS }
-    ensures { AreBits (λ other. other ≡ client) result }
-{
-    1 << client
-}
-
-/// A bit for each client of a ring.
-fn ring_bits(ring: &HeapCircularBuffer<u32>) -> u32
+/// The clients of a ring.
+fn ring_clients(ring: &HeapCircularBuffer<u32>) -> Clients
     requires { All (λ client. client < CLIENTS) ring.now.items }
-    ensures { AreBits (λ client. Contains ring.now.items client) result }
+    ensures { AreBits (λ client. Contains ring.now.items client) result.bits }
 {
-    let mut bits = 0;
+    let mut clients = Clients::none();
     for place in 0..ring.len() {
-        bits |= place_bit(ring, place);
+        let one = client_at(ring, place);
+        clients = clients.with(one);
     }
-    bits
+    clients
 }
 
-/// The bit of the client at a place of a ring.
-fn place_bit(ring: &HeapCircularBuffer<u32>, place: usize) -> u32
+/// The client at a place of a ring.
+fn client_at(ring: &HeapCircularBuffer<u32>, place: usize) -> Clients
     requires few { All (λ client. client < CLIENTS) ring.now.items }
     requires within { place < length ring.now.items }
-    ensures { AreBits (λ client. slice_get ring.now.items place ≡ Some client) result }
+    ensures { AreBits (λ client. slice_get ring.now.items place ≡ Some client) result.bits }
 {
     match ring.get(place) {
-        Some(client) => bit_of(*client),
-        None => 0,
+        Some(client) => Clients::one(*client),
+        None => Clients::none(),
     }
 }
 

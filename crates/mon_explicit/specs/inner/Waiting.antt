@@ -2,6 +2,7 @@
 use Rattle.std.specs.Prelude.{◌≡◌, ◌⊎◌, ◌↔◌, ℕ, ◌<◌, ◌≤◌, Bool, true, false, nat_le, nat_lt, List}
 use Rattle.std.specs.Prelude.{[], ◌∷◌, ◌++◌, length, get_or, Option, Some, None, slice_get}
 use Rattle.std.specs.Prelude.{slice_set as set, IsBitSet, if◌then◌else◌, ◌+◌}
+use Rattle.mon_base.specs.Limits.{CLIENTS}
 use Rattle.mon_base.specs.declared.value.Value.{Value}
 use Rattle.mon_implicit.specs.declared.commit.Commit.{Commit}
 use Rattle.mon_implicit.specs.declared.commit.Reply.{Reply}
@@ -14,15 +15,22 @@ use Rattle.mon_events.specs.declared.event.Stage.TheVariants as stages
 use Rattle.mon_events.specs.declared.log.Entry.{Entry}
 use Rattle.mon_events.specs.declared.log.Outcome.{Outcome}
 use Rattle.mon_events.specs.declared.log.Outcome.TheVariants as outcomes
+use Rattle.mon_events.specs.Plans.{notes_at}
 use Rattle.mon_events.specs.Configurations.{Phase, Standing, Configuration, StandsAt, guard_of}
 use Rattle.mon_events.specs.Configurations.Phase.{Idle, Entering, Waiting, Woken, Inside, Notifying}
 use Rattle.mon_events.specs.Events.{Locks, Runs, Unlocks, NoneWaits, fires}
 use Rattle.mon_events.specs.Logs.{IsNotified, IsBegun, IsSection, WaitsSince, rests, says_waits}
 use Rattle.mon_explicit.specs.Machines.{Machine, Happened}
 use Rattle.mon_explicit.specs.Sections.{FreeMachine, HoldsAlways, room_of, spurious_in}
+use Rattle.mon_explicit.specs.declared.config.Coming.{Coming}
+use Rattle.mon_explicit.specs.declared.config.Tested.{Tested}
+use Rattle.mon_explicit.specs.declared.config.Went.{Went}
+use Rattle.mon_explicit.specs.declared.config.Went.TheVariants as wents
+use Rattle.mon_explicit.specs.declared.notes.Next.{Next}
 use Rattle.mon_explicit.specs.declared.position.Doing.{Doing}
 use Rattle.mon_explicit.specs.declared.position.Doing.TheVariants as doings
 use Rattle.mon_explicit.specs.declared.position.Position.{Position}
+use Rattle.mon_explicit.specs.inner.Positions.{phase_of}
 use Rattle.mon_explicit.specs.inner.Rings.{AreLines, LinesAfter}
 
 -- ---- the start of a section
@@ -53,14 +61,30 @@ NotStarted before client next = (next ≡ before) × (CanStart before client →
 abbrev pub IsInside : Machine → ℕ → Type 0
 IsInside machine client = (past : ℕ) × StandsAt machine.now.standings client past Inside
 
--- where it is inside, its guard is false
-abbrev pub CannotRun : Machine → ℕ → Type 0
-CannotRun machine client =
-    (past : ℕ) → StandsAt machine.now.standings client past Inside
-    → guard_of machine.system machine.now.state client past ≡ false
+-- it is inside, and this is the truth of its guard
+abbrev pub IsTested : Machine → ℕ → Tested → Type 0
+IsTested machine client tested =
+    StandsAt machine.now.standings client tested.past Inside
+    × (tested.guard ≡ guard_of machine.system machine.now.state client tested.past)
 
-abbrev pub CanWait : Machine → ℕ → Type 0
-CanWait machine client = IsInside machine client × CannotRun machine client
+-- it waits on this condition, which is one of the monitor's
+abbrev pub WaitsOn : Machine → ℕ → ℕ → Type 0
+WaitsOn machine client condition =
+    ((past : ℕ) × StandsAt machine.now.standings client past (Waiting condition))
+    × (condition < length machine.system.monitor.conditions + 1)
+
+-- a client inside made its step, with this reply
+abbrev pub HasRun : ℕ → Machine → Machine → Reply → Type 0
+HasRun client before next reply = (next.system ≡ before.system)
+    × ((past : ℕ) × (state : List Value)
+    × Runs before.system client past reply state before.now next.now)
+
+-- a client inside waits on this condition now, or made its step
+abbrev pub WentIn : ℕ → Machine → Machine → Went → Type 0
+WentIn client before next (wents.Waits condition) =
+    Happened (events.Wait client) before next × WaitsOn next client condition
+    × (length next.now.standings ≤ CLIENTS)
+WentIn client before next (wents.Ran reply) = HasRun client before next reply
 
 -- ---- who waits
 
@@ -128,6 +152,26 @@ CountsNotes standings client count =
     (past : ℕ) (notes : List Note) → StandsAt standings client past (Notifying notes)
     → length notes ≡ count
 
+-- no note of the client is to come
+abbrev pub NoneComes : Machine → ℕ → Type 0
+NoneComes machine client =
+    (past : ℕ) (note : Note) (more : List Note)
+    → StandsAt machine.now.standings client past (Notifying (note ∷ more)) → ⊥
+
+-- the first note to come of the client, and what it does after it; a tested note is one of a block
+pub record IsComing (machine : Machine) (client : ℕ) (next : Next) : Type 0 where
+  pub more : List Note
+  pub at : StandsAt machine.now.standings client next.past (Notifying (next.note ∷ more))
+  pub then_more : phase_of machine.system.plan next.rest ≡ Notifying more
+  pub source : next.note.tested ≡ true → (block : ℕ) × (from : ℕ)
+      × (slice_get (notes_at machine.system.plan block) from ≡ Some next.note)
+
+-- this note is the first to come, and it fires or not
+abbrev pub Comes : Machine → ℕ → Coming → Type 0
+Comes machine client coming =
+    IsComing machine client coming.next
+    × (coming.fires ≡ fires machine.system machine.now.state coming.next.note)
+
 -- the first note to come of the client is this, and it fires
 abbrev pub IsFired : Machine → ℕ → Note → Type 0
 IsFired machine client note =
@@ -166,12 +210,6 @@ pub record Names (machine : Machine) (since : List ℕ) (note : Note) (target : 
 abbrev pub IsTarget : List ℕ → Machine → Note → Option ℕ → Type 0
 IsTarget since machine note None = NamesNobody machine note
 IsTarget since machine note (Some target) = Names machine since note target
-
--- the client that the first note to come names
-abbrev pub Targets : List ℕ → Machine → ℕ → Option ℕ → Type 0
-Targets since machine client target = (past : ℕ) (note : Note) (more : List Note)
-    → StandsAt machine.now.standings client past (Notifying (note ∷ more))
-    → IsTarget since machine note target
 
 -- a client that is named is the first that waits on its condition
 abbrev pub IsChosenBy : List ℕ → Machine → Option ℕ → Type 0
@@ -230,14 +268,6 @@ pub record AreMaking (client : ℕ) (before : Machine) (rings : List (List ℕ))
 
 -- ---- a section
 
-abbrev pub HasCommit : List Commit → Type 0
-HasCommit commits = (before : List Commit) × (commit : Commit) × (commits ≡ before ++ commit ∷ [])
-
-abbrev pub LastReplies : List Commit → Reply → Type 0
-LastReplies commits reply =
-    (before : List Commit) (commit : Commit) → commits ≡ before ++ commit ∷ []
-    → reply ≡ commit.reply
-
 -- a client inside waited
 abbrev pub HasWaited : ℕ → Machine → Machine → Type 0
 HasWaited client before next = Happened (events.Wait client) before next
@@ -284,12 +314,6 @@ WentOnOf client before rings next next_rings outcome =
     (since : List ℕ) → AreLines since before.system before.now.standings rings
     → WentOn since client before next outcome
     × LinesAfter since next.system next.now.standings client outcome next_rings
-
--- the client waits on this condition, which is one of the monitor's
-abbrev pub WaitsOn : Machine → ℕ → ℕ → Type 0
-WaitsOn machine client condition =
-    ((past : ℕ) × StandsAt machine.now.standings client past (Waiting condition))
-    × (condition < length machine.system.monitor.conditions + 1)
 
 -- ---- the same of positions, of the first so many clients
 

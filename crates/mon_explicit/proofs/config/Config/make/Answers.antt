@@ -10,7 +10,7 @@ pub returns-in-Wait : goal.returns-in-Wait
 returns-in-Wait c = rw c.in-Wait.is c.wait.ensures
 
 pub returns-in-Run : goal.returns-in-Run
-returns-in-Run c = rw c.in-Run.is c.run.ensures.steps
+returns-in-Run c = rw c.in-Run.is c.run.ensures
 
 pub returns-in-None : goal.returns-in-None
 returns-in-None c = rw (c.in-Notify.is, c.in-None.is) c.notify_none.ensures

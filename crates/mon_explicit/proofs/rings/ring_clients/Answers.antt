@@ -3,13 +3,13 @@ use Rattle.std.specs.Prelude.{Contains}
 use Rattle.std.proofs.lemmas.List.{take_all}
 use Rattle.mon_explicit.specs.inner.Waiting.{AreBits}
 use Rattle.mon_explicit.proofs.Bits.{more_bits}
-use Rattle.mon_explicit.proofs.rings.ring_bits.Goals as goal
+use Rattle.mon_explicit.proofs.rings.ring_clients.Goals as goal
 
 pub loop-place-preserved : goal.loop-place-preserved
 loop-place-preserved c =
-    more_bits c.args.ring.now.items c.loop-place.place c.loop-place.bits c.place_bit-bits.result (omega (arith, c.loop-place-test.true, c.len-place-end.ensures.len)) c.loop-place.invariant c.place_bit-bits.ensures
+    rw c.with-clients.ensures (more_bits c.args.ring.now.items c.loop-place.place c.loop-place.clients.bits c.client_at-one.result.bits (omega (arith, c.loop-place-test.true, c.len-place-end.ensures.len)) c.loop-place.invariant c.client_at-one.ensures)
 
 pub returns : goal.returns
 returns c =
-    subst (λ (items : List ℕ). AreBits (λ (client : ℕ). Contains items client) c.loop-place.bits)
+    subst (λ (items : List ℕ). AreBits (λ (client : ℕ). Contains items client) c.loop-place.clients.bits)
     (take_all c.loop-place.place c.args.ring.now.items (omega (arith, c.loop-place-test.false, c.len-place-end.ensures.len))) c.loop-place.invariant
