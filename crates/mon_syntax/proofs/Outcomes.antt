@@ -1,12 +1,12 @@
 -- What a parser answers, from what the words give.
-use Rattle.std.proofs.Common.{◌≡◌, ℕ, ◌-◌, List, length, drop, Result, Ok, Err, sym, subst, ◌∙◌}
+use Rattle.std.proofs.Common.{◌≡◌, ℕ, ◌-◌, List, length, drop, Result, Ok, Err, refl, sym, subst, ◌∙◌}
 use Rattle.mon_tokens.specs.declared.token.Token.{Token}
 use Rattle.mon_syntax.specs.declared.fault.Stop.{Stop}
 use Rattle.mon_syntax.specs.declared.fault.Stop.TheVariants as stops
-use Rattle.mon_syntax.specs.declared.fault.SyntaxFault.{SyntaxFault}
+use Rattle.mon_base.specs.declared.source_fault.SourceError.{SourceError}
 use Rattle.mon_tokens.specs.Spelling.{Spells}
 use Rattle.mon_syntax.specs.Grammar.{Rule}
-use Rattle.mon_syntax.specs.Fault.{IsAt, IsFaultAt, Parses}
+use Rattle.mon_syntax.specs.Fault.{IsFault, IsFaultAt, Parses}
 use Rattle.mon_syntax.specs.inner.Reading.{Fails, IsFaultOf, AreTokens, first_offset}
 use Rattle.mon_syntax.proofs.Readers.{ok_is}
 use Rattle.mon_tokens.proofs.Numerals.{tokens_are}
@@ -20,15 +20,15 @@ pub ok_parses : {Tree : Type 0} (read : Result Tree ℕ) (t tree : Tree) → rea
 ok_parses read t tree given again = ok_is t tree (sym given ∙ again)
 
 -- where a tree is derived only memory can fail
-pub err_parses : {Tree : Type 0} (bytes : List ℕ) (tokens : List Token) (read : Result Tree ℕ) (stop : Stop) (fault : SyntaxFault) (tree : Tree)
-    → Fails stop read → IsFaultOf bytes tokens stop fault → read ≡ Ok tree → Parses (Err fault) tree
-err_parses bytes tokens read (stops.Before left) fault tree given is again = absurd cc
-err_parses bytes tokens read stops.OutOfMemory fault tree given is again = subst (λ (f : SyntaxFault). Parses (Err f) tree) (sym is) tt
+pub err_parses : {Tree : Type 0} (bytes : List ℕ) (tokens : List Token) (read : Result Tree ℕ) (stop : Stop) (error : SourceError) (tree : Tree)
+    → Fails stop read → IsFaultOf bytes tokens stop error → read ≡ Ok tree → Parses (Err error) tree
+err_parses bytes tokens read (stops.Before left) error tree given is again = absurd cc
+err_parses bytes tokens read stops.OutOfMemory error tree given is again = subst (λ (e : SourceError). Parses (Err e) tree) (sym is) tt
 
 -- a fault stands where reading stopped
-pub err_place : {Tree : Type 0} (IsTree : Rule Tree) (bytes : List ℕ) (tokens : List Token) (read : Result Tree ℕ) (stop : Stop) (fault : SyntaxFault)
-    → Fails stop read → IsFaultOf bytes tokens stop fault
+pub err_place : {Tree : Type 0} (IsTree : Rule Tree) (bytes : List ℕ) (tokens : List Token) (read : Result Tree ℕ) (stop : Stop) (error : SourceError)
+    → Fails stop read → IsFaultOf bytes tokens stop error
     → ((left : ℕ) → read ≡ Err left → IsFaultAt IsTree bytes tokens (first_offset bytes (drop (length tokens - left) tokens)))
-    → IsAt fault (IsFaultAt IsTree bytes tokens)
-err_place IsTree bytes tokens read (stops.Before left) fault given is at = subst (λ (f : SyntaxFault). IsAt f (IsFaultAt IsTree bytes tokens)) (sym is) (at left given)
-err_place IsTree bytes tokens read stops.OutOfMemory fault given is at = subst (λ (f : SyntaxFault). IsAt f (IsFaultAt IsTree bytes tokens)) (sym is) tt
+    → IsFault IsTree bytes tokens error
+err_place IsTree bytes tokens read (stops.Before left) error given is at = subst (λ (e : SourceError). IsFault IsTree bytes tokens e) (sym is) (refl, at left given)
+err_place IsTree bytes tokens read stops.OutOfMemory error given is at = subst (λ (e : SourceError). IsFault IsTree bytes tokens e) (sym is) tt

@@ -1,15 +1,12 @@
 -- What the fault of a parser says.
 use Rattle.std.specs.Prelude.{◌≡◌, ℕ, List, [], ◌∷◌, ◌++◌, length, Result, Ok, Err}
+use Rattle.mon_base.specs.declared.source_fault.Refusal.TheVariants as refusals
+use Rattle.mon_base.specs.declared.source_fault.SourceError.{SourceError}
+use Rattle.mon_base.specs.declared.source_fault.SourceError.TheVariants as errors
 use Rattle.mon_tokens.specs.declared.token.Token.{Token}
-use Rattle.mon_syntax.specs.declared.fault.SyntaxFault.{SyntaxFault}
-use Rattle.mon_syntax.specs.declared.fault.SyntaxFault.TheVariants.{At, OutOfMemory}
+use Rattle.mon_tokens.specs.Lexing.{IsAt}
 use Rattle.mon_tokens.specs.Words.{Word, words}
 use Rattle.mon_syntax.specs.Grammar.{Rule}
-
--- the fact at the fault's offset, unless memory ran out
-abbrev pub IsAt : SyntaxFault → (ℕ → Type 0) → Type 0
-IsAt (At at) P = P at
-IsAt OutOfMemory P = Unit {0}
 
 -- The words begin those of some tree. No rule looks at what names, numbers and offsets are, so any
 -- words may follow.
@@ -34,15 +31,15 @@ pub record IsFaultAt {Tree : Type 0} (IsTree : Rule Tree) (bytes : List ℕ) (to
   pub unfit : IsUnfit IsTree bytes front rest at
 
 -- this tree is answered, unless memory ran out
-abbrev pub Parses : {Tree : Type 0} → Result Tree SyntaxFault → Tree → Type 0
+abbrev pub Parses : {Tree : Type 0} → Result Tree SourceError → Tree → Type 0
 Parses (Ok t) tree = t ≡ tree
-Parses (Err (At at)) tree = ⊥
-Parses (Err OutOfMemory) tree = Unit {0}
+Parses (Err (errors.Fault fault)) tree = ⊥
+Parses (Err errors.OutOfMemory) tree = Unit {0}
 
 -- whatever tree is derived is answered, unless memory ran out
-abbrev pub AnswersEach : {Tree : Type 0} → Result Tree SyntaxFault → (Tree → Type 0) → Type 0
+abbrev pub AnswersEach : {Tree : Type 0} → Result Tree SourceError → (Tree → Type 0) → Type 0
 AnswersEach {Tree} answer IsDerived = (tree : Tree) → IsDerived tree → Parses answer tree
 
 -- the fault stands at the first token that doesn't fit, unless memory ran out
-abbrev pub IsFault : {Tree : Type 0} → Rule Tree → List ℕ → List Token → SyntaxFault → Type 0
-IsFault IsTree bytes tokens fault = IsAt fault (IsFaultAt IsTree bytes tokens)
+abbrev pub IsFault : {Tree : Type 0} → Rule Tree → List ℕ → List Token → SourceError → Type 0
+IsFault IsTree bytes tokens = IsAt refusals.Syntax (IsFaultAt IsTree bytes tokens)

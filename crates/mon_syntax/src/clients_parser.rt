@@ -10,10 +10,11 @@ ghost use Rattle.mon_syntax.specs.inner.Takes.{Takes};
 ghost use Rattle.mon_syntax.specs.inner.Reading.{Gives, AreTokens, client_at, clients_at, client_file};
 
 use super::cursor::Cursor;
-use super::fault::{Stop, SyntaxFault, fault_of};
+use super::fault::{Stop, fault_of};
 use super::item_parser::item_block;
 use super::many::many;
 use super::word::PlacedName;
+use mon_base::SourceError;
 use mon_base::limits::LEVELS;
 use mon_list::Seq;
 use mon_tokens::{Token, TokenKind};
@@ -58,14 +59,17 @@ fn whole(alloc: Global, bytes: &[u8], tokens: &[Token]) -> Result<ClientsTree, S
 
 /// The tree of a client file, from its bytes and the tokens that spell them.
 ///
-/// It answers [`SyntaxFault::At`] where the grammar derives no tree, with the place of the first token
-/// that doesn't fit, and [`SyntaxFault::OutOfMemory`] where there is no memory for the tree. The brace of
-/// a `repeat` opens a level, and no more than 64 may be open; the recursion is bounded by them.
+/// The brace of a `repeat` opens a level, and no more than 64 may be open; the recursion is bounded by them.
+///
+/// # Errors
+///
+/// Where the grammar derives no tree a fault by `Refusal::Syntax`, at the first token that doesn't fit, or at the
+/// file's end; or out of memory.
 pub fn parse_clients(
     alloc: Global,
     bytes: &[u8],
     tokens: &[Token],
-) -> Result<ClientsTree, SyntaxFault>
+) -> Result<ClientsTree, SourceError>
     requires small { length bytes.now ≤ FILE_BYTES }
     requires spelled { Spells bytes.now tokens.now }
     // The tree is the one that the grammar derives.

@@ -2,40 +2,12 @@
 
 ghost use Rattle.std.specs.Prelude.{◌≡◌, ◌≤◌, ◌-◌, length, drop};
 ghost use Rattle.mon_base.specs.Limits.{FILE_BYTES};
-ghost use Rattle.mon_syntax.specs.declared.fault.SyntaxFault.TheVariants as faults;
 ghost use Rattle.mon_syntax.specs.declared.fault.Stop.TheVariants as stops;
 ghost use Rattle.mon_syntax.specs.inner.Reading.{IsFaultOf, first_offset};
 
+use mon_base::{Refusal, SourceError, SourceFault};
 use mon_tokens::Token;
 use std::alloc::{AllocError, AllocFailed};
-use thiserror::Error;
-
-/// Why a file gave no tree.
-#[derive(Debug, Drop, Clone, Copy, PartialEq, Eq, Error)]
-pub enum SyntaxFault {
-    /// No tree is derived. The offset is that of the first token that doesn't fit, or the file's length.
-    #[error("the text breaks the grammar at byte {at}")]
-    At { at: u32 },
-    /// There was no memory for the tree.
-    #[error("out of memory")]
-    OutOfMemory,
-}
-
-impl From<AllocError> for SyntaxFault {
-    ghost from_gives = { λ _ e. e ≡ faults.OutOfMemory };
-
-    fn from(_: AllocError) -> Self {
-        SyntaxFault::OutOfMemory
-    }
-}
-
-impl<T: Drop> From<AllocFailed<T>> for SyntaxFault {
-    ghost from_gives = { λ _ e. e ≡ faults.OutOfMemory };
-
-    fn from(_: AllocFailed<T>) -> Self {
-        SyntaxFault::OutOfMemory
-    }
-}
 
 /// Why a production was not read.
 #[derive(Clone, Copy, Debug)]
@@ -78,15 +50,16 @@ fn offset_of(bytes: &[u8], tokens: &[Token], left: usize) -> u32
     }
 }
 
-/// The fault of a stop while these tokens of these bytes were read.
-pub fn fault_of(bytes: &[u8], tokens: &[Token], stop: Stop) -> SyntaxFault
+/// The error of a stop while these tokens of these bytes were read.
+pub fn fault_of(bytes: &[u8], tokens: &[Token], stop: Stop) -> SourceError
     requires { length bytes.now ≤ FILE_BYTES }
     ensures { IsFaultOf bytes.now tokens.now stop result }
 {
     match stop {
-        Stop::Before { left } => SyntaxFault::At {
+        Stop::Before { left } => SourceError::Fault(SourceFault {
             at: offset_of(bytes, tokens, left),
-        },
-        Stop::OutOfMemory => SyntaxFault::OutOfMemory,
+            what: Refusal::Syntax,
+        }),
+        Stop::OutOfMemory => SourceError::OutOfMemory,
     }
 }

@@ -19,11 +19,11 @@ mod statement_parser;
 mod word;
 
 pub use clients_parser::parse_clients;
-pub use fault::SyntaxFault;
 pub use laws::{derives_one_tree, names_are_identifiers, printed_tree_derives};
 pub use mon_printer::{print_clients, print_monitor};
 pub use mon_tokens::{
-    LexFault, Token, TokenKind, each_is_token, is_identifier, one_spelling, tokens,
+    Refusal, SourceError, SourceFault, Token, TokenKind, each_is_token, is_identifier,
+    one_spelling, tokens,
 };
 pub use mon_tree::{
     Addend, Arg, ClientTree, ClientsTree, Decl, Expr, Factor, InputTree, Item, Lit, MethodTree,

@@ -10,10 +10,11 @@ ghost use Rattle.mon_syntax.specs.inner.Reading.{AreTokens, Gives, begins_declar
 ghost use Rattle.mon_syntax.specs.inner.Takes.{Takes};
 
 use super::cursor::Cursor;
-use super::fault::{Stop, SyntaxFault, fault_of};
+use super::fault::{Stop, fault_of};
 use super::many::{many, with_first};
 use super::statement_parser::{block, condition};
 use super::word::{PlacedName, PlacedNumber};
+use mon_base::SourceError;
 use mon_base::limits::LEVELS;
 use mon_list::Seq;
 use mon_tokens::{Token, TokenKind};
@@ -247,15 +248,18 @@ fn whole(alloc: Global, bytes: &[u8], tokens: &[Token]) -> Result<MonitorTree, S
 
 /// The tree of a monitor file, from its bytes and the tokens that spell them.
 ///
-/// It answers [`SyntaxFault::At`] where the grammar derives no tree, with the place of the first token
-/// that doesn't fit, and [`SyntaxFault::OutOfMemory`] where there is no memory for the tree. A parenthesis,
-/// a unary operator, and the braces of `if` and `else` open a level each, and no more than 64 may be open;
-/// the recursion is bounded by them.
+/// A parenthesis, a unary operator, and the braces of `if` and `else` open a level each, and no more than 64 may
+/// be open; the recursion is bounded by them.
+///
+/// # Errors
+///
+/// Where the grammar derives no tree a fault by `Refusal::Syntax`, at the first token that doesn't fit, or at the
+/// file's end; or out of memory.
 pub fn parse_monitor(
     alloc: Global,
     bytes: &[u8],
     tokens: &[Token],
-) -> Result<MonitorTree, SyntaxFault>
+) -> Result<MonitorTree, SourceError>
     requires small { length bytes.now ≤ FILE_BYTES }
     requires spelled { Spells bytes.now tokens.now }
     // The tree is the one that the grammar derives.

@@ -31,8 +31,10 @@ use Rattle.mon_tree.specs.declared.tree.ClientTree.{ClientTree}
 use Rattle.mon_tree.specs.declared.tree.ClientsTree.{ClientsTree}
 use Rattle.mon_syntax.specs.declared.fault.Stop.{Stop}
 use Rattle.mon_syntax.specs.declared.fault.Stop.TheVariants as stops
-use Rattle.mon_syntax.specs.declared.fault.SyntaxFault.{SyntaxFault}
-use Rattle.mon_syntax.specs.declared.fault.SyntaxFault.TheVariants as faults
+use Rattle.mon_base.specs.SourceFaults.{fault_at}
+use Rattle.mon_base.specs.declared.source_fault.Refusal.TheVariants as refusals
+use Rattle.mon_base.specs.declared.source_fault.SourceError.{SourceError}
+use Rattle.mon_base.specs.declared.source_fault.SourceError.TheVariants as errors
 use Rattle.mon_syntax.specs.declared.expression_parser.Join.{Join}
 use Rattle.mon_syntax.specs.declared.expression_parser.Join.TheVariants as joins
 use Rattle.mon_syntax.specs.declared.word.PlacedName.{PlacedName}
@@ -61,11 +63,12 @@ abbrev pub first_offset : List ℕ → List Token → ℕ
 first_offset bytes [] = length bytes
 first_offset bytes (token ∷ rest) = token.at
 
--- the fault that a stop becomes: it stands where so many tokens are left
-abbrev pub IsFaultOf : List ℕ → List Token → Stop → SyntaxFault → Type 0
-IsFaultOf bytes tokens (stops.Before left) fault =
-    fault ≡ faults.At (first_offset bytes (drop (length tokens - left) tokens))
-IsFaultOf bytes tokens stops.OutOfMemory fault = fault ≡ faults.OutOfMemory
+-- the error that a stop becomes: a fault stands where so many tokens are left
+abbrev pub IsFaultOf : List ℕ → List Token → Stop → SourceError → Type 0
+IsFaultOf bytes tokens (stops.Before left) error =
+    let at = first_offset bytes (drop (length tokens - left) tokens) in
+    error ≡ errors.Fault (fault_at refusals.Syntax at)
+IsFaultOf bytes tokens stops.OutOfMemory error = error ≡ errors.OutOfMemory
 
 unfoldable pub AreTokens : List ℕ → List Token → Type 0
 AreTokens bytes tokens = All (IsToken bytes) tokens
