@@ -13,7 +13,7 @@ use Rattle.mon_tree.specs.declared.tree.MonitorTree.{MonitorTree}
 use Rattle.mon_linear.specs.Truth.{Valuation, truth_of}
 use Rattle.mon_base.specs.declared.kind.Kind.{Kind}
 use Rattle.mon_base.specs.declared.kind.Kind.TheVariants as kinds
-use Rattle.mon_forms.specs.declared.fault.TypeFault.{TypeFault}
+use Rattle.mon_base.specs.declared.source_fault.SourceFault.{SourceFault}
 use Rattle.mon_base.specs.declared.counted.Counted.TheVariants.{Constants, Fields, Methods, Parameters, Statements}
 use Rattle.mon_forms.specs.declared.scope.Entry.{Entry}
 use Rattle.mon_forms.specs.Scope.{scope_of, entry_named}
@@ -33,7 +33,7 @@ pub append_none : {X : Type 0} (these those : List X) → (these ++ those) ≡ [
 append_none [] those none = (refl, none)
 append_none (one ∷ these) those none = absurd cc
 
-pub no_fault : (test : Bool) (fault : TypeFault) → (if test then fault ∷ [] else []) ≡ [] → test ≡ false
+pub no_fault : (test : Bool) (fault : SourceFault) → (if test then fault ∷ [] else []) ≡ [] → test ≡ false
 no_fault true fault none = absurd cc
 no_fault false fault none = refl
 
@@ -60,7 +60,7 @@ Keeps scope statement = (finding scope statement).faults ≡ [] → All (KeepsMe
 abbrev Kept : List Entry → Type 0
 Kept scope = (statement : StmtTree) × Keeps scope statement
 
-abbrev inner_faults : (scope : List Entry) → List (Kept scope) → List TypeFault
+abbrev inner_faults : (scope : List Entry) → List (Kept scope) → List SourceFault
 inner_faults scope body = flat_map (λ inner. inner.faults ++ misplaced inner.returns) (map (finding scope) (map (λ e. e.0) body))
 
 abbrev inner_expressions : (scope : List Entry) → List (Kept scope) → List Expr

@@ -13,7 +13,7 @@ use Rattle.mon_base.specs.Identifiers.{IsIdentifier}
 use Rattle.mon_base.specs.declared.kind.Kind.TheVariants as kinds
 use Rattle.mon_base.specs.declared.counted.Counted.{Counted}
 use Rattle.mon_base.specs.declared.counted.Counted.TheVariants.{Constants, Fields, Methods, Parameters, Statements}
-use Rattle.mon_forms.specs.declared.fault.TypeFault.{TypeFault}
+use Rattle.mon_base.specs.declared.source_fault.SourceFault.{SourceFault}
 use Rattle.mon_forms.specs.Scope.{field_count, scope_of}
 use Rattle.mon_forms.specs.Sense.{sense}
 use Rattle.mon_forms.proofs.SmallScopes.{scopes_are_small}
@@ -209,7 +209,7 @@ made_is_monitor tree declared methods name fields made blocks conditions none id
 
 -- ---- what the code that types a tree may count on
 
-pub none_each : {X : Type 0} (f : X → List TypeFault) (xs : List X) → flat_map f xs ≡ [] → All (λ x. f x ≡ []) xs
+pub none_each : {X : Type 0} (f : X → List SourceFault) (xs : List X) → flat_map f xs ≡ [] → All (λ x. f x ≡ []) xs
 none_each f [] none = All-nil (λ x. f x ≡ [])
 none_each f (x ∷ xs) none = let both = append_none (f x) (flat_map f xs) none in All-cons (λ x. f x ≡ []) x xs both.0 (none_each f xs both.1)
 

@@ -17,7 +17,7 @@ use Rattle.mon_base.specs.declared.kind.Kind.{Kind}
 use Rattle.mon_base.specs.declared.kind.Kind.TheVariants as kinds
 use Rattle.mon_base.specs.declared.value.Value.{Value}
 use Rattle.mon_base.specs.declared.value.Value.TheVariants as values
-use Rattle.mon_forms.specs.declared.fault.TypeFault.{TypeFault}
+use Rattle.mon_base.specs.declared.source_fault.SourceFault.{SourceFault}
 use Rattle.mon_forms.specs.declared.scope.Meaning.{Meaning}
 use Rattle.mon_forms.specs.declared.scope.Meaning.TheVariants as meanings
 use Rattle.mon_forms.specs.declared.scope.Entry.{Entry}
@@ -226,7 +226,7 @@ meaning_set given state names target value entry (meanings.Int place) agrees nam
 meaning_set given state names target value entry (meanings.Flag place) agrees named means placed none right =
     bool_set given state names target value entry place agrees named means placed none (no_fault (is_other kinds.Bool (sense given.scope value).kind) _ right)
 
-is_a_field : (test : Bool) (fault : TypeFault) → (if test then [] else fault ∷ []) ≡ [] → test ≡ true
+is_a_field : (test : Bool) (fault : SourceFault) → (if test then [] else fault ∷ []) ≡ [] → test ≡ true
 is_a_field true fault none = refl
 is_a_field false fault none = absurd cc
 
@@ -252,7 +252,7 @@ Known given = (statement : StmtTree) × StatementAgrees given statement
 abbrev trees_of : (given : Setting) → List (Known given) → List StmtTree
 trees_of given body = map (λ e. e.0) body
 
-abbrev inner_faults : (given : Setting) → List (Known given) → List TypeFault
+abbrev inner_faults : (given : Setting) → List (Known given) → List SourceFault
 inner_faults given body = flat_map (λ inner. inner.faults ++ misplaced inner.returns) (map (finding given.scope) (trees_of given body))
 
 abbrev inner_statements : (given : Setting) → List (Known given) → List Stmt
@@ -325,7 +325,7 @@ statement_agrees given = ind-StmtTree (StatementAgrees given) (λ x y is. subst 
 
 -- ---- bodies
 
-abbrev body_faults : Setting → List StmtTree → List TypeFault
+abbrev body_faults : Setting → List StmtTree → List SourceFault
 body_faults given body = flat_map (λ statement. (finding given.scope statement).faults) body
 
 pub body_agrees : (given : Setting) (body : List StmtTree) → body_faults given body ≡ [] → (state : List Value) (before : PlainState) → Agrees given state before.names

@@ -13,7 +13,7 @@ use Rattle.mon_tree.specs.declared.tree.StmtTree.TheOpen.{StmtTree-F, Set, If, R
 use Rattle.mon_tree.specs.declared.tree.StmtTree.TheFolds.{fold-roll-StmtTree, fold_out-StmtTree, map-StmtTree, ind-StmtTree}
 use Rattle.mon_base.specs.declared.kind.Kind.{Kind}
 use Rattle.mon_base.specs.declared.kind.Kind.TheVariants as kinds
-use Rattle.mon_forms.specs.declared.fault.TypeFault.{TypeFault}
+use Rattle.mon_base.specs.declared.source_fault.SourceFault.{SourceFault}
 use Rattle.mon_forms.specs.declared.scope.Meaning.{Meaning}
 use Rattle.mon_forms.specs.declared.scope.Meaning.TheVariants as meanings
 use Rattle.mon_forms.specs.declared.scope.Entry.{Entry}
@@ -36,15 +36,15 @@ use Rattle.mon_types.proofs.HeldPlaces.{bool_fits, int_fits}
 
 -- ---- faults
 
-pub append_none : (these those : List TypeFault) → (these ++ those) ≡ [] → (these ≡ []) × (those ≡ [])
+pub append_none : (these those : List SourceFault) → (these ++ those) ≡ [] → (these ≡ []) × (those ≡ [])
 append_none [] those none = (refl, none)
 append_none (fault ∷ these) those none = absurd (cc)
 
-pub no_fault : (test : Bool) (fault : TypeFault) → (if test then fault ∷ [] else []) ≡ [] → test ≡ false
+pub no_fault : (test : Bool) (fault : SourceFault) → (if test then fault ∷ [] else []) ≡ [] → test ≡ false
 no_fault true fault none = absurd (cc)
 no_fault false fault none = refl
 
-no_fault_unless : (test : Bool) (fault : TypeFault) → (if test then [] else fault ∷ []) ≡ [] → test ≡ true
+no_fault_unless : (test : Bool) (fault : SourceFault) → (if test then [] else fault ∷ []) ≡ [] → test ≡ true
 no_fault_unless true fault none = refl
 no_fault_unless false fault none = absurd (cc)
 

@@ -1,13 +1,13 @@
 //! From the tree of a monitor file to a monitor.
 
 ghost use Rattle.std.specs.Prelude.{◌≡◌, [], IfOk, IfErr};
+ghost use Rattle.mon_base.specs.SourceFaults.{IsFirstOf};
 ghost use Rattle.mon_syntax.specs.Grammar.{IsParsed};
 ghost use Rattle.mon_rules.specs.Rules.{faults_of};
-ghost use Rattle.mon_types.specs.Checked.{HasCause};
 ghost use Rattle.mon_types.specs.Typed.{IsTyped};
 
 use crate::making::monitor_of;
-use mon_forms::TypeFault;
+use mon_base::SourceError;
 use mon_monitor::Monitor;
 use mon_rules::fault_in_monitor;
 use mon_syntax::names_are_identifiers;
@@ -19,19 +19,19 @@ use std::alloc::Global;
 /// # Errors
 ///
 /// The first rule that is broken: the one at the least place, and at one place the first in the order of
-/// [`TypeFault`]; or out of memory.
-pub fn check(alloc: Global, tree: &MonitorTree) -> Result<Monitor, TypeFault>
+/// [`Refusal`](mon_base::Refusal); or out of memory.
+pub fn check(alloc: Global, tree: &MonitorTree) -> Result<Monitor, SourceError>
     requires { IsParsed tree.now }
     // The monitor is the one that the tree stands for.
     ensures typed { IfOk result (λ monitor. IsTyped tree.now monitor) }
     // No rule is broken where there is a monitor,
     ensures unbroken { IfOk result (λ _. faults_of tree.now ≡ []) }
     // and a fault is the first of those that are.
-    ensures fault { IfErr result (λ fault. HasCause tree.now fault) }
+    ensures fault { IfErr result (λ error. IsFirstOf (faults_of tree.now) error) }
 {
     names_are_identifiers();
     match fault_in_monitor(alloc, tree)? {
-        Some(fault) => Err(fault),
+        Some(fault) => Err(SourceError::Fault(fault)),
         None => Ok(monitor_of(alloc, tree)?),
     }
 }

@@ -13,6 +13,5 @@ mod making;
 
 pub use checker::check;
 pub use laws::{bodies_keep_meaning, forms_keep_meaning};
-pub use mon_base::{Kind, Value};
-pub use mon_forms::{Counted, TypeFault};
+pub use mon_base::{Counted, Kind, Refusal, SourceError, SourceFault, Value};
 pub use mon_monitor::{Block, Candidate, Condition, Field, Method, Monitor, Ret, Stmt};

@@ -9,7 +9,7 @@ use Rattle.mon_base.specs.declared.kind.Kind.TheVariants as kinds
 use Rattle.mon_forms.specs.declared.scope.Entry.{Entry}
 use Rattle.mon_forms.specs.Forms.{IsOrdered}
 use Rattle.mon_forms.specs.Making.{has_small_numbers}
-use Rattle.mon_forms.specs.declared.fault.TypeFault.{TypeFault}
+use Rattle.mon_base.specs.declared.source_fault.SourceFault.{SourceFault}
 use Rattle.mon_forms.specs.declared.scope.Meaning.{Meaning}
 use Rattle.mon_forms.specs.Scope.{entry_named}
 use Rattle.mon_forms.specs.Sense.{entry_kind, is_other, meaning_kind, sense}
@@ -50,13 +50,13 @@ AreNumbered methods blocks all = AreConditions [] methods blocks all
 -- ---- statements
 
 -- the faults of a value that is assigned to a name, and the assignment
-abbrev pub value_faults : List Entry → List ℕ → Expr → List TypeFault
+abbrev pub value_faults : List Entry → List ℕ → Expr → List SourceFault
 value_faults scope name value = expected (entry_kind (entry_named scope name)) (sense scope value)
 
 abbrev pub assigned : List Entry → List ℕ → Expr → List Stmt
 assigned scope name value = set_of scope (entry_named scope name) (sense scope value)
 
-abbrev pub meaning_faults : Meaning → List Entry → Expr → List TypeFault
+abbrev pub meaning_faults : Meaning → List Entry → Expr → List SourceFault
 meaning_faults meaning scope value = expected (Some (meaning_kind meaning)) (sense scope value)
 
 abbrev pub assigned_at : List Entry → Meaning → Expr → List Stmt
