@@ -1,14 +1,14 @@
 //! The trees of texts.
 
 use mon_base::limits::FILE_BYTES;
-use mon_syntax::{SyntaxFault, parse_clients, parse_monitor};
+use mon_syntax::{Refusal, SourceError, parse_clients, parse_monitor};
 use mon_tokens::tokens;
 use mon_tree::{Addend, ClientsTree, Decl, Expr, Item, MethodTree, MonitorTree, Op, StmtTree};
 use std::alloc::Global;
 use std::test::Fail;
 
 /// The tree of a monitor file, where its bytes are tokens.
-pub(crate) fn monitor(alloc: Global, text: &[u8]) -> Option<Result<MonitorTree, SyntaxFault>> {
+pub(crate) fn monitor(alloc: Global, text: &[u8]) -> Option<Result<MonitorTree, SourceError>> {
     if text.len() > FILE_BYTES {
         return None;
     }
@@ -17,7 +17,7 @@ pub(crate) fn monitor(alloc: Global, text: &[u8]) -> Option<Result<MonitorTree, 
 }
 
 /// The tree of a client file, where its bytes are tokens.
-pub(crate) fn clients(alloc: Global, text: &[u8]) -> Option<Result<ClientsTree, SyntaxFault>> {
+pub(crate) fn clients(alloc: Global, text: &[u8]) -> Option<Result<ClientsTree, SourceError>> {
     if text.len() > FILE_BYTES {
         return None;
     }
@@ -36,10 +36,12 @@ pub(crate) enum Found {
     Nothing,
 }
 
-fn outcome<T: Drop>(parsed: Option<Result<T, SyntaxFault>>) -> Found {
+fn outcome<T: Drop>(parsed: Option<Result<T, SourceError>>) -> Found {
     match parsed {
         Some(Ok(_)) => Found::Tree,
-        Some(Err(SyntaxFault::At { at })) => Found::Stops(at),
+        Some(Err(SourceError::Fault(fault))) if fault.what == Refusal::Syntax => {
+            Found::Stops(fault.at)
+        }
         _ => Found::Nothing,
     }
 }

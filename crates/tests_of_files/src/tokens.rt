@@ -1,7 +1,7 @@
 //! The tokens of texts.
 
 use mon_base::limits::FILE_BYTES;
-use mon_tokens::{LexFault, Token, TokenKind, tokens};
+use mon_tokens::{Refusal, SourceError, Token, TokenKind, tokens};
 use std::alloc::Global;
 use std::test::Fail;
 
@@ -151,7 +151,7 @@ pub(crate) fn token_fault(alloc: Global, text: &[u8]) -> Option<u32> {
         return None;
     }
     match tokens(alloc, text) {
-        Err(LexFault::At { at }) => Some(at),
+        Err(SourceError::Fault(fault)) if fault.what == Refusal::Lex => Some(fault.at),
         _ => None,
     }
 }
@@ -161,11 +161,4 @@ fn a_fault_stands_where_no_token_starts(rt: HostRuntime) {
     for (text, place) in FAULTY {
         assert_eq!(rt; token_fault(rt.alloc(), text), Some(place), "in {text:?}");
     }
-}
-
-#[test]
-fn a_fault_tells_its_place(rt: HostRuntime) -> Result<(), Fail> {
-    let text = format!(in rt.alloc(); "{}", LexFault::At { at: 3 })?;
-    assert_eq!(rt; text.as_str(), "no token starts here: offset 3");
-    Ok(())
 }

@@ -6,10 +6,10 @@ ghost use Rattle.mon_forms.specs.Scope.{field_count};
 ghost use Rattle.mon_forms.specs.Forms.{IsOrdered};
 ghost use Rattle.mon_forms.specs.Making.{has_small_numbers};
 
-use mon_base::Kind;
+use mon_base::{Kind, Refusal, SourceFault};
 use mon_forms::{
-    Entry, TypeFault, fault_in, first_place, form_of, formula_of, is_other, kind_of,
-    least_is_least, scope_is_ordered, scope_numbers_are_small, scope_of,
+    Entry, fault_in, first_place, form_of, formula_of, is_other, kind_of, least_is_least,
+    scope_is_ordered, scope_numbers_are_small, scope_of,
 };
 use mon_linear::{Formula, Lin, Term, same_formula};
 use mon_syntax::parse_monitor;
@@ -53,7 +53,7 @@ fn are_declared(decls: &[Decl]) -> bool
 /// What is found of an expression.
 #[derive(Drop)]
 enum Outcome {
-    Fault(TypeFault),
+    Fault(SourceFault),
     Form(Lin),
     Condition(Formula),
 }
@@ -177,19 +177,9 @@ fn breaks_none(alloc: Global, expression: &[u8]) -> bool {
     }
 }
 
-fn same_fault(a: TypeFault, b: TypeFault) -> bool {
-    match (a, b) {
-        (TypeFault::Unknown { at: a }, TypeFault::Unknown { at: b }) => a == b,
-        (TypeFault::WrongType { at: a }, TypeFault::WrongType { at: b }) => a == b,
-        (TypeFault::NotLinear { at: a }, TypeFault::NotLinear { at: b }) => a == b,
-        (TypeFault::TooLarge { at: a }, TypeFault::TooLarge { at: b }) => a == b,
-        _ => false,
-    }
-}
-
-fn breaks(alloc: Global, expression: &[u8], fault: TypeFault) -> bool {
+fn breaks(alloc: Global, expression: &[u8], what: Refusal, at: u32) -> bool {
     match outcome_of(alloc, expression) {
-        Some(Outcome::Fault(found)) => same_fault(found, fault),
+        Some(Outcome::Fault(found)) => found == SourceFault { at, what },
         _ => false,
     }
 }
@@ -286,34 +276,31 @@ fn expressions_begin_at_their_first_token_and_names_have_kinds(rt: HostRuntime) 
 }
 
 /// Expressions, and the first fault of each.
-const FAULTS: [(&[u8], TypeFault); 15] = [
-    (b"x * y", TypeFault::NotLinear { at: 100 }),
-    (b"x * 2 * y", TypeFault::NotLinear { at: 104 }),
-    (b"2147483649 * x", TypeFault::TooLarge { at: 98 }),
-    (b"-(2147483649 * x)", TypeFault::TooLarge { at: 100 }),
-    (b"9223372036854775808", TypeFault::TooLarge { at: 98 }),
-    (
-        b"x < 9223372036854775807 + 2",
-        TypeFault::TooLarge { at: 102 },
-    ),
-    (b"!x", TypeFault::WrongType { at: 99 }),
-    (b"1 + b", TypeFault::WrongType { at: 102 }),
-    (b"!(z + 1)", TypeFault::Unknown { at: 100 }),
-    (b"b + z", TypeFault::Unknown { at: 102 }),
-    (b"z < 9223372036854775808", TypeFault::Unknown { at: 98 }),
-    (b"9223372036854775808 < z", TypeFault::TooLarge { at: 98 }),
-    (b"2147483648 * x < -x", TypeFault::TooLarge { at: 98 }),
-    (
-        b"b && 2147483648 * x + x > 0",
-        TypeFault::TooLarge { at: 103 },
-    ),
-    (b"x * 65536 * 32769 * 0", TypeFault::TooLarge { at: 98 }),
+const FAULTS: [(&[u8], Refusal, u32); 15] = [
+    (b"x * y", Refusal::NotLinear, 100),
+    (b"x * 2 * y", Refusal::NotLinear, 104),
+    (b"2147483649 * x", Refusal::TooLarge, 98),
+    (b"-(2147483649 * x)", Refusal::TooLarge, 100),
+    (b"9223372036854775808", Refusal::TooLarge, 98),
+    (b"x < 9223372036854775807 + 2", Refusal::TooLarge, 102),
+    (b"!x", Refusal::WrongType, 99),
+    (b"1 + b", Refusal::WrongType, 102),
+    (b"!(z + 1)", Refusal::Unknown, 100),
+    (b"b + z", Refusal::Unknown, 102),
+    (b"z < 9223372036854775808", Refusal::Unknown, 98),
+    (b"9223372036854775808 < z", Refusal::TooLarge, 98),
+    (b"2147483648 * x < -x", Refusal::TooLarge, 98),
+    (b"b && 2147483648 * x + x > 0", Refusal::TooLarge, 103),
+    (b"x * 65536 * 32769 * 0", Refusal::TooLarge, 98),
 ];
 
 #[test]
 fn the_first_fault_of_an_expression_is_found(rt: HostRuntime) {
-    for (text, fault) in FAULTS {
-        assert!(rt; breaks(rt.alloc(), text, fault), "{fault:?} in {text:?}");
+    for (text, what, at) in FAULTS {
+        assert!(rt;
+            breaks(rt.alloc(), text, what, at),
+            "{what:?} at {at} in {text:?}"
+        );
     }
 }
 

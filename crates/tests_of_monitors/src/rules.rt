@@ -4,7 +4,7 @@ ghost use Rattle.std.specs.Prelude.{◌≤◌, ◌↔◌, All, IsTrue, length};
 ghost use Rattle.mon_base.specs.Limits.{FILE_BYTES};
 ghost use Rattle.mon_rules.specs.Rules.{HasFewNames};
 
-use mon_forms::{Counted, TypeFault};
+use mon_base::{Counted, Refusal, SourceFault};
 use mon_rules::fault_in_monitor;
 use mon_syntax::parse_monitor;
 use mon_tokens::tokens;
@@ -27,7 +27,7 @@ fn has_few_names(tree: &MonitorTree) -> bool
 }
 
 /// The first fault of a text that is a monitor file.
-fn fault_of(alloc: Global, text: &[u8]) -> Option<Option<TypeFault>> {
+fn fault_of(alloc: Global, text: &[u8]) -> Option<Option<SourceFault>> {
     if text.len() > 65_536 {
         return None;
     }
@@ -40,24 +40,8 @@ fn fault_of(alloc: Global, text: &[u8]) -> Option<Option<TypeFault>> {
     }
 }
 
-fn same(a: TypeFault, b: TypeFault) -> bool {
-    match (a, b) {
-        (TypeFault::Unknown { at: a }, TypeFault::Unknown { at: b }) => a == b,
-        (TypeFault::Duplicate { at: a }, TypeFault::Duplicate { at: b }) => a == b,
-        (TypeFault::WrongType { at: a }, TypeFault::WrongType { at: b }) => a == b,
-        (TypeFault::NotLinear { at: a }, TypeFault::NotLinear { at: b }) => a == b,
-        (TypeFault::TooLarge { at: a }, TypeFault::TooLarge { at: b }) => a == b,
-        (TypeFault::TooMany { what: x, at: a }, TypeFault::TooMany { what: y, at: b }) => {
-            x == y && a == b
-        }
-        (TypeFault::ReadOnly { at: a }, TypeFault::ReadOnly { at: b }) => a == b,
-        (TypeFault::Misplaced { at: a }, TypeFault::Misplaced { at: b }) => a == b,
-        _ => false,
-    }
-}
-
-fn breaks(alloc: Global, text: &[u8], fault: TypeFault) -> bool {
-    is_fault(fault_of(alloc, text), fault)
+fn breaks(alloc: Global, text: &[u8], what: Refusal, at: u32) -> bool {
+    is_fault(fault_of(alloc, text), what, at)
 }
 
 fn breaks_none(alloc: Global, text: &[u8]) -> bool {
@@ -104,233 +88,292 @@ fn assignments(
 }
 
 /// Monitors with a name that is unknown or stands twice.
-const NAMES: [(&[u8], TypeFault); 11] = [
+const NAMES: [(&[u8], Refusal, u32); 11] = [
     (
         b"monitor M { const c = 1; int x = 0; bool b = false; method m() waituntil (y > 0) {  } }",
-        TypeFault::Unknown { at: 74 },
+        Refusal::Unknown,
+        74,
     ),
     (
         b"monitor M { const c = 1; int x = 0; bool b = false; method m() waituntil (true) { y = 1; } }",
-        TypeFault::Unknown { at: 82 },
+        Refusal::Unknown,
+        82,
     ),
     (
         b"monitor M { const c = 1; int x = 0; bool b = false; method m(int k) waituntil (true) { x = x + n; } }",
-        TypeFault::Unknown { at: 95 },
+        Refusal::Unknown,
+        95,
     ),
     (
         b"monitor M { const a = 1; int a = 2; }",
-        TypeFault::Duplicate { at: 29 },
+        Refusal::Duplicate,
+        29,
     ),
     (
         b"monitor M { const a = 1; const b = 2; const a = 3; }",
-        TypeFault::Duplicate { at: 44 },
+        Refusal::Duplicate,
+        44,
     ),
     (
         b"monitor M { int a = 1; bool b = true; bool b = false; }",
-        TypeFault::Duplicate { at: 43 },
+        Refusal::Duplicate,
+        43,
     ),
     (
         b"monitor M { int a = 0; method a() waituntil (true) { } }",
-        TypeFault::Duplicate { at: 30 },
+        Refusal::Duplicate,
+        30,
     ),
     (
         b"monitor M { method a() waituntil (true) { } method b() waituntil (true) { } method a() waituntil (true) { } }",
-        TypeFault::Duplicate { at: 83 },
+        Refusal::Duplicate,
+        83,
     ),
     (
         b"monitor M { const c = 1; int x = 0; bool b = false; method m(int k, bool k) waituntil (true) {  } }",
-        TypeFault::Duplicate { at: 73 },
+        Refusal::Duplicate,
+        73,
     ),
     (
         b"monitor M { const c = 1; int x = 0; bool b = false; method m(int x) waituntil (true) {  } }",
-        TypeFault::Duplicate { at: 65 },
+        Refusal::Duplicate,
+        65,
     ),
     (
         b"monitor M { const c = 1; int x = 0; bool b = false; method m(int k, int c) waituntil (true) {  } }",
-        TypeFault::Duplicate { at: 72 },
+        Refusal::Duplicate,
+        72,
     ),
 ];
 
 #[test]
 fn names_are_known_and_stand_once(rt: HostRuntime) {
-    for (text, fault) in NAMES {
-        assert!(rt; breaks(rt.alloc(), text, fault), "{fault:?} in {text:?}");
+    for (text, what, at) in NAMES {
+        assert!(rt;
+            breaks(rt.alloc(), text, what, at),
+            "{what:?} at {at} in {text:?}"
+        );
     }
 }
 
 /// Monitors with a statement that breaks a rule.
-const STATEMENTS: [(&[u8], TypeFault); 15] = [
+const STATEMENTS: [(&[u8], Refusal, u32); 15] = [
     (
         b"monitor M { const c = 1; int x = 0; bool b = false; method m() waituntil (true) { c = 2; } }",
-        TypeFault::ReadOnly { at: 82 },
+        Refusal::ReadOnly,
+        82,
     ),
     (
         b"monitor M { const c = 1; int x = 0; bool b = false; method m(int k) waituntil (true) { k = 2; } }",
-        TypeFault::ReadOnly { at: 87 },
+        Refusal::ReadOnly,
+        87,
     ),
     (
         b"monitor M { const c = 1; int x = 0; bool b = false; method m() waituntil (true) { return x; x = 1; } }",
-        TypeFault::Misplaced { at: 82 },
+        Refusal::Misplaced,
+        82,
     ),
     (
         b"monitor M { const c = 1; int x = 0; bool b = false; method m() waituntil (true) { if (b) { return 1; } } }",
-        TypeFault::Misplaced { at: 91 },
+        Refusal::Misplaced,
+        91,
     ),
     (
         b"monitor M { const c = 1; int x = 0; bool b = false; method m() waituntil (true) { if (b) { } else { x = 1; return 1; } return 2; } }",
-        TypeFault::Misplaced { at: 107 },
+        Refusal::Misplaced,
+        107,
     ),
     (
         b"monitor M { const c = 1; int x = 0; bool b = false; method m() waituntil (true) { if (b) { if (!b) { return b; } } } }",
-        TypeFault::Misplaced { at: 101 },
+        Refusal::Misplaced,
+        101,
     ),
     (
         b"monitor M { const c = 1; int x = 0; bool b = false; method m() waituntil (x) {  } }",
-        TypeFault::WrongType { at: 74 },
+        Refusal::WrongType,
+        74,
     ),
     (
         b"monitor M { const c = 1; int x = 0; bool b = false; method m() waituntil (x + 1) {  } }",
-        TypeFault::WrongType { at: 74 },
+        Refusal::WrongType,
+        74,
     ),
     (
         b"monitor M { const c = 1; int x = 0; bool b = false; method m(int k) waituntil (-k) {  } }",
-        TypeFault::WrongType { at: 79 },
+        Refusal::WrongType,
+        79,
     ),
     (
         b"monitor M { const c = 1; int x = 0; bool b = false; method m() waituntil (true) { if (c) { } } }",
-        TypeFault::WrongType { at: 86 },
+        Refusal::WrongType,
+        86,
     ),
     (
         b"monitor M { const c = 1; int x = 0; bool b = false; method m() waituntil (true) { x = b; } }",
-        TypeFault::WrongType { at: 86 },
+        Refusal::WrongType,
+        86,
     ),
     (
         b"monitor M { const c = 1; int x = 0; bool b = false; method m() waituntil (true) { x = x < 1; } }",
-        TypeFault::WrongType { at: 86 },
+        Refusal::WrongType,
+        86,
     ),
     (
         b"monitor M { const c = 1; int x = 0; bool b = false; method m() waituntil (true) { b = 2 * x; } }",
-        TypeFault::WrongType { at: 86 },
+        Refusal::WrongType,
+        86,
     ),
     (
         b"monitor M { const c = 1; int x = 0; bool b = false; method m(int k) waituntil (true) { b = k; } }",
-        TypeFault::WrongType { at: 91 },
+        Refusal::WrongType,
+        91,
     ),
     (
         b"monitor M { const c = 1; int x = 0; bool b = false; method m(int k) waituntil (true) { x = x * 2 * k; } }",
-        TypeFault::NotLinear { at: 97 },
+        Refusal::NotLinear,
+        97,
     ),
 ];
 
 #[test]
 fn statements_keep_their_rules(rt: HostRuntime) {
-    for (text, fault) in STATEMENTS {
-        assert!(rt; breaks(rt.alloc(), text, fault), "{fault:?} in {text:?}");
+    for (text, what, at) in STATEMENTS {
+        assert!(rt;
+            breaks(rt.alloc(), text, what, at),
+            "{what:?} at {at} in {text:?}"
+        );
     }
 }
 
 /// Monitors with an expression that breaks a rule where one of another kind is asked.
-const KINDS: [(&[u8], TypeFault); 5] = [
+const KINDS: [(&[u8], Refusal, u32); 5] = [
     (
         b"monitor M { const c = 1; int x = 0; bool b = false; method m() waituntil (true) { x = !y; } }",
-        TypeFault::Unknown { at: 87 },
+        Refusal::Unknown,
+        87,
     ),
     (
         b"monitor M { const c = 1; int x = 0; bool b = false; method m() waituntil (-y) {  } }",
-        TypeFault::Unknown { at: 75 },
+        Refusal::Unknown,
+        75,
     ),
     (
         b"monitor M { const c = 1; int x = 0; bool b = false; method m() waituntil (true) { y = true; } }",
-        TypeFault::Unknown { at: 82 },
+        Refusal::Unknown,
+        82,
     ),
     (
         b"monitor M { const c = 1; int x = 0; bool b = false; method m() waituntil (true) { x = y; } }",
-        TypeFault::Unknown { at: 86 },
+        Refusal::Unknown,
+        86,
     ),
     (
         b"monitor M { const c = 1; int x = 0; bool b = false; method m() waituntil (true) { if (y) { } } }",
-        TypeFault::Unknown { at: 86 },
+        Refusal::Unknown,
+        86,
     ),
 ];
 
 #[test]
 fn a_kind_is_asked_where_the_expression_breaks_no_rule(rt: HostRuntime) {
-    for (text, fault) in KINDS {
-        assert!(rt; breaks(rt.alloc(), text, fault), "{fault:?} in {text:?}");
+    for (text, what, at) in KINDS {
+        assert!(rt;
+            breaks(rt.alloc(), text, what, at),
+            "{what:?} at {at} in {text:?}"
+        );
     }
 }
 
 /// Monitors with a number that is too large.
-const NUMBERS: [(&[u8], TypeFault); 4] = [
+const NUMBERS: [(&[u8], Refusal, u32); 4] = [
     (
         b"monitor M { int x = 9223372036854775808; }",
-        TypeFault::TooLarge { at: 20 },
+        Refusal::TooLarge,
+        20,
     ),
     (
         b"monitor M { const a = -9223372036854775808; }",
-        TypeFault::TooLarge { at: 23 },
+        Refusal::TooLarge,
+        23,
     ),
     (
         b"monitor M { const c = 1; int x = 0; bool b = false; method m() waituntil (true) { x = 9223372036854775808; } }",
-        TypeFault::TooLarge { at: 86 },
+        Refusal::TooLarge,
+        86,
     ),
     (
         b"monitor M { const c = 1; int x = 0; bool b = false; method m() waituntil (true) { x = 2147483649 * x; } }",
-        TypeFault::TooLarge { at: 86 },
+        Refusal::TooLarge,
+        86,
     ),
 ];
 
 #[test]
 fn numbers_have_few_inputs(rt: HostRuntime) {
-    for (text, fault) in NUMBERS {
-        assert!(rt; breaks(rt.alloc(), text, fault), "{fault:?} in {text:?}");
+    for (text, what, at) in NUMBERS {
+        assert!(rt;
+            breaks(rt.alloc(), text, what, at),
+            "{what:?} at {at} in {text:?}"
+        );
     }
 }
 
 /// Monitors with more than one fault, and the first.
-const FIRST: [(&[u8], TypeFault); 9] = [
+const FIRST: [(&[u8], Refusal, u32); 9] = [
     (
         b"monitor M { int x = 0; int x = 9223372036854775808; method m(int x) waituntil (y) { } }",
-        TypeFault::Duplicate { at: 27 },
+        Refusal::Duplicate,
+        27,
     ),
     (
         b"monitor M { int x = 9223372036854775808; int x = 1; }",
-        TypeFault::TooLarge { at: 20 },
+        Refusal::TooLarge,
+        20,
     ),
     (
         b"monitor M { const c = 1; int x = 0; bool b = false; method m() waituntil (true) { if (x > 0) { x = y; return 1; } c = 3; } }",
-        TypeFault::Unknown { at: 99 },
+        Refusal::Unknown,
+        99,
     ),
     (
         b"monitor M { const c = 1; int x = 0; bool b = false; method m() waituntil (true) { if (b) { return y; } c = 3; } }",
-        TypeFault::Misplaced { at: 91 },
+        Refusal::Misplaced,
+        91,
     ),
     (
         b"monitor M { const c = 1; int x = 0; bool b = false; method m() waituntil (true) { x = 1; return y; x = true; } }",
-        TypeFault::Misplaced { at: 89 },
+        Refusal::Misplaced,
+        89,
     ),
     (
         b"monitor M { int x = 0; method m(int k, int x) waituntil (x) { y = 1; } method m() waituntil (x) { } }",
-        TypeFault::Duplicate { at: 43 },
+        Refusal::Duplicate,
+        43,
     ),
     (
         b"monitor M { int x = 0; method m() waituntil (x) { } method m() waituntil (true) { } }",
-        TypeFault::WrongType { at: 45 },
+        Refusal::WrongType,
+        45,
     ),
     (
         b"monitor M { const c = 1; int x = 0; bool b = false; method m() waituntil (true) { if (x) { y = 1; } else { c = 1; } } }",
-        TypeFault::WrongType { at: 86 },
+        Refusal::WrongType,
+        86,
     ),
     (
         b"monitor M { const c = 1; int x = 0; bool b = false; method m() waituntil (true) { x = 1; b = 1; x = y; c = 1; } }",
-        TypeFault::WrongType { at: 93 },
+        Refusal::WrongType,
+        93,
     ),
 ];
 
 #[test]
 fn the_least_place_comes_first(rt: HostRuntime) {
-    for (text, fault) in FIRST {
-        assert!(rt; breaks(rt.alloc(), text, fault), "{fault:?} in {text:?}");
+    for (text, what, at) in FIRST {
+        assert!(rt;
+            breaks(rt.alloc(), text, what, at),
+            "{what:?} at {at} in {text:?}"
+        );
     }
 }
 
@@ -398,7 +441,7 @@ const OVER: [(Repeated, Counted, u32); 5] = [
 ];
 
 /// The first fault of a text of items.
-fn fault_of_items(alloc: Global, row: Repeated) -> Result<Option<Option<TypeFault>>, AllocError> {
+fn fault_of_items(alloc: Global, row: Repeated) -> Result<Option<Option<SourceFault>>, AllocError> {
     let (before, item, count, after) = row;
     let text = repeated_text(alloc, before, item, count, after)?;
     Ok(fault_of(alloc, &text))
@@ -410,15 +453,15 @@ fn fault_of_assignments(
     before: &[u8],
     count: u8,
     after: &[u8],
-) -> Result<Option<Option<TypeFault>>, AllocError> {
+) -> Result<Option<Option<SourceFault>>, AllocError> {
     let text = assignments(alloc, before, count, after)?;
     Ok(fault_of(alloc, &text))
 }
 
 /// Whether a fault was found, and is this one.
-fn is_fault(found: Option<Option<TypeFault>>, fault: TypeFault) -> bool {
+fn is_fault(found: Option<Option<SourceFault>>, what: Refusal, at: u32) -> bool {
     match found {
-        Some(Some(found)) => same(found, fault),
+        Some(Some(found)) => found == SourceFault { at, what },
         _ => false,
     }
 }
@@ -432,10 +475,7 @@ fn the_first_one_over_a_limit_is_a_fault(rt: HostRuntime) -> Result<(), Fail> {
     }
     for (row, what, at) in OVER {
         let found = fault_of_items(rt.alloc(), row)?;
-        assert!(rt;
-            is_fault(found, TypeFault::TooMany { what, at }),
-            "in {row:?}"
-        );
+        assert!(rt; is_fault(found, Refusal::TooMany(what), at), "in {row:?}");
     }
     Ok(())
 }
@@ -472,7 +512,7 @@ fn statement_65_is_a_fault(rt: HostRuntime) -> Result<(), Fail> {
         let found = fault_of_assignments(rt.alloc(), before, count, after)?;
         let what = Counted::Statements;
         assert!(rt;
-            is_fault(found, TypeFault::TooMany { what, at }),
+            is_fault(found, Refusal::TooMany(what), at),
             "in {count} after {before:?}"
         );
     }
@@ -480,14 +520,12 @@ fn statement_65_is_a_fault(rt: HostRuntime) -> Result<(), Fail> {
 }
 
 /// Bodies with two faults at one place.
-const TWO_FAULTS: [(&[u8], TypeFault); 2] = [
-    (b"y = 1;", TypeFault::Unknown { at: 501 }),
+const TWO_FAULTS: [(&[u8], Refusal, u32); 2] = [
+    (b"y = 1;", Refusal::Unknown, 501),
     (
         b"return 1; x = 1;",
-        TypeFault::TooMany {
-            what: Counted::Statements,
-            at: 501,
-        },
+        Refusal::TooMany(Counted::Statements),
+        501,
     ),
 ];
 
@@ -495,13 +533,13 @@ const TWO_FAULTS: [(&[u8], TypeFault); 2] = [
 #[test]
 fn at_one_place_the_first_rule_is_named(rt: HostRuntime) -> Result<(), Fail> {
     let constants = fault_of_items(rt.alloc(), (HEAD, CONSTANT, 64, b" const aa = 1; }"))?;
-    assert!(rt; is_fault(constants, TypeFault::Duplicate { at: 914 }));
+    assert!(rt; is_fault(constants, Refusal::Duplicate, 914));
     let last = b"int aa) waituntil (true) { } }";
     let inputs = fault_of_items(rt.alloc(), (TAKING, INPUT, 6, last))?;
-    assert!(rt; is_fault(inputs, TypeFault::Duplicate { at: 73 }));
-    for (after, fault) in TWO_FAULTS {
+    assert!(rt; is_fault(inputs, Refusal::Duplicate, 73));
+    for (after, what, at) in TWO_FAULTS {
         let found = fault_of_assignments(rt.alloc(), b"", 64, after)?;
-        assert!(rt; is_fault(found, fault), "after {after:?}");
+        assert!(rt; is_fault(found, what, at), "after {after:?}");
     }
     Ok(())
 }
