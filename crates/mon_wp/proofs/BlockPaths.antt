@@ -1,6 +1,6 @@
 -- The paths of a block, and its negated queries, as the code makes them.
-use Rattle.std.proofs.Common.{◌≡◌, ℕ, zero, suc, ◌<◌, ◌≤◌, min, Bool, true, false, ◌&&◌, List, [], ◌∷◌, map, length, Option, Some, None, sym, arith, ap, refl, ◌∙◌}
-use Rattle.std.specs.Prelude.{slice_get, slice_index_or}
+use Rattle.std.proofs.Common.{◌≡◌, ◌⊎◌, inl, inr, ℕ, zero, suc, ◌<◌, ◌≤◌, min, Bool, true, false, ◌&&◌, List, [], ◌∷◌, map, length, Option, Some, None, sym, subst, arith, ap, refl, ◌∙◌}
+use Rattle.std.specs.Prelude.{nat_le, slice_get, slice_index_or}
 use Rattle.std.specs.List.{list_all}
 use Rattle.mon_linear.specs.declared.formula.Formula.{Formula}
 use Rattle.mon_monitor.specs.declared.monitor.Block.{Block}
@@ -13,12 +13,15 @@ use Rattle.mon_wp.specs.declared.step.Step.{Step}
 use Rattle.mon_wp.specs.Paths.{body_paths, block_paths}
 use Rattle.mon_wp.specs.NegatedQueries.{path_part, query_of_parts, negated_query}
 use Rattle.mon_wp.specs.Limits.{has_few_paths, has_few_nodes, is_path_within, few_paths, query_within}
+use Rattle.mon_linear.specs.Measures.{nodes_of}
+use Rattle.mon_wp.specs.inner.Backward.{AreBeyond, ArePartsOf, nodes_of_parts}
 use Rattle.mon_wp.specs.inner.Choices.{parts_within}
 use Rattle.mon_wp.specs.inner.Negatable.{negates_body}
 use Rattle.mon_wp.proofs.Fitting.{block_fits}
 use Rattle.mon_wp.proofs.Negating.{fitting_body_negates}
 use Rattle.mon_wp.proofs.Parts.{held, value_is, not_held, gives, gives_none}
 use Rattle.mon_wp.proofs.PathNumbers.{paths_counted}
+use Rattle.mon_wp.proofs.StepNodes.{query_nodes}
 
 pub many : (monitor : MonitorParts) (block count : ℕ) → count ≡ min (path_count (block_body monitor block)) 65 → 64 < count → None ≡ few_paths monitor block
 many monitor block count e h =
@@ -74,11 +77,19 @@ pub no_paths : (monitor : MonitorParts) (query : Query) (answer : Option (List (
 no_paths monitor query answer e f =
     gives_none _ _ (first_false _ _ (not_held (has_few_paths (block_paths monitor query.block)) (block_paths monitor query.block) (sym e ∙ f)))
 
-pub no_parts : (monitor : MonitorParts) (query : Query) (answer : Option (List (List Step))) (paths : List (List Step)) (parts : Option (List Formula)) → answer ≡ few_paths monitor query.block → answer ≡ Some paths
-    → parts ≡ parts_within query.post paths → parts ≡ None → None ≡ query_within monitor query
-no_parts monitor query answer paths parts e f g h =
-    let are = value_is _ _ _ (sym e ∙ f) in
-    gives_none _ _ (second_false _ _ _ (ap (list_all (is_path_within query.post)) (sym are) ∙ not_held (list_all (is_path_within query.post) paths) (map (path_part query.post) paths) (sym g ∙ h)))
+beyond_nodes : (n m : ℕ) → 65536 < n → n ≤ m → nat_le m 65536 ≡ false
+beyond_nodes n m e f = grind arith
+
+pub no_parts : (monitor : MonitorParts) (query : Query) (paths : List (List Step)) → paths ≡ block_paths monitor query.block → AreBeyond query.post paths → None ≡ query_within monitor query
+no_parts monitor query paths are beyond = stopped (subst (AreBeyond query.post) are beyond)
+  where
+    stopped : AreBeyond query.post (block_paths monitor query.block) → None ≡ query_within monitor query
+    stopped (inl e) = gives_none _ _ (second_false _ _ _ e)
+    stopped (inr large) =
+        gives_none _ _ (third_false _ _ _ (beyond_nodes (nodes_of_parts query.post (block_paths monitor query.block)) (nodes_of (negated_query monitor query)) large (query_nodes query.hyps query.post (block_paths monitor query.block))))
+
+pub parts_there : (post : Formula) (paths : List (List Step)) (parts : List Formula) → ArePartsOf post paths parts → Some parts ≡ parts_within post paths
+parts_there post paths parts are = gives (list_all (is_path_within post) paths) (map (path_part post) paths) parts are.kept are.made
 
 whole_is : (monitor : MonitorParts) (query : Query) (paths : List (List Step)) (parts : List Formula) (whole : Formula) → paths ≡ block_paths monitor query.block
     → parts ≡ map (path_part query.post) paths → whole ≡ query_of_parts query.hyps parts → whole ≡ negated_query monitor query

@@ -1,3 +1,6 @@
+mod BodyParts
+mod StepNodes
+mod StepParts
 mod BlockPaths
 mod BodyStates
 mod Fitting

@@ -1,5 +1,5 @@
 -- A body has as many paths as are counted.
-use Rattle.std.proofs.Common.{◌≡◌, ℕ, suc, ◌+◌, ◌*◌, List, [], ◌∷◌, ◌++◌, map, length, sym, subst, arith, ap, refl, ◌∙◌}
+use Rattle.std.proofs.Common.{◌≡◌, ℕ, zero, suc, ◌+◌, ◌*◌, ◌<◌, List, [], ◌∷◌, ◌++◌, map, length, sym, subst, arith, ap, refl, ◌∙◌}
 use Rattle.std.specs.List.{flat_map}
 use Rattle.std.proofs.lemmas.List.{length-append}
 use Rattle.mon_linear.specs.declared.formula.Formula.{Formula}
@@ -66,3 +66,39 @@ statement_counted = ind-Stmt Counted (λ layer parts is. whole layer (subst Laye
 pub paths_counted : (body : List Stmt) → length (body_paths body) ≡ path_count body
 paths_counted [] = refl
 paths_counted (statement ∷ body) = product_length (statement_paths statement) (body_paths body) ∙ rw (statement_counted statement, paths_counted body) refl
+
+-- ---- a statement has a path
+
+two_some : (a b : ℕ) → 0 < a → 0 < b → 0 < a * b
+two_some (suc a) (suc b) e f = grind arith
+two_some zero b e f = absurd (omega arith)
+two_some (suc a) zero e f = absurd (omega arith)
+
+abbrev HasPaths : Stmt → Type 0
+HasPaths statement = 0 < length (statement_paths statement)
+
+body_has_paths : (body : List ((statement : Stmt) × HasPaths statement)) → 0 < length (joined (map statement_paths (map (λ part. part.0) body)))
+body_has_paths [] = omega arith
+body_has_paths (part ∷ body) =
+    subst (λ (n : ℕ). 0 < n) (sym (product_length (statement_paths part.0) (joined (map statement_paths (map (λ part. part.0) body)))))
+    (two_some _ _ part.1 (body_has_paths body))
+
+abbrev LayerHasPaths : Stmt-F Stmt → Type 0
+LayerHasPaths layer = 0 < length (paths_step (map-Stmt _ (List (List Step)) statement_paths layer))
+
+some_left : (n a b c : ℕ) → n ≡ a + b → a ≡ c → 0 < c → 0 < n
+some_left n a b c e f g = omega arith
+
+layer_has_paths : (layer : Stmt-F ((statement : Stmt) × HasPaths statement)) → LayerHasPaths (map-Stmt _ Stmt (λ part. part.0) layer)
+layer_has_paths (SetInt field form) = omega arith
+layer_has_paths (SetBool field is) = omega arith
+layer_has_paths (If when body other) =
+    let paths = joined (map statement_paths (map (λ part. part.0) body)) in
+    let others = joined (map statement_paths (map (λ part. part.0) other)) in
+    some_left _ _ _ _ (length-append (map (λ path. Assume when ∷ path) paths) (map (λ path. Assume (negation when) ∷ path) others)) (assumed_length when paths) (body_has_paths body)
+
+pub statement_has_paths : (statement : Stmt) → 0 < length (statement_paths statement)
+statement_has_paths = ind-Stmt HasPaths (λ layer parts is. whole layer (subst LayerHasPaths is (layer_has_paths parts)))
+  where
+    whole : (layer : Stmt-F Stmt) → LayerHasPaths layer → HasPaths (roll-Stmt layer)
+    whole layer some = subst (λ (n : ℕ). 0 < n) (sym (ap length (fold-roll-Stmt (List (List Step)) paths_step layer))) some

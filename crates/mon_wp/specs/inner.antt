@@ -1,3 +1,4 @@
+pub mod Backward
 pub mod Negatable
 pub mod Choices
 pub mod Movable

@@ -7,6 +7,7 @@
 //! within a prover's limits, and which claims a monitor has: `specs/Hardness`. Candidates that have a formula: `specs/Expressible`.
 #![tactic(auto)]
 
+mod backward;
 mod candidates;
 mod laws;
 mod makers;

@@ -5,10 +5,11 @@ ghost use Rattle.mon_linear.specs.Negation.{can_negate};
 ghost use Rattle.mon_linear.specs.Measures.{nodes_of, MOST_NODES};
 ghost use Rattle.mon_wp.specs.Limits.{few_paths, query_within};
 
+use super::backward::parts_of_body;
 use super::path::Path;
 use super::pathing::paths_of_body;
 use super::ranges::has_few_nodes;
-use super::triples::{parts_of_paths, query_of_parts};
+use super::triples::query_of_parts;
 use mon_linear::{Formula, MOST_NODES};
 use mon_list::Seq;
 use mon_monitor::{MOST_PATHS, Monitor, Query, paths};
@@ -48,10 +49,11 @@ pub fn negated(
     ensures negated { IfOk result (λ formula. formula ≡ query_within monitor.now query.now) }
     ensures few { IfOk result (λ answer. IfSome answer (λ formula. nodes_of formula ≤ MOST_NODES)) }
 {
-    let Some(paths) = paths_of(alloc, monitor, query.block)? else {
+    if paths(monitor, query.block) > MOST_PATHS {
         return Ok(None);
-    };
-    let Some(parts) = parts_of_paths(alloc, &query.post, paths.items())? else {
+    }
+    let body = monitor.blocks()[query.block as usize].body.items();
+    let Some(parts) = parts_of_body(alloc, &query.post, body)? else {
         return Ok(None);
     };
     let whole = query_of_parts(alloc, query.hyps.items(), parts)?;

@@ -4,6 +4,7 @@ ghost use Rattle.std.specs.Prelude.{◌≡◌, map, true};
 ghost use Rattle.std.specs.List.{list_all};
 ghost use Rattle.mon_linear.specs.Substitution.{is_formula_in_range, is_formula_within, is_linear_in_range};
 ghost use Rattle.mon_wp.specs.Limits.{has_few_nodes};
+ghost use Rattle.mon_wp.specs.inner.Choices.{formula_within};
 
 use mon_linear::{Formula, Lin, MOST_NODES, nodes};
 
@@ -50,4 +51,15 @@ pub(crate) fn is_within(formula: &Formula) -> bool
 {
     read_formula(formula);
     has_few_nodes(formula)
+}
+
+/// The formula, where it keeps within the limits.
+pub(crate) fn where_within(formula: Formula) -> Option<Formula>
+    ensures { result ≡ formula_within formula }
+{
+    if is_within(&formula) {
+        Some(formula)
+    } else {
+        None
+    }
 }
