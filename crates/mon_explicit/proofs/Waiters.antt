@@ -1,5 +1,5 @@
 -- Who waits, and who was woken, as the code finds it.
-use Rattle.std.proofs.Common.{◌≡◌, ◌↔◌, ℕ, ◌+◌, ◌-◌, ◌<◌, true, false, List, [], ◌∷◌, map, length, Option, Some, None, refl, sym, ap, subst, ◌∙◌, arith, inl, inr}
+use Rattle.std.proofs.Common.{◌≡◌, ◌↔◌, ℕ, ◌+◌, ◌-◌, ◌<◌, true, false, List, map, length, Option, Some, None, refl, sym, ap, subst, ◌∙◌, arith, inl, inr}
 use Rattle.std.specs.Prelude.{slice_get}
 use Rattle.std.proofs.lemmas.Option.{same_Some, slice_get_within}
 use Rattle.std.proofs.lemmas.Bool.{true≢false, cases_eq}
@@ -12,9 +12,8 @@ use Rattle.mon_implicit.specs.declared.script.Call.{Call}
 use Rattle.mon_implicit.specs.declared.script.Client.{Client}
 use Rattle.mon_events.proofs.Facing.{all_at, is_some_and}
 use Rattle.mon_events.specs.declared.plan.Plan.{Plan}
-use Rattle.mon_events.specs.Configurations.{Phase, Standing, StandsAt, System, call_at, block_condition, waited_condition}
+use Rattle.mon_events.specs.Configurations.{Standing, StandsAt, System, call_at, block_condition, waited_condition}
 use Rattle.mon_events.specs.Configurations.Phase.{Waiting, Notifying}
-use Rattle.mon_events.specs.declared.plan.Note.{Note}
 use Rattle.mon_events.specs.Logs.{rests}
 use Rattle.mon_explicit.specs.declared.position.Doing.{Doing}
 use Rattle.mon_explicit.specs.declared.position.Doing.TheVariants as doings

@@ -1,10 +1,9 @@
 -- How the code makes a section, and what it keeps of the log.
 use Rattle.std.specs.Prelude.{◌≡◌, ◌⊎◌, ◌↔◌, ℕ, ◌<◌, ◌≤◌, Bool, true, false, nat_le, nat_lt, List}
-use Rattle.std.specs.Prelude.{[], ◌∷◌, ◌++◌, length, get_or, Option, Some, None, slice_get}
+use Rattle.std.specs.Prelude.{[], ◌∷◌, length, get_or, Option, Some, None, slice_get}
 use Rattle.std.specs.Prelude.{slice_set as set, IsBitSet, if◌then◌else◌, ◌+◌}
 use Rattle.mon_base.specs.Limits.{CLIENTS}
 use Rattle.mon_base.specs.declared.value.Value.{Value}
-use Rattle.mon_implicit.specs.declared.commit.Commit.{Commit}
 use Rattle.mon_implicit.specs.declared.commit.Reply.{Reply}
 use Rattle.mon_implicit.specs.declared.script.Client.{Client}
 use Rattle.mon_implicit.specs.Scripted.{calls_of}

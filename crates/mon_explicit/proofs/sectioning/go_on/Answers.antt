@@ -1,5 +1,4 @@
-use Rattle.std.proofs.Common.{sym, ◌∙◌, ap, length, arith}
-use Rattle.mon_events.specs.declared.event.Event.TheVariants as events
+use Rattle.std.proofs.Common.{ap, length, arith}
 use Rattle.mon_events.specs.Configurations.{System}
 use Rattle.mon_explicit.proofs.Sectioned.{ran_event, ran_notifies, ran_lines, room_to_wait, waited_length, waited_told, replied_told}
 use Rattle.mon_explicit.proofs.sectioning.go_on.Goals as goal

@@ -1,4 +1,3 @@
-use Rattle.mon_explicit.specs.inner.Positions.{machine_of}
 use Rattle.mon_explicit.proofs.MakingNotes.{next_fits}
 use Rattle.mon_explicit.proofs.MakingWakes.{made_coming, none_comes}
 use Rattle.mon_explicit.proofs.config.Config.coming.Goals as goal

@@ -1,10 +1,5 @@
-use Rattle.std.proofs.Common.{length, map, ap, sym, refl, ◌∙◌, ◌≡◌, ℕ, true, false, arith, None, Some, inr}
-use Rattle.mon_events.specs.declared.event.Event.TheVariants as events
-use Rattle.mon_events.specs.Configurations.{StandsAt}
-use Rattle.mon_events.specs.Configurations.Phase.{Waiting}
-use Rattle.mon_events.specs.Events.{fires}
+use Rattle.std.proofs.Common.{sym, refl, ◌∙◌, Some}
 use Rattle.mon_explicit.specs.declared.position.Doing.TheVariants as doings
-use Rattle.mon_explicit.specs.Machines.{Machine}
 use Rattle.mon_explicit.specs.inner.Waiting.{Comes}
 use Rattle.mon_explicit.specs.inner.Positions.{machine_of}
 use Rattle.mon_explicit.proofs.Making.{position_stands}

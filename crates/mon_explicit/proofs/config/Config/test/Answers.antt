@@ -1,6 +1,5 @@
 use Rattle.std.proofs.Common.{sym, ◌∙◌}
 use Rattle.mon_explicit.specs.declared.position.Doing.TheVariants as doings
-use Rattle.mon_explicit.specs.inner.Positions.{machine_of}
 use Rattle.mon_explicit.proofs.Making.{position_stands}
 use Rattle.mon_explicit.proofs.MakingEvents.{left_here, call_here, fits_here, guard_here, inside_made}
 use Rattle.mon_explicit.proofs.config.Config.test.Goals as goal

@@ -1,4 +1,4 @@
-use Rattle.std.proofs.Common.{length, map, ap, sym, refl, ◌∙◌, ◌≡◌, ◌+◌, true, false, arith}
+use Rattle.std.proofs.Common.{map, ap, sym, refl, ◌∙◌, ◌≡◌, false, arith}
 use Rattle.mon_events.specs.declared.event.Event.TheVariants as events
 use Rattle.mon_events.specs.Configurations.{StandsAt, guard_of}
 use Rattle.mon_events.specs.Configurations.Phase.{Inside}
