@@ -1,5 +1,5 @@
 -- Cubes whose rows hold in whole numbers, and cubes of difference rows alone.
-use Rattle.std.proofs.Common.{◌≡◌, pos, ◌≤ℤ◌, true, List, [], ◌∷◌, refl}
+use Rattle.std.proofs.Common.{pos, ◌≤ℤ◌, List, [], ◌∷◌, refl}
 use Rattle.std.specs.List.{AllByRecursion as Each}
 use Rattle.mon_linear.specs.declared.formula.Formula.{Formula}
 use Rattle.mon_linear.specs.Linear.{Linear}
