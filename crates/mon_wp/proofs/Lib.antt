@@ -16,5 +16,4 @@ mod WaitingForms
 mod WaitingGuards
 mod UnreadGuards
 mod CandidateBounds
-mod CandidateFields
 pub mod FewerKept

@@ -15,7 +15,7 @@ ghost use Rattle.mon_monitor.specs.MonitorParts.{MonitorParts, IsMonitor};
 ghost use Rattle.mon_monitor.specs.Paths.{path_count};
 ghost use Rattle.mon_monitor.specs.Queries.{for_waiting, query_of};
 ghost use Rattle.mon_monitor.specs.Triples.{IsValidQuery};
-ghost use Rattle.mon_wp.specs.Expressible.{is_expressible, is_of_fields};
+ghost use Rattle.mon_wp.specs.Expressible.{is_expressible};
 ghost use Rattle.mon_wp.specs.Hardness.{is_easy, is_within_limits};
 ghost use Rattle.mon_wp.specs.NegatedQueries.{negated_query, query_fails};
 ghost use Rattle.mon_wp.specs.Paths.{body_paths};
@@ -59,12 +59,6 @@ pub fn candidates_are_expressible()
     ensures { (monitor : MonitorParts)
         → IsMonitor monitor → All (λ field. fits_64 field.start ≡ true) monitor.fields
         → list_all is_expressible (candidates_of monitor) ≡ true }
-{}
-
-/// Each candidate of a monitor is of fields.
-pub fn candidates_are_of_fields()
-    ensures { (monitor : MonitorParts) → IsMonitor monitor
-        → list_all is_of_fields (candidates_of monitor) ≡ true }
 {}
 
 /// Under fewer candidates no query is harder: where the query of a claim is within the limits, or easy, under some

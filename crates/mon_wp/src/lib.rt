@@ -20,9 +20,9 @@ mod triples;
 mod waiting;
 
 pub use laws::{
-    candidates_are_expressible, candidates_are_of_fields, fewer_kept_are_no_harder,
-    guard_without_inputs_stays, more_kept_leave_valid, negated_query_is_exact, paths_are_counted,
-    refuted_query_is_valid, satisfied_query_is_invalid,
+    candidates_are_expressible, fewer_kept_are_no_harder, guard_without_inputs_stays,
+    more_kept_leave_valid, negated_query_is_exact, paths_are_counted, refuted_query_is_valid,
+    satisfied_query_is_invalid,
 };
 pub use makers::{keeps, no_test, none_needed, one_enough};
 pub use path::Path;

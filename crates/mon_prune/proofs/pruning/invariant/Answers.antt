@@ -1,5 +1,5 @@
 use Rattle.mon_monitor.specs.Candidates.{candidates_of}
-use Rattle.mon_wp.specs.Expressible.{is_expressible, is_of_fields}
+use Rattle.mon_wp.specs.Expressible.{is_expressible}
 use Rattle.mon_prune.proofs.Pruned.{greatest_left, invariant_left, left_first}
 use Rattle.mon_prune.proofs.SomeOf.{some_pass}
 use Rattle.mon_prune.proofs.pruning.invariant.Goals as goal
@@ -17,12 +17,6 @@ returns-clause-expressible c =
     rw c.of.ensures
     (some_pass is_expressible c.in_ok-round.round.kept.items (candidates_of c.args.monitor.now) c.in_ok-round.ensures.left.candidates
     (c.candidates_are_expressible.ensures c.args.monitor.now c.fields.ensures.rule (rw c.fields.ensures.fields at c.read_starts.ensures)))
-
-pub returns-clause-of_fields : goal.returns-clause-of_fields
-returns-clause-of_fields c =
-    rw c.of.ensures
-    (some_pass is_of_fields c.in_ok-round.round.kept.items (candidates_of c.args.monitor.now) c.in_ok-round.ensures.left.candidates
-    (c.candidates_are_of_fields.ensures c.args.monitor.now c.fields.ensures.rule))
 
 pub returns-clause-easy : goal.returns-clause-easy
 returns-clause-easy c = rw c.of.ensures c.in_ok-round.ensures.left.easy
