@@ -41,6 +41,9 @@ askable_at hyps i d low are = record {
   expressible = and_at (list_all is_expressible) is_expressible refl (λ one more. refl) hyps i d low are.expressible;
 }
 
+pub askable_one : (candidate : Candidate) → IsAskable candidate → AreAskable (candidate ∷ [])
+askable_one candidate is = record { expressible = rw is.expressible refl }
+
 pub askable_some : (kept all : List Candidate) → AreSomeOf kept all → AreAskable all → AreAskable kept
 askable_some kept all some are = record {
   expressible = some_pass is_expressible kept all some are.expressible;

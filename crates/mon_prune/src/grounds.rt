@@ -5,13 +5,23 @@ use mon_cert::{Cert, Combine};
 use mon_monitor::Candidate;
 use std::alloc::{AllocError, Global};
 
+/// Of so many candidates a ground says which they are; one of more is taken to rest on all.
+const MOST_USED: usize = 64;
+
 /// What the last certificate of a claim rests on.
 #[derive(Debug, Drop)]
 pub(crate) struct Ground {
-    /// The candidates that it used.
+    /// The candidates that it used, one more than [`MOST_USED`] where they are more.
     used: Vec<Candidate>,
     /// How many candidates had been dropped when it was found, or last looked at.
     looked: usize,
+}
+
+impl Ground {
+    /// Whether the certificate may have used the candidate.
+    fn rests_on(&self, candidate: &Candidate) -> bool {
+        self.used.len() > MOST_USED || self.used.contains(candidate)
+    }
 }
 
 /// Notes the candidate of this number, where it is one. The first literals of a negated query are its hypotheses,
@@ -24,7 +34,7 @@ fn note_number(
     match kept.get(number as usize) {
         None => {}
         Some(candidate) => {
-            if !used.contains(candidate) {
+            if used.len() <= MOST_USED && !used.contains(candidate) {
                 used.push(*candidate)?;
             }
         }
@@ -79,13 +89,21 @@ pub(crate) fn has_ground(grounds: &mut [Ground], block: u32, dropped: &[Candidat
             let is_lost = dropped
                 .iter()
                 .skip(ground.looked)
-                .any(|one| ground.used.contains(one));
+                .any(|one| ground.rests_on(one));
             if !is_lost {
                 ground.looked = dropped.len();
             }
             !is_lost
         }
     }
+}
+
+fn note(grounds: &mut Vec<Ground>, block: u32, ground: Ground) -> Result<(), AllocError> {
+    match grounds.get_mut(block as usize) {
+        None => grounds.push(ground)?,
+        Some(old) => *old = ground,
+    }
+    Ok(())
 }
 
 /// Notes what the claim at the block rests on: the candidates that its certificate uses.
@@ -99,13 +117,16 @@ pub(crate) fn note_ground(
 ) -> Result<(), AllocError> {
     let mut used = Vec::new(alloc);
     note_used(&mut used, kept, cert)?;
-    let ground = Ground {
-        used,
-        looked: dropped.len(),
-    };
-    match grounds.get_mut(block as usize) {
-        None => grounds.push(ground)?,
-        Some(old) => *old = ground,
-    }
-    Ok(())
+    let looked = dropped.len();
+    note(grounds, block, Ground { used, looked })
+}
+
+/// Notes that the claim at the block rests on no other candidate.
+pub(crate) fn note_alone(
+    alloc: Global,
+    grounds: &mut Vec<Ground>,
+    block: u32,
+) -> Result<(), AllocError> {
+    let used = Vec::new(alloc);
+    note(grounds, block, Ground { used, looked: 0 })
 }

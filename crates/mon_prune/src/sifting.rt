@@ -5,7 +5,7 @@ ghost use Rattle.mon_monitor.specs.Candidates.{candidates_of};
 ghost use Rattle.mon_prune.specs.inner.Asking.{AreAskable, IsAskable, Stands, StandsAt};
 ghost use Rattle.mon_prune.specs.inner.Pruning.{IsLeft, IsSieve};
 
-use super::grounds::{Ground, has_ground, note_ground};
+use super::grounds::{Ground, has_ground, note_alone, note_ground};
 use super::rounds::proof_of;
 use mon_monitor::{Candidate, Monitor};
 use std::alloc::{AllocError, Global};
@@ -18,8 +18,26 @@ struct Sieve {
     dropped: Vec<Candidate>,
 }
 
+/// Whether the block is found to keep the candidate under it alone. This is a small query, and most are refuted: a block
+/// leaves most fields as they are.
+fn stands_alone(
+    alloc: Global,
+    monitor: &Monitor,
+    candidate: Candidate,
+    block: u32,
+) -> Result<bool, AllocError>
+    requires candidate { IsAskable candidate }
+    requires block { block < length monitor.now.blocks }
+{
+    let alone = Vec::from_array(alloc, [candidate])?;
+    match proof_of(alloc, monitor, &alone, candidate, block)? {
+        None => Ok(false),
+        Some(_) => Ok(true),
+    }
+}
+
 /// Whether the block keeps the candidate under the others, as far as is found. It is asked, unless what an earlier
-/// certificate used is left.
+/// certificate used is left, or it stands alone.
 fn stands_at(
     alloc: Global,
     monitor: &Monitor,
@@ -35,6 +53,10 @@ fn stands_at(
     ensures { IfOk result (StandsAt monitor.now kept.now candidate block) }
 {
     if has_ground(grounds, block, dropped) {
+        return Ok(true);
+    }
+    if stands_alone(alloc, monitor, candidate, block)? {
+        note_alone(alloc, grounds, block)?;
         return Ok(true);
     }
     match proof_of(alloc, monitor, kept, candidate, block)? {

@@ -33,8 +33,8 @@ pub record IsLeft (monitor : MonitorParts) (kept : List Candidate) : Type 0 wher
   pub easy : ContainsEasy monitor kept
 
 -- candidates that are left, with as many lists of grounds
-pub record IsSieve {G : Type 0} (monitor : MonitorParts) (kept : List Candidate) (grounds : List G) :
-    Type 0 where
+pub record IsSieve {G : Type 0} (monitor : MonitorParts) (kept : List Candidate)
+    (grounds : List G) : Type 0 where
   pub left : IsLeft monitor kept
   pub many : length grounds ≡ length kept
 
