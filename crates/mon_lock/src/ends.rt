@@ -11,7 +11,7 @@ ghost use Rattle.mon_lock.specs.inner.Gathered.{Gathered};
 use super::bell::Bells;
 use super::lock::Lock;
 use super::pass::Pass;
-use super::rule::{MACHINE, Place};
+use super::rule::{MACHINE, Seat};
 use super::view::Terms;
 use atomic_table::Table;
 use mon_explicit::FreeMonitor;
@@ -20,7 +20,7 @@ use std::snapshot::Snapshot;
 
 impl Lock {
     /// A lock with the monitor at home, and a seat that has all parts of the right to close.
-    pub fn open(alloc: Global, free: FreeMonitor, passes: u32) -> Result<(Lock, Place), AllocError>
+    pub fn open(alloc: Global, free: FreeMonitor, passes: u32) -> Result<(Lock, Seat), AllocError>
         requires some { 0 < passes }
         ensures start { IfOk result (λ made. made.0.board.shared.key.start.value ≡ free) }
         ensures passes { IfOk result (λ made. made.0.board.shared.key.passes ≡ passes) }
@@ -37,34 +37,34 @@ impl Lock {
         let mut slots = Vec::with_capacity(alloc, 1)?;
         slots.push_reserved(free);
         match Table::new(alloc, &[0, 0, count], slots, &terms) {
-            Ok((board, place)) => Ok((Lock { board, bells }, place)),
+            Ok((board, seat)) => Ok((Lock { board, bells }, seat)),
             Err(_refused) => Err(AllocError),
         }
     }
 
     /// A seat takes in all that these passes have and know.
-    pub fn gather(&self, place: &mut Place, passes: Vec<Pass>)
-        requires own { place.old.table_id ≡ self.now.board.shared.table_id }
+    pub fn gather(&self, seat: &mut Seat, passes: Vec<Pass>)
+        requires own { seat.old.table_id ≡ self.now.board.shared.table_id }
         requires its { All (λ pass. pass.lock ≡ self.now.board.shared.table_id) passes.items }
-        requires idle { IsIdle place.old.me }
-        requires live { 0 < place.old.me.0.parts }
-        ensures own { place.new.table_id ≡ place.old.table_id }
-        ensures gathered { Gathered place.old.me place.new.me passes.items }
+        requires idle { IsIdle seat.old.me }
+        requires live { 0 < seat.old.me.0.parts }
+        ensures own { seat.new.table_id ≡ seat.old.table_id }
+        ensures gathered { Gathered seat.old.me seat.new.me passes.items }
     {
         for pass in passes {
-            self.take_in(place, pass.into_place());
+            self.take_in(seat, pass.into_seat());
         }
     }
 
     /// The monitor, for a seat that has all parts.
-    pub fn close(self, place: Place) -> FreeMonitor
-        requires own { place.table_id ≡ self.board.shared.table_id }
-        requires idle { IsIdle place.me }
-        requires all { place.me.0.parts ≡ self.board.shared.key.passes }
-        ensures { EndsWith self.board.shared.key.start.value place.me.0.known result }
+    pub fn close(self, seat: Seat) -> FreeMonitor
+        requires own { seat.table_id ≡ self.board.shared.table_id }
+        requires idle { IsIdle seat.me }
+        requires all { seat.me.0.parts ≡ self.board.shared.key.passes }
+        ensures { EndsWith self.board.shared.key.start.value seat.me.0.known result }
     {
         let Lock { board, bells: _ } = self;
-        let mut closed = board.close_with(place);
+        let mut closed = board.close_with(seat);
         let free = closed.take(MACHINE);
         closed.free();
         free

@@ -4,14 +4,14 @@ ghost use Rattle.std.specs.Prelude.{◌≡◌};
 ghost use Rattle.mon_lock.specs.Passes.{IsKnown};
 ghost use Rattle.mon_lock.specs.inner.Queueing.{IsIdle};
 
-use super::rule::Place;
+use super::rule::Seat;
 use std::marker::Model;
 
 /// The right to use a shared monitor, for one thread at a time. Contracts see which monitor it is of and what it knows;
 /// the program keeps the length that it has seen.
 #[derive(Drop)]
 pub struct Pass {
-    pub(crate) place: Place,
+    pub(crate) seat: Seat,
     pub(crate) seen: u64,
 }
 
@@ -27,34 +27,34 @@ impl Model for Pass {
 
     ghost coded = { Prim.hlevel (codes, expression.the_row.coded, formula.the_row.coded, statement.the_row.coded) };
 
-    ghost view = { λ p. pass_view p.place };
+    ghost view = { λ p. pass_view p.seat };
 
-    ghost invariant = { λ p. IsPass p.place.me p.seen };
+    ghost invariant = { λ p. IsPass p.seat.me p.seen };
 }
 
 impl Pass {
     /// The pass of a seat that has no ticket and one part of the right to close.
-    pub(crate) fn of(place: Place, seen: u64) -> Pass
-        requires idle { IsIdle place.me }
-        requires one_part { place.me.0.parts ≡ 1 }
-        requires seen { seen ≡ place.me.0.known.seen }
-        requires known { IsKnown place.me.0.known }
-        ensures lock { result.lock ≡ place.table_id }
-        ensures known { result.known ≡ place.me.0.known }
+    pub(crate) fn new(seat: Seat, seen: u64) -> Pass
+        requires idle { IsIdle seat.me }
+        requires one_part { seat.me.0.parts ≡ 1 }
+        requires seen { seen ≡ seat.me.0.known.seen }
+        requires known { IsKnown seat.me.0.known }
+        ensures lock { result.lock ≡ seat.table_id }
+        ensures known { result.known ≡ seat.me.0.known }
     {
-        Pass { place, seen }
+        Pass { seat, seen }
     }
 
     /// Its seat.
-    pub(crate) fn into_place(self) -> Place
+    pub(crate) fn into_seat(self) -> Seat
         ensures lock { result.table_id ≡ self.lock }
         ensures known { result.me.0.known ≡ self.known }
         ensures idle { IsIdle result.me }
         ensures one_part { result.me.0.parts ≡ 1 }
         ensures rule { IsKnown self.known }
     {
-        let Pass { place, seen: _ } = self;
-        place
+        let Pass { seat, seen: _ } = self;
+        seat
     }
 
     /// A length that the log has reached, as this pass was last told. It looks at nothing.

@@ -1,7 +1,7 @@
 //! The rule of the lock, and what each step tells whoever makes it.
 
 use crate::view::{Terms, View};
-use atomic_table::{Join, Play, Seat, Split, Table, TableRule};
+use atomic_table::{Join, Play, Split, Table, TableRule};
 use mon_explicit::FreeMonitor;
 use std::alloc::Global;
 
@@ -93,4 +93,4 @@ impl Join<View> for OnePart {
 pub type Board = Table<FreeMonitor, View, Terms, Queueing, Global>;
 
 /// A seat at the board.
-pub type Place = Seat<FreeMonitor, View>;
+pub type Seat = atomic_table::Seat<FreeMonitor, View>;

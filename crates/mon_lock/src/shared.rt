@@ -13,7 +13,7 @@ ghost use Rattle.mon_lock.specs.inner.Queueing.{IsIdle};
 use super::lock::Lock;
 use super::pass::Pass;
 use super::receipt::Receipt;
-use super::rule::Place;
+use super::rule::Seat;
 use mon_explicit::{FreeMonitor, NotReady};
 use std::alloc::{AllocError, Global};
 use std::marker::Model;
@@ -83,7 +83,7 @@ impl SharedMonitor {
             (λ fault. pass.new.known.seen ≡ fault.entries) }
         ensures always { IsKnown pass.new.known }
     {
-        match self.lock.visit(rt, &mut pass.place, client) {
+        match self.lock.visit(rt, &mut pass.seat, client) {
             Ok(receipt) => {
                 pass.seen = receipt.place + 1;
                 Ok(receipt)
@@ -106,7 +106,7 @@ impl SharedMonitor {
         ensures ends { IsTrue result → HasEnded pass.new.known.front }
         ensures always { IsKnown pass.new.known }
     {
-        let look = self.lock.look(rt, &mut pass.place);
+        let look = self.lock.look(rt, &mut pass.seat);
         pass.seen = look.entries;
         look.closed
     }
@@ -119,7 +119,7 @@ impl SharedMonitor {
         ensures seen { pass.old.known.seen ≤ result }
         ensures always { IsKnown pass.new.known }
     {
-        let count = self.lock.observe(&mut pass.place);
+        let count = self.lock.observe(&mut pass.seat);
         pass.seen = count;
         count
     }
@@ -137,15 +137,15 @@ impl SharedMonitor {
         ensures always { HoldsAlways result }
     {
         let whole = passes.pop().unwrap();
-        let mut place = whole.into_place();
+        let mut seat = whole.into_seat();
         let SharedMonitor { lock } = self;
-        lock.gather(&mut place, passes);
-        lock.close(place)
+        lock.gather(&mut seat, passes);
+        lock.close(seat)
     }
 }
 
 /// Cuts a seat that has all parts into passes of one part each.
-fn deal(lock: &Lock, mut whole: Place, passes: u32, seen: u64, list: &mut Vec<Pass>)
+fn deal(lock: &Lock, mut whole: Seat, passes: u32, seen: u64, list: &mut Vec<Pass>)
     requires some { 0 < passes }
     requires own { whole.table_id ≡ lock.now.board.shared.table_id }
     requires idle { IsIdle whole.me }
@@ -159,8 +159,8 @@ fn deal(lock: &Lock, mut whole: Place, passes: u32, seen: u64, list: &mut Vec<Pa
     ensures known { All (λ pass. pass.known ≡ whole.me.0.known) list.new.items }
 {
     for number in 1..passes {
-        let place = lock.cut(&mut whole);
-        list.push_reserved(Pass::of(place, seen));
+        let seat = lock.cut(&mut whole);
+        list.push_reserved(Pass::new(seat, seen));
     }
-    list.push_reserved(Pass::of(whole, seen));
+    list.push_reserved(Pass::new(whole, seen));
 }

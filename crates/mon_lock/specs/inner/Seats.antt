@@ -8,7 +8,7 @@ use Rattle.mon_lock.specs.Passes.{PassView, IsKnown}
 use Rattle.mon_lock.specs.inner.Queueing.{IsIdle}
 
 abbrev pub pass_view : Seat FreeMachine View → PassView
-pass_view place = record { lock = place.table_id; known = place.me.0.known }
+pass_view seat = record { lock = seat.table_id; known = seat.me.0.known }
 
 -- the seat has no ticket and one part of the right to close, and the program knows the length that
 -- was seen

@@ -12,13 +12,13 @@ pub wait-requires-clause-live : goal.wait-requires-clause-live
 wait-requires-clause-live g c = subst (λ (m : Me FreeMachine View). 0 < m.0.parts) (sym c.draw-ticket.ensures.waits.2) c.requires.live
 
 pub returns-clause-turn : goal.returns-clause-turn
-returns-clause-turn g c = (turn_gives c.draw-ticket.result c.args.place.now.me c.draw-ticket.new.place.me c.wait.new.place.me c.requires.idle.1 c.requires.known c.draw-ticket.ensures.waits c.wait.ensures.turn).holding
+returns-clause-turn g c = (turn_gives c.draw-ticket.result c.args.seat.now.me c.draw-ticket.new.seat.me c.wait.new.seat.me c.requires.idle.1 c.requires.known c.draw-ticket.ensures.waits c.wait.ensures.turn).holding
 
 pub returns-clause-parts : goal.returns-clause-parts
-returns-clause-parts g c = (turn_gives c.draw-ticket.result c.args.place.now.me c.draw-ticket.new.place.me c.wait.new.place.me c.requires.idle.1 c.requires.known c.draw-ticket.ensures.waits c.wait.ensures.turn).parts
+returns-clause-parts g c = (turn_gives c.draw-ticket.result c.args.seat.now.me c.draw-ticket.new.seat.me c.wait.new.seat.me c.requires.idle.1 c.requires.known c.draw-ticket.ensures.waits c.wait.ensures.turn).parts
 
 pub returns-clause-looks : goal.returns-clause-looks
-returns-clause-looks g c = (turn_gives c.draw-ticket.result c.args.place.now.me c.draw-ticket.new.place.me c.wait.new.place.me c.requires.idle.1 c.requires.known c.draw-ticket.ensures.waits c.wait.ensures.turn).looks
+returns-clause-looks g c = (turn_gives c.draw-ticket.result c.args.seat.now.me c.draw-ticket.new.seat.me c.wait.new.seat.me c.requires.idle.1 c.requires.known c.draw-ticket.ensures.waits c.wait.ensures.turn).looks
 
 pub returns-clause-known : goal.returns-clause-known
-returns-clause-known g c = (turn_gives c.draw-ticket.result c.args.place.now.me c.draw-ticket.new.place.me c.wait.new.place.me c.requires.idle.1 c.requires.known c.draw-ticket.ensures.waits c.wait.ensures.turn).known
+returns-clause-known g c = (turn_gives c.draw-ticket.result c.args.seat.now.me c.draw-ticket.new.seat.me c.wait.new.seat.me c.requires.idle.1 c.requires.known c.draw-ticket.ensures.waits c.wait.ensures.turn).known

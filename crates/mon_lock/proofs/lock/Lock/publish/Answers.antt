@@ -8,7 +8,7 @@ pub store-requires : goal.store-requires
 store-requires c =
     let t = c.requires.turn in
     let y = c.requires.made in
-    let front = c.args.place.now.me.0.known.front in
+    let front = c.args.seat.now.me.0.known.front in
     let made = y.3 in
     let entry = c.args.section.entry in
     let grew : Follows front y.0 = section_follows _ front y.0 c.args.section made in

@@ -9,7 +9,7 @@ make-result-requires-clause-client g c = subst (λ (s : System). c.args.client <
 
 pub returns-clause-made : goal.returns-clause-made
 returns-clause-made g c =
-    subst (λ k. SectionsShared c.args.client c.args.place.now.me.0.known k c.make-result.result) (sym c.unlock.ensures.known) (sections_shared _ _ _ _ _ c.lock-ticket.ensures.looks c.make-result.ensures.made)
+    subst (λ k. SectionsShared c.args.client c.args.seat.now.me.0.known k c.make-result.result) (sym c.unlock.ensures.known) (sections_shared _ _ _ _ _ c.lock-ticket.ensures.looks c.make-result.ensures.made)
 
 pub returns-clause-known : goal.returns-clause-known
 returns-clause-known g c = subst IsKnown (sym c.unlock.ensures.known) c.make-result.ensures.known
