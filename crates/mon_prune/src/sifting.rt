@@ -5,9 +5,12 @@ ghost use Rattle.mon_monitor.specs.Candidates.{candidates_of};
 ghost use Rattle.mon_prune.specs.inner.Asking.{AreAskable, IsAskable, Stands, StandsAt};
 ghost use Rattle.mon_prune.specs.inner.Pruning.{IsLeft, IsSieve};
 
+use super::certificate::certificate_of;
 use super::grounds::{Ground, has_ground, note_alone, note_ground};
 use super::rounds::proof_of;
-use mon_monitor::{Candidate, Monitor};
+use mon_list::Seq;
+use mon_monitor::{Candidate, Monitor, Query};
+use mon_wp::keeps;
 use std::alloc::{AllocError, Global};
 
 /// Candidates that are left, what the claims of each rest on, and the candidates that were dropped, in this order.
@@ -18,8 +21,23 @@ struct Sieve {
     dropped: Vec<Candidate>,
 }
 
-/// Whether the block is found to keep the candidate under it alone. This is a small query, and most are refuted: a block
-/// leaves most fields as they are.
+/// The query without its last hypothesis, which is the guard of the block.
+fn without_guard(query: Query) -> Query
+    ensures block { result.block ≡ query.block }
+    ensures post { result.post ≡ query.post }
+{
+    let Query { hyps, block, post } = query;
+    let mut hyps = hyps.into_items();
+    let _guard = hyps.pop();
+    Query {
+        hyps: Seq::of(hyps),
+        block,
+        post,
+    }
+}
+
+/// Whether the block is found to keep the candidate under it alone, whatever its guard is. This is a small query of few
+/// cubes, and most are refuted: a block leaves most fields as they are.
 fn stands_alone(
     alloc: Global,
     monitor: &Monitor,
@@ -30,7 +48,8 @@ fn stands_alone(
     requires block { block < length monitor.now.blocks }
 {
     let alone = Vec::from_array(alloc, [candidate])?;
-    match proof_of(alloc, monitor, &alone, candidate, block)? {
+    let query = without_guard(keeps(alloc, monitor, &alone, candidate, block)?);
+    match certificate_of(alloc, monitor, &query)? {
         None => Ok(false),
         Some(_) => Ok(true),
     }
