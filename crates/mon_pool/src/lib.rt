@@ -7,11 +7,11 @@
 //! monitor is); `specs/inner/Workers` (what a worker keeps between two turns, and what it knows when it ends).
 #![tactic(auto)]
 
-mod bench;
 mod crew;
 mod gate;
 mod hints;
 mod pool;
+mod roster;
 mod shop;
 mod worker;
 

@@ -8,9 +8,9 @@ ghost use Rattle.mon_explicit.specs.Sections.{HasEnded, HoldsAlways};
 ghost use Rattle.mon_lock.specs.Growth.{Follows};
 ghost use Rattle.mon_pool.specs.inner.Workers.{HasFinished, IsWorker, KnowsClosed};
 
-use super::bench::Bench;
 use super::crew::{dismiss, hire};
 use super::hints::Hints;
+use super::roster::Roster;
 use super::shop::Shop;
 use super::worker::{Worker, work};
 use crate::gate::Gate;
@@ -50,7 +50,7 @@ pub fn run_pool<R: Threads + Wait + Sync, G: Gate>(
         monitor,
         queue,
         hints,
-        bench: Bench::new(u64::from(workers)),
+        roster: Roster::new(u64::from(workers)),
         clients,
     };
     hire(&shop, places, tickets, &mut crew);

@@ -2,8 +2,8 @@
 
 ghost use Rattle.std.specs.Prelude.{◌≡◌, length};
 
-use super::bench::Bench;
 use super::hints::Hints;
+use super::roster::Roster;
 use mon_lock::SharedMonitor;
 use mon_queue::ReadyQueue;
 
@@ -13,7 +13,7 @@ pub struct Shop {
     pub monitor: SharedMonitor,
     pub queue: ReadyQueue,
     pub hints: Hints,
-    pub bench: Bench,
+    pub roster: Roster,
     pub clients: u32,
     ghost counted: { queue.clients ≡ clients },
     ghost every: { length monitor.start.system.clients ≡ clients },
@@ -28,7 +28,7 @@ impl Shop {
             monitor,
             queue: _,
             hints: _,
-            bench: _,
+            roster: _,
             clients: _,
         } = self;
         monitor

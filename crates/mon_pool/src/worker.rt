@@ -93,10 +93,10 @@ pub fn work<R: Threads + Wait + Sync, G: Gate>(rt: &R, shop: &Shop, gate: &G, wo
         if idle >= shop.clients {
             idle = 0;
             if ends(rt, shop, &mut worker.place) {
-                shop.bench.end();
+                shop.roster.end();
                 return;
             }
-            if !shop.bench.doze(rt) {
+            if !shop.roster.doze(rt) {
                 backoff.snooze();
             }
         }
@@ -109,7 +109,7 @@ const MOST_DOUBLINGS: u32 = 10;
 
 /// A worker makes way for another. It dozes, or pauses the longer the more often it was in the way, which is answered.
 fn make_way<R: Wait>(rt: &R, shop: &Shop, crowded: u32) -> u32 {
-    if shop.bench.doze(rt) {
+    if shop.roster.doze(rt) {
         return 0;
     }
     let doublings = crowded.min(MOST_DOUBLINGS);
@@ -134,9 +134,9 @@ fn take_turn<R: Threads + Wait + Sync, G: Gate>(
         return Turn::Idle;
     };
     let client = ticket.client();
-    shop.bench.go_to_gate();
+    shop.roster.go_to_gate();
     gate.before(rt, client, worker.sections);
-    shop.bench.come_back();
+    shop.roster.come_back();
     let turn = try_client(rt, shop, &mut worker.place, client);
     shop.queue.put(rt, &mut worker.tickets, ticket);
     if turn == Turn::Made {
@@ -154,12 +154,12 @@ fn try_client<R: Wait>(rt: &R, shop: &Shop, place: &mut Pass, client: u32) -> Tu
     if shop.hints.rests(client) {
         return Turn::Rested;
     }
-    let turn = if shop.bench.come_to_monitor() {
+    let turn = if shop.roster.come_to_monitor() {
         turn_of(try_section(rt, shop, place, client))
     } else {
         Turn::Crowded
     };
-    shop.bench.leave_monitor();
+    shop.roster.leave_monitor();
     turn
 }
 

@@ -14,7 +14,7 @@ const FEWEST_AWAKE: u64 = 2;
 /// How many workers are awake and not at their gates, how many doze or are about to, their bell, and how many are at the
 /// monitor. Of one worker alone nothing is counted, since nobody is in its way.
 #[derive(Drop)]
-pub struct Bench {
+pub struct Roster {
     alone: bool,
     awake: AtomicU64,
     dozing: AtomicU64,
@@ -22,10 +22,10 @@ pub struct Bench {
     busy: AtomicU64,
 }
 
-impl Bench {
+impl Roster {
     /// So many workers, all awake.
-    pub fn new(workers: u64) -> Bench {
-        Bench {
+    pub fn new(workers: u64) -> Roster {
+        Roster {
             alone: workers == 1,
             awake: AtomicU64::new(workers),
             dozing: AtomicU64::new(0),
