@@ -1,13 +1,14 @@
 -- What a text comes to, and one that was written to a sink that was silent before.
 use Rattle.std.proofs.Common.{◌≡◌, ℕ, ◌<◌, ◌≤◌, List, Result, Ok, Err, subst, ◌∙◌, inl, inr, refl, arith}
+use Rattle.std.specs.Prelude.{OnOk}
 use Rattle.std.specs.Io.KnownBytes.{Keeps}
 use Rattle.mon_io.specs.declared.sink.SinkFailed.{SinkFailed}
-use Rattle.mon_io.specs.Outside.{SinkSeen, Rises}
+use Rattle.mon_io.specs.Outside.{FilesSeen, SinkSeen, Rises}
 use Rattle.mon_io.specs.Writing.{Wrote}
 use Rattle.mon_io.proofs.WrittenBytes.{appends_kept}
 use Rattle.expresso.specs.declared.status.Status.{Status}
 use Rattle.expresso.specs.declared.status.Status.TheVariants.{WriteFault}
-use Rattle.expresso.specs.inner.Ending.{IsWritten}
+use Rattle.expresso.specs.inner.Ending.{IsQuiet, IsWritten}
 
 -- the sink took all of it and handed it on
 pub text_handed_on : (status : Status) (text : List ℕ) (before mid now : SinkSeen) (outcome : Result (Unit {0}) SinkFailed) (done : Unit {0}) → outcome ≡ Ok done → Wrote before mid outcome text
@@ -40,3 +41,9 @@ write_failed status text before now outcome fault is wrote =
 -- nothing was written between the first view of the sink and the second
 pub written_since : (status : Status) (text : List ℕ) (result : Status) (out mid out_now : SinkSeen) → mid ≡ out → IsWritten status text result mid out_now → IsWritten status text result out out_now
 written_since status text result out mid out_now silent written = subst (λ (s : SinkSeen). IsWritten status text result s out_now) silent written
+
+-- nothing was written in one step more
+pub still_quiet : {A E : Type 0} (result : Result A E) (files files_now : FilesSeen) (out mid out_now : SinkSeen) → IsQuiet files files_now out mid → OnOk result (out_now ≡ mid)
+    → OnOk result (IsQuiet files files_now out out_now)
+still_quiet (Ok x) files files_now out mid out_now quiet silent = record { steady = quiet.steady; silent = silent ∙ quiet.silent }
+still_quiet (Err e) files files_now out mid out_now quiet silent = tt

@@ -8,22 +8,25 @@ use Rattle.mon_events.specs.Logs.{IsClosed}
 use Rattle.mon_explicit.specs.Sections.{FreeMachine, HoldsAlways, HasEnded, opened_free, spurious_in}
 use Rattle.mon_events.specs.PlanText.{plan_text}
 use Rattle.mon_text.specs.LogText.{log_text}
-use Rattle.mon_simulate.specs.Schedules.{Extends}
+use Rattle.mon_simulate.specs.Schedules.{Extends, IsByRounds, IsDrawn}
 use Rattle.mon_command.specs.declared.schedule.Schedule.{Schedule}
+use Rattle.mon_command.specs.declared.schedule.Schedule.TheVariants.{Rounds, Drawn}
 use Rattle.expresso.specs.Placements.{IsPlacement}
 use Rattle.expresso.specs.Simulations.{IsScheduled, IsSimulation, most_spurious}
+use Rattle.expresso.specs.inner.Schedules.{IsRunOut}
 use Rattle.expresso.proofs.Placed.{placed_run}
 use Rattle.mon_events.specs.Configurations.{system_under}
 use Rattle.mon_text.specs.Laws.{plan_and_log_text}
 
--- all that is known of a monitor at the end of a schedule
-pub record IsRunOut (schedule : Schedule) (before next : FreeMachine) : Type 0 where
-  pub scheduled : IsScheduled schedule before next
-  pub closed : IsClosed next.system next.now
-  pub extends : Extends before next
-  pub spurious : spurious_in next.log ≤ spurious_in before.log + most_spurious schedule
-  pub always : HoldsAlways next
-  pub ends : HasEnded next
+pub rounds_run_out : (schedule : Schedule) (before next : FreeMachine) → schedule ≡ Rounds → IsByRounds 0 before next → IsClosed next.system next.now → Extends before next
+    → spurious_in next.log ≡ spurious_in before.log → HoldsAlways next → HasEnded next → IsRunOut schedule before next
+rounds_run_out schedule before next is rounds closed extends spurious always ends =
+    subst (λ (s : Schedule). IsRunOut s before next) (sym is) (record { scheduled = rounds; closed = closed; extends = extends; spurious = omega (arith, spurious); always = always; ends = ends })
+
+pub drawn_run_out : (schedule : Schedule) (seed extra : ℕ) (before next : FreeMachine) → schedule ≡ Drawn seed extra → IsDrawn seed extra before next → IsClosed next.system next.now → Extends before next
+    → spurious_in next.log ≤ spurious_in before.log + extra → HoldsAlways next → HasEnded next → IsRunOut schedule before next
+drawn_run_out schedule seed extra before next is drawn closed extends spurious always ends =
+    subst (λ (s : Schedule). IsRunOut s before next) (sym is) (record { scheduled = drawn; closed = closed; extends = extends; spurious = spurious; always = always; ends = ends })
 
 run_from_start : (system : System) (schedule : Schedule) (next : FreeMachine) → IsPlacement system.monitor system.plan
     → IsRunOut schedule (opened_free system.monitor system.plan system.clients (most_spurious schedule)) next → IsSimulation system schedule next.log next.now

@@ -1,13 +1,13 @@
 //! A monitor, or a monitor and its clients, from the files that a command names.
 
-ghost use Rattle.std.specs.Prelude.{◌≡◌, IfErr, IfOk, OnOk};
+ghost use Rattle.std.specs.Prelude.{◌≡◌, [], ◌∷◌, All, IfErr, IfOk, OnOk};
 ghost use Rattle.mon_implicit.specs.Scripted.{FitsScripts};
 ghost use Rattle.expresso.specs.FirstFaults.{IsRefusalLine};
 ghost use Rattle.expresso.specs.MonitorFiles.{IsAccepted, IsFirstOfMonitor};
 ghost use Rattle.expresso.specs.ClientFiles.{AreAccepted, IsFirstOfClients};
 ghost use Rattle.expresso.specs.Answers.{HoldRun, HoldsMonitor};
 ghost use Rattle.expresso.specs.ProgramEnds.{KeepsFiles};
-ghost use Rattle.expresso.specs.inner.Ending.{IsTurnedAway};
+ghost use Rattle.expresso.specs.inner.Ending.{IsQuiet, IsTurnedAway};
 ghost use Rattle.expresso.specs.inner.Input.{CommandsEndOn, RunsEnd};
 
 use crate::client_file::read_clients;
@@ -33,7 +33,7 @@ fn monitor_in<S: Sink>(
     out: &mut S,
 ) -> Result<MonitorFile, Status>
     ensures accepted { IfOk result (λ found. IsAccepted bytes.now found.tree found.monitor) }
-    ensures silent { OnOk result (out.new ≡ out.old) }
+    ensures silent { OnOk result (S.seen out.new ≡ S.seen out.old) }
     ensures refused { IfErr result (λ status. IsTurnedAway
         (IsRefusalLine (IsFirstOfMonitor bytes.now) file.now bytes.now)
         status (S.seen out.old) (S.seen out.new)) }
@@ -59,7 +59,7 @@ fn scripts_in<S: Sink>(
 ) -> Result<Scripts, Status>
     ensures accepted { IfOk result (λ scripts. AreAccepted bytes.now monitor.now scripts) }
     ensures fits { IfOk result (λ scripts. FitsScripts monitor.now scripts) }
-    ensures silent { OnOk result (out.new ≡ out.old) }
+    ensures silent { OnOk result (S.seen out.new ≡ S.seen out.old) }
     ensures refused { IfErr result (λ status. IsTurnedAway
         (IsRefusalLine (IsFirstOfClients bytes.now monitor.now) file.now bytes.now)
         status (S.seen out.old) (S.seen out.new)) }
@@ -85,8 +85,8 @@ pub(crate) fn monitor_of<F: Files, S: Sink>(
     requires { F.may_read files.old file.now }
     ensures holds { IfOk result (λ found. HoldsMonitor (F.seen files.old).held
         file.now found.tree found.monitor) }
-    ensures steady { OnOk result ((F.seen files.new).faults ≡ (F.seen files.old).faults) }
-    ensures silent { OnOk result (out.new ≡ out.old) }
+    ensures quiet { OnOk result (IsQuiet (F.seen files.old) (F.seen files.new)
+        (S.seen out.old) (S.seen out.new)) }
     ensures ended { IfErr result (λ status. CommandsEndOn file.now
         (F.seen files.old) (F.seen files.new) status (S.seen out.old) (S.seen out.new)) }
     ensures files { KeepsFiles (F.seen files.old) (F.seen files.new)
@@ -114,13 +114,12 @@ pub(crate) fn input_of<F: Files, S: Sink>(
     files: &mut F,
     out: &mut S,
 ) -> Result<Input, Status>
-    requires monitor { F.may_read files.old monitor.now }
-    requires clients { F.may_read files.old clients.now }
+    requires files { All (F.may_read files.old) (monitor.now ∷ clients.now ∷ []) }
     ensures input { IfOk result (λ input. HoldRun (F.seen files.old).held
         monitor.now clients.now input.monitor input.scripts) }
     ensures fits { IfOk result (λ input. FitsScripts input.monitor input.scripts) }
-    ensures steady { OnOk result ((F.seen files.new).faults ≡ (F.seen files.old).faults) }
-    ensures silent { OnOk result (out.new ≡ out.old) }
+    ensures quiet { OnOk result (IsQuiet (F.seen files.old) (F.seen files.new)
+        (S.seen out.old) (S.seen out.new)) }
     ensures ended { IfErr result (λ status. RunsEnd monitor.now clients.now
         (F.seen files.old) (F.seen files.new) status (S.seen out.old) (S.seen out.new)) }
     ensures files { KeepsFiles (F.seen files.old) (F.seen files.new)

@@ -1,10 +1,10 @@
 //! The bytes of the files that a command names.
 
-ghost use Rattle.std.specs.Prelude.{◌≡◌, IfErr, IfOk, OnOk};
+ghost use Rattle.std.specs.Prelude.{IfErr, IfOk, OnOk};
 ghost use Rattle.mon_base.specs.Limits.{FILE_BYTES};
 ghost use Rattle.mon_io.specs.Outside.{IsRead};
 ghost use Rattle.expresso.specs.ProgramEnds.{KeepsFiles};
-ghost use Rattle.expresso.specs.inner.Ending.{IsUnread};
+ghost use Rattle.expresso.specs.inner.Ending.{IsQuiet, IsUnread};
 
 use crate::status::Status;
 use crate::text::show_unread;
@@ -23,8 +23,8 @@ pub(crate) fn bytes_of<F: Files, S: Sink>(
     requires { F.may_read files.old file.now }
     ensures told { IfOk result (λ bytes.
         IsRead ((F.seen files.old).held file.now) FILE_BYTES bytes.items) }
-    ensures steady { OnOk result ((F.seen files.new).faults ≡ (F.seen files.old).faults) }
-    ensures silent { OnOk result (out.new ≡ out.old) }
+    ensures quiet { OnOk result (IsQuiet (F.seen files.old) (F.seen files.new)
+        (S.seen out.old) (S.seen out.new)) }
     ensures unread { IfErr result (λ status. IsUnread file.now
         (F.seen files.old) (F.seen files.new) status (S.seen out.old) (S.seen out.new)) }
     ensures files { KeepsFiles (F.seen files.old) (F.seen files.new)

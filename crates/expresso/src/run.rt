@@ -1,7 +1,6 @@
 //! `expresso run FILE CLIENTS [--workers N]`.
 
-ghost use Rattle.std.specs.Prelude.{◌≡◌, ◌≤◌, IfOk};
-ghost use Rattle.mon_base.specs.Limits.{WORKERS};
+ghost use Rattle.std.specs.Prelude.{◌≡◌, [], ◌∷◌, All, IfOk};
 ghost use Rattle.mon_command.specs.CommandLine.{run};
 ghost use Rattle.mon_implicit.specs.Scripted.{FitsScripts};
 ghost use Rattle.mon_explicit.specs.Sections.{spurious_in};
@@ -9,6 +8,7 @@ ghost use Rattle.mon_events.specs.Configurations.{system_under};
 ghost use Rattle.expresso.specs.PlacedRuns.{IsPlacedRun};
 ghost use Rattle.expresso.specs.ProgramEnds.{KeepsFiles};
 ghost use Rattle.expresso.specs.inner.Ending.{CommandEnds};
+ghost use Rattle.expresso.specs.inner.Ranges.{AreWorkers};
 
 use crate::input::{Input, input_of};
 use crate::placement::plan_of;
@@ -34,8 +34,7 @@ pub(crate) fn worked<R: Threads + Wait + Sync, G: Gate>(
     gate: &G,
 ) -> Result<FreeMonitor, AllocError>
     requires fits { FitsScripts monitor scripts }
-    requires some { 1 ≤ workers }
-    requires few { workers ≤ WORKERS }
+    requires workers { AreWorkers workers }
     ensures system { IfOk result (λ free.
         free.system ≡ system_under monitor scripts free.system.plan) }
     ensures placed { IfOk result (λ free.
@@ -59,10 +58,8 @@ pub(crate) fn run_files<R: Threads + Wait + Sync, F: Files, S: Sink, G: Gate>(
     out: &mut S,
     gate: &G,
 ) -> Status
-    requires monitor { F.may_read files.old monitor.now }
-    requires clients { F.may_read files.old clients.now }
-    requires some { 1 ≤ workers }
-    requires few { workers ≤ WORKERS }
+    requires files { All (F.may_read files.old) (monitor.now ∷ clients.now ∷ []) }
+    requires workers { AreWorkers workers }
     ensures ended { CommandEnds (run monitor.now clients.now workers)
         (F.seen files.old) (F.seen files.new) result (S.seen out.old) (S.seen out.new) }
     ensures files { KeepsFiles (F.seen files.old) (F.seen files.new)

@@ -1,15 +1,14 @@
 //! `expresso simulate FILE CLIENTS [--seed N] [--spurious K]`.
 
-ghost use Rattle.std.specs.Prelude.{◌≡◌, ◌≤◌, ◌+◌, IfOk};
+ghost use Rattle.std.specs.Prelude.{◌≡◌, ◌≤◌, ◌+◌, [], ◌∷◌, All, IfOk};
 ghost use Rattle.mon_implicit.specs.Scripted.{FitsScripts};
-ghost use Rattle.mon_events.specs.Logs.{IsClosed};
-ghost use Rattle.mon_explicit.specs.Sections.{MOST_SPURIOUS, HasEnded, HoldsAlways, spurious_in};
-ghost use Rattle.mon_simulate.specs.Schedules.{Extends};
+ghost use Rattle.mon_explicit.specs.Sections.{MOST_SPURIOUS, spurious_in};
 ghost use Rattle.mon_command.specs.CommandLine.{simulate};
-ghost use Rattle.expresso.specs.Simulations.{IsScheduled, IsSimulation, most_spurious};
+ghost use Rattle.expresso.specs.Simulations.{IsSimulation, most_spurious};
 ghost use Rattle.mon_events.specs.Configurations.{system_under};
 ghost use Rattle.expresso.specs.ProgramEnds.{KeepsFiles};
 ghost use Rattle.expresso.specs.inner.Ending.{CommandEnds};
+ghost use Rattle.expresso.specs.inner.Schedules.{IsRunOut};
 
 use crate::input::{Input, input_of};
 use crate::placement::plan_of;
@@ -33,14 +32,8 @@ fn most_spurious(schedule: Schedule) -> u64
 
 /// Runs a monitor to the end of the schedule.
 fn run(free: &mut FreeMonitor, schedule: Schedule)
-    requires left { spurious_in free.old.log + most_spurious schedule ≤ free.old.extra }
-    ensures scheduled { IsScheduled schedule free.old free.new }
-    ensures closed { IsClosed free.new.system free.new.now }
-    ensures extends { Extends free.old free.new }
-    ensures spurious { spurious_in free.new.log
-        ≤ spurious_in free.old.log + most_spurious schedule }
-    ensures always { HoldsAlways free.new }
-    ensures ends { HasEnded free.new }
+    requires { spurious_in free.old.log + most_spurious schedule ≤ free.old.extra }
+    ensures { IsRunOut schedule free.old free.new }
 {
     match schedule {
         Schedule::Rounds => rounds(free),
@@ -74,8 +67,7 @@ pub(crate) fn simulate_files<F: Files, S: Sink>(
     files: &mut F,
     out: &mut S,
 ) -> Status
-    requires monitor { F.may_read files.old monitor.now }
-    requires clients { F.may_read files.old clients.now }
+    requires files { All (F.may_read files.old) (monitor.now ∷ clients.now ∷ []) }
     requires few { most_spurious schedule ≤ MOST_SPURIOUS }
     ensures ended { CommandEnds (simulate monitor.now clients.now schedule)
         (F.seen files.old) (F.seen files.new) result (S.seen out.old) (S.seen out.new) }

@@ -1,10 +1,9 @@
 //! `expresso stress N [--workers N]`.
 
-ghost use Rattle.std.specs.Prelude.{◌≤◌};
-ghost use Rattle.mon_base.specs.Limits.{WORKERS};
 ghost use Rattle.mon_command.specs.CommandLine.{stress};
 ghost use Rattle.mon_io.specs.Outside.{FilesSeen};
 ghost use Rattle.expresso.specs.inner.Ending.{CommandEnds};
+ghost use Rattle.expresso.specs.inner.Ranges.{AreWorkers};
 
 use crate::run::worked;
 use crate::status::Status;
@@ -25,8 +24,7 @@ pub(crate) fn stress<R: Threads + Wait + Sync, S: Sink, G: Gate>(
     out: &mut S,
     gate: &G,
 ) -> Status
-    requires some { 1 ≤ workers }
-    requires few { workers ≤ WORKERS }
+    requires { AreWorkers workers }
     ensures { (files : FilesSeen) → CommandEnds (stress number workers)
         files files result (S.seen out.old) (S.seen out.new) }
 {

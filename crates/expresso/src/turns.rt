@@ -1,5 +1,6 @@
 //! `expresso turns FILE CLIENTS`.
 
+ghost use Rattle.std.specs.Prelude.{[], ◌∷◌, All};
 ghost use Rattle.mon_command.specs.CommandLine.{turns};
 ghost use Rattle.expresso.specs.ProgramEnds.{KeepsFiles};
 ghost use Rattle.expresso.specs.inner.Ending.{CommandEnds};
@@ -20,8 +21,7 @@ pub(crate) fn take_turns<F: Files, S: Sink>(
     files: &mut F,
     out: &mut S,
 ) -> Status
-    requires monitor { F.may_read files.old monitor.now }
-    requires clients { F.may_read files.old clients.now }
+    requires files { All (F.may_read files.old) (monitor.now ∷ clients.now ∷ []) }
     ensures ended { CommandEnds (turns monitor.now clients.now)
         (F.seen files.old) (F.seen files.new) result (S.seen out.old) (S.seen out.new) }
     ensures files { KeepsFiles (F.seen files.old) (F.seen files.new)

@@ -29,6 +29,11 @@ IsWritten status text result before now =
     ((result ≡ status) × IsHandedOn before now text)
     ⊎ ((result ≡ statuses.WriteFault) × IsCutShort before now text)
 
+-- Between two views of files and of a sink no read failed and nothing was written.
+pub record IsQuiet (files files_now : FilesSeen) (out out_now : SinkSeen) : Type 0 where
+  pub steady : files_now.faults ≡ files.faults
+  pub silent : out_now ≡ out
+
 -- A file has no bytes for its command: memory ran out and nothing was written, or it couldn't be
 -- read and its line was written.
 abbrev pub IsUnread : List ℕ → FilesSeen → FilesSeen → Status → SinkSeen → SinkSeen → Type 0

@@ -1,4 +1,3 @@
-use Rattle.std.proofs.Common.{ap}
 use Rattle.mon_events.specs.PlanText.{plan_text}
 use Rattle.expresso.specs.declared.status.Status.TheVariants.{Done}
 use Rattle.mon_command.specs.CommandLine.{compile}
@@ -14,5 +13,5 @@ returns-in-Ok-plan_of-clause-ended g c =
     let found = c.in-Ok.found in
     let plan = c.in-Ok-plan_of.plan in
     compile_done c.args.file.now found.tree found.monitor plan
-    (g.F.Files.seen c.args.files.now) (g.F.Files.seen c.monitor_of.new.files) _ (g.S.Sink.seen c.args.out.now) _ c.in-Ok.ensures.holds c.in-Ok-plan_of.ensures c.in-Ok.ensures.steady
-    (written_since Done (plan_text found.monitor plan) _ _ _ _ (ap g.S.Sink.seen c.in-Ok.ensures.silent) c.show_plan.ensures)
+    (g.F.Files.seen c.args.files.now) (g.F.Files.seen c.monitor_of.new.files) _ (g.S.Sink.seen c.args.out.now) _ c.in-Ok.ensures.holds c.in-Ok-plan_of.ensures c.in-Ok.ensures.quiet.steady
+    (written_since Done (plan_text found.monitor plan) _ _ _ _ c.in-Ok.ensures.quiet.silent c.show_plan.ensures)

@@ -1,4 +1,3 @@
-use Rattle.std.proofs.Common.{ap}
 use Rattle.mon_events.specs.Logs.{commits_of}
 use Rattle.mon_text.specs.LogText.{are_done}
 use Rattle.mon_command.specs.CommandLine.{simulate}
@@ -23,5 +22,5 @@ pub returns-in-Ok-simulation-clause-ended : goal.returns-in-Ok-simulation-clause
 returns-in-Ok-simulation-clause-ended g c =
     let free = c.in-Ok-simulation.free in
     simulation_ended c.args.monitor.now c.args.clients.now c.args.schedule (g.F.Files.seen c.args.files.now) (g.F.Files.seen c.input_of.new.files) c.in-Ok.input.monitor free.system.plan c.in-Ok.input.scripts
-    free.log free.now free.system c.in-Ok.ensures.input c.in-Ok-simulation.ensures.simulation c.in-Ok-simulation.ensures.system _ (g.S.Sink.seen c.args.out.now) _ c.in-Ok.ensures.steady
-    (written_since (ended (are_done free.system.clients (commits_of free.log))) (plan_and_log_text free.system free.log free.now) _ _ _ _ (ap g.S.Sink.seen c.in-Ok.ensures.silent) c.show_plan_and_log.ensures)
+    free.log free.now free.system c.in-Ok.ensures.input c.in-Ok-simulation.ensures.simulation c.in-Ok-simulation.ensures.system _ (g.S.Sink.seen c.args.out.now) _ c.in-Ok.ensures.quiet.steady
+    (written_since (ended (are_done free.system.clients (commits_of free.log))) (plan_and_log_text free.system free.log free.now) _ _ _ _ c.in-Ok.ensures.quiet.silent c.show_plan_and_log.ensures)

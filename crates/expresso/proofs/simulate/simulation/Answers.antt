@@ -3,14 +3,10 @@ use Rattle.expresso.proofs.simulate.simulation.Goals as goal
 
 pub returns-clause-system : goal.returns-clause-system
 returns-clause-system c =
-    let out = c.run.ensures in
     run_system c.args.input.monitor c.args.input.scripts c.args.schedule c.in_ok-plan.plan c.most_spurious.result c.in_ok-free.free c.run.new.free
-    c.most_spurious.ensures c.in_ok-free.ensures.opened
-    (record { scheduled = out.scheduled; closed = out.closed; extends = out.extends; spurious = out.spurious; always = out.always; ends = out.ends })
+    c.most_spurious.ensures c.in_ok-free.ensures.opened c.run.ensures
 
 pub returns-clause-simulation : goal.returns-clause-simulation
 returns-clause-simulation c =
-    let out = c.run.ensures in
     run_simulates c.args.input.monitor c.args.input.scripts c.args.schedule c.in_ok-plan.plan c.most_spurious.result c.in_ok-free.free c.run.new.free
-    c.most_spurious.ensures c.in_ok-free.ensures.opened c.in_ok-plan.ensures
-    (record { scheduled = out.scheduled; closed = out.closed; extends = out.extends; spurious = out.spurious; always = out.always; ends = out.ends })
+    c.most_spurious.ensures c.in_ok-free.ensures.opened c.in_ok-plan.ensures c.run.ensures

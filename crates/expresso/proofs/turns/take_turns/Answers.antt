@@ -1,4 +1,3 @@
-use Rattle.std.proofs.Common.{ap}
 use Rattle.mon_text.specs.TurnsText.{turns_text}
 use Rattle.mon_command.specs.CommandLine.{turns}
 use Rattle.expresso.specs.inner.Ending.{ended}
@@ -15,5 +14,5 @@ returns-in-Ok-turns-clause-ended g c =
     let input = c.in-Ok.input in
     let run = c.in-Ok-turns.run' in
     run_ended c.args.monitor.now c.args.clients.now (g.F.Files.seen c.args.files.now) (g.F.Files.seen c.input_of.new.files) input.monitor input.scripts run
-    c.in-Ok.ensures.input c.in-Ok-turns.ensures.rounds _ (g.S.Sink.seen c.args.out.now) _ c.in-Ok.ensures.steady
-    (written_since (ended run.finished) (turns_text input.monitor input.scripts run) _ _ _ _ (ap g.S.Sink.seen c.in-Ok.ensures.silent) c.show_turns.ensures)
+    c.in-Ok.ensures.input c.in-Ok-turns.ensures.rounds _ (g.S.Sink.seen c.args.out.now) _ c.in-Ok.ensures.quiet.steady
+    (written_since (ended run.finished) (turns_text input.monitor input.scripts run) _ _ _ _ c.in-Ok.ensures.quiet.silent c.show_turns.ensures)
