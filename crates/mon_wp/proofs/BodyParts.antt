@@ -1,12 +1,12 @@
 -- The parts of a body's paths, made from its end.
-use Rattle.std.proofs.Common.{◌≡◌, ◌⊎◌, inl, inr, ℕ, zero, suc, ◌+◌, ◌-◌, ◌<◌, ◌≤◌, Bool, true, false, ◌&&◌, List, [], ◌∷◌, ◌++◌, map, sum_by, length, get_or, take, drop, Option, Some, None, sym, subst, arith, ap, refl, ◌∙◌}
+use Rattle.std.proofs.Common.{◌≡◌, inl, inr, ℕ, zero, suc, ◌+◌, ◌-◌, ◌<◌, ◌≤◌, Bool, true, false, ◌&&◌, List, [], ◌∷◌, ◌++◌, map, sum_by, length, get_or, drop, Option, Some, None, sym, subst, arith, ap, refl, ◌∙◌}
 use Rattle.std.specs.List.{list_all, flat_map}
 use Rattle.std.proofs.lemmas.Bool.{and_parts}
-use Rattle.std.proofs.lemmas.List.{append-nil, append_assoc, map-append, take_more}
+use Rattle.std.proofs.lemmas.List.{append-nil, append_assoc, map-append}
 use Rattle.std.proofs.lemmas.List.Concat.{flat_map-append}
 use Rattle.std.proofs.lemmas.List.Sums.{sum_by-cons}
 use Rattle.mon_linear.specs.declared.formula.Formula.{Formula}
-use Rattle.mon_linear.specs.Measures.{nodes_of, MOST_NODES}
+use Rattle.mon_linear.specs.Measures.{MOST_NODES}
 use Rattle.mon_linear.specs.Negation.{negation}
 use Rattle.mon_linear.specs.Substitution.{is_formula_within}
 use Rattle.mon_linear.specs.Linear.{Linear}

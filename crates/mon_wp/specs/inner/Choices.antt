@@ -10,9 +10,6 @@ use Rattle.mon_wp.specs.Limits.{value_if, is_path_within}
 abbrev pub formula_within : Formula → Option Formula
 formula_within formula = value_if (is_formula_within formula) formula
 
-abbrev pub part_within : Formula → List Step → Option Formula
-part_within post path = value_if (is_path_within post path) (path_part post path)
-
 abbrev pub parts_within : Formula → List (List Step) → Option (List Formula)
 parts_within post paths =
     value_if (list_all (is_path_within post) paths) (map (path_part post) paths)
