@@ -25,3 +25,4 @@ pub use kept::{Invariant, Kept};
 pub use laws::{easy_claims_are_not_hard, open_claims_are_hard};
 pub use listing::candidates;
 pub use pruning::invariant;
+pub use starts::{are_true_at_start, candidates_have_formulas};

@@ -1,16 +1,19 @@
 //! What is true at the start.
 
-ghost use Rattle.std.specs.Prelude.{◌≡◌, ◌≤◌, ◌∷◌, ◌++◌, true, [], All, IfOk, OnOk, length, if◌then◌else◌};
-ghost use Rattle.std.specs.List.{filter};
+ghost use Rattle.std.specs.Prelude.{◌≡◌, ◌≤◌, ◌∷◌, ◌++◌, ◌↔◌, true, [], All, IfOk, IsTrue, OnOk, length};
+ghost use Rattle.std.specs.Prelude.{if◌then◌else◌};
+ghost use Rattle.std.specs.List.{filter, list_all};
 ghost use Rattle.mon_base.specs.Limits.{FIELDS};
 ghost use Rattle.mon_monitor.specs.Bodies.{fits_64, number_of_value, truth_of_value, value_at};
-ghost use Rattle.mon_monitor.specs.Candidates.{candidate_truth, candidates_of};
+ghost use Rattle.mon_monitor.specs.Candidates.{AllHold, candidate_truth, candidates_of};
 ghost use Rattle.mon_monitor.specs.MonitorParts.{start_of};
+ghost use Rattle.mon_wp.specs.Expressible.{is_expressible};
 ghost use Rattle.mon_prune.specs.inner.Starts.{starts};
 
 use super::listing::{candidates, number_of};
 use mon_base::Value;
 use mon_monitor::{Candidate, Field, Monitor};
+use mon_wp::candidates_are_expressible;
 use std::alloc::{AllocError, Global};
 
 /// A number fits 64 bits by its type, which a read of it tells.
@@ -75,6 +78,31 @@ fn is_true_at_start(fields: &[Field], candidate: Candidate) -> bool
             start_number(fields, left) <= start_number(fields, right)
         }
     }
+}
+
+/// Whether each of the candidates is true at the start.
+fn all_true_at_start(fields: &[Field], candidates: &[Candidate]) -> bool
+    requires { length fields.now ≤ FIELDS }
+    ensures { IsTrue result ↔ AllHold (starts fields.now) candidates.now }
+{
+    candidates
+        .iter()
+        .all(|candidate| is_true_at_start(fields, *candidate))
+}
+
+/// Whether each of the candidates is true at the monitor's start. It takes no memory.
+pub fn are_true_at_start(monitor: &Monitor, candidates: &[Candidate]) -> bool
+    ensures { IsTrue result ↔ AllHold (start_of monitor.now) candidates.now }
+{
+    all_true_at_start(monitor.fields(), candidates)
+}
+
+/// Each candidate of a monitor has a formula: the numbers of its fields at the start fit 64 bits, as this call reads.
+pub fn candidates_have_formulas(monitor: &Monitor)
+    ensures { list_all is_expressible (candidates_of monitor.now) ≡ true }
+{
+    candidates_are_expressible();
+    read_starts(monitor.fields());
 }
 
 /// Appends the candidate, where it is true.

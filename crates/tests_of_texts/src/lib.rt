@@ -1,4 +1,4 @@
-//! Tests of the texts that the program prints: faults, runs, logs and plans, byte by byte.
+//! Tests of the texts that the program prints: faults, runs, logs, plans and reports, byte by byte.
 //!
 //! There are only tests. The bytes were taken by hand from the rules of the texts.
 #![tactic(auto)]
@@ -9,5 +9,7 @@ mod fault_texts;
 mod log_texts;
 #[cfg(test)]
 mod plan_texts;
+#[cfg(test)]
+mod reports;
 #[cfg(test)]
 mod texts;

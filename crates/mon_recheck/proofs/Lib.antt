@@ -1,0 +1,10 @@
+pub mod Pairs
+pub mod PlacedTexts
+pub mod Counted
+pub mod Gathered
+pub mod Seen
+pub mod Askable
+pub mod Accepted
+pub mod WrittenLines
+pub mod SmallReports
+pub mod Answered

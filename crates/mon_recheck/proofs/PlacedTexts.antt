@@ -1,0 +1,30 @@
+-- The lines of proofs.
+use Rattle.std.proofs.Common.{◌≡◌, ℕ, List, [], ◌∷◌, ◌++◌, map, length, refl, ap, sym, ◌∙◌}
+use Rattle.std.specs.List.{flat_map}
+use Rattle.std.proofs.lemmas.List.{length-map}
+use Rattle.mon_monitor.specs.declared.claim.Claim.{Claim}
+use Rattle.mon_monitor.specs.MonitorParts.{MonitorParts}
+use Rattle.mon_events.specs.Plans.{FitsPlan}
+use Rattle.mon_events.specs.PlanText.{plan_text}
+use Rattle.mon_place.specs.declared.placed.PlacedPlan.{PlacedPlan}
+use Rattle.mon_place.specs.declared.placed.Proof.{Proof}
+use Rattle.mon_place.specs.Backing.{backed_claims}
+use Rattle.mon_recheck.specs.Reports.{IsReport, placed_text, proof_text, proofs_text, report_of, report_text}
+
+lines : (monitor : MonitorParts) (proofs : List Proof)
+    → flat_map (λ proof. proof_text monitor proof.claim proof.cert) proofs ≡ proofs_text monitor (map (λ proof. proof.claim) proofs) (map (λ proof. proof.cert) proofs)
+lines monitor [] = refl
+lines monitor (proof ∷ proofs) = ap (λ text. proof_text monitor proof.claim proof.cert ++ text) (lines monitor proofs)
+
+pub placed_lines : (monitor : MonitorParts) (placed : PlacedPlan) → map (λ proof. proof.claim) placed.proofs ≡ backed_claims monitor placed.plan
+    → placed_text monitor placed ≡ report_text monitor (report_of placed)
+placed_lines monitor placed are =
+    ap (λ text. plan_text monitor placed.plan ++ text) (lines monitor placed.proofs)
+    ∙ ap (λ (wanted : List Claim). plan_text monitor placed.plan ++ proofs_text monitor wanted (map (λ proof. proof.cert) placed.proofs)) are
+
+pub placed_report : (monitor : MonitorParts) (placed : PlacedPlan) → FitsPlan monitor placed.plan → map (λ proof. proof.claim) placed.proofs ≡ backed_claims monitor placed.plan
+    → IsReport monitor (report_of placed)
+placed_report monitor placed fits are = record {
+  fits = fits;
+  each = length-map placed.proofs (λ (proof : Proof). proof.cert) ∙ sym (length-map placed.proofs (λ (proof : Proof). proof.claim)) ∙ ap {B = ℕ} length are;
+}

@@ -1,0 +1,75 @@
+-- Reports: a plan with one certificate for each claim that it rests on.
+use Rattle.std.specs.Prelude.{◌≡◌, ℕ, List, [], ◌++◌, length, map, codes, decimal, slice_get}
+use Rattle.std.specs.List.{flat_map, zip}
+use Rattle.std.specs.Option.{option_map_or}
+use Rattle.mon_cert.specs.declared.cert.Cert.{Cert}
+use Rattle.mon_cert.specs.CertText.{cert_text}
+use Rattle.mon_monitor.specs.declared.claim.Claim.{Claim}
+use Rattle.mon_monitor.specs.declared.claim.Claim.TheVariants as claims
+use Rattle.mon_monitor.specs.MonitorParts.{MonitorParts}
+use Rattle.mon_events.specs.declared.plan.Plan.{Plan}
+use Rattle.mon_events.specs.Plans.{FitsPlan}
+use Rattle.mon_events.specs.PlanText.{candidate_text, method_name, plan_text}
+use Rattle.mon_place.specs.declared.placed.PlacedPlan.{PlacedPlan}
+use Rattle.mon_place.specs.Backing.{backed_claims}
+use Rattle.mon_recheck.specs.declared.report.Report.{Report}
+
+-- ---- reports
+
+-- the plan fits the monitor, and each claim that it rests on has one certificate
+pub record IsReport (monitor : MonitorParts) (report : Report) : Type 0 where
+  pub fits : FitsPlan monitor report.plan
+  pub each : length report.proofs ≡ length (backed_claims monitor report.plan)
+
+-- each claim with its certificate, in the order of the claims
+abbrev pub proofs_of : MonitorParts → Report → List (Claim × Cert)
+proofs_of monitor report = zip (backed_claims monitor report.plan) report.proofs
+
+-- ---- the text of a report
+
+-- the name of a block's method, and none where there is no such block
+abbrev pub block_name : MonitorParts → ℕ → List ℕ
+block_name monitor block =
+    option_map_or (λ held. method_name (slice_get monitor.methods held.method))
+    (slice_get monitor.blocks block) []
+
+-- `keep x <= 4 put`, `none put 2`, `one 1 put`, `untested put 2`
+abbrev pub claim_text : MonitorParts → Claim → List ℕ
+claim_text monitor (claims.Keeps candidate block) =
+    codes "keep " ++ candidate_text monitor.fields candidate ++ codes " "
+    ++ block_name monitor block
+claim_text monitor (claims.NoNote block condition) =
+    codes "none " ++ block_name monitor block ++ codes " " ++ decimal condition
+claim_text monitor (claims.One condition block) =
+    codes "one " ++ decimal condition ++ codes " " ++ block_name monitor block
+claim_text monitor (claims.NoTest block condition) =
+    codes "untested " ++ block_name monitor block ++ codes " " ++ decimal condition
+
+-- `proof none put 2: clash 0 1` and a line feed
+abbrev pub proof_text : MonitorParts → Claim → Cert → List ℕ
+proof_text monitor claim cert =
+    codes "proof " ++ claim_text monitor claim ++ codes ": " ++ cert_text cert ++ codes "\n"
+
+-- a line for each claim with its certificate
+abbrev pub proofs_text : MonitorParts → List Claim → List Cert → List ℕ
+proofs_text monitor wanted certs =
+    flat_map (λ one. proof_text monitor one.0 one.1) (zip wanted certs)
+
+-- the text of the plan, then the lines of the claims that it rests on
+abbrev pub report_text : MonitorParts → Report → List ℕ
+report_text monitor report =
+    plan_text monitor report.plan
+    ++ proofs_text monitor (backed_claims monitor report.plan) report.proofs
+
+-- ---- reports of plans that were placed
+
+-- the report of a plan with a proof of each claim
+abbrev pub report_of : PlacedPlan → Report
+report_of placed =
+    record { plan = placed.plan; proofs = map (λ proof. proof.cert) placed.proofs }
+
+-- the text of the plan, then a line for each proof
+abbrev pub placed_text : MonitorParts → PlacedPlan → List ℕ
+placed_text monitor placed =
+    plan_text monitor placed.plan
+    ++ flat_map (λ proof. proof_text monitor proof.claim proof.cert) placed.proofs

@@ -1,0 +1,42 @@
+-- For private contracts: what is known of claims once their certificates were checked.
+use Rattle.std.specs.Prelude.{◌≡◌, ℕ, Bool, true, false, List, take, Option, Some, None, slice_get}
+use Rattle.std.specs.Prelude.{IsSomeAnd}
+use Rattle.mon_cert.specs.declared.cert.Cert.{Cert}
+use Rattle.mon_monitor.specs.declared.candidate.Candidate.{Candidate}
+use Rattle.mon_monitor.specs.declared.claim.Claim.{Claim}
+use Rattle.mon_monitor.specs.declared.claim.Claim.TheVariants as claims
+use Rattle.mon_monitor.specs.MonitorParts.{MonitorParts}
+use Rattle.mon_monitor.specs.Queries.{query_of}
+use Rattle.mon_wp.specs.Expressible.{is_expressible}
+use Rattle.mon_wp.specs.Hardness.{IsBlockNumber, IsConditionNumber}
+use Rattle.mon_wp.specs.Limits.{is_query_within}
+use Rattle.mon_recheck.specs.Verdicts.{AreChecked, IsOpen, IsProof}
+
+-- the claim names a block and a condition of the monitor, and a candidate that has a formula
+abbrev pub MayAsk : MonitorParts → Claim → Type 0
+MayAsk monitor (claims.Keeps candidate block) =
+    IsBlockNumber monitor block × (is_expressible candidate ≡ true)
+MayAsk monitor (claims.NoNote block condition) =
+    IsBlockNumber monitor block × IsConditionNumber monitor condition
+MayAsk monitor (claims.One condition block) =
+    IsBlockNumber monitor block × IsConditionNumber monitor condition
+MayAsk monitor (claims.NoTest block condition) =
+    IsBlockNumber monitor block × IsConditionNumber monitor condition
+
+-- a claim with its certificate
+abbrev pub with_cert : Claim → Cert → Claim × Cert
+with_cert claim cert = (claim, cert)
+
+-- whether the certificate proves the claim, whose query is negated within the limits
+abbrev pub IsAnswer : MonitorParts → List Candidate → Claim → Cert → Bool → Type 0
+IsAnswer monitor kept claim cert true =
+    IsProof monitor kept (with_cert claim cert)
+    × (is_query_within monitor (query_of monitor kept claim) ≡ true)
+IsAnswer monitor kept claim cert false = IsOpen monitor kept (with_cert claim cert)
+
+-- the first claim that is open is at this place; none is
+abbrev pub IsFirstOpen : MonitorParts → List Candidate → List (Claim × Cert) → Option ℕ → Type 0
+IsFirstOpen monitor kept proofs None = AreChecked monitor kept proofs
+IsFirstOpen monitor kept proofs (Some place) =
+    AreChecked monitor kept (take place proofs)
+    × IsSomeAnd (slice_get proofs place) (IsOpen monitor kept)

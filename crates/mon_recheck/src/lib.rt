@@ -1,0 +1,20 @@
+//! Reports: a plan with a certificate for each claim that it rests on, as text, read and checked without a prover.
+//!
+//! [`recheck`] says whether the plan of a [`Report`] is lawful by its certificates alone (`specs/Verdicts`).
+//! [`write_report`] writes the report of a plan that was placed (`specs/Reports`), and [`write_verdict`] the line of
+//! what a check says. Each report of a placed plan is accepted where no claim of the monitor is hard (`laws`).
+#![tactic(auto)]
+
+mod checking;
+mod claims;
+mod laws;
+mod making;
+mod report;
+mod sight;
+mod writing;
+
+pub use checking::recheck;
+pub use laws::{easy_reports_are_accepted, placed_text_is_report_text};
+pub use making::report_of;
+pub use report::{Report, Verdict};
+pub use writing::{write_report, write_verdict};

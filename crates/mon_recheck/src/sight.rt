@@ -1,0 +1,96 @@
+//! What is seen of a plan without a proof.
+
+ghost use Rattle.std.specs.Prelude.{◌≡◌, ◌↔◌, IsTrue, length, slice_get};
+ghost use Rattle.mon_events.specs.Plans.{FitsPlan};
+ghost use Rattle.mon_recheck.specs.Verdicts.{IsLawfulAtSight};
+ghost use Rattle.mon_recheck.specs.inner.Sight.{AreKindsSuited, AreListsSuited, AreNotesSuited};
+ghost use Rattle.mon_recheck.specs.inner.Sight.{is_broadcast, is_broadcast_at};
+ghost use Rattle.mon_recheck.specs.inner.Sight.{is_kind_suited, is_note_suited};
+
+use mon_events::{CondKind, Note, NoteList, Plan};
+use mon_monitor::{Condition, Monitor};
+use mon_prune::are_true_at_start;
+
+/// Whether what a plan keeps is true at the start, and its kinds and notes suit the conditions.
+pub(crate) fn is_lawful_at_sight(monitor: &Monitor, plan: &Plan) -> bool
+    requires { FitsPlan monitor.now plan.now }
+    ensures { IsTrue result ↔ IsLawfulAtSight monitor.now plan.now }
+{
+    let starts = are_true_at_start(monitor, plan.kept.items());
+    let kinds = are_kinds_suited(monitor.conditions(), plan.kinds.items());
+    let notes = are_lists_suited(plan.kinds.items(), plan.notes.items());
+    all_three(starts, kinds, notes)
+}
+
+fn all_three(one: bool, two: bool, three: bool) -> bool
+    ensures { IsTrue result ↔ (IsTrue one × IsTrue two × IsTrue three) }
+{
+    one && (two && three)
+}
+
+fn is_broadcast(kind: CondKind) -> bool
+    ensures { result ≡ is_broadcast kind }
+{
+    match kind {
+        CondKind::Signal => false,
+        CondKind::Broadcast => true,
+    }
+}
+
+/// Whether each condition whose guard reads inputs is of kind broadcast.
+fn are_kinds_suited(conditions: &[Condition], kinds: &[CondKind]) -> bool
+    requires { length kinds.now ≡ length conditions.now }
+    ensures { IsTrue result ↔ AreKindsSuited conditions.now kinds.now }
+{
+    for index in 0..conditions.len() {
+        if !is_kind_suited(&conditions[index], kinds[index]) {
+            return false;
+        }
+    }
+    true
+}
+
+fn is_kind_suited(condition: &Condition, kind: CondKind) -> bool
+    ensures { result ≡ is_kind_suited condition.now kind }
+{
+    !condition.reads_inputs || is_broadcast(kind)
+}
+
+/// Whether each note on a condition of kind broadcast is a broadcast.
+fn are_lists_suited(kinds: &[CondKind], lists: &[NoteList]) -> bool
+    ensures { IsTrue result ↔ AreListsSuited kinds.now lists.now }
+{
+    for list in lists {
+        if !is_list_suited(kinds, list) {
+            return false;
+        }
+    }
+    true
+}
+
+fn is_list_suited(kinds: &[CondKind], list: &NoteList) -> bool
+    ensures { IsTrue result ↔ AreNotesSuited kinds.now list.now }
+{
+    are_notes_suited(kinds, list.notes())
+}
+
+fn are_notes_suited(kinds: &[CondKind], notes: &[Note]) -> bool
+    ensures { IsTrue result ↔ AreNotesSuited kinds.now notes.now }
+{
+    notes.iter().all(|note| is_note_suited(kinds, *note))
+}
+
+fn is_note_suited(kinds: &[CondKind], note: Note) -> bool
+    ensures { result ≡ is_note_suited kinds.now note }
+{
+    note.all || !is_broadcast_at(kinds, note.condition.saturating_sub(1))
+}
+
+fn is_broadcast_at(kinds: &[CondKind], place: u32) -> bool
+    ensures { result ≡ is_broadcast_at (slice_get kinds.now place) }
+{
+    match kinds.get(place as usize) {
+        Some(kind) => is_broadcast(*kind),
+        None => false,
+    }
+}
