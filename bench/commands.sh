@@ -1,7 +1,7 @@
 #!/usr/bin/env bash
-# Measures the program's commands on generated files of 4,096, 16,384 and 65,536 bytes, and `run` on a buffer with
-# 32 clients and 16,384 calls: median wall time, instructions as callgrind counts them, and peak memory.
-# With more than one worker the instructions vary with the schedule, and are not counted.
+# Measures the program's commands on generated files of 4,096, 16,384 and 65,536 bytes, `compile` on monitors that are
+# hard to compile, and `run` on a buffer with 32 clients and 16,384 calls: median wall time, instructions as callgrind
+# counts them, and peak memory. With more than one worker the instructions vary with the schedule, and are not counted.
 #
 #   bench/commands.sh          builds the program, and measures
 #   EXPRESSO=PROGRAM ROUNDS=N  take this program and build none; so many rounds in place of eleven
@@ -40,6 +40,11 @@ for size in 4096 16384 65536; do
   for workers in 1 4 16; do
     measure run "$size" "$workers" "$monitor $clients"
   done
+done
+
+for name in rounds deep flags wide numbers; do
+  "$here/hard.py" "$name" >"$work/$name.mon"
+  measure compile "$name.mon" - "$work/$name.mon"
 done
 
 for clients in sides in-turn; do
