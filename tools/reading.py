@@ -210,12 +210,12 @@ class Definition:
         """Its text without the comments."""
         return "\n".join(line for line in self.text.split("\n") if not line.strip().startswith("--"))
 
-
     @property
     def bound(self):
-        """The words that its equations, functions and parameters bind, which mean no definition here."""
+        """The words that its equations, functions, parameters and fields bind, which mean no definition here."""
         heads = re.findall(rf"^{re.escape(self.name)}\b(.*?) = ?", self.code, re.M)
         heads += re.findall(r"[({]([\w -]+?) :", self.code) + re.findall(r"λ ([\w -]+?)\.", self.code)
+        heads += [name for name, _, _ in self.fields]
         return {word for head in heads for word in WORD.findall(head)}
 
 
