@@ -3,10 +3,10 @@
 
   measure.py single ROUNDS COMMAND [--instructions]   prints: milliseconds instructions peak_kib
   measure.py pair ROUNDS OURS PEER                    prints: ours_ms peer_ms ratio ours_kib peer_kib
-  measure.py rates ROUNDS OURS PEER                   prints: ours_a_second peer_a_second ratio
+  measure.py rates ROUNDS OURS.. PEER                 prints: ours_a_second.. peer_a_second ratio..
 
 A command is one word for the shell's quoting, as 'out/expresso_cli check a.mon'. Each number is the median of the
-rounds. The runs of a pair are interleaved (ours, peer, ours, ..), so that what else the machine does hits both alike.
+rounds. The runs of a row are interleaved (ours, peer, ours, ..), so that what else the machine does hits both alike.
 A command that fails, or two of a `pair` that print different texts, end the program with a message.
 """
 
@@ -76,10 +76,9 @@ def instructions(words):
     return int(total.group(1))
 
 
-def interleaved(rounds, ours, peer):
-    """The runs of two commands, in turn: (ours, peer) for each round, after one of each to warm up."""
-    run(ours), run(peer)
-    return [(run(ours), run(peer)) for _ in range(rounds)]
+def interleaved(rounds, *commands):
+    """The runs of some commands, in turn: one of each for each round, after one of each to warm up."""
+    return [[run(words) for words in commands] for _ in range(rounds + 1)][1:]
 
 
 def single(rounds, words, with_instructions):
@@ -109,12 +108,12 @@ def rate(output):
     return sum(made for made, _ in counts) / sum(spent for _, spent in counts) * 1e9
 
 
-def rates(rounds, ours, peer):
-    """The row of two commands that print how many sections they made in how many nanoseconds."""
-    runs = interleaved(rounds, ours, peer)
-    mine = statistics.median(rate(one[2]) for one, _ in runs)
-    theirs = statistics.median(rate(one[2]) for _, one in runs)
-    return f"{mine:.0f} {theirs:.0f} {mine / theirs:.2f}"
+def rates(rounds, *commands):
+    """The row of commands that print how many sections they made in how many nanoseconds. The last is the peer."""
+    runs = interleaved(rounds, *commands)
+    medians = [statistics.median(rate(one[2]) for one in column) for column in zip(*runs)]
+    ratios = [mine / medians[-1] for mine in medians[:-1]]
+    return " ".join([f"{median:.0f}" for median in medians] + [f"{ratio:.2f}" for ratio in ratios])
 
 
 def main(words):
@@ -124,8 +123,8 @@ def main(words):
             print(single(int(rounds), shlex.split(command), bool(flags)))
         case ["pair", rounds, ours, peer]:
             print(pair(int(rounds), shlex.split(ours), shlex.split(peer)))
-        case ["rates", rounds, ours, peer]:
-            print(rates(int(rounds), shlex.split(ours), shlex.split(peer)))
+        case ["rates", rounds, _, _, *_]:
+            print(rates(int(rounds), *map(shlex.split, words[2:])))
         case _:
             sys.exit(__doc__)
 
