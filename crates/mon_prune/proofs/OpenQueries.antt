@@ -19,7 +19,7 @@ use Rattle.mon_elim.specs.Noted.{noted, terms_in}
 use Rattle.mon_elim.specs.inner.Light.{is_light_row}
 use Rattle.mon_elim.proofs.LightLemmas.{large_numbers, light_told, too_many_rows}
 use Rattle.mon_solve.specs.Cubes.{rows_of_literals}
-use Rattle.mon_solve.specs.Refutation.{HasGeneralCube, IsAnswer, IsLeftOpen}
+use Rattle.mon_solve.specs.Refutation.{HasUndecidedCube, IsAnswer, IsLeftOpen}
 use Rattle.mon_solve.proofs.WholeCubes.{whole_cube_holds}
 use Rattle.mon_wp.specs.Hardness.{has_few_cubes, is_within_limits}
 use Rattle.mon_wp.specs.Limits.{is_query_within, query_within, value_if}
@@ -65,7 +65,7 @@ abbrev Fails : MonitorParts → Query → Type 0
 Fails monitor query = (v : Valuation) → truth_of v (negated_query monitor query) ≡ true → IsValidQuery monitor query → ⊥
 
 -- a cube with a row that is no difference row is heavy, or has a solution in fractions alone, where the query is valid
-general_open : (monitor : MonitorParts) (query : Query) → Fails monitor query → HasGeneralCube (negated_query monitor query) → IsValidQuery monitor query → MayStayOpen monitor query
+general_open : (monitor : MonitorParts) (query : Query) → Fails monitor query → HasUndecidedCube (negated_query monitor query) → IsValidQuery monitor query → MayStayOpen monitor query
 general_open monitor query fails has valid = by_light (is_light (rows_of_literals has.cube))
   where
     by_light : IsLightCube (rows_of_literals has.cube) ⊎ (IsLightCube (rows_of_literals has.cube) → ⊥) → MayStayOpen monitor query
