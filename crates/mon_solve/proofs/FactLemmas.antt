@@ -1,24 +1,23 @@
 -- What closes the facts of literals closes the literals.
-use Rattle.std.proofs.Common.{◌≡◌, ◌⊎◌, inl, inr, ℕ, zero, suc, ◌+◌, ◌-◌, ◌<◌, ◌≤◌, Bool, true, false, ◌&&◌, ◌||◌, not, List, [], ◌∷◌, ◌++◌, length, map, take, get_or, Option, Some, None, sym, subst, arith, ap, refl, ◌∙◌}
+use Rattle.std.proofs.Common.{◌≡◌, ◌⊎◌, inl, inr, ℕ, zero, suc, ◌+◌, ◌-◌, ◌≤◌, Bool, true, false, ◌||◌, List, [], ◌∷◌, ◌++◌, length, map, Option, Some, None, sym, subst, arith, ap, refl, ◌∙◌}
 use Rattle.std.specs.Prelude.{◌==◌, slice_get}
 use Rattle.std.specs.List.{list_any, AllByRecursion as Each}
 use Rattle.mon_linear.specs.Linear.{Linear}
-use Rattle.mon_linear.specs.Truth.{Valuation}
 use Rattle.mon_cert.specs.declared.cert.Combine.{Combine}
 use Rattle.mon_cert.specs.declared.cert.Cert.{Cert, out-Cert}
 use Rattle.mon_cert.specs.declared.cert.Cert.TheOpen.{Cert-F, Split, Clash, Chain}
 use Rattle.mon_cert.specs.declared.cert.Literal.{Literal}
 use Rattle.mon_cert.specs.declared.cert.Literal.TheVariants.{Row, Flag}
-use Rattle.mon_cert.specs.Refutes.{are_opposite, chain_closes, chain_goes, closes, is_absurd, is_nil, literal_truth, made, made_of, row_of}
+use Rattle.mon_cert.specs.Refutes.{are_opposite, chain_closes, chain_goes, closes, is_nil, literal_truth, made, made_of, row_of}
 use Rattle.mon_linear.specs.LightCubes.{IsLightCube}
 use Rattle.mon_linear.specs.Fractions.{HasFractionalSolution}
 use Rattle.mon_elim.specs.LeanChains.{IsLean, is_needed, uses}
-use Rattle.mon_solve.specs.Cubes.{HasGeneral, is_general, is_opposite, rows_of_literals}
+use Rattle.mon_solve.specs.Cubes.{HasGeneral, is_general, is_opposite}
 use Rattle.mon_solve.specs.LeanRefutations.{IsLeanEnd}
 use Rattle.mon_solve.specs.inner.Different.{Among}
-use Rattle.mon_solve.specs.inner.Facts.{moved, moved_at, moved_sum, AreFacts, IsMoved, IsMovedClash, IsMovedChain}
+use Rattle.mon_solve.specs.inner.Facts.{moved, moved_sum, AreFacts, IsMoved}
 use Rattle.mon_solve.specs.inner.Flags.{IsUnopposed}
-use Rattle.mon_solve.specs.inner.Literals.{AreDifferences, AreTrue, Closes, IsClosing, IsDifferenceLiteral, IsLightCase, IsOpen}
+use Rattle.mon_solve.specs.inner.Literals.{Closes, IsDifferenceLiteral, IsOpen}
 
 -- ---- literals that are facts
 

@@ -1,5 +1,5 @@
 -- The facts of literals while these grow, and are cut back.
-use Rattle.std.proofs.Common.{◌≡◌, ◌⊎◌, inl, inr, ℕ, ◌≤◌, List, [], ◌∷◌, length, take, sym, subst, arith, ap, refl, ◌∙◌}
+use Rattle.std.proofs.Common.{◌≡◌, inl, inr, ℕ, ◌≤◌, List, [], ◌∷◌, length, take, sym, subst, arith, ap, refl, ◌∙◌}
 use Rattle.mon_cert.specs.declared.cert.Literal.{Literal}
 use Rattle.mon_solve.specs.declared.facts.Facts.{Facts}
 use Rattle.mon_solve.specs.declared.facts.Mark.{Mark}

@@ -1,14 +1,14 @@
 -- How the facts of literals are gathered.
-use Rattle.std.proofs.Common.{◌≡◌, ◌⊎◌, inl, inr, ℕ, zero, suc, ◌+◌, ◌<◌, ◌≤◌, Bool, true, false, ◌&&◌, ◌||◌, not, List, [], ◌∷◌, ◌++◌, length, take, drop, get_or, Some, sym, subst, arith, ap, refl, ◌∙◌}
+use Rattle.std.proofs.Common.{◌≡◌, ◌⊎◌, inl, inr, ℕ, zero, suc, ◌+◌, ◌<◌, Bool, true, false, ◌&&◌, ◌||◌, not, List, [], ◌∷◌, ◌++◌, length, take, drop, get_or, Some, sym, subst, arith, ap, refl, ◌∙◌}
 use Rattle.std.specs.Prelude.{◌==◌, if◌then◌else◌, slice_get}
-use Rattle.std.specs.List.{list_any, AllByRecursion as Each}
+use Rattle.std.specs.List.{list_any}
 use Rattle.mon_linear.specs.Linear.{Linear}
 use Rattle.mon_cert.specs.declared.cert.Literal.{Literal}
 use Rattle.mon_cert.specs.declared.cert.Literal.TheVariants.{Row, Flag}
 use Rattle.mon_elim.proofs.RowLemmas.{each_push, each_weaker}
 use Rattle.mon_solve.specs.Cubes.{rows_of_literals}
 use Rattle.mon_solve.specs.inner.Different.{Among}
-use Rattle.mon_solve.specs.inner.Facts.{is_flag, AreFacts, IsKnown, IsNoted, IsPut}
+use Rattle.mon_solve.specs.inner.Facts.{is_flag, AreFacts, IsNoted}
 use Rattle.mon_solve.proofs.KeptLemmas.{row_next, flag_next}
 use Rattle.mon_solve.proofs.LiteralLemmas.{gets, take_next}
 

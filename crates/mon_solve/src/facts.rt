@@ -241,8 +241,8 @@ fn closing_by(
     Ok(closing_over(alloc, literals)?)
 }
 
-/// A clash or a chain that refutes the literals, where one is found. Literals whose rows are difference
-/// rows are refuted, or have a solution.
+/// A clash or a chain that refutes the literals, where one is found; of many it looks only at those that say something
+/// new. Literals whose rows are difference rows are refuted, or have a solution.
 pub(crate) fn closing(
     alloc: Global,
     literals: &[Literal],
