@@ -22,7 +22,7 @@ use Rattle.mon_events.specs.declared.plan.Plan.{Plan}
 use Rattle.mon_events.specs.PlanText.{note_kind}
 use Rattle.mon_events.specs.Plans.{IsCondition as IsThere, FitsNote, FitsNotes, FitsPlan, IsLawful, IsUntestedBroadcast, condition_kind, has_note, notes_at}
 use Rattle.mon_events.proofs.Facing.{at_index, all_at, is_some_and}
-use Rattle.mon_wp.specs.Hardness.{IsBlockNumber, IsClaimOf, IsConditionNumber, ReadsNone, WaitsAt}
+use Rattle.mon_wp.specs.PlainClaims.{IsBlockNumber, IsClaimOf, IsConditionNumber, ReadsNone, WaitsAt}
 use Rattle.mon_prune.specs.Hardness.{HasNoHardClaim, IsHard}
 use Rattle.mon_place.specs.Backing.{HasCertificate}
 use Rattle.mon_place.specs.Exact.{HasHardBlock, HaveTheirKinds, IsExact, IsLicensed, MaySignal, NeedsTest}

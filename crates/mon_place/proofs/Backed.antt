@@ -25,7 +25,7 @@ use Rattle.mon_events.specs.declared.plan.Note.{Note}
 use Rattle.mon_events.specs.declared.plan.Plan.{Plan}
 use Rattle.mon_events.specs.Plans.{AreSomeOf, condition_kind, has_note}
 use Rattle.mon_wp.specs.NegatedQueries.{negated_query}
-use Rattle.mon_wp.specs.Hardness.{ReadsNone, WaitsAt}
+use Rattle.mon_wp.specs.PlainClaims.{ReadsNone, WaitsAt}
 use Rattle.mon_prune.specs.Hardness.{IsHard, MayStayOpen}
 use Rattle.mon_prune.specs.Invariants.{keeps_claims}
 use Rattle.mon_place.specs.declared.placed.Proof.{Proof}

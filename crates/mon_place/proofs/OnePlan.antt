@@ -20,7 +20,7 @@ use Rattle.mon_events.specs.PlanText.{note_kind}
 use Rattle.mon_events.specs.Plans.{FitsNote, FitsNotes, FitsPlan, condition_kind, has_note, notes_at}
 use Rattle.mon_events.specs.Rising.{AreRising}
 use Rattle.mon_monitor.specs.Triples.{NoneNeeded, NoTestNeeded, OneEnough}
-use Rattle.mon_wp.specs.Hardness.{IsConditionNumber, ReadsNone}
+use Rattle.mon_wp.specs.PlainClaims.{IsConditionNumber, ReadsNone}
 use Rattle.mon_place.specs.Exact.{IsExact, MaySignal, NeedsTest}
 use Rattle.mon_place.proofs.ApartCandidates.{same_kept}
 

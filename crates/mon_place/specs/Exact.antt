@@ -8,7 +8,7 @@ use Rattle.mon_events.specs.declared.plan.Note.{Note}
 use Rattle.mon_events.specs.declared.plan.Plan.{Plan}
 use Rattle.mon_events.specs.PlanText.{note_kind}
 use Rattle.mon_events.specs.Plans.{condition_kind, has_note, notes_at}
-use Rattle.mon_wp.specs.Hardness.{IsBlockNumber, IsConditionNumber, ReadsNone, WaitsAt}
+use Rattle.mon_wp.specs.PlainClaims.{IsBlockNumber, IsConditionNumber, ReadsNone, WaitsAt}
 use Rattle.mon_prune.specs.Hardness.{IsHard}
 use Rattle.mon_prune.specs.Invariants.{ContainsEasy, IsGreatest}
 

@@ -23,7 +23,7 @@ use Rattle.mon_cert.specs.declared.cert.Literal.TheVariants.{Row, Flag}
 use Rattle.mon_elim.proofs.RowLemmas.{each_append, each_first, each_last}
 use Rattle.mon_solve.specs.Cubes.{HasGeneral, IsCubeFrom, is_general, literal_rows, rows_of_literals, row, flag}
 use Rattle.mon_solve.proofs.CubeLemmas.{no_general_cube}
-use Rattle.mon_wp.specs.Hardness.{is_easy, is_within_limits}
+use Rattle.mon_wp.specs.PlainClaims.{is_plain, is_within_limits}
 use Rattle.mon_wp.specs.NegatedQueries.{negated_query, path_part, some_part}
 use Rattle.mon_wp.specs.Paths.{body_paths}
 use Rattle.mon_wp.proofs.FewerKept.{fewer_no_harder, fewer_within}
@@ -181,15 +181,15 @@ open_hard monitor claim kept are (limits beyond) = beyond_limits (by_test (is_wi
 open_hard monitor claim kept are (heavy has) = heavy_cube (heavy_among monitor claim kept (candidates_of monitor) are has)
 open_hard monitor claim kept are (fractions has) = fractional_cube kept are has
 
-easy_parts : (monitor : MonitorParts) (claim : Claim) (kept : List Candidate) → is_easy monitor (query_of monitor kept claim) ≡ true
+plain_parts : (monitor : MonitorParts) (claim : Claim) (kept : List Candidate) → is_plain monitor (query_of monitor kept claim) ≡ true
     → (is_within_limits monitor (query_of monitor kept claim) ≡ true) × (has_difference_rows (negated_query monitor (query_of monitor kept claim)) ≡ true)
-easy_parts monitor claim kept e =
+plain_parts monitor claim kept e =
     and_parts (is_within_limits monitor (query_of monitor kept claim)) (has_difference_rows (negated_query monitor (query_of monitor kept claim))) e
 
-pub easy_not_hard : (monitor : MonitorParts) (claim : Claim) → is_easy monitor (query_of monitor (candidates_of monitor) claim) ≡ true → IsHard monitor claim → ⊥
-easy_not_hard monitor claim easy (beyond_limits beyond) = let parts = easy_parts monitor claim (candidates_of monitor) easy in let within = parts.0 in cc
-easy_not_hard monitor claim easy (heavy_cube has) =
-    no_general_cube (negated_query monitor (query_of monitor (candidates_of monitor) claim)) has.cube (easy_parts monitor claim (candidates_of monitor) easy).1 has.is_cube has.general
-easy_not_hard monitor claim easy (fractional_cube kept are has) =
+pub plain_not_hard : (monitor : MonitorParts) (claim : Claim) → is_plain monitor (query_of monitor (candidates_of monitor) claim) ≡ true → IsHard monitor claim → ⊥
+plain_not_hard monitor claim easy (beyond_limits beyond) = let parts = plain_parts monitor claim (candidates_of monitor) easy in let within = parts.0 in cc
+plain_not_hard monitor claim easy (heavy_cube has) =
+    no_general_cube (negated_query monitor (query_of monitor (candidates_of monitor) claim)) has.cube (plain_parts monitor claim (candidates_of monitor) easy).1 has.is_cube has.general
+plain_not_hard monitor claim easy (fractional_cube kept are has) =
     no_general_cube (negated_query monitor (query_of monitor kept claim)) has.cube
-    (easy_parts monitor claim kept (fewer_no_harder monitor claim kept (candidates_of monitor) are easy)).1 has.is_cube has.general
+    (plain_parts monitor claim kept (fewer_no_harder monitor claim kept (candidates_of monitor) are easy)).1 has.is_cube has.general

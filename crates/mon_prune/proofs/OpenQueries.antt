@@ -21,7 +21,7 @@ use Rattle.mon_elim.proofs.LightLemmas.{large_numbers, light_told, too_many_rows
 use Rattle.mon_solve.specs.Cubes.{rows_of_literals}
 use Rattle.mon_solve.specs.Refutation.{HasUndecidedCube, IsAnswer, IsLeftOpen}
 use Rattle.mon_solve.proofs.WholeCubes.{whole_cube_holds}
-use Rattle.mon_wp.specs.Hardness.{has_few_cubes, is_within_limits}
+use Rattle.mon_wp.specs.PlainClaims.{has_few_cubes, is_within_limits}
 use Rattle.mon_wp.specs.Limits.{is_query_within, query_within, value_if}
 use Rattle.mon_wp.specs.NegatedQueries.{negated_query}
 use Rattle.mon_prune.specs.Hardness.{MayStayOpen, limits, heavy, fractions}

@@ -14,7 +14,7 @@ use Rattle.mon_monitor.specs.declared.query.Query.{Query}
 use Rattle.mon_monitor.specs.Candidates.{AreSomeOf, candidates_of}
 use Rattle.mon_monitor.specs.MonitorParts.{MonitorParts}
 use Rattle.mon_monitor.specs.Queries.{query_of}
-use Rattle.mon_wp.specs.Hardness.{IsClaimOf, is_simple_block, is_within_limits}
+use Rattle.mon_wp.specs.PlainClaims.{IsClaimOf, is_simple_block, is_within_limits}
 use Rattle.mon_wp.specs.NegatedQueries.{negated_query}
 
 -- ---- cubes that the prover may leave open

@@ -6,7 +6,7 @@ ghost use Rattle.mon_monitor.specs.declared.claim.Claim.{Claim};
 ghost use Rattle.mon_monitor.specs.Candidates.{AreSomeOf, candidates_of};
 ghost use Rattle.mon_monitor.specs.MonitorParts.{MonitorParts};
 ghost use Rattle.mon_monitor.specs.Queries.{query_of};
-ghost use Rattle.mon_wp.specs.Hardness.{is_easy};
+ghost use Rattle.mon_wp.specs.PlainClaims.{is_plain};
 ghost use Rattle.mon_prune.specs.Hardness.{IsHard, MayStayOpen};
 
 /// Where the query of a claim may stay open, whichever of the candidates are kept, the claim is hard.
@@ -18,8 +18,8 @@ pub fn open_claims_are_hard()
 
 /// A claim is not hard whose query, with all candidates kept, is negated within the limits to a formula of difference
 /// rows alone.
-pub fn easy_claims_are_not_hard()
+pub fn plain_claims_are_not_hard()
     ensures { (monitor : MonitorParts) (claim : Claim)
-        → is_easy monitor (query_of monitor (candidates_of monitor) claim) ≡ true
+        → is_plain monitor (query_of monitor (candidates_of monitor) claim) ≡ true
         → IsHard monitor claim → ⊥ }
 {}

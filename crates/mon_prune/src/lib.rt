@@ -22,7 +22,7 @@ mod starts;
 
 pub use certificate::certificate_of;
 pub use kept::{Invariant, Kept};
-pub use laws::{easy_claims_are_not_hard, open_claims_are_hard};
+pub use laws::{open_claims_are_hard, plain_claims_are_not_hard};
 pub use listing::candidates;
 pub use pruning::invariant;
 pub use starts::{are_true_at_start, candidates_have_formulas};

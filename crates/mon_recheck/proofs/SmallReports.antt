@@ -22,7 +22,7 @@ use Rattle.mon_events.specs.declared.plan.CondKind.TheVariants as kinds
 use Rattle.mon_events.specs.declared.plan.Note.{Note}
 use Rattle.mon_events.specs.declared.plan.Plan.{Plan}
 use Rattle.mon_events.specs.Plans.{FitsNote, FitsNotes, FitsPlan, IsLawful, has_note}
-use Rattle.mon_wp.specs.Hardness.{IsClaimOf, ReadsNone, is_within_limits, has_few_cubes}
+use Rattle.mon_wp.specs.PlainClaims.{IsClaimOf, ReadsNone, is_within_limits, has_few_cubes}
 use Rattle.mon_wp.specs.Limits.{is_query_within}
 use Rattle.mon_wp.specs.NegatedQueries.{negated_query}
 use Rattle.mon_prune.specs.Hardness.{HasNoHardClaim}

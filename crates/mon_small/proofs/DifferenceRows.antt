@@ -13,7 +13,7 @@ use Rattle.mon_monitor.specs.declared.monitor.Stmt.{Stmt}
 use Rattle.mon_monitor.specs.declared.monitor.Stmt.TheVariants as statements
 use Rattle.mon_monitor.specs.declared.monitor.Stmt.TheOpen as layers
 use Rattle.mon_monitor.specs.declared.monitor.Stmt.TheFolds.{fold-roll-Stmt}
-use Rattle.mon_wp.specs.Hardness.{is_simple_statement, simple_step}
+use Rattle.mon_wp.specs.PlainClaims.{is_simple_statement, simple_step}
 
 -- ---- the rows of a formula
 

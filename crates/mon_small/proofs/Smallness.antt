@@ -16,7 +16,7 @@ use Rattle.mon_monitor.specs.declared.query.Query.{Query}
 use Rattle.mon_monitor.specs.Candidates.{candidates_of}
 use Rattle.mon_monitor.specs.MonitorParts.{MonitorParts}
 use Rattle.mon_monitor.specs.Queries.{query_of}
-use Rattle.mon_wp.specs.Hardness.{IsClaimOf, ReadsNone, WaitsAt, has_few_cubes, is_easy, is_simple_block}
+use Rattle.mon_wp.specs.PlainClaims.{IsClaimOf, ReadsNone, WaitsAt, has_few_cubes, is_plain, is_simple_block}
 use Rattle.mon_wp.specs.Limits.{is_query_within, query_within, value_if}
 use Rattle.mon_wp.specs.NegatedQueries.{negated_query}
 use Rattle.mon_prune.specs.Hardness.{IsHard, IsSmall}
@@ -24,7 +24,7 @@ use Rattle.mon_small.specs.inner.Smallness.{AreEasyBelow, AreEasyUpTo, ArePairsE
 
 -- ---- one query
 
-pub not_negated : (monitor : MonitorParts) (query : Query) → None ≡ query_within monitor query → false ≡ is_easy monitor query
+pub not_negated : (monitor : MonitorParts) (query : Query) → None ≡ query_within monitor query → false ≡ is_plain monitor query
 not_negated monitor query none = beyond (is_query_within monitor query) (negated_query monitor query) none
   where
     beyond : (test : Bool) (formula : Formula) → None ≡ value_if test formula → false ≡ ((test && has_few_cubes formula) && has_difference_rows formula)
@@ -32,7 +32,7 @@ not_negated monitor query none = beyond (is_query_within monitor query) (negated
     beyond false formula e = refl
 
 pub negated_easy : (monitor : MonitorParts) (query : Query) (formula : Formula) (answer : Bool) → Some formula ≡ query_within monitor query
-    → answer ≡ (has_few_cubes formula && has_difference_rows formula) → answer ≡ is_easy monitor query
+    → answer ≡ (has_few_cubes formula && has_difference_rows formula) → answer ≡ is_plain monitor query
 negated_easy monitor query formula answer some told = within (is_query_within monitor query) (negated_query monitor query) some
   where
     within : (test : Bool) (made : Formula) → Some formula ≡ value_if test made → answer ≡ ((test && has_few_cubes made) && has_difference_rows made)
@@ -40,9 +40,9 @@ negated_easy monitor query formula answer some told = within (is_query_within mo
     within false made e = absurd cc
 
 pub easy_claim : (monitor : MonitorParts) (all : List Candidate) (claim : Claim) (query : Query) (answer : Bool) → query ≡ query_of monitor all claim → all ≡ candidates_of monitor
-    → answer ≡ is_easy monitor query → IsTrue answer → IsEasy monitor claim
+    → answer ≡ is_plain monitor query → IsTrue answer → IsEasy monitor claim
 easy_claim monitor all claim query answer made same told yes_it_is =
-    sym (ap (λ (kept : List Candidate). is_easy monitor (query_of monitor kept claim)) same) ∙ sym (ap (is_easy monitor) made) ∙ sym told ∙ yes_it_is
+    sym (ap (λ (kept : List Candidate). is_plain monitor (query_of monitor kept claim)) same) ∙ sym (ap (is_plain monitor) made) ∙ sym told ∙ yes_it_is
 
 -- ---- loops
 

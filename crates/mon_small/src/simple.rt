@@ -4,7 +4,7 @@
 ghost use Rattle.std.specs.Prelude.{◌≡◌, ◌&&◌};
 ghost use Rattle.std.specs.List.{list_all};
 ghost use Rattle.mon_linear.specs.Differences.{has_difference_rows};
-ghost use Rattle.mon_wp.specs.Hardness.{are_simple_terms, is_simple_block, is_simple_statement};
+ghost use Rattle.mon_wp.specs.PlainClaims.{are_simple_terms, is_simple_block, is_simple_statement};
 
 use mon_linear::{Formula, Term, is_difference};
 use mon_monitor::{Block, Stmt};

@@ -7,7 +7,7 @@ ghost use Rattle.mon_linear.specs.Negation.{can_negate};
 ghost use Rattle.mon_monitor.specs.declared.claim.Claim.TheVariants.{NoNote, NoTest, One};
 ghost use Rattle.mon_monitor.specs.Candidates.{candidates_of};
 ghost use Rattle.mon_wp.specs.Expressible.{is_expressible};
-ghost use Rattle.mon_wp.specs.Hardness.{has_few_cubes, is_easy, ReadsNone, WaitsAt};
+ghost use Rattle.mon_wp.specs.PlainClaims.{has_few_cubes, is_plain, ReadsNone, WaitsAt};
 ghost use Rattle.mon_prune.specs.Hardness.{IsSmall};
 ghost use Rattle.mon_small.specs.inner.Smallness.{ArePairsEasy, AreEasyUpTo, IsEasy, IsEasyPair, IsEasyToKeep};
 
@@ -15,7 +15,7 @@ use super::simple::{are_simple_blocks, has_difference_rows};
 use super::starts::read_starts;
 use mon_linear::{Formula, MOST_CUBES, cubes};
 use mon_monitor::{Candidate, Monitor, Query};
-use mon_prune::{candidates, easy_claims_are_not_hard};
+use mon_prune::{candidates, plain_claims_are_not_hard};
 use mon_wp::{candidates_are_expressible, keeps, negated, no_test, none_needed, one_enough};
 use std::alloc::{AllocError, Global};
 
@@ -30,7 +30,7 @@ fn is_easy_formula(formula: &Formula) -> bool
 fn is_easy(alloc: Global, monitor: &Monitor, query: &Query) -> Result<bool, AllocError>
     requires block { query.now.block < length monitor.now.blocks }
     requires post { IsTrue (can_negate query.now.post) }
-    ensures { IfOk result (λ answer. answer ≡ is_easy monitor.now query.now) }
+    ensures { IfOk result (λ answer. answer ≡ is_plain monitor.now query.now) }
 {
     match negated(alloc, monitor, query)? {
         None => Ok(false),
@@ -228,7 +228,7 @@ pub fn is_small(alloc: Global, monitor: &Monitor) -> Result<bool, AllocError>
     ensures { IfOk result (λ answer. IsTrue answer → IsSmall monitor.now) }
 {
     candidates_are_expressible();
-    easy_claims_are_not_hard();
+    plain_claims_are_not_hard();
     read_starts(monitor.fields());
     if !are_simple_blocks(monitor.blocks()) {
         return Ok(false);

@@ -30,7 +30,7 @@ use Rattle.mon_monitor.specs.MonitorParts.{MonitorParts}
 use Rattle.mon_monitor.specs.Paths.{block_body}
 use Rattle.mon_monitor.specs.Queries.{hypotheses, query_of}
 use Rattle.mon_monitor.specs.Triples.{IsValidQuery, places_of}
-use Rattle.mon_wp.specs.Hardness.{has_few_cubes, is_easy, is_within_limits}
+use Rattle.mon_wp.specs.PlainClaims.{has_few_cubes, is_plain, is_within_limits}
 use Rattle.mon_wp.specs.Limits.{has_few_nodes, has_few_paths, is_path_within}
 use Rattle.mon_wp.specs.NegatedQueries.{negated_query, path_part, some_part}
 use Rattle.mon_wp.specs.Paths.{body_paths}
@@ -197,7 +197,7 @@ fewer_differences monitor (claims.One condition block) kept all are e = differen
 fewer_differences monitor (claims.NoTest block condition) kept all are e = differences_with kept all _ (some_of_body monitor block _) are e
 
 pub fewer_no_harder : (monitor : MonitorParts) (claim : Claim) (kept all : List Candidate) → AreSomeOf kept all
-    → is_easy monitor (query_of monitor all claim) ≡ true → is_easy monitor (query_of monitor kept claim) ≡ true
+    → is_plain monitor (query_of monitor all claim) ≡ true → is_plain monitor (query_of monitor kept claim) ≡ true
 fewer_no_harder monitor claim kept all are e =
     let every = query_of monitor all claim in
     let some = query_of monitor kept claim in

@@ -1,6 +1,6 @@
 pub mod Paths
 pub mod NegatedQueries
 pub mod Limits
-pub mod Hardness
+pub mod PlainClaims
 pub mod Expressible
 pub mod inner

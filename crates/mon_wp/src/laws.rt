@@ -16,7 +16,7 @@ ghost use Rattle.mon_monitor.specs.Paths.{path_count};
 ghost use Rattle.mon_monitor.specs.Queries.{for_waiting, query_of};
 ghost use Rattle.mon_monitor.specs.Triples.{IsValidQuery};
 ghost use Rattle.mon_wp.specs.Expressible.{is_expressible};
-ghost use Rattle.mon_wp.specs.Hardness.{is_easy, is_within_limits};
+ghost use Rattle.mon_wp.specs.PlainClaims.{is_plain, is_within_limits};
 ghost use Rattle.mon_wp.specs.NegatedQueries.{negated_query, query_fails};
 ghost use Rattle.mon_wp.specs.Paths.{body_paths};
 
@@ -61,15 +61,15 @@ pub fn candidates_are_expressible()
         → list_all is_expressible (candidates_of monitor) ≡ true }
 {}
 
-/// Under fewer candidates no query is harder: where the query of a claim is within the limits, or easy, under some
+/// Under fewer candidates no query is harder: where the query of a claim is within the limits, or plain, under some
 /// candidates, it is so under some of them.
 pub fn fewer_kept_are_no_harder()
     ensures within { (monitor : MonitorParts) (claim : Claim) (kept all : List Candidate)
         → AreSomeOf kept all → is_within_limits monitor (query_of monitor all claim) ≡ true
         → is_within_limits monitor (query_of monitor kept claim) ≡ true }
-    ensures easy { (monitor : MonitorParts) (claim : Claim) (kept all : List Candidate)
-        → AreSomeOf kept all → is_easy monitor (query_of monitor all claim) ≡ true
-        → is_easy monitor (query_of monitor kept claim) ≡ true }
+    ensures plain { (monitor : MonitorParts) (claim : Claim) (kept all : List Candidate)
+        → AreSomeOf kept all → is_plain monitor (query_of monitor all claim) ≡ true
+        → is_plain monitor (query_of monitor kept claim) ≡ true }
 {}
 
 /// Under more candidates no query is less valid: where the query of a claim is valid under some candidates, it is so

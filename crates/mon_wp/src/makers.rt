@@ -1,16 +1,17 @@
-//! The query of each claim.
+//! The query of each claim: [`claim_query`] for any of them, and a maker for each kind.
 
-ghost use Rattle.std.specs.Prelude.{◌≡◌, ◌<◌, ◌≤◌, IfOk, IsTrue, true, length};
+ghost use Rattle.std.specs.Prelude.{◌≡◌, ◌<◌, ◌≤◌, IfOk, IsTrue, true, length, [], ◌∷◌};
 ghost use Rattle.std.specs.List.{list_all};
-ghost use Rattle.mon_linear.specs.Negation.{can_negate};
-ghost use Rattle.mon_monitor.specs.Queries.{block_guard, keeps_query, no_test_query, none_needed_query, one_enough_query};
+ghost use Rattle.mon_linear.specs.Negation.{can_negate, negation};
+ghost use Rattle.mon_monitor.specs.Queries.{block_guard, hypotheses, keeps_query, no_test_query, none_needed_query, one_enough_query, query_of};
 ghost use Rattle.mon_wp.specs.Expressible.{is_expressible};
+ghost use Rattle.mon_wp.specs.PlainClaims.{MayAsk};
 
 use super::candidates::{formula_of, formulas_of};
 use super::waiting::waiting_guard;
 use mon_linear::{Formula, copy_formula, negate};
 use mon_list::Seq;
-use mon_monitor::{Candidate, Monitor, Query};
+use mon_monitor::{Candidate, Claim, Monitor, Query};
 use std::alloc::{AllocError, Global};
 
 fn block_guard(alloc: Global, monitor: &Monitor, block: u32) -> Result<Formula, AllocError>
@@ -18,6 +19,26 @@ fn block_guard(alloc: Global, monitor: &Monitor, block: u32) -> Result<Formula, 
     ensures { IfOk result (λ guard. guard ≡ block_guard monitor.now block) }
 {
     copy_formula(alloc, &monitor.blocks()[block as usize].guard)
+}
+
+/// The hypotheses where the condition's guard, as a client that waits has it, is false before the block.
+fn idle_hypotheses(
+    alloc: Global,
+    monitor: &Monitor,
+    kept: &[Candidate],
+    block: u32,
+    guard: &Formula,
+) -> Result<Vec<Formula>, AllocError>
+    requires kept { list_all is_expressible kept.now ≡ true }
+    requires block { block < length monitor.now.blocks }
+    requires guard { IsTrue (can_negate guard.now) }
+    ensures { IfOk result (λ hyps. hyps.items
+        ≡ hypotheses kept.now (block_guard monitor.now block ∷ negation guard.now ∷ [])) }
+{
+    let mut hyps = formulas_of(alloc, kept)?;
+    hyps.push(block_guard(alloc, monitor, block)?)?;
+    hyps.push(negate(alloc, guard)?)?;
+    Ok(hyps)
 }
 
 /// The query whether the block keeps the candidate: the kept candidates and the block's guard are its hypotheses.
@@ -62,10 +83,7 @@ pub fn none_needed(
     ensures post { IfOk result (λ it. IsTrue (can_negate it.post)) }
 {
     let guard = waiting_guard(alloc, monitor, condition)?;
-    let waits = negate(alloc, &guard)?;
-    let mut hyps = formulas_of(alloc, kept)?;
-    hyps.push(block_guard(alloc, monitor, block)?)?;
-    hyps.push(waits)?;
+    let hyps = idle_hypotheses(alloc, monitor, kept, block, &guard)?;
     Ok(Query {
         hyps: Seq::of(hyps),
         block,
@@ -119,12 +137,31 @@ pub fn no_test(
     ensures post { IfOk result (λ it. IsTrue (can_negate it.post)) }
 {
     let guard = waiting_guard(alloc, monitor, condition)?;
-    let mut hyps = formulas_of(alloc, kept)?;
-    hyps.push(block_guard(alloc, monitor, block)?)?;
-    hyps.push(negate(alloc, &guard)?)?;
+    let hyps = idle_hypotheses(alloc, monitor, kept, block, &guard)?;
     Ok(Query {
         hyps: Seq::of(hyps),
         block,
         post: guard,
     })
+}
+
+/// The query of the claim under the kept candidates, as its maker gives it. It fails only for want of memory.
+pub fn claim_query(
+    alloc: Global,
+    monitor: &Monitor,
+    kept: &[Candidate],
+    claim: Claim,
+) -> Result<Query, AllocError>
+    requires kept { list_all is_expressible kept.now ≡ true }
+    requires claim { MayAsk monitor.now claim }
+    ensures made { IfOk result (λ query. query ≡ query_of monitor.now kept.now claim) }
+    ensures block { IfOk result (λ query. query.block < length monitor.now.blocks) }
+    ensures post { IfOk result (λ query. IsTrue (can_negate query.post)) }
+{
+    match claim {
+        Claim::Keeps { candidate, block } => keeps(alloc, monitor, kept, candidate, block),
+        Claim::NoNote { block, condition } => none_needed(alloc, monitor, kept, block, condition),
+        Claim::One { condition, block } => one_enough(alloc, monitor, kept, condition, block),
+        Claim::NoTest { block, condition } => no_test(alloc, monitor, kept, block, condition),
+    }
 }

@@ -16,7 +16,7 @@ use Rattle.mon_events.specs.PlanText.{note_kind}
 use Rattle.mon_events.specs.Plans.{has_note}
 use Rattle.mon_events.specs.Rising.{AreRising}
 use Rattle.mon_wp.specs.Expressible.{is_expressible}
-use Rattle.mon_wp.specs.Hardness.{IsBlockNumber, IsConditionNumber, ReadsNone, WaitsAt}
+use Rattle.mon_wp.specs.PlainClaims.{IsBlockNumber, IsConditionNumber, ReadsNone, WaitsAt}
 use Rattle.mon_prune.specs.Hardness.{HasNoHardClaim, MayStayOpen}
 use Rattle.mon_prune.specs.Invariants.{ContainsEasy, IsGreatest, IsInvariant}
 use Rattle.mon_prune.specs.declared.kept.Kept.{Kept}

@@ -8,7 +8,7 @@ use Rattle.mon_monitor.specs.declared.claim.Claim.TheVariants as claims
 use Rattle.mon_monitor.specs.MonitorParts.{MonitorParts}
 use Rattle.mon_monitor.specs.Queries.{query_of}
 use Rattle.mon_wp.specs.Expressible.{is_expressible}
-use Rattle.mon_wp.specs.Hardness.{IsBlockNumber, IsConditionNumber}
+use Rattle.mon_wp.specs.PlainClaims.{IsBlockNumber, IsConditionNumber}
 use Rattle.mon_wp.specs.Limits.{is_query_within}
 use Rattle.mon_recheck.specs.Verdicts.{AreChecked, IsOpen, IsProof}
 

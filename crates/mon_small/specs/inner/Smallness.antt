@@ -6,10 +6,10 @@ use Rattle.mon_monitor.specs.declared.claim.Claim.TheVariants as claims
 use Rattle.mon_monitor.specs.Candidates.{candidates_of}
 use Rattle.mon_monitor.specs.MonitorParts.{MonitorParts}
 use Rattle.mon_monitor.specs.Queries.{query_of}
-use Rattle.mon_wp.specs.Hardness.{ReadsNone, WaitsAt, is_easy}
+use Rattle.mon_wp.specs.PlainClaims.{ReadsNone, WaitsAt, is_plain}
 
 abbrev pub IsEasy : MonitorParts → Claim → Type 0
-IsEasy monitor claim = is_easy monitor (query_of monitor (candidates_of monitor) claim) ≡ true
+IsEasy monitor claim = is_plain monitor (query_of monitor (candidates_of monitor) claim) ≡ true
 
 -- the claims that the first blocks keep the candidate
 abbrev pub AreEasyBelow : MonitorParts → ℕ → Candidate → Type 0

@@ -1,6 +1,6 @@
 use Rattle.std.proofs.Common.{ap, ◌∙◌}
 use Rattle.std.specs.List.{list_all}
-use Rattle.mon_wp.specs.Hardness.{is_simple_statement}
+use Rattle.mon_wp.specs.PlainClaims.{is_simple_statement}
 use Rattle.mon_small.proofs.DifferenceRows.{simple_parts}
 use Rattle.mon_small.proofs.simple.+simple.Goals as goal
 

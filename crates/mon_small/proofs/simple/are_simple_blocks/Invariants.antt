@@ -1,6 +1,6 @@
 use Rattle.std.proofs.Common.{◌≡◌, take, true}
 use Rattle.std.specs.List.{list_all}
-use Rattle.mon_wp.specs.Hardness.{is_simple_block}
+use Rattle.mon_wp.specs.PlainClaims.{is_simple_block}
 use Rattle.mon_small.proofs.simple.are_simple_blocks.Given as goal
 
 abbrev pub invariant-loop-block : goal.invariant-loop-block

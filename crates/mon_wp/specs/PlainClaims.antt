@@ -1,4 +1,4 @@
--- Queries within the limits of a prover, easy ones among them, simple blocks, and the claims of a
+-- Queries within the limits of a prover, plain ones among them, simple blocks, and the claims of a
 -- monitor.
 use Rattle.std.specs.Prelude.{◌≡◌, ◌<◌, ◌≤◌, ℕ, ◌-◌, pos, Bool, true, false, ◌&&◌, nat_le, List, []}
 use Rattle.std.specs.Prelude.{◌∷◌, length, slice_get}
@@ -18,6 +18,7 @@ use Rattle.mon_monitor.specs.declared.monitor.Stmt.TheOpen.{Stmt-F, SetInt, SetB
 use Rattle.mon_monitor.specs.declared.monitor.Stmt.TheFolds.{fold-Stmt}
 use Rattle.mon_monitor.specs.MonitorParts.{MonitorParts}
 use Rattle.mon_monitor.specs.Candidates.{candidates_of}
+use Rattle.mon_wp.specs.Expressible.{is_expressible}
 use Rattle.mon_wp.specs.NegatedQueries.{negated_query}
 use Rattle.mon_wp.specs.Limits.{is_query_within}
 
@@ -31,9 +32,9 @@ abbrev pub is_within_limits : MonitorParts → Query → Bool
 is_within_limits monitor query =
     is_query_within monitor query && has_few_cubes (negated_query monitor query)
 
--- and of difference rows alone
-abbrev pub is_easy : MonitorParts → Query → Bool
-is_easy monitor query =
+-- a plain query: the formula is of difference rows alone, too
+abbrev pub is_plain : MonitorParts → Query → Bool
+is_plain monitor query =
     is_within_limits monitor query && has_difference_rows (negated_query monitor query)
 
 -- ---- simple blocks
@@ -77,6 +78,18 @@ ReadsNone monitor condition =
 abbrev pub WaitsAt : MonitorParts → ℕ → ℕ → Type 0
 WaitsAt monitor block condition =
     IsSomeAnd (slice_get monitor.blocks block) (λ held. held.condition ≡ condition)
+
+-- a query can be made of the claim, which names a block and a condition of the monitor, and a
+-- candidate that has a formula
+abbrev pub MayAsk : MonitorParts → Claim → Type 0
+MayAsk monitor (claims.Keeps candidate block) =
+    IsBlockNumber monitor block × (is_expressible candidate ≡ true)
+MayAsk monitor (claims.NoNote block condition) =
+    IsBlockNumber monitor block × IsConditionNumber monitor condition
+MayAsk monitor (claims.One condition block) =
+    IsBlockNumber monitor block × IsConditionNumber monitor condition
+MayAsk monitor (claims.NoTest block condition) =
+    IsBlockNumber monitor block × IsConditionNumber monitor condition
 
 -- the claims that are asked of a monitor: where a guard reads inputs, only whether no note is
 -- needed
