@@ -1,0 +1,151 @@
+"""Reads monitors in canonical form, by their definitions and with no code of the product."""
+
+import itertools
+import re
+from collections import namedtuple
+
+from formulas import (CONSTANT, Formula, at_most, combined, flag, forms_of, is_constant, joined,
+                      negation, number, substituted)
+
+MOST_BOUNDS = 12
+OWN, WAITING = 16, 32  # first places: of a block's inputs, and of those of a client that waits
+
+# a field is its name, variable and start; a statement is (field, value) or (if, then, else);
+# `waiting` is the guard at the inputs of a client that waits, and `failing` its negation
+Monitor = namedtuple("Monitor", "name fields blocks conditions")
+Block = namedtuple("Block", "name guard body condition")
+Condition = namedtuple("Condition", "guard waiting failing reads_inputs shown")
+
+
+# ---- expressions: the signs of each level, and what a sign makes of two forms
+LEVELS = ["||"], ["&&"], ["==", "!=", "<", "<=", ">", ">="], ["+", "-"], ["*"], []
+MADE = {
+    "==": lambda left, right: joined("all", [at_most(left, right), at_most(right, left)]),
+    "!=": lambda left, right: joined("any", [at_most(right, left, 1), at_most(left, right, 1)]),
+    "<=": at_most,
+    "<": lambda left, right: at_most(left, right, 1),
+    ">=": lambda left, right: at_most(right, left),
+    ">": lambda left, right: at_most(right, left, 1),
+    "+": lambda left, right: combined(1, left, 1, right),
+    "-": lambda left, right: combined(1, left, -1, right),
+    "*": lambda left, right: scaled(left, right) if is_constant(left) else scaled(right, left),
+}
+
+
+def scaled(constant, form):
+    return combined(constant.get(CONSTANT, 0), form, 0, {})
+
+
+def read(text, scope):
+    """The form or the formula of the expression that the text begins with."""
+    return expression(re.findall(r"\w+|[=!<>]=|&&|\|\||\S", text + ";")[::-1], scope)
+
+
+def expression(words, scope, level=0):
+    """The words stand last first, and more than those of the expression."""
+    if level == len(LEVELS) - 1:
+        return unary(words.pop(), words, scope)
+    value, more = expression(words, scope, level + 1), []
+    while words[-1] in LEVELS[level]:
+        more.append((words.pop(), expression(words, scope, level + 1)))
+    if more and level < 2:
+        return joined(("any", "all")[level], [value] + [part for _, part in more])
+    for sign, part in more:
+        value = MADE[sign](value, part)
+    return value
+
+
+def unary(word, words, scope):
+    if word == "(":
+        inner = expression(words, scope)
+        words.pop()
+        return inner
+    if word == "-":
+        return combined(-1, unary(words.pop(), words, scope), 0, {})
+    if word == "!":
+        return negation(unary(words.pop(), words, scope))
+    return number(int(word)) if word.isdigit() else scope[word]
+
+
+# ---- monitors: each line is one item
+def variable(kind, place):
+    return {place: 1} if kind == "int" else flag(place, True)
+
+
+def read_monitor(text):
+    lines = iter([line.strip(" ;") for line in text.splitlines()])
+    monitor = Monitor(next(lines).split()[1], [], [], [])
+    scope = {"true": joined("all", []), "false": joined("any", [])}
+    for line in lines:
+        if line.startswith("method "):
+            read_method(monitor, line, lines, scope)
+        elif line != "}":
+            kind, name, _, start = line.split(" ", 3)
+            scope[name] = start = read(start, scope)
+            if kind != "const":
+                scope[name] = variable(kind, len(monitor.fields))
+                monitor.fields.append((name, scope[name], start))
+    return monitor
+
+
+def read_method(monitor, line, lines, scope):
+    name, inputs, shown = re.match(r"method (\w+)\((.*)\) waituntil \((.*)\) {", line).groups()
+    inputs = list(enumerate(re.findall(r"(\w+) (\w+)", inputs)))
+    own, others = ({**scope, **{each: variable(kind, first + k) for k, (kind, each) in inputs}}
+                   for first in (OWN, WAITING))
+    guard, waiting, (body, _) = read(shown, own), read(shown, others), read_body(lines, own)
+    guards = [condition.guard for condition in monitor.conditions]
+    if guard not in guards:
+        guards.append(guard)
+        monitor.conditions.append(
+            Condition(guard, waiting, negation(waiting), waiting != guard, shown))
+    monitor.blocks.append(Block(name, guard, body, guards.index(guard) + 1))
+
+
+def holds_at_start(monitor, fact):
+    """Whether the row or flag is true with each field's start in its place."""
+    for _, field, start in monitor.fields:
+        fact = substituted(fact, field, start)
+    return fact.value.get(CONSTANT, 0) <= 0 if fact.kind == "row" else fact.kind == "all"
+
+
+def read_body(lines, scope):
+    """The statements up to the line that closes them, and that line."""
+    body = []
+    for line in lines:
+        if line.startswith("}"):
+            return body, line
+        if line.startswith("if ("):
+            then, end = read_body(lines, scope)
+            other = read_body(lines, scope)[0] if end == "} else {" else []
+            body.append((read(line[3:], scope), then, other))
+        elif not line.startswith("return "):
+            name, value = line.split(" = ", 1)
+            body.append((scope[name], read(value, scope)))
+
+
+# ---- candidates
+def candidates_of(monitor):
+    """In their order, each with its text."""
+    found = []
+    forms = [form for block in monitor.blocks for form in forms_of(block.guard)]
+    for name, field, start in monitor.fields:
+        if isinstance(field, Formula):
+            found += [(name, field), ("!" + name, negation(field))]
+        else:
+            for bound in pool(forms, field, start):
+                found.append((f"{name} <= {bound}", at_most(field, number(bound))))
+                found.append((f"{name} >= {bound}", at_most(number(bound), field)))
+    ints = [(name, field) for name, field, _ in monitor.fields if not isinstance(field, Formula)]
+    pairs = itertools.permutations(ints, 2)
+    return found + [(f"{left} <= {right}", at_most(x, y)) for (left, x), (right, y) in pairs]
+
+
+def pool(forms, field, start):
+    """0, the start, and the numbers around each d of a row that says field <= d or field >= d."""
+    bounds = [0, start.get(CONSTANT, 0)]
+    for form, sign in itertools.product(forms, (1, -1)):
+        rest = combined(sign, form, -1, field)  # of such a row it is -d
+        if is_constant(rest):
+            bounds += [beside - rest.get(CONSTANT, 0) for beside in (-1, 0, 1)]
+    return list(dict.fromkeys(bounds))[:MOST_BOUNDS]

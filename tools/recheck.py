@@ -1,0 +1,150 @@
+#!/usr/bin/env python3
+"""`tools/recheck.py MONITOR REPORT` prints what `expresso recheck` prints, with the same status.
+
+It shares no code with the product. MONITOR is in canonical form, as `expresso check` prints it.
+"""
+
+import itertools
+import pathlib
+import re
+import sys
+
+sys.dont_write_bytecode = True
+from formulas import CONSTANT, are_within, combined, negated_query, negation  # noqa: E402
+from monitors import candidates_of, holds_at_start, read_monitor  # noqa: E402
+
+MOST_BYTES, CHAIN_BITS, FACTOR = 16777216, 128, (-2 ** 127, 2 ** 127)
+KINDS = "signal", "broadcast"
+
+
+# ---- plans: what is kept has a text and a fact; a block's notes lead from conditions to kind, test
+def claims_of(monitor, kept, kinds, notes):
+    """In their order: the text, and the hypotheses, body and post formula of the query."""
+    facts, conditions = [fact for _, fact in kept], list(enumerate(monitor.conditions, 1))
+    pairs = [(w, on, q, p) for w, on in zip(monitor.blocks, notes) for q, p in conditions]
+    for (text, fact), w in itertools.product(kept, monitor.blocks):
+        yield f"keep {text} {w.name}", facts + [w.guard], w.body, fact
+    for w, on, q, p in pairs:
+        if q not in on:
+            yield f"none {w.name} {q}", facts + [w.guard, p.failing], w.body, p.failing
+    for (q, p), w in itertools.product(conditions, monitor.blocks):
+        if kinds[q - 1] == "signal" and w.condition == q:
+            yield f"one {q} {w.name}", facts + [p.waiting], w.body, p.failing
+    for w, on, q, p in pairs:
+        if q in on and not on[q][1] and not p.reads_inputs:
+            yield f"untested {w.name} {q}", facts + [w.guard, p.failing], w.body, p.waiting
+
+
+def is_lawful_at_sight(monitor, kept, kinds, notes):
+    """What is kept is true at the start, and kinds and notes suit the conditions."""
+    for q, (p, kind) in enumerate(zip(monitor.conditions, kinds), 1):
+        placed = [on[q] for on in notes if q in on]
+        if kind == "broadcast" and any(way == "signal" for way, _ in placed):
+            return False
+        if p.reads_inputs and (kind == "signal" or any(tested for _, tested in placed)):
+            return False
+    return all(holds_at_start(monitor, fact) for _, fact in kept)
+
+
+# ---- certificates: each is taken off its words, the last of which comes first
+def expect(held):
+    if not held:
+        raise ValueError("no report")
+
+
+def whole(words, least=0, bound=2 ** 32):
+    expect(re.fullmatch("0|-?[1-9][0-9]{0,38}", words[-1]) and least <= int(words[-1]) < bound)
+    return int(words.pop())
+
+
+def refutes(words, todo, literals):
+    """Whether the certificate refutes what is to do, the last first, with the gathered literals."""
+    todo, literals, kind = [*todo], [*literals], words.pop()
+    while todo and todo[-1].kind != "any":
+        first = todo.pop()
+        if first.kind == "all":
+            todo += reversed(first.value)
+        else:
+            literals.append(first)
+    if kind == "clash":
+        left, right = whole(words), whole(words)
+        both = literals[left:left + 1] + literals[right:right + 1]
+        return len(both) == 2 and both[0].kind == "flag" and both[0] == negation(both[1])
+    if kind == "chain":
+        return closes([(whole(words), whole(words, *FACTOR), whole(words), whole(words, *FACTOR))
+                       for _ in range(whole(words))], literals)
+    expect(kind == "split")
+    count = whole(words)
+    if not todo or len(todo[-1].value) != count:
+        return any([refutes(words, [], []) for _ in range(count)])  # each is read, and is false
+    return all([refutes(words, todo[:-1] + [part], literals) for part in todo[-1].value])
+
+
+def closes(chain, literals):
+    """Each row can be made, and the last has no variable and a constant above 0."""
+    rows, made = [each.value if each.kind == "row" else None for each in literals], {}
+    for left, left_times, right, right_times in chain:
+        if max(left, right) >= len(rows) or None in (rows[left], rows[right]):
+            return False
+        made = combined(left_times, rows[left], right_times, rows[right])
+        numbers = [left_times * each for each in rows[left].values()]
+        numbers += [right_times * each for each in rows[right].values()] + [*made.values()]
+        if min(left_times, right_times) < 0 or not are_within(CHAIN_BITS, numbers):
+            return False
+        rows.append(made)
+    return made.keys() == {CONSTANT} and made[CONSTANT] > 0
+
+
+# ---- reports: each line is taken off the lines, the last of which comes first
+def read_plan(monitor, lines):
+    expect(lines.pop() == f"plan {monitor.name}")
+    kept = [one for one in candidates_of(monitor) if lines[-1] == f"keep {one[0]}" and lines.pop()]
+    kinds = [{f"condition {q} {kind}: {p.shown}": kind for kind in KINDS}[lines.pop()]
+             for q, p in enumerate(monitor.conditions, 1)]
+    known = {f"{q} {kind}{test}": (q, (kind, test)) for q in range(1, len(kinds) + 1)
+             for kind in KINDS for test in ("", " tested")}
+    notes = []
+    for block in monitor.blocks:
+        head, texts = lines.pop().split(": ")
+        placed = [known[text] for text in texts.split(", ") if texts != "none"]
+        numbers = [q for q, _ in placed]
+        expect(head == f"block {block.name}" and numbers == sorted(set(numbers)))
+        notes.append(dict(placed))
+    return kept, kinds, notes
+
+
+def verdict(monitor, text):
+    expect(text.endswith("\n"))
+    lines = text.split("\n")[-2::-1]
+    plan = read_plan(monitor, lines)
+    plan_lines, proved = text.count("\n") - len(lines), []
+    for claim, *query in claims_of(monitor, *plan):
+        head, _, cert = lines.pop().partition(": ")
+        expect(head == f"proof {claim}")
+        formula, words = negated_query(*query), cert.split(" ")[::-1]
+        proved.append(refutes(words, [formula] if formula else [], []))
+        expect(not words)
+    expect(not lines)
+    if not is_lawful_at_sight(monitor, *plan):
+        return "rejected: plan"
+    if False in proved:
+        return f"rejected: line {plan_lines + proved.index(False) + 1}"
+    return f"accepted {len(proved)} claims"
+
+
+def main(monitor, report):
+    sys.setrecursionlimit(10 ** 6)
+    monitor = read_monitor(pathlib.Path(monitor).read_text("ascii"))
+    text = pathlib.Path(report).read_bytes().decode("latin-1")
+    try:
+        line = verdict(monitor, text)
+    except (LookupError, ValueError):
+        line = f"refused: {report}: not a report"
+    if len(text) > MOST_BYTES:
+        line = f"refused: {report}: more than {MOST_BYTES} bytes"
+    print(line)
+    return 0 if line.startswith("accepted ") else 1
+
+
+if __name__ == "__main__":
+    sys.exit(main(*sys.argv[1:]))
