@@ -1,0 +1,34 @@
+#!/usr/bin/env bash
+# Has the report of each monitor of the program, and changed ones, judged by the program and by the
+# second reader, tools/recheck.py. Fails where they differ, or where a whole report isn't accepted.
+cd "$(dirname "$0")/../crates/expresso_cli" || exit 1
+program=$PWD/out/expresso_cli
+reader=$PWD/../../tools/recheck.py
+made=$(mktemp -d) || exit 1
+trap 'rm -rf "$made"' EXIT
+
+# judge STATUS REPORT: both give the same line and the same status, which is STATUS unless that is -
+judge() {
+    local ours theirs
+    ours=$("$program" recheck "$made/monitor" "$2"; echo "status $?")
+    theirs=$("$reader" "$made/monitor" "$2"; echo "status $?")
+    if [ "$ours" != "$theirs" ] || { [ "$1" != - ] && [ "${ours##* }" != "$1" ]; }; then
+        printf '%s\n' "$monitor, ${2##*/} report:" "$ours" "the second reader:" "$theirs"
+        exit 1
+    fi
+}
+
+count=0
+for monitor in data/*.mon data/derived/*.mon; do
+    "$program" check "$monitor" >"$made/monitor" || exit 1
+    "$program" report "$monitor" >"$made/whole" || exit 1
+    sed '$d' "$made/whole" >"$made/shorter"
+    sed '$s/: .*/: split 0/' "$made/whole" >"$made/emptied"
+    sed 's/clash 0 /clash 1 /; s/chain 1 /chain 1 1/' "$made/whole" >"$made/shifted"
+    judge 0 "$made/whole"
+    judge 1 "$made/shorter"
+    judge - "$made/emptied"
+    judge - "$made/shifted"
+    count=$((count + 1))
+done
+echo "both readers agree on the reports of $count monitors"
