@@ -6,7 +6,7 @@ use Rattle.std.proofs.Math.Dec.{eqb-suc-zero}
 use Rattle.mon_base.specs.Limits.{MOST_SPURIOUS, WORKERS}
 use Rattle.mon_command.specs.declared.schedule.Schedule.{Schedule}
 use Rattle.mon_command.specs.declared.schedule.Schedule.TheVariants.{Rounds, Drawn}
-use Rattle.mon_command.specs.CommandLine.{Command, check, turns, compile, simulate, run, stress, Given, GREATEST_UNSIGNED, HasNoSchedule, IsSpurious, IsSchedule, IsWorkers, Asks}
+use Rattle.mon_command.specs.CommandLine.{Command, check, turns, compile, simulate, run, stress, report, recheck, Given, GREATEST_UNSIGNED, HasNoSchedule, IsSpurious, IsSchedule, IsWorkers, Asks}
 use Rattle.mon_command.specs.inner.Asked.{number_if, spurious_if, schedule_if, some_workers, workers_if, has_schedule, plain_if, stress_if, run_if, simulate_if, single_if, pair_if, command_of_values, command_if}
 use Rattle.mon_command.proofs.Written.{chosen, cond_second, number_found, number_is}
 
@@ -116,13 +116,15 @@ single_named : Text → Given → Text → Option Command
 single_named name given value =
     cond (bytes_eq name (codes "check")) (plain_if given (check value))
     (cond (bytes_eq name (codes "compile")) (plain_if given (compile value))
-    (cond (bytes_eq name (codes "stress")) (stress_if given value) None))
+    (cond (bytes_eq name (codes "stress")) (stress_if given value)
+    (cond (bytes_eq name (codes "report")) (plain_if given (report value)) None)))
 
 pair_named : Text → Given → Text → Text → Option Command
 pair_named name given monitor clients =
     cond (bytes_eq name (codes "turns")) (plain_if given (turns monitor clients))
     (cond (bytes_eq name (codes "simulate")) (simulate_if given monitor clients)
-    (cond (bytes_eq name (codes "run")) (run_if given monitor clients) None))
+    (cond (bytes_eq name (codes "run")) (run_if given monitor clients)
+    (cond (bytes_eq name (codes "recheck")) (plain_if given (recheck monitor clients)) None)))
 
 single_found : (given : Given) (name value : Text) (command : Command) → given.command ≡ name → given.values ≡ value ∷ []
     → single_named name given value ≡ Some command → command_if given ≡ Some command
@@ -138,6 +140,8 @@ pub command_found : (given : Given) (command : Command) → Asks given command �
 unfolding single_named pair_named
 command_found given (check m) asks = single_found given (codes "check") m (check m) asks.name asks.has_values (plain_found given (check m) asks.has_options)
 command_found given (compile m) asks = single_found given (codes "compile") m (compile m) asks.name asks.has_values (plain_found given (compile m) asks.has_options)
+command_found given (report m) asks = single_found given (codes "report") m (report m) asks.name asks.has_values (plain_found given (report m) asks.has_options)
+command_found given (recheck m r) asks = pair_found given (codes "recheck") m r (recheck m r) asks.name asks.has_values (plain_found given (recheck m r) asks.has_options)
 command_found given (turns m c) asks = pair_found given (codes "turns") m c (turns m c) asks.name asks.has_values (plain_found given (turns m c) asks.has_options)
 command_found given (simulate m c s) asks =
     let (is, no_workers) = asks.has_options in
@@ -208,7 +212,11 @@ single_asks given value found values e =
     subst (Asks given) same (record { name = named given (codes "compile") is; has_values = values; has_options = unused }))
     (λ no_compile rest. chosen (bytes_eq given.command (codes "stress")) _ _ found rest
     (λ is made. stress_asks given value found (named given (codes "stress") is) values made)
-    (λ no_stress none. absurd (none-some found none))))
+    (λ no_stress others. chosen (bytes_eq given.command (codes "report")) _ _ found others
+    (λ is made.
+    let (unused, same) = plain_is given (report value) found made in
+    subst (Asks given) same (record { name = named given (codes "report") is; has_values = values; has_options = unused }))
+    (λ no_report none. absurd (none-some found none)))))
 
 pair_asks : (given : Given) (monitor clients : Text) (found : Command) → given.values ≡ monitor ∷ clients ∷ [] → pair_if given monitor clients ≡ Some found → Asks given found
 pair_asks given monitor clients found values e =
@@ -220,7 +228,11 @@ pair_asks given monitor clients found values e =
     (λ is made. simulate_asks given monitor clients found (named given (codes "simulate") is) values made)
     (λ no_simulate rest. chosen (bytes_eq given.command (codes "run")) _ _ found rest
     (λ is made. run_asks given monitor clients found (named given (codes "run") is) values made)
-    (λ no_run none. absurd (none-some found none))))
+    (λ no_run others. chosen (bytes_eq given.command (codes "recheck")) _ _ found others
+    (λ is made.
+    let (unused, same) = plain_is given (recheck monitor clients) found made in
+    subst (Asks given) same (record { name = named given (codes "recheck") is; has_values = values; has_options = unused }))
+    (λ no_recheck none. absurd (none-some found none)))))
 
 values_ask : (given : Given) (values : List Text) (found : Command) → given.values ≡ values → command_of_values given values ≡ Some found → Asks given found
 values_ask given [] found is e = absurd (none-some found e)

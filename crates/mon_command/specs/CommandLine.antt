@@ -25,6 +25,10 @@ pub data Command : Type 0 where
   run : List ℕ → List ℕ → ℕ → Command
   -- runs the large input of this number in so many workers
   stress : ℕ → ℕ → Command
+  -- compiles a monitor to a plan with its certificates
+  report : List ℕ → Command
+  -- checks such a report, the second file, of the monitor of the first
+  recheck : List ℕ → List ℕ → Command
 
 -- ---- the arguments
 
@@ -118,6 +122,8 @@ name_of (compile monitor) = codes "compile"
 name_of (simulate monitor clients schedule) = codes "simulate"
 name_of (run monitor clients workers) = codes "run"
 name_of (stress number workers) = codes "stress"
+name_of (report monitor) = codes "report"
+name_of (recheck monitor report_file) = codes "recheck"
 
 -- the values are those of the command, as many as it has
 abbrev pub HasValues : List Text → Command → Type 0
@@ -128,6 +134,8 @@ HasValues values (simulate monitor clients schedule) = values ≡ monitor ∷ cl
 HasValues values (run monitor clients workers) = values ≡ monitor ∷ clients ∷ []
 HasValues values (stress number workers) =
     (word : Text) × (values ≡ word ∷ []) × IsNumber GREATEST_UNSIGNED word number
+HasValues values (report monitor) = values ≡ monitor ∷ []
+HasValues values (recheck monitor report_file) = values ≡ monitor ∷ report_file ∷ []
 
 abbrev pub HasNoSchedule : Given → Type 0
 HasNoSchedule given = (given.seed ≡ None) × (given.spurious ≡ None)
@@ -142,6 +150,8 @@ HasOptions given (simulate monitor clients schedule) =
 HasOptions given (run monitor clients workers) =
     HasNoSchedule given × IsWorkers given.workers workers
 HasOptions given (stress number workers) = HasNoSchedule given × IsWorkers given.workers workers
+HasOptions given (report monitor) = HasNoSchedule given × (given.workers ≡ None)
+HasOptions given (recheck monitor report_file) = HasNoSchedule given × (given.workers ≡ None)
 
 -- the arguments ask for the command
 pub record Asks (given : Given) (command : Command) : Type 0 where
@@ -167,6 +177,8 @@ files_of (compile monitor) = monitor ∷ []
 files_of (simulate monitor clients schedule) = monitor ∷ clients ∷ []
 files_of (run monitor clients workers) = monitor ∷ clients ∷ []
 files_of (stress number workers) = []
+files_of (report monitor) = monitor ∷ []
+files_of (recheck monitor report_file) = monitor ∷ report_file ∷ []
 
 -- each file that the words name is one that may be read
 abbrev pub MayReadFiles : (List ℕ → Type 0) → List (List ℕ) → Type 0

@@ -2,6 +2,7 @@
 use Rattle.mon_command.specs.declared.command.Command.{Command as Words}
 use Rattle.mon_command.specs.declared.command.Command.TheVariants as read
 use Rattle.mon_command.specs.CommandLine.{Command, check, turns, compile, simulate, run, stress}
+use Rattle.mon_command.specs.CommandLine.{report, recheck}
 
 -- the command that one of the code stands for
 abbrev pub command_meant : Words → Command
@@ -11,3 +12,5 @@ command_meant (read.Compile monitor) = compile monitor.now
 command_meant (read.Simulate monitor clients schedule) = simulate monitor.now clients.now schedule
 command_meant (read.Run monitor clients workers) = run monitor.now clients.now workers
 command_meant (read.Stress number workers) = stress number workers
+command_meant (read.Report monitor) = report monitor.now
+command_meant (read.Recheck monitor report_file) = recheck monitor.now report_file.now

@@ -21,7 +21,7 @@ pub(crate) fn command_asked<'a>(given: &Given<'a>) -> Option<Command<'a>>
 {
     match given.values.as_slice() {
         [value] => single_asked(given, *value),
-        [monitor, clients] => pair_asked(given, *monitor, *clients),
+        [monitor, other] => pair_asked(given, *monitor, *other),
         _ => None,
     }
 }
@@ -36,22 +36,38 @@ fn single_asked<'a>(given: &Given<'a>, value: &'a str) -> Option<Command<'a>>
         plain_asked(given, Command::Compile { monitor: value })
     } else if given.command == "stress" {
         stress_asked(given, value)
+    } else if given.command == "report" {
+        plain_asked(given, Command::Report { monitor: value })
     } else {
         None
     }
 }
 
 /// The command of two values.
-fn pair_asked<'a>(given: &Given<'a>, monitor: &'a str, clients: &'a str) -> Option<Command<'a>>
+fn pair_asked<'a>(given: &Given<'a>, monitor: &'a str, other: &'a str) -> Option<Command<'a>>
     ensures { option_map command_meant result
-        ≡ pair_if (given_meant given.now) monitor.now clients.now }
+        ≡ pair_if (given_meant given.now) monitor.now other.now }
 {
     if given.command == "turns" {
-        plain_asked(given, Command::Turns { monitor, clients })
+        plain_asked(
+            given,
+            Command::Turns {
+                monitor,
+                clients: other,
+            },
+        )
     } else if given.command == "simulate" {
-        simulate_asked(given, monitor, clients)
+        simulate_asked(given, monitor, other)
     } else if given.command == "run" {
-        run_asked(given, monitor, clients)
+        run_asked(given, monitor, other)
+    } else if given.command == "recheck" {
+        plain_asked(
+            given,
+            Command::Recheck {
+                monitor,
+                report: other,
+            },
+        )
     } else {
         None
     }

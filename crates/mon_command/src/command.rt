@@ -45,6 +45,15 @@ pub enum Command<'a> {
         number: u64,
         workers: u32,
     },
+    /// Compiles a monitor to a plan, with a certificate for each claim that the plan rests on.
+    Report {
+        monitor: &'a str,
+    },
+    /// Checks such a report of the monitor of another file again.
+    Recheck {
+        monitor: &'a str,
+        report: &'a str,
+    },
 }
 
 /// Why words gave no command.

@@ -9,7 +9,8 @@ use Rattle.mon_tokens.specs.Words.{decimal_value}
 use Rattle.mon_command.specs.declared.schedule.Schedule.{Schedule}
 use Rattle.mon_command.specs.declared.schedule.Schedule.TheVariants.{Rounds, Drawn}
 use Rattle.mon_command.specs.CommandLine.{Given, Command, check, turns, compile, simulate, run}
-use Rattle.mon_command.specs.CommandLine.{stress, GREATEST_UNSIGNED, DEFAULT_WORKERS, MOST_DIGITS}
+use Rattle.mon_command.specs.CommandLine.{stress, report, recheck, GREATEST_UNSIGNED}
+use Rattle.mon_command.specs.CommandLine.{DEFAULT_WORKERS, MOST_DIGITS}
 
 -- 1 to `MOST_DIGITS` decimal digits
 abbrev pub is_written : List ℕ → Bool
@@ -69,20 +70,23 @@ abbrev pub single_if : Given → List ℕ → Option Command
 single_if given value =
     cond (bytes_eq given.command (codes "check")) (plain_if given (check value))
     (cond (bytes_eq given.command (codes "compile")) (plain_if given (compile value))
-    (cond (bytes_eq given.command (codes "stress")) (stress_if given value) None))
+    (cond (bytes_eq given.command (codes "stress")) (stress_if given value)
+    (cond (bytes_eq given.command (codes "report")) (plain_if given (report value)) None)))
 
 -- the command of two values
 abbrev pub pair_if : Given → List ℕ → List ℕ → Option Command
-pair_if given monitor clients =
-    cond (bytes_eq given.command (codes "turns")) (plain_if given (turns monitor clients))
-    (cond (bytes_eq given.command (codes "simulate")) (simulate_if given monitor clients)
-    (cond (bytes_eq given.command (codes "run")) (run_if given monitor clients) None))
+pair_if given monitor other =
+    cond (bytes_eq given.command (codes "turns")) (plain_if given (turns monitor other))
+    (cond (bytes_eq given.command (codes "simulate")) (simulate_if given monitor other)
+    (cond (bytes_eq given.command (codes "run")) (run_if given monitor other)
+    (cond (bytes_eq given.command (codes "recheck")) (plain_if given (recheck monitor other))
+    None)))
 
 -- the command that these values ask for
 abbrev pub command_of_values : Given → List (List ℕ) → Option Command
 command_of_values given [] = None
 command_of_values given (value ∷ []) = single_if given value
-command_of_values given (monitor ∷ clients ∷ []) = pair_if given monitor clients
+command_of_values given (monitor ∷ other ∷ []) = pair_if given monitor other
 command_of_values given (value ∷ other ∷ another ∷ more) = None
 
 abbrev pub command_if : Given → Option Command
