@@ -47,9 +47,17 @@ refusal_text refusals.TooManyCalls = codes "too many calls"
 abbrev pub too_long_text : List ℕ → List ℕ
 too_long_text file = codes "refused: " ++ file ++ codes ": more than 65536 bytes\n"
 
+-- a file that is no monitor and no clients is longer than such a file may be
+abbrev pub other_too_long_text : List ℕ → List ℕ
+other_too_long_text file = codes "refused: " ++ file ++ codes ": more than 16777216 bytes\n"
+
 -- a file couldn't be read
 abbrev pub unread_text : List ℕ → List ℕ
 unread_text file = codes "read fault: " ++ file ++ codes "\n"
+
+-- a file is no report of the monitor
+abbrev pub not_report_text : List ℕ → List ℕ
+not_report_text file = codes "refused: " ++ file ++ codes ": not a report\n"
 
 -- a file breaks a rule at an offset of its bytes
 abbrev pub place_text : List ℕ → List ℕ → SourceFault → List ℕ

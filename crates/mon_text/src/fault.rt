@@ -17,8 +17,16 @@ pub enum Fault<'a> {
     TooLong {
         file: &'a str,
     },
+    /// It is no monitor and no clients, and has more than 16,777,216 bytes.
+    OtherTooLong {
+        file: &'a str,
+    },
     /// It couldn't be read.
     Unread {
+        file: &'a str,
+    },
+    /// It is no report of the monitor.
+    NotReport {
         file: &'a str,
     },
     /// It breaks a rule at an offset of its bytes.
@@ -40,7 +48,19 @@ pub fn write_fault<S: Sink>(fault: &Fault, out: &mut S) -> Result<(), SinkFailed
             &[b"refused: ", file.as_bytes(), b": more than 65536 bytes\n"],
             out,
         ),
+        Fault::OtherTooLong { file } => write_pieces(
+            &[
+                b"refused: ",
+                file.as_bytes(),
+                b": more than 16777216 bytes\n",
+            ],
+            out,
+        ),
         Fault::Unread { file } => write_pieces(&[b"read fault: ", file.as_bytes(), b"\n"], out),
+        Fault::NotReport { file } => write_pieces(
+            &[b"refused: ", file.as_bytes(), b": not a report\n"],
+            out,
+        ),
         Fault::Place { file, bytes, fault } => write_place(file, bytes, *fault, out),
     }
 }
