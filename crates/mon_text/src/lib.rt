@@ -8,6 +8,7 @@
 //! and of the log after it name both ([`text_names_log`], `specs/Laws`).
 #![tactic(auto)]
 
+mod candidate;
 mod ending;
 mod fault;
 mod laws;
@@ -18,6 +19,7 @@ mod summary;
 mod turns;
 mod values;
 
+pub use candidate::write_candidate;
 pub use fault::{Fault, write_fault};
 pub use laws::text_names_log;
 pub use log::{are_done, write_log};

@@ -1,13 +1,14 @@
 //! The text of a plan.
 
-ghost use Rattle.std.specs.Prelude.{◌≡◌, ◌≤◌, ◌++◌, codes, length, slice_get};
+ghost use Rattle.std.specs.Prelude.{◌≡◌, ◌≤◌, ◌++◌, codes, length};
 ghost use Rattle.std.specs.List.{flat_map};
 ghost use Rattle.mon_base.specs.Limits.{CONDITIONS};
 ghost use Rattle.mon_io.specs.Writing.{Wrote};
 ghost use Rattle.mon_events.specs.PlanText.{block_text, blocks_text, condition_text, conditions_text};
-ghost use Rattle.mon_events.specs.PlanText.{field_name, flag_mark, kept_text, kind_text, note_kind};
+ghost use Rattle.mon_events.specs.PlanText.{kept_text, kind_text, note_kind};
 ghost use Rattle.mon_events.specs.PlanText.{note_text, notes_text, plan_text, tested_text};
 
+use crate::candidate::write_candidate;
 use crate::turns::method_bytes;
 use itoa::Buffer;
 use mon_events::{CondKind, Note, NoteList, Plan};
@@ -35,68 +36,22 @@ fn write_kept<S: Sink>(fields: &[Field], kept: &[Candidate], out: &mut S) -> Res
         (flat_map (kept_text fields.now) kept.now) }
 {
     for candidate in kept {
-        write_candidate(fields, *candidate, out)?;
+        write_keep(fields, *candidate, out)?;
     }
     Ok(())
 }
 
 // `keep x <= 4` and a line feed.
-fn write_candidate<S: Sink>(
+fn write_keep<S: Sink>(
     fields: &[Field],
     candidate: Candidate,
     out: &mut S,
 ) -> Result<(), SinkFailed>
     ensures { Wrote (S.seen out.old) (S.seen out.new) result (kept_text fields.now candidate) }
 {
-    let mut digits = Buffer::new();
-    match candidate {
-        Candidate::AtMost { field, bound } => {
-            let bound = digits.format(bound).as_bytes();
-            write_keep(field_bytes(fields, field), b" <= ", bound, out)
-        }
-        Candidate::AtLeast { field, bound } => {
-            let bound = digits.format(bound).as_bytes();
-            write_keep(field_bytes(fields, field), b" >= ", bound, out)
-        }
-        Candidate::Flag { field, is } => {
-            write_keep(flag_bytes(is), field_bytes(fields, field), b"", out)
-        }
-        Candidate::Below { left, right } => write_keep(
-            field_bytes(fields, left),
-            b" <= ",
-            field_bytes(fields, right),
-            out,
-        ),
-    }
-}
-
-// `keep ` with these three, and a line feed.
-fn write_keep<'a, S: Sink>(
-    left: &'a [u8],
-    sign: &'a [u8],
-    right: &'a [u8],
-    out: &mut S,
-) -> Result<(), SinkFailed>
-    ensures { Wrote (S.seen out.old) (S.seen out.new) result
-        (codes "keep " ++ (left.now ++ sign.now ++ right.now) ++ codes "\n") }
-{
-    write_pieces(&[b"keep ", left, sign, right, b"\n"], out)
-}
-
-// The name of a field, or nothing where there is none.
-fn field_bytes(fields: &[Field], field: u32) -> &[u8]
-    ensures { result.now ≡ field_name (slice_get fields.now field) }
-{
-    match fields.get(field as usize) {
-        Some(field) => field.name.bytes(),
-        None => b"",
-    }
-}
-
-fn flag_bytes(is: bool) -> &'static [u8]
-    ensures { result.now ≡ flag_mark is }
-{
-    if is { b"" } else { b"!" }
+    write_piece(b"keep ", out)?;
+    write_candidate(fields, candidate, out)?;
+    write_piece(b"\n", out)
 }
 
 // ---- conditions
