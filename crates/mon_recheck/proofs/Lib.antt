@@ -8,3 +8,6 @@ pub mod Accepted
 pub mod WrittenLines
 pub mod SmallReports
 pub mod Answered
+pub mod CertParts
+pub mod Numbers
+pub mod Readings

@@ -1,3 +1,4 @@
 pub mod Reports
 pub mod Verdicts
 pub mod inner
+pub mod Nesting

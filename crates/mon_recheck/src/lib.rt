@@ -5,6 +5,7 @@
 //! what a check says. Each report of a placed plan is accepted where no claim of the monitor is hard (`laws`).
 #![tactic(auto)]
 
+mod certificates;
 mod checking;
 mod claims;
 mod laws;
@@ -13,6 +14,7 @@ mod report;
 mod sight;
 mod writing;
 
+pub use certificates::MOST_NESTING;
 pub use checking::recheck;
 pub use laws::{easy_reports_are_accepted, placed_text_is_report_text};
 pub use making::report_of;
