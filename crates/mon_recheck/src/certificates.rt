@@ -23,8 +23,8 @@ use std::alloc::{AllocError, Global};
 /// A certificate that is read has so many levels at most: a split is a level above its parts, and a clash or a chain
 /// is one level. Reading and dropping call themselves once for each level, and a stack of 8 MB bears so many.
 ///
-/// A report with a deeper certificate is refused, though its plan may be lawful. The prover makes one only of a formula
-/// that has more anys in and beside one another than this.
+/// A report with a deeper certificate is refused, though its plan may be lawful. A certificate is so deep only where the
+/// formula that it refutes has at least so many anys.
 pub const MOST_NESTING: u32 = 4_096;
 
 /// The certificate at the front of the bytes, and the bytes after it (`specs/Nesting`). It is none where no certificate
