@@ -15,7 +15,7 @@ use Rattle.mon_monitor.specs.Triples.{Keeps}
 use Rattle.mon_events.specs.declared.plan.CondKind.{CondKind}
 use Rattle.mon_events.specs.declared.plan.Note.{Note}
 use Rattle.mon_events.specs.declared.plan.Plan.{Plan}
-use Rattle.mon_events.specs.Plans.{FitsPlan, IsLawful, has_note, notes_at}
+use Rattle.mon_events.specs.Plans.{IsLawful, has_note, notes_at}
 use Rattle.mon_wp.specs.Limits.{is_query_within}
 use Rattle.mon_prune.specs.Invariants.{keeps_claims}
 use Rattle.mon_place.specs.Backing.{HasCertificate, IsBacked, backed_claims, block_numbers, kind_claims, unnoted_claims, untested_claims}
@@ -61,7 +61,7 @@ accepted laws monitor report rule is sight checked =
       lawful = record {
         inductive = record { starts = sight.starts; keeps = kept_held laws monitor plan rule backed };
         noted = λ block condition within first last none.
-            let notes = at_place plan.notes block (omega (arith, within, is.fits.notes)) in
+            let notes = at_place plan.notes block (omega (arith, within, is.plan.notes)) in
             let same : notes_at plan block ≡ notes.0 = ap (λ (o : Option (List Note)). unwrap_or o []) notes.1 in
             held laws monitor plan.kept (claims.NoNote block condition) rule within
             (unnoted_backed monitor plan block condition notes.0 backed notes.1 first last (ap (λ (own : List Note). has_note own condition) (sym same) ∙ none));

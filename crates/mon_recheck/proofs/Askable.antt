@@ -1,5 +1,5 @@
 -- The claims that a plan rests on may be asked.
-use Rattle.std.proofs.Common.{◌≡◌, ◌==◌, ℕ, zero, suc, ◌+◌, ◌-◌, ◌<◌, ◌≤◌, Bool, true, false, not, ◌&&◌, List, [], ◌∷◌, ◌++◌, map, length, Option, Some, None, refl, sym, ap, subst, ◌∙◌, arith}
+use Rattle.std.proofs.Common.{◌≡◌, ◌==◌, ℕ, zero, suc, ◌+◌, ◌<◌, ◌≤◌, Bool, true, false, not, ◌&&◌, List, [], ◌∷◌, ◌++◌, map, length, Option, Some, None, refl, sym, ap, subst, ◌∙◌, arith}
 use Rattle.std.specs.Prelude.{All, IsSomeAnd, slice_get, unwrap_or}
 use Rattle.std.specs.List.{filter, flat_map, enumerate_from, list_all, range_with_len}
 use Rattle.std.proofs.lemmas.Bool.{and_parts}
@@ -14,10 +14,11 @@ use Rattle.mon_events.specs.declared.plan.CondKind.{CondKind}
 use Rattle.mon_events.specs.declared.plan.CondKind.TheVariants as kinds
 use Rattle.mon_events.specs.declared.plan.Note.{Note}
 use Rattle.mon_events.specs.declared.plan.Plan.{Plan}
-use Rattle.mon_events.specs.Plans.{FitsNote, FitsNotes, FitsPlan, has_note}
+use Rattle.mon_events.specs.Plans.{has_note}
 use Rattle.mon_wp.specs.Expressible.{is_expressible}
 use Rattle.mon_prune.specs.Invariants.{keeps_claims}
 use Rattle.mon_place.specs.Backing.{backed_claims, block_numbers, condition_numbers, kind_claims, reads_none, unnoted_claims, untested_claims, waits_at}
+use Rattle.mon_recheck.specs.Reports.{AreNotesOf, IsOnCondition, IsPlanOf}
 use Rattle.mon_recheck.specs.inner.Checks.{MayAsk}
 use Rattle.mon_recheck.proofs.Pairs.{all_at, from_places}
 
@@ -61,7 +62,7 @@ keeps_askable monitor kept passes =
     All-map (MayAsk monitor) (claims.Keeps candidate) (block_numbers monitor)
     (range_all (λ block. MayAsk monitor (claims.Keeps candidate block)) 0 (length monitor.blocks) (λ block low high. (omega arith, passes_at is_expressible kept k candidate passes is))))
 
-unnoted_askable : (monitor : MonitorParts) (plan : Plan) → FitsPlan monitor plan
+unnoted_askable : (monitor : MonitorParts) (plan : Plan) → IsPlanOf monitor plan
     → All (MayAsk monitor) (flat_map (λ (one : ℕ × List Note). unnoted_claims monitor one.0 one.1) (enumerate_from 0 plan.notes))
 unnoted_askable monitor plan fits =
     numbered_all (MayAsk monitor) (λ (one : ℕ × List Note). unnoted_claims monitor one.0 one.1) 0 plan.notes (λ k notes is.
@@ -71,7 +72,7 @@ unnoted_askable monitor plan fits =
     (All-filter test (λ condition. MayAsk monitor (claims.NoNote (0 + k) condition)) (condition_numbers monitor)
     (range_all (λ condition. MayAsk monitor (claims.NoNote (0 + k) condition)) 1 (length monitor.conditions) (λ condition first last. (omega (arith, low, fits.notes), (first, omega arith))))))
 
-kinds_askable : (monitor : MonitorParts) (plan : Plan) → FitsPlan monitor plan
+kinds_askable : (monitor : MonitorParts) (plan : Plan) → IsPlanOf monitor plan
     → All (MayAsk monitor) (flat_map (λ (one : ℕ × CondKind). kind_claims monitor one.0 one.1) (enumerate_from 1 plan.kinds))
 kinds_askable monitor plan fits =
     numbered_all (MayAsk monitor) (λ (one : ℕ × CondKind). kind_claims monitor one.0 one.1) 1 plan.kinds (λ k kind is.
@@ -85,22 +86,20 @@ kinds_askable monitor plan fits =
         (range_all (λ block. MayAsk monitor (claims.One (1 + k) block)) 0 (length monitor.blocks) (λ block first last. (omega arith, (omega arith, omega arith)))))
     by_kind kinds.Broadcast k low = All-nil (MayAsk monitor)
 
-untested_askable : (monitor : MonitorParts) (plan : Plan) → FitsPlan monitor plan
+untested_askable : (monitor : MonitorParts) (plan : Plan) → IsPlanOf monitor plan
     → All (MayAsk monitor) (flat_map (λ (one : ℕ × List Note). untested_claims monitor one.0 one.1) (enumerate_from 0 plan.notes))
 untested_askable monitor plan fits =
     numbered_all (MayAsk monitor) (λ (one : ℕ × List Note). untested_claims monitor one.0 one.1) 0 plan.notes (λ k notes is.
     let low = slice_get_within plan.notes k notes is in
-    let own : FitsNotes monitor notes = all_at (FitsNotes monitor) plan.notes k notes is fits.each in
+    let own : AreNotesOf monitor notes = all_at (AreNotesOf monitor) plan.notes k notes is fits.each in
     let claim : Note → Claim = λ note. claims.NoTest (0 + k) note.condition in
     let test : Note → Bool = λ note. not note.tested && reads_none monitor note.condition in
     All-map (MayAsk monitor) claim (filter test notes)
     (All-filter test (λ note. MayAsk monitor (claim note)) notes
     (from_places (λ note. MayAsk monitor (claim note)) notes (λ i note here.
-    let one : FitsNote monitor note = all_at (FitsNote monitor) notes i note here own.each in
-    let place = within_some monitor.conditions (note.condition - 1) _ one.1 in
-    (omega (arith, low, fits.notes), (one.0, omega (arith, place, one.0)))))))
+    (omega (arith, low, fits.notes), all_at (IsOnCondition monitor) notes i note here own.each)))))
 
-pub claims_askable : (monitor : MonitorParts) (plan : Plan) → FitsPlan monitor plan → list_all is_expressible plan.kept ≡ true → All (MayAsk monitor) (backed_claims monitor plan)
+pub claims_askable : (monitor : MonitorParts) (plan : Plan) → IsPlanOf monitor plan → list_all is_expressible plan.kept ≡ true → All (MayAsk monitor) (backed_claims monitor plan)
 claims_askable monitor plan fits passes =
     let a = keeps_claims monitor plan.kept in
     let b = flat_map (λ (one : ℕ × List Note). unnoted_claims monitor one.0 one.1) (enumerate_from 0 plan.notes) in

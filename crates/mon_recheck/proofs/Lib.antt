@@ -1,9 +1,9 @@
 pub mod Pairs
-pub mod PlacedTexts
 pub mod Counted
 pub mod Gathered
 pub mod Seen
 pub mod Askable
+pub mod PlacedTexts
 pub mod Accepted
 pub mod WrittenLines
 pub mod SmallReports

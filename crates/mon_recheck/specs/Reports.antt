@@ -1,24 +1,47 @@
 -- Reports: a plan with one certificate for each claim that it rests on.
-use Rattle.std.specs.Prelude.{◌≡◌, ℕ, List, [], ◌++◌, length, map, codes, decimal, slice_get}
+use Rattle.std.specs.Prelude.{◌≡◌, ◌≤◌, ℕ, List, [], ◌++◌, length, map, codes, decimal, slice_get}
+use Rattle.std.specs.Prelude.{All}
 use Rattle.std.specs.List.{flat_map, zip}
 use Rattle.std.specs.Option.{option_map_or}
 use Rattle.mon_cert.specs.declared.cert.Cert.{Cert}
 use Rattle.mon_cert.specs.CertText.{cert_text}
 use Rattle.mon_monitor.specs.declared.claim.Claim.{Claim}
 use Rattle.mon_monitor.specs.declared.claim.Claim.TheVariants as claims
+use Rattle.mon_monitor.specs.Candidates.{AreSomeOf, candidates_of}
 use Rattle.mon_monitor.specs.MonitorParts.{MonitorParts}
+use Rattle.mon_events.specs.declared.plan.Note.{Note}
 use Rattle.mon_events.specs.declared.plan.Plan.{Plan}
-use Rattle.mon_events.specs.Plans.{FitsPlan}
+use Rattle.mon_events.specs.Rising.{AreRising}
 use Rattle.mon_events.specs.PlanText.{candidate_text, method_name, plan_text}
 use Rattle.mon_place.specs.declared.placed.PlacedPlan.{PlacedPlan}
 use Rattle.mon_place.specs.Backing.{backed_claims}
 use Rattle.mon_recheck.specs.declared.report.Report.{Report}
 
+-- ---- plans of a monitor, lawful or not
+
+-- a note is on a condition that there is
+abbrev pub IsOnCondition : MonitorParts → Note → Type 0
+IsOnCondition monitor note = (1 ≤ note.condition) × (note.condition ≤ length monitor.conditions)
+
+-- the notes of a block
+pub record AreNotesOf (monitor : MonitorParts) (notes : List Note) : Type 0 where
+  pub rising : AreRising notes
+  pub each : All (IsOnCondition monitor) notes
+
+-- Kept candidates are the monitor's, in their order, each at most once; each condition has a kind,
+-- and each block notes. That a tested note is on a condition whose guard reads no inputs is a matter
+-- of the plan's law.
+pub record IsPlanOf (monitor : MonitorParts) (plan : Plan) : Type 0 where
+  pub kept : AreSomeOf plan.kept (candidates_of monitor)
+  pub kinds : length plan.kinds ≡ length monitor.conditions
+  pub notes : length plan.notes ≡ length monitor.blocks
+  pub each : All (AreNotesOf monitor) plan.notes
+
 -- ---- reports
 
--- the plan fits the monitor, and each claim that it rests on has one certificate
+-- the plan is one of the monitor, and each claim that it rests on has one certificate
 pub record IsReport (monitor : MonitorParts) (report : Report) : Type 0 where
-  pub fits : FitsPlan monitor report.plan
+  pub plan : IsPlanOf monitor report.plan
   pub each : length report.proofs ≡ length (backed_claims monitor report.plan)
 
 -- each claim with its certificate, in the order of the claims

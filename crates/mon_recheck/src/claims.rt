@@ -3,11 +3,12 @@
 ghost use Rattle.std.specs.Prelude.{◌≡◌, ◌++◌, ◌∷◌, ◌≤◌, [], IfOk, OnOk, length, map, if◌then◌else◌};
 ghost use Rattle.std.specs.List.{enumerate_from, flat_map};
 ghost use Rattle.mon_base.specs.Limits.{BLOCKS, CONDITIONS};
-ghost use Rattle.mon_events.specs.Plans.{FitsPlan, has_note};
+ghost use Rattle.mon_events.specs.Plans.{has_note};
 ghost use Rattle.mon_prune.specs.Invariants.{keeps_claims};
 ghost use Rattle.mon_monitor.specs.declared.claim.Claim.TheVariants.{Keeps};
 ghost use Rattle.mon_place.specs.Backing.{backed_claims, block_numbers, kind_claims, reads_none};
 ghost use Rattle.mon_place.specs.Backing.{unnoted_claims, untested_claims, waits_at};
+ghost use Rattle.mon_recheck.specs.Reports.{IsPlanOf};
 
 use mon_events::{CondKind, Note, NoteList, Plan};
 use mon_monitor::{Candidate, Claim, Monitor};
@@ -19,7 +20,7 @@ pub(crate) fn claims_of(
     monitor: &Monitor,
     plan: &Plan,
 ) -> Result<Vec<Claim>, AllocError>
-    requires { FitsPlan monitor.now plan.now }
+    requires { IsPlanOf monitor.now plan.now }
     ensures { IfOk result (λ claims. claims.items ≡ backed_claims monitor.now plan.now) }
 {
     let _blocks = monitor.blocks();
@@ -215,7 +216,7 @@ fn push_untested_of(
 }
 
 /// Whether the monitor has this condition, and its guard reads no inputs.
-fn reads_none(monitor: &Monitor, condition: u32) -> bool
+pub(crate) fn reads_none(monitor: &Monitor, condition: u32) -> bool
     ensures { result ≡ reads_none monitor.now condition }
 {
     let place = condition.saturating_sub(1) as usize;

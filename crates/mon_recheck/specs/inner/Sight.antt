@@ -1,11 +1,13 @@
 -- For private contracts: whether kinds and notes suit the conditions.
-use Rattle.std.specs.Prelude.{◌≡◌, ◌-◌, Bool, true, false, not, ◌||◌, List, All, Option, Some, None}
-use Rattle.std.specs.Prelude.{slice_get}
+use Rattle.std.specs.Prelude.{◌≡◌, ◌-◌, Bool, true, false, not, ◌&&◌, ◌||◌, List, All, Option, Some}
+use Rattle.std.specs.Prelude.{None, slice_get}
 use Rattle.std.specs.List.{zip}
 use Rattle.mon_monitor.specs.declared.monitor.Condition.{Condition}
+use Rattle.mon_monitor.specs.MonitorParts.{MonitorParts}
 use Rattle.mon_events.specs.declared.plan.CondKind.{CondKind}
 use Rattle.mon_events.specs.declared.plan.CondKind.TheVariants as kinds
 use Rattle.mon_events.specs.declared.plan.Note.{Note}
+use Rattle.mon_place.specs.Backing.{reads_none}
 
 abbrev pub is_broadcast : CondKind → Bool
 is_broadcast kinds.Signal = false
@@ -24,12 +26,21 @@ is_broadcast_at None = false
 is_broadcast_at (Some kind) = is_broadcast kind
 
 -- a note on a condition of kind broadcast is a broadcast
-abbrev pub is_note_suited : List CondKind → Note → Bool
-is_note_suited all_kinds note =
+abbrev pub is_way_suited : List CondKind → Note → Bool
+is_way_suited all_kinds note =
     note.all || not (is_broadcast_at (slice_get all_kinds (note.condition - 1)))
 
-abbrev pub AreNotesSuited : List CondKind → List Note → Type 0
-AreNotesSuited all_kinds notes = All (λ note. is_note_suited all_kinds note ≡ true) notes
+-- a tested note is on a condition that reads no inputs
+abbrev pub is_test_suited : MonitorParts → Note → Bool
+is_test_suited monitor note = not note.tested || reads_none monitor note.condition
 
-abbrev pub AreListsSuited : List CondKind → List (List Note) → Type 0
-AreListsSuited all_kinds lists = All (AreNotesSuited all_kinds) lists
+abbrev pub is_note_suited : MonitorParts → List CondKind → Note → Bool
+is_note_suited monitor all_kinds note =
+    is_way_suited all_kinds note && is_test_suited monitor note
+
+abbrev pub AreNotesSuited : MonitorParts → List CondKind → List Note → Type 0
+AreNotesSuited monitor all_kinds notes =
+    All (λ note. is_note_suited monitor all_kinds note ≡ true) notes
+
+abbrev pub AreListsSuited : MonitorParts → List CondKind → List (List Note) → Type 0
+AreListsSuited monitor all_kinds lists = All (AreNotesSuited monitor all_kinds) lists

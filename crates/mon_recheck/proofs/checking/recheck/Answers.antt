@@ -13,13 +13,13 @@ use Rattle.mon_recheck.proofs.checking.recheck.Goals as goal
 pub first_open-requires-clause-kept : goal.first_open-requires-clause-kept
 first_open-requires-clause-kept c =
     ap (list_all is_expressible) c.items-kept.ensures
-    ∙ some_pass is_expressible c.args.report.now.plan.kept (candidates_of c.args.monitor.now) c.requires.fits.kept c.candidates_have_formulas.ensures
+    ∙ some_pass is_expressible c.args.report.now.plan.kept (candidates_of c.args.monitor.now) c.requires.plan.kept c.candidates_have_formulas.ensures
 
 pub first_open-requires-clause-claims : goal.first_open-requires-clause-claims
 first_open-requires-clause-claims c =
     let plan = c.args.report.now.plan in
-    let passes : list_all is_expressible plan.kept ≡ true = some_pass is_expressible plan.kept (candidates_of c.args.monitor.now) c.requires.fits.kept c.candidates_have_formulas.ensures in
-    subst (All (MayAsk c.args.monitor.now)) (sym (c.deref.ensures.value ∙ c.in_ok-claims.ensures)) (claims_askable c.args.monitor.now plan c.requires.fits passes)
+    let passes : list_all is_expressible plan.kept ≡ true = some_pass is_expressible plan.kept (candidates_of c.args.monitor.now) c.requires.plan.kept c.candidates_have_formulas.ensures in
+    subst (All (MayAsk c.args.monitor.now)) (sym (c.deref.ensures.value ∙ c.in_ok-claims.ensures)) (claims_askable c.args.monitor.now plan c.requires.plan passes)
 
 pub returns-in-Some : goal.returns-in-Some
 returns-in-Some c =

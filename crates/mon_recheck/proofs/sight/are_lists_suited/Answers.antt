@@ -8,7 +8,7 @@ use Rattle.mon_recheck.proofs.sight.are_lists_suited.Goals as goal
 
 pub returns-then-not-is_list_suited : goal.returns-then-not-is_list_suited
 returns-then-not-is_list_suited c =
-    let P = AreNotesSuited c.args.kinds.now in
+    let P = AreNotesSuited c.args.monitor.now c.args.kinds.now in
     let fails = c.if-not-is_list_suited.true in (
       λ held. absurd (true≢false (sym held)),
       λ all. absurd (true≢false (sym (c.is_list_suited.ensures.1 (subst P (sym c.list-item.is) (all c.loop-list.list-index c.list-item.result c.loop-list-test.true))) ∙ fails)),
@@ -16,7 +16,7 @@ returns-then-not-is_list_suited c =
 
 pub loop-list-preserved : goal.loop-list-preserved
 loop-list-preserved c =
-    let P = AreNotesSuited c.args.kinds.now in
+    let P = AreNotesSuited c.args.monitor.now c.args.kinds.now in
     let lists = c.args.lists.now in
     let index = c.loop-list.list-index in
     let item = c.list-item.result in
@@ -26,5 +26,5 @@ loop-list-preserved c =
 
 pub returns : goal.returns
 returns c =
-    let P = AreNotesSuited c.args.kinds.now in
+    let P = AreNotesSuited c.args.monitor.now c.args.kinds.now in
     (λ held. subst (All P) (take_all c.loop-list.list-index c.args.lists.now c.loop-list-test.false) c.loop-list.invariant, λ all. refl)

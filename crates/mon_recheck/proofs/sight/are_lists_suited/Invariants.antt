@@ -3,4 +3,4 @@ use Rattle.mon_recheck.specs.inner.Sight.{AreNotesSuited}
 use Rattle.mon_recheck.proofs.sight.are_lists_suited.Given as goal
 
 abbrev pub invariant-loop-list : goal.invariant-loop-list
-invariant-loop-list l = All (AreNotesSuited l.kinds) (take l.list-index l.lists)
+invariant-loop-list l = All (AreNotesSuited l.monitor l.kinds) (take l.list-index l.lists)
