@@ -1,10 +1,8 @@
 //! The check of a report.
 
-ghost use Rattle.std.specs.Prelude.{◌≡◌, ◌+◌, ◌^◌, ◌<◌, IfOk, IfSome, IsTrue, All, true, length};
+ghost use Rattle.std.specs.Prelude.{◌≡◌, ◌+◌, ◌^◌, ◌<◌, IfOk, IfSome, All, true, length};
 ghost use Rattle.std.specs.List.{list_all, zip};
-ghost use Rattle.mon_linear.specs.Negation.{can_negate};
 ghost use Rattle.mon_monitor.specs.Candidates.{AreSomeOf, candidates_of};
-ghost use Rattle.mon_monitor.specs.Queries.{query_of};
 ghost use Rattle.mon_wp.specs.Expressible.{is_expressible};
 ghost use Rattle.mon_recheck.specs.Reports.{IsReport};
 ghost use Rattle.mon_recheck.specs.Verdicts.{IsVerdict, plan_lines};
@@ -15,9 +13,9 @@ use super::report::{Report, Verdict};
 use super::sight::is_lawful_at_sight;
 use mon_cert::{Cert, accepts, refuted_formula_is_false};
 use mon_events::Plan;
-use mon_monitor::{Candidate, Claim, Monitor, Query};
+use mon_monitor::{Candidate, Claim, Monitor};
 use mon_prune::{candidates_have_formulas, open_claims_are_hard};
-use mon_wp::{keeps, negated, no_test, none_needed, one_enough, refuted_query_is_valid};
+use mon_wp::{claim_query, negated, refuted_query_is_valid};
 use std::alloc::{AllocError, Global};
 
 /// Checks a report, which has one certificate for each claim that its plan rests on, and asks no prover.
@@ -98,37 +96,9 @@ fn is_proved(
     requires claim { MayAsk monitor.now claim }
     ensures { IfOk result (IsAnswer monitor.now kept.now claim cert.now) }
 {
-    let query = query_of(alloc, monitor, kept, claim)?;
+    let query = claim_query(alloc, monitor, kept, claim)?;
     match negated(alloc, monitor, &query)? {
         Some(formula) => accepts(alloc, &formula, cert),
         None => Ok(false),
-    }
-}
-
-/// The query of a claim.
-fn query_of(
-    alloc: Global,
-    monitor: &Monitor,
-    kept: &[Candidate],
-    claim: Claim,
-) -> Result<Query, AllocError>
-    requires kept { list_all is_expressible kept.now ≡ true }
-    requires claim { MayAsk monitor.now claim }
-    ensures made { IfOk result (λ query. query ≡ query_of monitor.now kept.now claim) }
-    ensures block { IfOk result (λ query. query.block < length monitor.now.blocks) }
-    ensures post { IfOk result (λ query. IsTrue (can_negate query.post)) }
-{
-    let _blocks = monitor.blocks();
-    match claim {
-        Claim::Keeps { candidate, block } => Ok(keeps(alloc, monitor, kept, candidate, block)?),
-        Claim::NoNote { block, condition } => {
-            Ok(none_needed(alloc, monitor, kept, block, condition)?)
-        }
-        Claim::One { condition, block } => {
-            Ok(one_enough(alloc, monitor, kept, condition, block)?)
-        }
-        Claim::NoTest { block, condition } => {
-            Ok(no_test(alloc, monitor, kept, block, condition)?)
-        }
     }
 }

@@ -1,241 +1,154 @@
 //! Which monitors are small.
 
-ghost use Rattle.std.specs.Prelude.{◌≡◌, ◌<◌, ◌≤◌, ◌&&◌, true, IfOk, IsTrue, All, length};
-ghost use Rattle.std.specs.List.{list_all};
+ghost use Rattle.std.specs.Prelude.{◌≡◌, ◌&&◌, ◌↔◌, IfOk, IsTrue, length};
 ghost use Rattle.mon_linear.specs.Differences.{has_difference_rows};
-ghost use Rattle.mon_linear.specs.Negation.{can_negate};
-ghost use Rattle.mon_monitor.specs.declared.claim.Claim.TheVariants.{NoNote, NoTest, One};
 ghost use Rattle.mon_monitor.specs.Candidates.{candidates_of};
-ghost use Rattle.mon_wp.specs.Expressible.{is_expressible};
-ghost use Rattle.mon_wp.specs.PlainClaims.{has_few_cubes, is_plain, ReadsNone, WaitsAt};
+ghost use Rattle.mon_monitor.specs.Queries.{query_of};
+ghost use Rattle.mon_wp.specs.PlainClaims.{has_few_cubes, is_plain, IsBlockNumber, IsConditionNumber, MayAsk};
 ghost use Rattle.mon_prune.specs.Hardness.{IsSmall};
-ghost use Rattle.mon_small.specs.inner.Smallness.{ArePairsEasy, AreEasyUpTo, IsEasy, IsEasyPair, IsEasyToKeep};
+ghost use Rattle.mon_small.specs.Plain.{IsPlain};
+ghost use Rattle.mon_small.specs.inner.Smallness.{AreCandidates, ArePlainBelow, ArePlainToKeep, IsPlainBlock, IsPlainPair};
 
 use super::simple::{are_simple_blocks, has_difference_rows};
-use super::starts::read_starts;
 use mon_linear::{Formula, MOST_CUBES, cubes};
-use mon_monitor::{Candidate, Monitor, Query};
-use mon_prune::{candidates, plain_claims_are_not_hard};
-use mon_wp::{candidates_are_expressible, keeps, negated, no_test, none_needed, one_enough};
+use mon_monitor::{Candidate, Claim, Monitor};
+use mon_prune::{candidates, candidates_have_formulas, plain_claims_are_not_hard};
+use mon_wp::{claim_query, negated};
 use std::alloc::{AllocError, Global};
 
 /// Whether the formula has few cubes, and difference rows alone.
-fn is_easy_formula(formula: &Formula) -> bool
+fn is_plain_formula(formula: &Formula) -> bool
     ensures { result ≡ (has_few_cubes formula.now && has_difference_rows formula.now) }
 {
     cubes(formula) <= MOST_CUBES && has_difference_rows(formula)
 }
 
-/// Whether the query is negated within the limits, to a formula of difference rows alone.
-fn is_easy(alloc: Global, monitor: &Monitor, query: &Query) -> Result<bool, AllocError>
-    requires block { query.now.block < length monitor.now.blocks }
-    requires post { IsTrue (can_negate query.now.post) }
-    ensures { IfOk result (λ answer. answer ≡ is_plain monitor.now query.now) }
-{
-    match negated(alloc, monitor, query)? {
-        None => Ok(false),
-        Some(formula) => Ok(is_easy_formula(&formula)),
-    }
-}
-
-/// Whether the claims that each block keeps the candidate are easy.
-fn is_easy_to_keep(
+/// Whether the query of the claim is negated within the limits, to a formula of difference rows alone.
+fn is_plain(
     alloc: Global,
     monitor: &Monitor,
     all: &[Candidate],
-    candidate: Candidate,
+    claim: Claim,
 ) -> Result<bool, AllocError>
-    requires all { all.now ≡ candidates_of monitor.now }
-    requires hyps { list_all is_expressible all.now ≡ true }
-    requires candidate { is_expressible candidate ≡ true }
-    ensures { IfOk result (λ answer. IsTrue answer → IsEasyToKeep monitor.now candidate) }
+    requires all { AreCandidates monitor.now all.now }
+    requires claim { MayAsk monitor.now claim }
+    ensures { IfOk result (λ answer. answer
+        ≡ is_plain monitor.now (query_of monitor.now (candidates_of monitor.now) claim)) }
 {
-    for block in 0..monitor.blocks().len() {
-        let query = keeps(alloc, monitor, all, candidate, block as u32)?;
-        if !is_easy(alloc, monitor, &query)? {
-            return Ok(false);
-        }
+    let query = claim_query(alloc, monitor, all, claim)?;
+    match negated(alloc, monitor, &query)? {
+        None => Ok(false),
+        Some(formula) => Ok(is_plain_formula(&formula)),
     }
-    Ok(true)
 }
 
-/// Whether those of each of the candidates are.
-fn are_easy_to_keep(alloc: Global, monitor: &Monitor, all: &[Candidate]) -> Result<bool, AllocError>
-    requires all { all.now ≡ candidates_of monitor.now }
-    requires hyps { list_all is_expressible all.now ≡ true }
-    ensures { IfOk result (λ answer. IsTrue answer → All (IsEasyToKeep monitor.now) all.now) }
+/// Whether the claims that the block keeps the candidates are plain.
+fn are_plain_to_keep(
+    alloc: Global,
+    monitor: &Monitor,
+    all: &[Candidate],
+    block: u32,
+) -> Result<bool, AllocError>
+    requires all { AreCandidates monitor.now all.now }
+    requires block { IsBlockNumber monitor.now block }
+    ensures { IfOk result (λ answer. IsTrue answer ↔ ArePlainToKeep monitor.now block all.now) }
 {
     for candidate in all {
-        if !is_easy_to_keep(alloc, monitor, all, *candidate)? {
+        let claim = Claim::Keeps {
+            candidate: *candidate,
+            block,
+        };
+        let plain = is_plain(alloc, monitor, all, claim)?;
+        if !plain {
             return Ok(false);
         }
     }
     Ok(true)
 }
 
-/// Whether the claim that the block needs no note on the condition is easy.
-fn is_easy_note(
+/// Whether the claims of the block and the condition are plain.
+fn is_plain_pair(
     alloc: Global,
     monitor: &Monitor,
     all: &[Candidate],
     block: u32,
     condition: u32,
 ) -> Result<bool, AllocError>
-    requires all { all.now ≡ candidates_of monitor.now }
-    requires hyps { list_all is_expressible all.now ≡ true }
-    requires block { block < length monitor.now.blocks }
-    requires first { 1 ≤ condition }
-    requires last { condition ≤ length monitor.now.conditions }
-    ensures { IfOk result (λ answer. IsTrue answer → IsEasy monitor.now (NoNote block condition)) }
+    requires all { AreCandidates monitor.now all.now }
+    requires block { IsBlockNumber monitor.now block }
+    requires condition { IsConditionNumber monitor.now condition }
+    ensures { IfOk result (λ answer. IsTrue answer ↔ IsPlainPair monitor.now block condition) }
 {
-    let query = none_needed(alloc, monitor, all, block, condition)?;
-    Ok(is_easy(alloc, monitor, &query)?)
-}
-
-/// Whether the claim that a note of the block on the condition needs no test is easy.
-fn is_easy_test(
-    alloc: Global,
-    monitor: &Monitor,
-    all: &[Candidate],
-    block: u32,
-    condition: u32,
-) -> Result<bool, AllocError>
-    requires all { all.now ≡ candidates_of monitor.now }
-    requires hyps { list_all is_expressible all.now ≡ true }
-    requires block { block < length monitor.now.blocks }
-    requires first { 1 ≤ condition }
-    requires last { condition ≤ length monitor.now.conditions }
-    ensures { IfOk result (λ answer. IsTrue answer → IsEasy monitor.now (NoTest block condition)) }
-{
-    let query = no_test(alloc, monitor, all, block, condition)?;
-    Ok(is_easy(alloc, monitor, &query)?)
-}
-
-/// Whether the block doesn't wait at the condition, or the claim that one waiter is enough after it is easy.
-fn is_easy_kind(
-    alloc: Global,
-    monitor: &Monitor,
-    all: &[Candidate],
-    block: u32,
-    condition: u32,
-) -> Result<bool, AllocError>
-    requires all { all.now ≡ candidates_of monitor.now }
-    requires hyps { list_all is_expressible all.now ≡ true }
-    requires block { block < length monitor.now.blocks }
-    requires first { 1 ≤ condition }
-    requires last { condition ≤ length monitor.now.conditions }
-    ensures { IfOk result (λ answer. IsTrue answer → WaitsAt monitor.now block condition
-        → IsEasy monitor.now (One condition block)) }
-{
-    if monitor.blocks()[block as usize].condition != condition {
-        return Ok(true);
+    let unnoted = is_plain(alloc, monitor, all, Claim::NoNote { block, condition })?;
+    if !unnoted {
+        return Ok(false);
     }
-    let query = one_enough(alloc, monitor, all, condition, block)?;
-    Ok(is_easy(alloc, monitor, &query)?)
-}
-
-/// Whether the claims of the block and a condition that reads no inputs are easy, but for that of a note.
-fn is_easy_signal(
-    alloc: Global,
-    monitor: &Monitor,
-    all: &[Candidate],
-    block: u32,
-    condition: u32,
-) -> Result<bool, AllocError>
-    requires all { all.now ≡ candidates_of monitor.now }
-    requires hyps { list_all is_expressible all.now ≡ true }
-    requires block { block < length monitor.now.blocks }
-    requires first { 1 ≤ condition }
-    requires last { condition ≤ length monitor.now.conditions }
-    ensures one { IfOk result (λ answer. IsTrue answer → ReadsNone monitor.now condition
-        → WaitsAt monitor.now block condition → IsEasy monitor.now (One condition block)) }
-    ensures test { IfOk result (λ answer. IsTrue answer → ReadsNone monitor.now condition
-        → IsEasy monitor.now (NoTest block condition)) }
-{
     if monitor.conditions()[condition as usize - 1].reads_inputs {
         return Ok(true);
     }
-    if !is_easy_test(alloc, monitor, all, block, condition)? {
+    let untested = is_plain(alloc, monitor, all, Claim::NoTest { block, condition })?;
+    if !untested {
         return Ok(false);
     }
-    Ok(is_easy_kind(alloc, monitor, all, block, condition)?)
-}
-
-/// Whether the claims of the block and the condition are easy.
-fn is_easy_pair(
-    alloc: Global,
-    monitor: &Monitor,
-    all: &[Candidate],
-    block: u32,
-    condition: u32,
-) -> Result<bool, AllocError>
-    requires all { all.now ≡ candidates_of monitor.now }
-    requires hyps { list_all is_expressible all.now ≡ true }
-    requires block { block < length monitor.now.blocks }
-    requires first { 1 ≤ condition }
-    requires last { condition ≤ length monitor.now.conditions }
-    ensures { IfOk result (λ answer. IsTrue answer → IsEasyPair monitor.now block condition) }
-{
-    if !is_easy_note(alloc, monitor, all, block, condition)? {
-        return Ok(false);
+    if monitor.blocks()[block as usize].condition != condition {
+        return Ok(true);
     }
-    Ok(is_easy_signal(alloc, monitor, all, block, condition)?)
+    is_plain(alloc, monitor, all, Claim::One { condition, block })
 }
 
-/// Whether the claims of the block and each condition are easy.
-fn is_easy_block(
+/// Whether the claims of the block are plain.
+fn is_plain_block(
     alloc: Global,
     monitor: &Monitor,
     all: &[Candidate],
     block: u32,
 ) -> Result<bool, AllocError>
-    requires all { all.now ≡ candidates_of monitor.now }
-    requires hyps { list_all is_expressible all.now ≡ true }
-    requires block { block < length monitor.now.blocks }
-    ensures { IfOk result (λ answer. IsTrue answer
-        → AreEasyUpTo monitor.now block (length monitor.now.conditions)) }
+    requires all { AreCandidates monitor.now all.now }
+    requires block { IsBlockNumber monitor.now block }
+    ensures { IfOk result (λ answer. IsTrue answer ↔ IsPlainBlock monitor.now block) }
 {
+    let kept = are_plain_to_keep(alloc, monitor, all, block)?;
+    if !kept {
+        return Ok(false);
+    }
     for index in 0..monitor.conditions().len() {
-        let condition = index as u32 + 1;
-        if !is_easy_pair(alloc, monitor, all, block, condition)? {
+        let plain = is_plain_pair(alloc, monitor, all, block, index as u32 + 1)?;
+        if !plain {
             return Ok(false);
         }
     }
     Ok(true)
 }
 
-/// Whether those of each block and each condition are.
-fn are_easy_blocks(alloc: Global, monitor: &Monitor, all: &[Candidate]) -> Result<bool, AllocError>
-    requires all { all.now ≡ candidates_of monitor.now }
-    requires hyps { list_all is_expressible all.now ≡ true }
+/// Whether those of each block are.
+fn are_plain_blocks(alloc: Global, monitor: &Monitor, all: &[Candidate]) -> Result<bool, AllocError>
+    requires all { AreCandidates monitor.now all.now }
     ensures { IfOk result (λ answer. IsTrue answer
-        → ArePairsEasy monitor.now (length monitor.now.blocks)) }
+        ↔ ArePlainBelow monitor.now (length monitor.now.blocks)) }
 {
-    for index in 0..monitor.blocks().len() {
-        let block = index as u32;
-        if !is_easy_block(alloc, monitor, all, block)? {
+    for block in 0..monitor.blocks().len() {
+        let plain = is_plain_block(alloc, monitor, all, block as u32)?;
+        if !plain {
             return Ok(false);
         }
     }
     Ok(true)
 }
 
-/// Whether the monitor is told to be small, so that its plan is exact. It is where all blocks are simple, and the query
-/// of each claim that is asked of it is negated, with all candidates kept, within the limits to a formula of few cubes
-/// and of difference rows alone. Some small monitors are not told, as a query with another row need not be hard; that
-/// any is told is tested, not promised. It fails only for want of memory.
+/// Whether the monitor is told to be small, so that its plan is exact. It is exactly where all blocks are simple, and the
+/// query of each claim that is asked of it is negated, with all candidates kept, within the limits to a formula of few
+/// cubes and of difference rows alone. So some small monitors are not told: a query with another row need not be hard.
+/// It fails only for want of memory.
 pub fn is_small(alloc: Global, monitor: &Monitor) -> Result<bool, AllocError>
-    ensures { IfOk result (λ answer. IsTrue answer → IsSmall monitor.now) }
+    ensures plain { IfOk result (λ answer. IsTrue answer ↔ IsPlain monitor.now) }
+    ensures small { IfOk result (λ answer. IsTrue answer → IsSmall monitor.now) }
 {
-    candidates_are_expressible();
     plain_claims_are_not_hard();
-    read_starts(monitor.fields());
-    if !are_simple_blocks(monitor.blocks()) {
+    candidates_have_formulas(monitor);
+    let simple = are_simple_blocks(monitor.blocks());
+    if !simple {
         return Ok(false);
     }
     let all = candidates(alloc, monitor)?;
-    if !are_easy_to_keep(alloc, monitor, &all)? {
-        return Ok(false);
-    }
-    Ok(are_easy_blocks(alloc, monitor, &all)?)
+    are_plain_blocks(alloc, monitor, &all)
 }

@@ -16,7 +16,7 @@ use Rattle.mon_events.specs.PlanText.{note_kind}
 use Rattle.mon_events.specs.Plans.{has_note}
 use Rattle.mon_events.specs.Rising.{AreRising}
 use Rattle.mon_wp.specs.Expressible.{is_expressible}
-use Rattle.mon_wp.specs.PlainClaims.{IsBlockNumber, IsConditionNumber, ReadsNone, WaitsAt}
+use Rattle.mon_wp.specs.PlainClaims.{IsConditionNumber, ReadsNone, WaitsAt}
 use Rattle.mon_prune.specs.Hardness.{HasNoHardClaim, MayStayOpen}
 use Rattle.mon_prune.specs.Invariants.{ContainsEasy, IsGreatest, IsInvariant}
 use Rattle.mon_prune.specs.declared.kept.Kept.{Kept}
@@ -39,17 +39,6 @@ IsAnswerTo monitor kept claim None = IsUnproved monitor kept claim
 -- candidates of which queries are made
 pub record AreAskable (kept : List Candidate) : Type 0 where
   pub expressible : list_all is_expressible kept ≡ true
-
--- the claim names a block and a condition of the monitor, and a candidate that has a formula
-abbrev pub MayAsk : MonitorParts → Claim → Type 0
-MayAsk monitor (claims.Keeps candidate block) =
-    IsBlockNumber monitor block × (is_expressible candidate ≡ true)
-MayAsk monitor (claims.NoNote block condition) =
-    IsBlockNumber monitor block × IsConditionNumber monitor condition
-MayAsk monitor (claims.One condition block) =
-    IsBlockNumber monitor block × IsConditionNumber monitor condition
-MayAsk monitor (claims.NoTest block condition) =
-    IsBlockNumber monitor block × IsConditionNumber monitor condition
 
 -- proofs of these claims were added to those that were there
 abbrev pub Adds : MonitorParts → List Candidate → List Claim → List Proof → List Proof → Type 0

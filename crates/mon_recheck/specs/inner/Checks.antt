@@ -4,24 +4,12 @@ use Rattle.std.specs.Prelude.{IsSomeAnd}
 use Rattle.mon_cert.specs.declared.cert.Cert.{Cert}
 use Rattle.mon_monitor.specs.declared.candidate.Candidate.{Candidate}
 use Rattle.mon_monitor.specs.declared.claim.Claim.{Claim}
-use Rattle.mon_monitor.specs.declared.claim.Claim.TheVariants as claims
 use Rattle.mon_monitor.specs.MonitorParts.{MonitorParts}
 use Rattle.mon_monitor.specs.Queries.{query_of}
-use Rattle.mon_wp.specs.Expressible.{is_expressible}
-use Rattle.mon_wp.specs.PlainClaims.{IsBlockNumber, IsConditionNumber}
 use Rattle.mon_wp.specs.Limits.{is_query_within}
 use Rattle.mon_recheck.specs.Verdicts.{AreChecked, IsOpen, IsProof}
-
--- the claim names a block and a condition of the monitor, and a candidate that has a formula
-abbrev pub MayAsk : MonitorParts → Claim → Type 0
-MayAsk monitor (claims.Keeps candidate block) =
-    IsBlockNumber monitor block × (is_expressible candidate ≡ true)
-MayAsk monitor (claims.NoNote block condition) =
-    IsBlockNumber monitor block × IsConditionNumber monitor condition
-MayAsk monitor (claims.One condition block) =
-    IsBlockNumber monitor block × IsConditionNumber monitor condition
-MayAsk monitor (claims.NoTest block condition) =
-    IsBlockNumber monitor block × IsConditionNumber monitor condition
+-- a query can be made of the claim
+pub use Rattle.mon_wp.specs.PlainClaims.{MayAsk}
 
 -- a claim with its certificate
 abbrev pub with_cert : Claim → Cert → Claim × Cert

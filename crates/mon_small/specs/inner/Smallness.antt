@@ -1,38 +1,41 @@
--- For private contracts: claims whose query is easy, with all candidates kept.
-use Rattle.std.specs.Prelude.{◌≡◌, ℕ, ◌<◌, ◌≤◌, true, length}
+-- For private contracts: what is asked of, and which claims of blocks and conditions are plain.
+use Rattle.std.specs.Prelude.{◌≡◌, ℕ, ◌<◌, ◌≤◌, true, length, List, All}
+use Rattle.std.specs.List.{list_all}
 use Rattle.mon_monitor.specs.declared.candidate.Candidate.{Candidate}
-use Rattle.mon_monitor.specs.declared.claim.Claim.{Claim}
 use Rattle.mon_monitor.specs.declared.claim.Claim.TheVariants as claims
 use Rattle.mon_monitor.specs.Candidates.{candidates_of}
 use Rattle.mon_monitor.specs.MonitorParts.{MonitorParts}
-use Rattle.mon_monitor.specs.Queries.{query_of}
-use Rattle.mon_wp.specs.PlainClaims.{ReadsNone, WaitsAt, is_plain}
+use Rattle.mon_wp.specs.Expressible.{is_expressible}
+use Rattle.mon_wp.specs.PlainClaims.{ReadsNone, WaitsAt}
+use Rattle.mon_small.specs.Plain.{IsPlainClaim}
 
-abbrev pub IsEasy : MonitorParts → Claim → Type 0
-IsEasy monitor claim = is_plain monitor (query_of monitor (candidates_of monitor) claim) ≡ true
+-- all candidates of the monitor, each of which has a formula
+pub record AreCandidates (monitor : MonitorParts) (all : List Candidate) : Type 0 where
+  pub each : all ≡ candidates_of monitor
+  pub expressible : list_all is_expressible all ≡ true
 
--- the claims that the first blocks keep the candidate
-abbrev pub AreEasyBelow : MonitorParts → ℕ → Candidate → Type 0
-AreEasyBelow monitor count candidate =
-    (block : ℕ) → block < count → IsEasy monitor (claims.Keeps candidate block)
-
--- the claims that each block keeps the candidate
-abbrev pub IsEasyToKeep : MonitorParts → Candidate → Type 0
-IsEasyToKeep monitor candidate = AreEasyBelow monitor (length monitor.blocks) candidate
+-- the claims that the block keeps the candidates
+abbrev pub ArePlainToKeep : MonitorParts → ℕ → List Candidate → Type 0
+ArePlainToKeep monitor block =
+    All (λ candidate. IsPlainClaim monitor (claims.Keeps candidate block))
 
 -- the claims of a block and a condition
-pub record IsEasyPair (monitor : MonitorParts) (block condition : ℕ) : Type 0 where
-  pub none_needed : IsEasy monitor (claims.NoNote block condition)
+pub record IsPlainPair (monitor : MonitorParts) (block condition : ℕ) : Type 0 where
+  pub none_needed : IsPlainClaim monitor (claims.NoNote block condition)
+  pub no_test : ReadsNone monitor condition → IsPlainClaim monitor (claims.NoTest block condition)
   pub one_enough : ReadsNone monitor condition → WaitsAt monitor block condition
-      → IsEasy monitor (claims.One condition block)
-  pub no_test : ReadsNone monitor condition → IsEasy monitor (claims.NoTest block condition)
+      → IsPlainClaim monitor (claims.One condition block)
 
 -- those of a block and of the first conditions
-abbrev pub AreEasyUpTo : MonitorParts → ℕ → ℕ → Type 0
-AreEasyUpTo monitor block count =
-    (condition : ℕ) → 1 ≤ condition → condition ≤ count → IsEasyPair monitor block condition
+abbrev pub ArePlainUpTo : MonitorParts → ℕ → ℕ → Type 0
+ArePlainUpTo monitor block count =
+    (condition : ℕ) → 1 ≤ condition → condition ≤ count → IsPlainPair monitor block condition
 
--- those of the first blocks and of each condition
-abbrev pub ArePairsEasy : MonitorParts → ℕ → Type 0
-ArePairsEasy monitor count =
-    (block : ℕ) → block < count → AreEasyUpTo monitor block (length monitor.conditions)
+-- the claims of a block
+pub record IsPlainBlock (monitor : MonitorParts) (block : ℕ) : Type 0 where
+  pub keeps : ArePlainToKeep monitor block (candidates_of monitor)
+  pub pairs : ArePlainUpTo monitor block (length monitor.conditions)
+
+-- those of the first blocks
+abbrev pub ArePlainBelow : MonitorParts → ℕ → Type 0
+ArePlainBelow monitor count = (block : ℕ) → block < count → IsPlainBlock monitor block

@@ -1,15 +1,17 @@
-use Rattle.std.proofs.Common.{subst, sym, ap, ◌∙◌}
-use Rattle.std.specs.List.{All, list_all}
+use Rattle.std.proofs.Common.{ap, ◌∙◌}
+use Rattle.std.specs.List.{list_all}
 use Rattle.mon_wp.specs.PlainClaims.{is_simple_block}
-use Rattle.mon_small.specs.inner.Smallness.{IsEasyToKeep}
-use Rattle.mon_small.proofs.Smallness.{small_told}
+use Rattle.mon_small.proofs.Smallness.{not_simple, plain_told, small_told}
 use Rattle.mon_small.proofs.small.is_small.Goals as goal
 
-pub returns : goal.returns
-returns c = λ told.
-    let monitor = c.args.monitor.now in
-    let all = c.in_ok-all.ensures in
-    small_told monitor (λ claim easy. c.plain_claims_are_not_hard.ensures monitor claim easy)
-    (ap (list_all is_simple_block) (sym c.blocks-2.ensures.blocks) ∙ sym c.are_simple_blocks.ensures ∙ c.if-not-are_simple_blocks.false)
-    (subst (All (IsEasyToKeep monitor)) (c.deref.ensures.value ∙ all) (c.in_ok-are_easy_to_keep.ensures c.if-not-branch.false))
-    (c.in_ok-are_easy_blocks.ensures told)
+pub returns-then-not-simple-clause-plain : goal.returns-then-not-simple-clause-plain
+returns-then-not-simple-clause-plain c =
+    not_simple c.args.monitor.now c.are_simple_blocks-simple.result (c.are_simple_blocks-simple.ensures ∙ ap (list_all is_simple_block) c.blocks-2.ensures.blocks) c.if-not-simple.true
+
+pub returns-clause-plain : goal.returns-clause-plain
+returns-clause-plain c =
+    plain_told c.args.monitor.now c.are_simple_blocks-simple.result c.are_plain_blocks.result (c.are_simple_blocks-simple.ensures ∙ ap (list_all is_simple_block) c.blocks-2.ensures.blocks) c.if-not-simple.false c.are_plain_blocks.ensures
+
+pub returns-clause-small : goal.returns-clause-small
+returns-clause-small c =
+    small_told c.args.monitor.now c.are_plain_blocks.result (c.plain_claims_are_not_hard.ensures c.args.monitor.now) (plain_told c.args.monitor.now c.are_simple_blocks-simple.result c.are_plain_blocks.result (c.are_simple_blocks-simple.ensures ∙ ap (list_all is_simple_block) c.blocks-2.ensures.blocks) c.if-not-simple.false c.are_plain_blocks.ensures)
