@@ -11,3 +11,8 @@ pub mod Answered
 pub mod CertParts
 pub mod Numbers
 pub mod Readings
+pub mod Fronts
+pub mod KeptLines
+pub mod NoteLines
+pub mod PlanParts
+pub mod ReportParts

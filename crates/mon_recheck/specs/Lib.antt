@@ -1,4 +1,5 @@
 pub mod Reports
 pub mod Verdicts
+pub mod Readings
 pub mod inner
 pub mod Nesting

@@ -26,7 +26,8 @@ IsLayer IsPart (Clash left right) = (left < 2 ^ 32) × (right < 2 ^ 32)
 IsLayer IsPart (Chain combines) = (length combines < 2 ^ 64) × All IsCombine combines
 
 -- The numbers of a certificate are of their types, and it has so many levels at most: one that is
--- not split has 1, and a split one has a level more than the deepest of its parts.
+-- not split has 1, and a split one has a level more than the deepest of its parts, or 1 where there
+-- are none.
 unfoldable pub IsNested : ℕ → Cert → Type 0
 IsNested zero cert = ⊥
 IsNested (suc levels) cert = IsLayer (IsNested levels) (out-Cert cert)

@@ -29,8 +29,8 @@ pub record AreNotesOf (monitor : MonitorParts) (notes : List Note) : Type 0 wher
   pub each : All (IsOnCondition monitor) notes
 
 -- Kept candidates are the monitor's, in their order, each at most once; each condition has a kind,
--- and each block notes. That a tested note is on a condition whose guard reads no inputs is a matter
--- of the plan's law.
+-- and each block notes. A lawful plan has no tested note on a condition whose guard reads inputs;
+-- one of these may.
 pub record IsPlanOf (monitor : MonitorParts) (plan : Plan) : Type 0 where
   pub kept : AreSomeOf plan.kept (candidates_of monitor)
   pub kinds : length plan.kinds ≡ length monitor.conditions

@@ -32,7 +32,7 @@ pub record IsLawfulAtSight (monitor : MonitorParts) (plan : Plan) : Type 0 where
   pub broadcasts : (condition : ℕ) → condition_kind plan condition ≡ Some kinds.Broadcast
       → EachNoteOn plan condition (λ note. note.all ≡ true)
 
--- how many lines the text of a plan has
+-- how many lines the text of a plan has: one for its name, and one for each of these
 abbrev pub plan_lines : MonitorParts → Plan → ℕ
 plan_lines monitor plan =
     1 + length plan.kept + length monitor.conditions + length monitor.blocks
@@ -43,7 +43,7 @@ plan_lines monitor plan =
 abbrev pub IsProof : MonitorParts → List Candidate → Claim × Cert → Type 0
 IsProof monitor kept one = Certifies monitor kept one.0 one.1
 
--- the certificate doesn't, or the query isn't negated within the limits
+-- the certificate doesn't refute it, or the query isn't negated within the limits
 abbrev pub IsOpen : MonitorParts → List Candidate → Claim × Cert → Type 0
 IsOpen monitor kept one =
     (IsProof monitor kept one → ⊥)

@@ -1,3 +1,4 @@
 pub mod Sight
 pub mod Checks
 pub mod CertParts
+pub mod Reading

@@ -21,10 +21,10 @@ use mon_list::Seq;
 use std::alloc::{AllocError, Global};
 
 /// A certificate that is read has so many levels at most: a split is a level above its parts, and a clash or a chain
-/// is one level. Reading and dropping call themselves once for each level, and a stack of 8 MB bears so many.
+/// is one level. Reading and dropping call themselves once for each level; that 2 MB of stack bear so many is tested.
 ///
-/// A report with a deeper certificate is refused, though its plan may be lawful. A certificate is so deep only where the
-/// formula that it refutes has at least so many anys.
+/// A report with a deeper certificate is refused, though its plan may be lawful. A deeper certificate refutes only a
+/// formula with at least so many anys on one way.
 pub const MOST_NESTING: u32 = 4_096;
 
 /// The certificate at the front of the bytes, and the bytes after it (`specs/Nesting`). It is none where no certificate

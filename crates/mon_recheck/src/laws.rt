@@ -14,8 +14,7 @@ ghost use Rattle.mon_recheck.specs.Verdicts.{IsVerdict};
 use mon_wp::fewer_kept_are_no_harder;
 
 /// Where a plan was placed with a proof of each claim that it rests on, in their order, what [`write_report`] writes is
-/// the text of its report,
-/// which has one certificate for each claim.
+/// the text of its report, which has one certificate for each claim.
 ///
 /// [`write_report`]: super::write_report
 pub fn placed_text_is_report_text()

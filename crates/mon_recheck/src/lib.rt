@@ -1,16 +1,24 @@
 //! Reports: a plan with a certificate for each claim that it rests on, as text, read and checked without a prover.
 //!
-//! [`recheck`] says whether the plan of a [`Report`] is lawful by its certificates alone (`specs/Verdicts`).
-//! [`write_report`] writes the report of a plan that was placed (`specs/Reports`), and [`write_verdict`] the line of
-//! what a check says. Each report of a placed plan is accepted where no claim of the monitor is hard (`laws`).
+//! [`read_plan`] and [`read_report`] read such texts (`specs/Readings`), and [`recheck`] says whether the plan of a
+//! [`Report`] is lawful by its certificates alone (`specs/Verdicts`). [`write_report`] writes the report of a plan that
+//! was placed (`specs/Reports`), and [`write_verdict`] the line of what a check says. Each report of a placed plan is
+//! accepted where no claim of the monitor is hard (`laws`).
 #![tactic(auto)]
 
+mod after;
 mod certificates;
 mod checking;
 mod claims;
+mod conditions;
+mod kept;
 mod laws;
 mod making;
+mod notes;
+mod plan_reading;
 mod report;
+mod report_reading;
+mod shown;
 mod sight;
 mod writing;
 
@@ -18,5 +26,7 @@ pub use certificates::MOST_NESTING;
 pub use checking::recheck;
 pub use laws::{easy_reports_are_accepted, placed_text_is_report_text};
 pub use making::report_of;
+pub use plan_reading::read_plan;
 pub use report::{Report, Verdict};
+pub use report_reading::read_report;
 pub use writing::{write_report, write_verdict};

@@ -13,7 +13,7 @@ use mon_cert::{Cert, print_cert};
 use mon_io::{Sink, SinkFailed, write_piece, write_pieces};
 use mon_monitor::{Candidate, Claim, Field, Monitor};
 use mon_place::{PlacedPlan, Proof};
-use mon_text::write_plan;
+use mon_text::{write_candidate, write_plan};
 
 /// Writes the report of a plan that was placed: the text of the plan, and then a line for each claim that it rests on,
 /// with its certificate. It takes no memory.
@@ -57,7 +57,11 @@ pub(crate) fn write_proof<S: Sink>(
 }
 
 /// `proof none put 2: `
-fn write_claim<S: Sink>(monitor: &Monitor, claim: Claim, out: &mut S) -> Result<(), SinkFailed>
+pub(crate) fn write_claim<S: Sink>(
+    monitor: &Monitor,
+    claim: Claim,
+    out: &mut S,
+) -> Result<(), SinkFailed>
     ensures { Wrote (S.seen out.old) (S.seen out.new) result
         (codes "proof " ++ claim_text monitor.now claim ++ codes ": ") }
 {
@@ -136,36 +140,6 @@ fn write_keeps<S: Sink>(
     write_pieces(&[b" ", block, b": "], out)
 }
 
-/// `x <= 4`
-fn write_candidate<S: Sink>(
-    fields: &[Field],
-    candidate: Candidate,
-    out: &mut S,
-) -> Result<(), SinkFailed>
-    ensures { Wrote (S.seen out.old) (S.seen out.new) result (candidate_text fields.now candidate) }
-{
-    let mut digits = Buffer::new();
-    match candidate {
-        Candidate::AtMost { field, bound } => {
-            let bound = digits.format(bound).as_bytes();
-            write_sides(field_bytes(fields, field), b" <= ", bound, out)
-        }
-        Candidate::AtLeast { field, bound } => {
-            let bound = digits.format(bound).as_bytes();
-            write_sides(field_bytes(fields, field), b" >= ", bound, out)
-        }
-        Candidate::Flag { field, is } => {
-            write_sides(flag_bytes(is), field_bytes(fields, field), b"", out)
-        }
-        Candidate::Below { left, right } => write_sides(
-            field_bytes(fields, left),
-            b" <= ",
-            field_bytes(fields, right),
-            out,
-        ),
-    }
-}
-
 /// What stands on both sides of a sign.
 fn write_sides<'a, S: Sink>(
     left: &'a [u8],
@@ -180,7 +154,7 @@ fn write_sides<'a, S: Sink>(
 }
 
 /// The name of a field, or nothing where there is none.
-fn field_bytes(fields: &[Field], field: u32) -> &[u8]
+pub(crate) fn field_bytes(fields: &[Field], field: u32) -> &[u8]
     ensures { result.now ≡ field_name (slice_get fields.now field) }
 {
     match fields.get(field as usize) {
@@ -189,7 +163,7 @@ fn field_bytes(fields: &[Field], field: u32) -> &[u8]
     }
 }
 
-fn flag_bytes(is: bool) -> &'static [u8]
+pub(crate) fn flag_bytes(is: bool) -> &'static [u8]
     ensures { result.now ≡ flag_mark is }
 {
     if is { b"" } else { b"!" }
@@ -205,7 +179,7 @@ pub(crate) fn block_bytes(monitor: &Monitor, block: u32) -> &[u8]
     }
 }
 
-fn method_bytes(monitor: &Monitor, method: u32) -> &[u8]
+pub(crate) fn method_bytes(monitor: &Monitor, method: u32) -> &[u8]
     ensures { result.now ≡ method_name (slice_get monitor.now.methods method) }
 {
     match monitor.methods().get(method as usize) {

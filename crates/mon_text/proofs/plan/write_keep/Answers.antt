@@ -12,4 +12,4 @@ returns-in_err-write_candidate g c =
     wrote_fails _ c.from_residual-in_err-write_candidate.ensures.0 (wrote_longer (codes "\n") (wrote_both c.in_ok-write_piece.ensures c.in_err-write_candidate.ensures))
 
 pub returns : goal.returns
-returns g c = wrote_both (wrote_both c.in_ok-write_piece.ensures c.in_ok-write_candidate.ensures) c.write_piece.ensures
+returns g c = wrote_both (wrote_both c.in_ok-write_piece.ensures c.in_ok-write_candidate.ensures) c.write_piece-2.ensures

@@ -1,0 +1,43 @@
+-- What a reading of a text of a plan or of a report says.
+use Rattle.std.specs.Prelude.{◌≡◌, ℕ, List, All, Option, Some, None}
+use Rattle.mon_cert.specs.declared.cert.Cert.{Cert}
+use Rattle.mon_monitor.specs.MonitorParts.{MonitorParts}
+use Rattle.mon_events.specs.declared.plan.Plan.{Plan}
+use Rattle.mon_events.specs.PlanText.{plan_text}
+use Rattle.mon_recheck.specs.declared.certificates.TheConstants.{MOST_NESTING}
+use Rattle.mon_recheck.specs.declared.report.Report.{Report}
+use Rattle.mon_recheck.specs.Nesting.{IsNested}
+use Rattle.mon_recheck.specs.Reports.{IsPlanOf, IsReport, report_text}
+
+-- the bytes are the text of this plan of the monitor, and of no other
+pub record IsTextOfPlan (monitor : MonitorParts) (bytes : List ℕ) (plan : Plan) : Type 0 where
+  pub is : IsPlanOf monitor plan
+  pub text : plan_text monitor plan ≡ bytes
+  pub only : (other : Plan) → IsPlanOf monitor other → plan_text monitor other ≡ bytes
+      → other ≡ plan
+
+-- the plan whose text the bytes are; there is none
+abbrev pub IsPlanRead : MonitorParts → List ℕ → Option Plan → Type 0
+IsPlanRead monitor bytes (Some plan) = IsTextOfPlan monitor bytes plan
+IsPlanRead monitor bytes None =
+    (plan : Plan) → IsPlanOf monitor plan → plan_text monitor plan ≡ bytes → ⊥
+
+-- a certificate that nests within the limit, with numbers of their types
+abbrev pub IsReadable : Cert → Type 0
+IsReadable cert = IsNested MOST_NESTING cert
+
+-- the bytes are the text of this report with readable certificates, and of no other
+pub record IsTextOfReport (monitor : MonitorParts) (bytes : List ℕ) (report : Report) :
+    Type 0 where
+  pub is : IsReport monitor report
+  pub readable : All IsReadable report.proofs
+  pub text : report_text monitor report ≡ bytes
+  pub only : (other : Report) → IsReport monitor other → All IsReadable other.proofs
+      → report_text monitor other ≡ bytes → other ≡ report
+
+-- the report with readable certificates whose text the bytes are; there is none
+abbrev pub IsReportRead : MonitorParts → List ℕ → Option Report → Type 0
+IsReportRead monitor bytes (Some report) = IsTextOfReport monitor bytes report
+IsReportRead monitor bytes None =
+    (report : Report) → IsReport monitor report → All IsReadable report.proofs
+    → report_text monitor report ≡ bytes → ⊥

@@ -1,0 +1,140 @@
+-- For private contracts: what stands at the front of a text, and what is left after it.
+use Rattle.std.specs.Prelude.{◌≡◌, ◌⊎◌, ℕ, ◌+◌, ◌<◌, ◌≤◌, Bool, List, [], ◌∷◌, ◌++◌, length, All}
+use Rattle.std.specs.Prelude.{Option, Some, None, codes, decimal}
+use Rattle.std.specs.Borrow.{Bor}
+use Rattle.std.specs.List.{flat_map, zip}
+use Rattle.mon_monitor.specs.MonitorParts.{MonitorParts}
+use Rattle.mon_events.specs.declared.plan.CondKind.{CondKind}
+use Rattle.mon_events.specs.declared.plan.Note.{Note}
+use Rattle.mon_events.specs.declared.plan.Plan.{Plan}
+use Rattle.mon_events.specs.PlanText.{blocks_text, conditions_text, kept_text, kind_text}
+use Rattle.mon_events.specs.PlanText.{note_kind, note_text, tested_text}
+use Rattle.mon_cert.specs.declared.cert.Cert.{Cert}
+use Rattle.mon_place.specs.Backing.{backed_claims}
+use Rattle.mon_recheck.specs.declared.report.Report.{Report}
+use Rattle.mon_recheck.specs.Readings.{IsReadable}
+use Rattle.mon_recheck.specs.Reports.{AreNotesOf, proofs_text}
+
+-- what is left of the bytes after the text, and none where they don't begin with it
+abbrev pub IsAfter : List ℕ → List ℕ → Option (Bor (List ℕ)) → Type 0
+IsAfter bytes text (Some rest) = text ++ rest.now ≡ bytes
+IsAfter bytes text None = (rest : List ℕ) → text ++ rest ≡ bytes → ⊥
+
+-- The bytes are the text of a thing that is as it must be, and then the rest. With what may follow
+-- it no other such thing stands there.
+pub record IsFront (X : Type 0) (Is : X → Type 0) (Ends : List ℕ → Type 0) (text : X → List ℕ)
+    (bytes : List ℕ) (found : X) (rest : List ℕ) : Type 0 where
+  pub holds : Is found
+  pub begins : text found ++ rest ≡ bytes
+  pub only : (other : X) (more : List ℕ) → Is other → Ends more → text other ++ more ≡ bytes
+      → (other ≡ found) × (more ≡ rest)
+
+-- no such thing with what may follow it has these bytes
+abbrev pub IsNoFront : (X : Type 0) → (X → Type 0) → (List ℕ → Type 0) → (X → List ℕ) → List ℕ
+    → Type 0
+IsNoFront X Is Ends text bytes =
+    (other : X) (more : List ℕ) → Is other → Ends more → text other ++ more ≡ bytes → ⊥
+
+-- anything
+abbrev pub Anything : {X : Type 0} → X → Type 0
+Anything x = Unit {0}
+
+-- the bytes don't go on with the line of a kept candidate
+abbrev pub IsAfterKept : List ℕ → Type 0
+IsAfterKept text = (more : List ℕ) → text ≡ codes "keep " ++ more → ⊥
+
+-- The thing was added to those before, since its text stands at the front of the bytes; or nothing
+-- was, since it doesn't.
+abbrev pub IsTurn : {X : Type 0} → List ℕ → X → List ℕ → List ℕ → List X → List X → Type 0
+IsTurn text x bytes rest before now =
+    ((text ++ rest ≡ bytes) × (now ≡ before ++ x ∷ []))
+    ⊎ (((more : List ℕ) → text ++ more ≡ bytes → ⊥) × (rest ≡ bytes) × (now ≡ before))
+
+-- ---- a line for each item
+
+-- as many values as items, each as it must be
+pub record AreFor {I Y : Type 0} (items : List I) (Is : Y → Type 0) (values : List Y) :
+    Type 0 where
+  pub count : length values ≡ length items
+  pub each : All Is values
+
+-- the lines of items with their values
+abbrev pub lines_of : {I Y : Type 0} → (I → Y → List ℕ) → List I → List Y → List ℕ
+lines_of line items values = flat_map (λ one. line one.0 one.1) (zip items values)
+
+-- ---- notes
+
+-- of which kind a note is, and whether it is tested
+abbrev pub marks_text : Bool × Bool → List ℕ
+marks_text marks = kind_text (note_kind marks.0) ++ tested_text marks.1
+
+-- the bytes don't go on with a blank
+abbrev pub IsAfterMarks : List ℕ → Type 0
+IsAfterMarks text = (more : List ℕ) → text ≡ codes " " ++ more → ⊥
+
+-- the line of a block's notes ends
+abbrev pub IsLineEnd : List ℕ → Type 0
+IsLineEnd text = (more : List ℕ) × (text ≡ codes "\n" ++ more)
+
+-- each note after what separates it from the one before, the first after this
+abbrev pub notes_after : List ℕ → List Note → List ℕ
+notes_after sign [] = []
+notes_after sign (note ∷ notes) = sign ++ note_text note ++ notes_after (codes ", ") notes
+
+-- what separates the next note from these
+abbrev pub sign_after : List Note → List ℕ
+sign_after [] = []
+sign_after (note ∷ notes) = codes ", "
+
+-- the notes of a block that has some
+abbrev pub AreSomeNotesOf : MonitorParts → List Note → Type 0
+AreSomeNotesOf monitor notes = AreNotesOf monitor notes × (0 < length notes)
+
+-- the note on a condition, after what separates it from those before
+abbrev pub IsNote : ℕ → List Note → List ℕ → Note → List ℕ → Type 0
+IsNote number before = IsFront Note (λ note. note.condition ≡ number) IsAfterMarks
+    (λ note. sign_after before ++ note_text note)
+
+-- the note on a condition was added to those before, or there was none
+abbrev pub IsNoteTurn : ℕ → List ℕ → List ℕ → List Note → List Note → Type 0
+IsNoteTurn number bytes rest before now =
+    ((note : Note) × IsNote number before bytes note rest × (now ≡ before ++ note ∷ []))
+    ⊎ (IsNoFront Note (λ note. note.condition ≡ number) IsAfterMarks
+    (λ note. sign_after before ++ note_text note) bytes × (rest ≡ bytes) × (now ≡ before))
+
+-- the conditions of the notes rise, from `first` on
+abbrev pub AreFrom : MonitorParts → ℕ → List Note → Type 0
+AreFrom monitor first [] = Unit {0}
+AreFrom monitor first (note ∷ notes) =
+    (first ≤ note.condition) × (note.condition ≤ length monitor.conditions)
+    × AreFrom monitor (note.condition + 1) notes
+
+-- ---- conditions
+
+-- a condition's line, which shows its guard so
+abbrev pub line_of_kind : ℕ → List ℕ → CondKind → List ℕ
+line_of_kind number shown kind =
+    codes "condition " ++ decimal number ++ codes " " ++ kind_text kind ++ codes ": " ++ shown
+    ++ codes "\n"
+
+-- ---- plans
+
+-- the text of a plan but for its first line
+abbrev pub parts_text : MonitorParts → Plan → List ℕ
+parts_text monitor plan =
+    flat_map (kept_text monitor.fields) plan.kept
+    ++ (conditions_text monitor.conditions plan.kinds ++ blocks_text monitor plan.notes)
+
+-- ---- reports
+
+-- the report of the plan with readable certificates whose lines the bytes are, and those of no
+-- others; there is none
+abbrev pub IsWithProofs : MonitorParts → Plan → List ℕ → Option Report → Type 0
+IsWithProofs monitor plan bytes (Some report) =
+    (report.plan ≡ plan) × AreFor (backed_claims monitor plan) IsReadable report.proofs
+    × (proofs_text monitor (backed_claims monitor plan) report.proofs ≡ bytes)
+    × ((others : List Cert) → AreFor (backed_claims monitor plan) IsReadable others
+    → proofs_text monitor (backed_claims monitor plan) others ≡ bytes → others ≡ report.proofs)
+IsWithProofs monitor plan bytes None =
+    (proofs : List Cert) → AreFor (backed_claims monitor plan) IsReadable proofs
+    → proofs_text monitor (backed_claims monitor plan) proofs ≡ bytes → ⊥
