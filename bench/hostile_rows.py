@@ -99,6 +99,8 @@ expresso compile FILE
 expresso simulate FILE CLIENTS [--seed N] [--spurious K]
 expresso run FILE CLIENTS [--workers N]
 expresso stress N [--workers N]
+expresso report FILE
+expresso recheck FILE REPORT
 """
 
 SUMMARY = b"calls 16384\ndone\nstate count=0\n"

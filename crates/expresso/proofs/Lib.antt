@@ -6,6 +6,7 @@ pub mod OneSimulation
 pub mod Completeness
 pub mod Telling
 pub mod RunFiles
+pub mod Judged
 pub mod Simulating
 pub mod Simulated
 pub mod Ending

@@ -1,5 +1,5 @@
 -- How a command that works on the monitor of one file ends.
-use Rattle.std.proofs.Common.{◌≡◌, ℕ, true, List, Option, Result, Ok, Err, refl, sym, subst, ◌∙◌, arith, inl, inr}
+use Rattle.std.proofs.Common.{◌≡◌, ℕ, true, List, [], Option, Result, Ok, Err, refl, sym, subst, ◌∙◌, arith, inl, inr}
 use Rattle.std.specs.Prelude.{Any, IfErr, IfOk}
 use Rattle.mon_io.specs.Outside.{FilesSeen, SinkSeen, IsRead}
 use Rattle.mon_tree.specs.declared.tree.MonitorTree.{MonitorTree}
@@ -13,7 +13,7 @@ use Rattle.mon_text.specs.FaultText.{unread_text}
 use Rattle.expresso.specs.declared.status.Status.{Status}
 use Rattle.expresso.specs.declared.status.Status.TheVariants as statuses
 use Rattle.expresso.specs.declared.monitor_file.MonitorFile.{MonitorFile}
-use Rattle.mon_command.specs.CommandLine.{Command, check, compile}
+use Rattle.mon_command.specs.CommandLine.{Command, check, compile, report}
 use Rattle.expresso.specs.Placements.{IsPlacement}
 use Rattle.expresso.specs.FirstFaults.{IsRefusalLine}
 use Rattle.expresso.specs.MonitorFiles.{IsAccepted, IsFirstOfMonitor}
@@ -27,20 +27,24 @@ use Rattle.expresso.proofs.Ending.{memory_ended, no_bytes_ended, refused_ended, 
 
 -- ---- the commands that work on one file
 
-pub check_works : (file : List ℕ) → WorksOn (check file) file
+pub check_works : (file : List ℕ) → WorksOn (check file) file []
 check_works file = record { files = refl; refused = λ held text is. is; accepted = λ held is. is }
 
-pub compile_works : (file : List ℕ) → WorksOn (compile file) file
+pub compile_works : (file : List ℕ) → WorksOn (compile file) file []
 compile_works file = record { files = refl; refused = λ held text is. is; accepted = λ held is. is }
+
+pub report_works : (file : List ℕ) → WorksOn (report file) file []
+report_works file = record { files = refl; refused = λ held text is. is; accepted = λ held is. is }
 
 -- ---- the file has no bytes
 
-names_file : (command : Command) (file : List ℕ) → WorksOn command file → IsUnreadText command (unread_text file)
-names_file command file works = subst (λ (names : List (List ℕ)). Any (λ name. unread_text file ≡ unread_text name) names) (sym works.files) (0, file, omega arith, refl, refl)
+names_file : (command : Command) (file : List ℕ) (others : List (List ℕ)) → WorksOn command file others → IsUnreadText command (unread_text file)
+names_file command file others works = subst (λ (names : List (List ℕ)). Any (λ name. unread_text file ≡ unread_text name) names) (sym works.files) (0, file, omega arith, refl, refl)
 
-pub file_unread : (file : List ℕ) (files files_now : FilesSeen) (result : Status) (out out_now : SinkSeen) → IsUnread file files files_now result out out_now → CommandsEndOn file files files_now result out out_now
-file_unread file files files_now result out out_now unread command works =
-    no_bytes_ended command file files files_now result out out_now (names_file command file works) unread
+pub file_unread : (file : List ℕ) (others : List (List ℕ)) (files files_now : FilesSeen) (result : Status) (out out_now : SinkSeen) → IsUnread file files files_now result out out_now
+    → CommandsEndOn file others files files_now result out out_now
+file_unread file others files files_now result out out_now unread command works =
+    no_bytes_ended command file files files_now result out out_now (names_file command file others works) unread
 
 -- ---- the bytes that were read are refused
 
@@ -51,12 +55,12 @@ no_line_of one_spelling no_spelling one_tree held file bytes text read line (all
     no_line IsMonitorFile faults_of one_spelling no_spelling one_tree all accepted.tokens tree accepted.spelled accepted.derived accepted.unbroken file text accepted.short
     (subst (λ (b : List ℕ). IsRefusalLine (IsFirstOfMonitor b) file b text) same (line_told IsMonitorFile faults_of (held file) file bytes text read line))
 
-file_refused : OneSpelling → NoSpelling → OneTree → (file bytes slice : List ℕ) (files files_now : FilesSeen) (result : Status) (out mid out_now : SinkSeen)
+pub file_refused : OneSpelling → NoSpelling → OneTree → (others : List (List ℕ)) (file bytes slice : List ℕ) (files files_now : FilesSeen) (result : Status) (out mid out_now : SinkSeen)
     → slice ≡ bytes → IsRead (files.held file) 65536 bytes → files_now.faults ≡ files.faults → mid ≡ out
-    → IsTurnedAway (IsRefusalLine (IsFirstOfMonitor slice) file slice) result mid out_now → CommandsEndOn file files files_now result out out_now
-file_refused one_spelling no_spelling one_tree file bytes slice files files_now result out mid out_now same read steady silent (inl (memory, nothing)) command works =
+    → IsTurnedAway (IsRefusalLine (IsFirstOfMonitor slice) file slice) result mid out_now → CommandsEndOn file others files files_now result out out_now
+file_refused one_spelling no_spelling one_tree others file bytes slice files files_now result out mid out_now same read steady silent (inl (memory, nothing)) command works =
     memory_ended command files files_now result out out_now memory (nothing ∙ silent)
-file_refused one_spelling no_spelling one_tree file bytes slice files files_now result out mid out_now same read steady silent (inr (text, line, written)) command works =
+file_refused one_spelling no_spelling one_tree others file bytes slice files files_now result out mid out_now same read steady silent (inr (text, line, written)) command works =
     let here : IsRead (files.held file) 65536 slice = subst (λ (b : List ℕ). IsRead (files.held file) 65536 b) (sym same) read in
     refused_ended command files files_now text result out out_now
     (works.refused files.held text (record { bytes = told (files.held file) slice; told = is_told (files.held file) slice; line = line_told IsMonitorFile faults_of (files.held file) file slice text here line }))
@@ -65,14 +69,14 @@ file_refused one_spelling no_spelling one_tree file bytes slice files files_now 
 
 pub file_judged : OneSpelling → NoSpelling → OneTree → (file bytes slice : List ℕ) (files files_now : FilesSeen) (result : Result MonitorFile Status) (out mid out_now : SinkSeen)
     → slice ≡ bytes → IsRead (files.held file) 65536 bytes → files_now.faults ≡ files.faults → mid ≡ out
-    → IfErr result (λ status. IsTurnedAway (IsRefusalLine (IsFirstOfMonitor slice) file slice) status mid out_now) → IfErr result (λ status. CommandsEndOn file files files_now status out out_now)
+    → IfErr result (λ status. IsTurnedAway (IsRefusalLine (IsFirstOfMonitor slice) file slice) status mid out_now) → IfErr result (λ status. CommandsEndOn file [] files files_now status out out_now)
 file_judged one_spelling no_spelling one_tree file bytes slice files files_now (Ok found) out mid out_now same read steady silent away = tt
 file_judged one_spelling no_spelling one_tree file bytes slice files files_now (Err status) out mid out_now same read steady silent away =
-    file_refused one_spelling no_spelling one_tree file bytes slice files files_now status out mid out_now same read steady silent away
+    file_refused one_spelling no_spelling one_tree [] file bytes slice files files_now status out mid out_now same read steady silent away
 
 -- ---- the bytes that were read are accepted
 
-monitor_held : (held : List ℕ → Option (List ℕ)) (file bytes slice : List ℕ) (tree : MonitorTree) (monitor : MonitorParts)
+pub monitor_held : (held : List ℕ → Option (List ℕ)) (file bytes slice : List ℕ) (tree : MonitorTree) (monitor : MonitorParts)
     → slice ≡ bytes → IsRead (held file) 65536 bytes → IsAccepted slice tree monitor → HoldsMonitor held file tree monitor
 monitor_held held file bytes slice tree monitor same read accepted =
     let here : IsRead (held file) 65536 slice = subst (λ (b : List ℕ). IsRead (held file) 65536 b) (sym same) read in
@@ -88,7 +92,7 @@ each_held held file bytes slice (Ok found) same read accepted = monitor_held hel
 each_held held file bytes slice (Err status) same read accepted = tt
 
 -- an accepted file is not rejected
-no_rejection : (held : List ℕ → Option (List ℕ)) (file : List ℕ) (tree : MonitorTree) (monitor : MonitorParts) → HoldsMonitor held file tree monitor → RejectsMonitor held file → ⊥
+pub no_rejection : (held : List ℕ → Option (List ℕ)) (file : List ℕ) (tree : MonitorTree) (monitor : MonitorParts) → HoldsMonitor held file tree monitor → RejectsMonitor held file → ⊥
 no_rejection held file tree monitor holds (all, is, none) =
     let same = holds_same held file all holds.bytes is holds.told in
     none tree monitor (subst (λ (b : List ℕ). IsAccepted b tree monitor) same holds.accepted)

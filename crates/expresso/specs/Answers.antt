@@ -22,6 +22,7 @@ use Rattle.expresso.specs.declared.status.Status.TheVariants.{Done, Refused, Usa
 use Rattle.expresso.specs.declared.status.Status.TheVariants.{WriteFault, OutOfMemory, Stalled}
 use Rattle.mon_command.specs.declared.schedule.Schedule.{Schedule}
 use Rattle.mon_command.specs.CommandLine.{Command, check, turns, compile, simulate, run, stress}
+use Rattle.mon_command.specs.CommandLine.{report, recheck}
 use Rattle.mon_command.specs.CommandLine.{Takes, TakesNone, files_of}
 use Rattle.mon_stress.specs.LargeInput.{buffer_of, capacity_of, producers_and_consumers}
 use Rattle.expresso.specs.Placements.{IsPlacement}
@@ -33,6 +34,12 @@ use Rattle.mon_text.specs.SummaryText.{summary_text}
 use Rattle.expresso.specs.FirstFaults.{IsRefusalLine}
 use Rattle.expresso.specs.MonitorFiles.{IsAccepted, IsFirstOfMonitor}
 use Rattle.expresso.specs.ClientFiles.{AreAccepted, IsFirstOfClients}
+use Rattle.expresso.specs.ReportFiles.{IsAcceptanceLine, IsRechecked}
+use Rattle.expresso.specs.ReportFiles.{IsReportRefusalLine}
+use Rattle.mon_place.specs.declared.placed.PlacedPlan.{PlacedPlan}
+use Rattle.mon_place.specs.Backing.{AreProofs, backed_claims}
+use Rattle.mon_recheck.specs.declared.report.Report.{Report}
+use Rattle.mon_recheck.specs.Reports.{report_of, report_text}
 use Rattle.expresso.specs.Texts.{usage_text}
 
 -- the bytes are those held by a name, where they are told
@@ -123,6 +130,27 @@ pub record IsStressText (number : ℕ) (text : List ℕ) : Type 0 where
       (system_under (buffer_of (capacity_of number)) producers_and_consumers plan) log last
   pub printed : text ≡ codes "calls 16384\ndone\nstate count=0\n"
 
+-- the text of the report of a plan that the monitor of the file is compiled to, which has one
+-- certificate for each claim that the plan rests on
+pub record IsReportText (held : List ℕ → Option (List ℕ)) (file text : List ℕ) : Type 0 where
+  pub tree : MonitorTree
+  pub monitor : MonitorParts
+  pub placed : PlacedPlan
+  pub holds : HoldsMonitor held file tree monitor
+  pub placement : IsPlacement monitor placed.plan
+  pub proofs : AreProofs monitor placed.plan.kept (backed_claims monitor placed.plan) placed.proofs
+  pub printed : text ≡ report_text monitor (report_of placed)
+
+-- the line that accepts the report of the second file, of the monitor of the first
+pub record IsRecheckText (held : List ℕ
+    → Option (List ℕ)) (monitor_file report_file text : List ℕ) : Type 0 where
+  pub tree : MonitorTree
+  pub monitor : MonitorParts
+  pub bytes : List ℕ
+  pub holds : HoldsMonitor held monitor_file tree monitor
+  pub told : HoldsBytes held report_file bytes
+  pub line : IsAcceptanceLine monitor bytes text
+
 -- the text of a command whose work is done; of `turns`, `simulate` and `run`, that no client has a
 -- call left
 abbrev pub IsDoneText : (List ℕ → Option (List ℕ)) → Command → List ℕ → Type 0
@@ -139,6 +167,8 @@ IsDoneText held (run monitor clients workers) text =
     (scripts : List Client) × (log : List Entry) × IsRunText held monitor clients scripts log text
     × IsFinished scripts (commits_of log)
 IsDoneText held (stress number workers) text = IsStressText number text
+IsDoneText held (report file) text = IsReportText held file text
+IsDoneText held (recheck monitor report_file) text = IsRecheckText held monitor report_file text
 
 -- the text of `turns`, `simulate` or `run` where some client has a call left; no other command
 -- stalls
@@ -156,6 +186,8 @@ IsStalledText held (run monitor clients workers) text =
     (scripts : List Client) × (log : List Entry) × IsRunText held monitor clients scripts log text
     × (IsFinished scripts (commits_of log) → ⊥)
 IsStalledText held (stress number workers) text = ⊥
+IsStalledText held (report file) text = ⊥
+IsStalledText held (recheck monitor report_file) text = ⊥
 
 -- ---- refusals
 
@@ -182,6 +214,21 @@ abbrev pub IsRunRefusal : (List ℕ → Option (List ℕ)) → List ℕ → List
 IsRunRefusal held monitor clients text =
     IsMonitorRefusal held monitor text ⊎ IsClientsRefusal held monitor clients text
 
+-- the monitor file is accepted, and the line refuses the report's file
+pub record IsReportRefusal (held : List ℕ
+    → Option (List ℕ)) (monitor_file report_file text : List ℕ) : Type 0 where
+  pub tree : MonitorTree
+  pub monitor : MonitorParts
+  pub bytes : List ℕ
+  pub holds : HoldsMonitor held monitor_file tree monitor
+  pub told : HoldsBytes held report_file bytes
+  pub line : IsReportRefusalLine monitor report_file bytes text
+
+-- the line of the first of both files that is not accepted
+abbrev pub IsRecheckRefusal : (List ℕ → Option (List ℕ)) → List ℕ → List ℕ → List ℕ → Type 0
+IsRecheckRefusal held monitor report_file text =
+    IsMonitorRefusal held monitor text ⊎ IsReportRefusal held monitor report_file text
+
 abbrev pub IsRefusedText : (List ℕ → Option (List ℕ)) → Command → List ℕ → Type 0
 IsRefusedText held (check file) text = IsMonitorRefusal held file text
 IsRefusedText held (turns monitor clients) text = IsRunRefusal held monitor clients text
@@ -189,6 +236,9 @@ IsRefusedText held (compile file) text = IsMonitorRefusal held file text
 IsRefusedText held (simulate monitor clients schedule) text = IsRunRefusal held monitor clients text
 IsRefusedText held (run monitor clients workers) text = IsRunRefusal held monitor clients text
 IsRefusedText held (stress number workers) text = ⊥
+IsRefusedText held (report file) text = IsMonitorRefusal held file text
+IsRefusedText held (recheck monitor report_file) text =
+    IsRecheckRefusal held monitor report_file text
 
 -- a read fault's line that names one of the command's files; which of them, no clause says
 abbrev pub IsUnreadText : Command → List ℕ → Type 0
@@ -220,8 +270,7 @@ IsUnfinished out out_now text =
     ⊎ (Appends out.written out_now.written text × (0 < out_now.buffered))
 
 -- What was written for a status: its whole text; where the sink failed, the text whose status this
--- one replaces, not all of
--- which was handed on; where memory ran out, nothing.
+-- one replaces, not all of which was handed on; where memory ran out, nothing.
 abbrev pub Answers : List (List ℕ) → FilesSeen → FilesSeen → Status → SinkSeen → SinkSeen → Type 0
 Answers words files files_now WriteFault out out_now =
     (status : Status) × (text : List ℕ) × IsText words files files_now status text
@@ -261,6 +310,22 @@ RejectsRun held monitor_file clients_file =
     × ((tree : MonitorTree) (monitor : MonitorParts) (clients : List Client)
     → IsAccepted monitor_bytes tree monitor → AreAccepted clients_bytes monitor clients → ⊥)
 
+-- the two files tell their bytes: a monitor's, and those of a report of it that is accepted
+abbrev pub AcceptsReport : (List ℕ → Option (List ℕ)) → List ℕ → List ℕ → Type 0
+AcceptsReport held monitor_file report_file =
+    (monitor_bytes : List ℕ) × (report_bytes : List ℕ) × (tree : MonitorTree)
+    × (monitor : MonitorParts) × (own : Report)
+    × (held monitor_file ≡ Some monitor_bytes) × (held report_file ≡ Some report_bytes)
+    × IsAccepted monitor_bytes tree monitor × IsRechecked report_bytes monitor own
+
+-- they tell their bytes, and these are not a monitor's and those of an accepted report of it
+abbrev pub RejectsReport : (List ℕ → Option (List ℕ)) → List ℕ → List ℕ → Type 0
+RejectsReport held monitor_file report_file =
+    (monitor_bytes : List ℕ) × (report_bytes : List ℕ) × (held monitor_file ≡ Some monitor_bytes)
+    × (held report_file ≡ Some report_bytes)
+    × ((tree : MonitorTree) (monitor : MonitorParts) (own : Report)
+    → IsAccepted monitor_bytes tree monitor → IsRechecked report_bytes monitor own → ⊥)
+
 -- the files of the command tell their bytes, which are accepted; `stress` has no files
 abbrev pub AcceptsFiles : (List ℕ → Option (List ℕ)) → Command → Type 0
 AcceptsFiles held (check file) = AcceptsMonitor held file
@@ -269,6 +334,8 @@ AcceptsFiles held (compile file) = AcceptsMonitor held file
 AcceptsFiles held (simulate monitor clients schedule) = AcceptsRun held monitor clients
 AcceptsFiles held (run monitor clients workers) = AcceptsRun held monitor clients
 AcceptsFiles held (stress number workers) = Unit {0}
+AcceptsFiles held (report file) = AcceptsMonitor held file
+AcceptsFiles held (recheck monitor report_file) = AcceptsReport held monitor report_file
 
 -- they tell their bytes, and one of them is not accepted
 abbrev pub RejectsFiles : (List ℕ → Option (List ℕ)) → Command → Type 0
@@ -278,6 +345,8 @@ RejectsFiles held (compile file) = RejectsMonitor held file
 RejectsFiles held (simulate monitor clients schedule) = RejectsRun held monitor clients
 RejectsFiles held (run monitor clients workers) = RejectsRun held monitor clients
 RejectsFiles held (stress number workers) = ⊥
+RejectsFiles held (report file) = RejectsMonitor held file
+RejectsFiles held (recheck monitor report_file) = RejectsReport held monitor report_file
 
 -- the words are a command's whose files are accepted; or one of them is not
 abbrev pub Accepts : (List ℕ → Option (List ℕ)) → List (List ℕ) → Type 0

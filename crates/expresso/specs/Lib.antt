@@ -5,6 +5,7 @@ pub mod Simulations
 pub mod FirstFaults
 pub mod MonitorFiles
 pub mod ClientFiles
+pub mod ReportFiles
 pub mod Texts
 pub mod Answers
 pub mod Headline

@@ -1,5 +1,5 @@
 -- What the program itself prints. Plans are texts of `mon_events`; runs, logs, summaries and faults
--- of `mon_text`; canonical forms of `mon_printer`.
+-- of `mon_text`; canonical forms of `mon_printer`; reports and verdicts of `mon_recheck`.
 use Rattle.std.specs.Prelude.{ℕ, List, ◌++◌, codes}
 
 abbrev pub usage_text : List ℕ
@@ -11,3 +11,5 @@ usage_text =
     ++ codes "expresso simulate FILE CLIENTS [--seed N] [--spurious K]\n"
     ++ codes "expresso run FILE CLIENTS [--workers N]\n"
     ++ codes "expresso stress N [--workers N]\n"
+    ++ codes "expresso report FILE\n"
+    ++ codes "expresso recheck FILE REPORT\n"

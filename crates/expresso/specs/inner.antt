@@ -1,4 +1,5 @@
 pub mod Ending
 pub mod Input
+pub mod Judging
 pub mod Ranges
 pub mod Schedules

@@ -1,7 +1,8 @@
-//! A monitor, or a monitor and its clients, from the files that a command names.
+//! A monitor, alone or with another file, from the files that a command names.
 
 ghost use Rattle.std.specs.Prelude.{◌≡◌, [], ◌∷◌, All, IfErr, IfOk, OnOk};
 ghost use Rattle.mon_implicit.specs.Scripted.{FitsScripts};
+ghost use Rattle.mon_io.specs.Outside.{IsRead};
 ghost use Rattle.expresso.specs.FirstFaults.{IsRefusalLine};
 ghost use Rattle.expresso.specs.MonitorFiles.{IsAccepted, IsFirstOfMonitor};
 ghost use Rattle.expresso.specs.ClientFiles.{AreAccepted, IsFirstOfClients};
@@ -87,15 +88,52 @@ pub(crate) fn monitor_of<F: Files, S: Sink>(
         file.now found.tree found.monitor) }
     ensures quiet { OnOk result (IsQuiet (F.seen files.old) (F.seen files.new)
         (S.seen out.old) (S.seen out.new)) }
-    ensures ended { IfErr result (λ status. CommandsEndOn file.now
+    ensures ended { IfErr result (λ status. CommandsEndOn file.now []
         (F.seen files.old) (F.seen files.new) status (S.seen out.old) (S.seen out.new)) }
     ensures files { KeepsFiles (F.seen files.old) (F.seen files.new)
         (F.may_read files.old) (F.may_read files.new) }
 {
     one_spelling();
     derives_one_tree();
-    let bytes = bytes_of(alloc, file, files, out)?;
+    let bytes = bytes_of(alloc, file, FILE_BYTES as u64, files, out)?;
     monitor_in(alloc, file, &bytes, out)
+}
+
+/// A monitor, and the bytes of the other file of its command.
+#[derive(Debug, Drop)]
+pub(crate) struct Opened {
+    pub found: MonitorFile,
+    pub bytes: Vec<u8>,
+}
+
+/// Reads both files, the monitor first, and of the other one byte more than it may have at most. Where there is no
+/// monitor, or one of them couldn't be read, the status of their command: the line of the first fault is written then.
+pub(crate) fn open_both<F: Files, S: Sink>(
+    alloc: Global,
+    monitor: &str,
+    other: &str,
+    most: u64,
+    files: &mut F,
+    out: &mut S,
+) -> Result<Opened, Status>
+    requires files { All (F.may_read files.old) (monitor.now ∷ other.now ∷ []) }
+    ensures holds { IfOk result (λ opened. HoldsMonitor (F.seen files.old).held
+        monitor.now opened.found.tree opened.found.monitor) }
+    ensures read { IfOk result (λ opened.
+        IsRead ((F.seen files.old).held other.now) most opened.bytes.items) }
+    ensures quiet { OnOk result (IsQuiet (F.seen files.old) (F.seen files.new)
+        (S.seen out.old) (S.seen out.new)) }
+    ensures ended { IfErr result (λ status. CommandsEndOn monitor.now (other.now ∷ [])
+        (F.seen files.old) (F.seen files.new) status (S.seen out.old) (S.seen out.new)) }
+    ensures files { KeepsFiles (F.seen files.old) (F.seen files.new)
+        (F.may_read files.old) (F.may_read files.new) }
+{
+    one_spelling();
+    derives_one_tree();
+    let monitor_bytes = bytes_of(alloc, monitor, FILE_BYTES as u64, files, out)?;
+    let bytes = bytes_of(alloc, other, most, files, out)?;
+    let found = monitor_in(alloc, monitor, &monitor_bytes, out)?;
+    Ok(Opened { found, bytes })
 }
 
 /// A monitor, and what its clients call.
@@ -127,10 +165,9 @@ pub(crate) fn input_of<F: Files, S: Sink>(
 {
     one_spelling();
     derives_one_tree();
-    let monitor_bytes = bytes_of(alloc, monitor, files, out)?;
-    let clients_bytes = bytes_of(alloc, clients, files, out)?;
-    let found = monitor_in(alloc, monitor, &monitor_bytes, out)?;
-    let scripts = scripts_in(alloc, clients, &clients_bytes, &found.monitor, out)?;
+    let opened = open_both(alloc, monitor, clients, FILE_BYTES as u64, files, out)?;
+    let Opened { found, bytes } = opened;
+    let scripts = scripts_in(alloc, clients, &bytes, &found.monitor, out)?;
     Ok(Input {
         monitor: found.monitor,
         scripts,

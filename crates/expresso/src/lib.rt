@@ -3,7 +3,8 @@
 //! [`expresso`] reads the words of the command line and does what they ask for. `run FILE CLIENTS` compiles a monitor to a
 //! plan, has workers run clients on it in threads, and prints the plan and the log. `check` prints a monitor's canonical
 //! form, `turns` a run by rounds of the implicit machine, `compile` the plan alone: whom each block wakes; `simulate` runs
-//! the clients by a schedule in place of threads, and `stress` runs a large input.
+//! the clients by a schedule in place of threads, and `stress` runs a large input. `report` prints the plan with a
+//! certificate of each claim that it rests on, and `recheck` checks such a text without the prover.
 //!
 //! Its clause `headline` is `specs/Headline`: what `run` promises. `specs/ProgramEnds` says what every call promises,
 //! `specs/Answers` what each command prints, and `specs/Exit` which number stands for a [`Status`]. [`without_workers`]
@@ -20,6 +21,8 @@ mod monitor_file;
 mod placement;
 mod program;
 mod reading;
+mod recheck;
+mod report;
 mod run;
 mod simulate;
 mod status;

@@ -23,6 +23,8 @@ use std::thread::Threads;
 /// the run and its last state; `compile FILE` writes the plan; `simulate FILE CLIENTS [--seed N] [--spurious K]` runs
 /// the clients by sections under such a plan, by rounds or by the words that a seed draws, and writes as `run`;
 /// `stress N [--workers N]` has workers run a large input that is made of a number, and writes a summary.
+/// `report FILE` writes the plan and, for each claim that it rests on, a line with a certificate; `recheck FILE REPORT`
+/// checks such a report again, by its certificates alone, and writes whether it is accepted.
 ///
 /// The words begin with the program's name. First the files are read, the monitor first, then all work is
 /// done and all memory taken, and then the text is written, which takes no memory. Of a file that isn't accepted
@@ -55,9 +57,9 @@ pub fn expresso<R: Threads + Wait + Sync, F: Files, S: Sink, G: Gate>(
     }
 }
 
-/// The program but for `run` and `stress`: what `check`, `turns`, `compile` and `simulate` do, and what comes of other
-/// words. It starts no thread and waits for none, so it returns. A command that runs in workers is handed back, with
-/// nothing read and nothing written.
+/// The program but for `run` and `stress`: what `check`, `turns`, `compile`, `simulate`, `report` and `recheck` do, and
+/// what comes of other words. It starts no thread and waits for none, so it returns. A command that runs in workers is
+/// handed back, with nothing read and nothing written.
 pub fn without_workers<'a, F: Files, S: Sink>(
     alloc: Global,
     words: &'a Vec<String>,

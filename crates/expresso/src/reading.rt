@@ -1,28 +1,27 @@
 //! The bytes of the files that a command names.
 
 ghost use Rattle.std.specs.Prelude.{IfErr, IfOk, OnOk};
-ghost use Rattle.mon_base.specs.Limits.{FILE_BYTES};
 ghost use Rattle.mon_io.specs.Outside.{IsRead};
 ghost use Rattle.expresso.specs.ProgramEnds.{KeepsFiles};
 ghost use Rattle.expresso.specs.inner.Ending.{IsQuiet, IsUnread};
 
 use crate::status::Status;
 use crate::text::show_unread;
-use mon_base::limits::FILE_BYTES;
 use mon_io::{FileFault, Files, Sink};
 use std::alloc::Global;
 
-/// The bytes of a file, one more than a file may have at most. Where it has none, the status of its command: the
+/// The bytes of a file, one more than it may have at most. Where it has none, the status of its command: the
 /// line of a file that couldn't be read is written then.
 pub(crate) fn bytes_of<F: Files, S: Sink>(
     alloc: Global,
     file: &str,
+    most: u64,
     files: &mut F,
     out: &mut S,
 ) -> Result<Vec<u8>, Status>
     requires { F.may_read files.old file.now }
     ensures told { IfOk result (λ bytes.
-        IsRead ((F.seen files.old).held file.now) FILE_BYTES bytes.items) }
+        IsRead ((F.seen files.old).held file.now) most bytes.items) }
     ensures quiet { OnOk result (IsQuiet (F.seen files.old) (F.seen files.new)
         (S.seen out.old) (S.seen out.new)) }
     ensures unread { IfErr result (λ status. IsUnread file.now
@@ -30,7 +29,7 @@ pub(crate) fn bytes_of<F: Files, S: Sink>(
     ensures files { KeepsFiles (F.seen files.old) (F.seen files.new)
         (F.may_read files.old) (F.may_read files.new) }
 {
-    match files.read_up_to(alloc, file, FILE_BYTES as u64) {
+    match files.read_up_to(alloc, file, most) {
         Ok(bytes) => Ok(bytes),
         Err(FileFault::Failed) => Err(show_unread(file, out)),
         Err(FileFault::OutOfMemory) => Err(Status::OutOfMemory),

@@ -8,12 +8,16 @@ ghost use Rattle.mon_events.specs.Logs.{IsClosed, commits_of};
 ghost use Rattle.mon_events.specs.PlanText.{plan_text};
 ghost use Rattle.mon_printer.specs.Canonical.{tree_text};
 ghost use Rattle.mon_text.specs.FaultText.{place_text, too_long_text, unread_text};
+ghost use Rattle.mon_text.specs.FaultText.{not_report_text, other_too_long_text};
 ghost use Rattle.mon_text.specs.LogText.{are_done};
 ghost use Rattle.mon_text.specs.TurnsText.{turns_text};
 ghost use Rattle.mon_text.specs.Laws.{plan_and_log_text};
 ghost use Rattle.mon_text.specs.SummaryText.{summary_text};
+ghost use Rattle.mon_recheck.specs.Reports.{placed_text};
+ghost use Rattle.mon_recheck.specs.Verdicts.{verdict_text};
 ghost use Rattle.expresso.specs.Texts.{usage_text};
 ghost use Rattle.expresso.specs.inner.Ending.{IsWritten, ended};
+ghost use Rattle.expresso.specs.inner.Judging.{verdict_status};
 
 use crate::status::Status;
 use mon_base::SourceFault;
@@ -22,7 +26,9 @@ use mon_explicit::FreeMonitor;
 use mon_implicit::{Scripts, Turns};
 use mon_io::{Sink, SinkFailed, write_pieces};
 use mon_monitor::Monitor;
+use mon_place::PlacedPlan;
 use mon_printer::print_monitor;
+use mon_recheck::{Verdict, write_report, write_verdict};
 use mon_text::{Fault, are_done, write_fault, write_log, write_plan, write_summary, write_turns};
 use mon_tree::MonitorTree;
 
@@ -54,6 +60,8 @@ pub(crate) fn show_usage<S: Sink>(out: &mut S) -> Status
             b"expresso simulate FILE CLIENTS [--seed N] [--spurious K]\n",
             b"expresso run FILE CLIENTS [--workers N]\n",
             b"expresso stress N [--workers N]\n",
+            b"expresso report FILE\n",
+            b"expresso recheck FILE REPORT\n",
         ],
         out,
     );
@@ -75,6 +83,24 @@ pub(crate) fn show_too_long<S: Sink>(file: &str, out: &mut S) -> Status
         (S.seen out.old) (S.seen out.new) }
 {
     let outcome = write_fault(&Fault::TooLong { file }, out);
+    finish(Status::Refused, outcome, out)
+}
+
+/// Writes the line of a report's file that is too long.
+pub(crate) fn show_report_too_long<S: Sink>(file: &str, out: &mut S) -> Status
+    ensures { IsWritten Status.Refused (other_too_long_text file.now) result
+        (S.seen out.old) (S.seen out.new) }
+{
+    let outcome = write_fault(&Fault::OtherTooLong { file }, out);
+    finish(Status::Refused, outcome, out)
+}
+
+/// Writes the line of a file that is no report of its monitor.
+pub(crate) fn show_not_report<S: Sink>(file: &str, out: &mut S) -> Status
+    ensures { IsWritten Status.Refused (not_report_text file.now) result
+        (S.seen out.old) (S.seen out.new) }
+{
+    let outcome = write_fault(&Fault::NotReport { file }, out);
     finish(Status::Refused, outcome, out)
 }
 
@@ -108,6 +134,35 @@ pub(crate) fn show_plan<S: Sink>(monitor: &Monitor, plan: &Plan, out: &mut S) ->
 {
     let outcome = write_plan(monitor, plan, out);
     finish(Status::Done, outcome, out)
+}
+
+/// Writes the report of a plan that was placed.
+pub(crate) fn show_report<S: Sink>(monitor: &Monitor, placed: &PlacedPlan, out: &mut S) -> Status
+    ensures { IsWritten Status.Done (placed_text monitor.now placed.now) result
+        (S.seen out.old) (S.seen out.new) }
+{
+    let outcome = write_report(monitor, placed, out);
+    finish(Status::Done, outcome, out)
+}
+
+/// The status of a verdict.
+fn verdict_status(verdict: Verdict) -> Status
+    ensures { result ≡ verdict_status verdict }
+{
+    match verdict {
+        Verdict::Accepted { .. } => Status::Done,
+        Verdict::Unlawful => Status::Refused,
+        Verdict::Unproved { .. } => Status::Refused,
+    }
+}
+
+/// Writes the line of a verdict.
+pub(crate) fn show_verdict<S: Sink>(verdict: Verdict, out: &mut S) -> Status
+    ensures { IsWritten (verdict_status verdict) (verdict_text verdict) result
+        (S.seen out.old) (S.seen out.new) }
+{
+    let outcome = write_verdict(&verdict, out);
+    finish(verdict_status(verdict), outcome, out)
 }
 
 /// The status of a run.

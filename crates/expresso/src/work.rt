@@ -9,6 +9,8 @@ ghost use Rattle.expresso.specs.inner.Ranges.{IsInRange};
 
 use crate::check::check_file;
 use crate::compile::compile_file;
+use crate::recheck::recheck_files;
+use crate::report::report_file;
 use crate::run::run_files;
 use crate::simulate::simulate_files;
 use crate::status::Status;
@@ -49,6 +51,10 @@ pub(crate) fn work<'a, F: Files, S: Sink>(
             clients,
             schedule,
         } => Ok(simulate_files(alloc, monitor, clients, schedule, files, out)),
+        Command::Report { monitor } => Ok(report_file(alloc, monitor, files, out)),
+        Command::Recheck { monitor, report } => {
+            Ok(recheck_files(alloc, monitor, report, files, out))
+        }
         Command::Run { .. } => Err(command),
         Command::Stress { .. } => Err(command),
     }

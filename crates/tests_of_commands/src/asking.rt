@@ -21,6 +21,10 @@ pub(crate) const SIMULATE: &[&str] = &["expresso", "simulate", "m.mon", "c.cl"];
 
 pub(crate) const RUN: &[&str] = &["expresso", "run", "m.mon", "c.cl"];
 
+pub(crate) const REPORT: &[&str] = &["expresso", "report", "m.mon"];
+
+pub(crate) const RECHECK: &[&str] = &["expresso", "recheck", "m.mon", "r.txt"];
+
 /// Which calls of the files and of the sink fail, and how much the sink takes.
 #[derive(Clone, Copy)]
 pub(crate) struct Devices {
@@ -35,11 +39,12 @@ pub(crate) const SOUND: Devices = Devices {
     room: 1 << 20,
 };
 
-/// A call of the program: its words, what the files `m.mon` and `c.cl` hold, and how the devices fail.
+/// A call of the program: its words, what the file `m.mon` and one of another name hold, and how the devices fail.
 #[derive(Clone, Copy)]
 pub(crate) struct Call<'a> {
     pub(crate) words: &'a [&'a str],
     pub(crate) monitor: &'a [u8],
+    pub(crate) other: &'a str,
     pub(crate) clients: &'a [u8],
     pub(crate) devices: Devices,
 }
@@ -49,6 +54,7 @@ pub(crate) fn asked<'a>(words: &'a [&'a str], monitor: &'a [u8], clients: &'a [u
     Call {
         words,
         monitor,
+        other: "c.cl",
         clients,
         devices: SOUND,
     }
@@ -67,6 +73,19 @@ pub(crate) fn compile(monitor: &[u8]) -> Call<'_> {
 /// `expresso turns m.mon c.cl`
 pub(crate) fn turns<'a>(monitor: &'a [u8], clients: &'a [u8]) -> Call<'a> {
     asked(TURNS, monitor, clients)
+}
+
+/// `expresso report m.mon`
+pub(crate) fn report(monitor: &[u8]) -> Call<'_> {
+    asked(REPORT, monitor, b"")
+}
+
+/// `expresso recheck m.mon r.txt`
+pub(crate) fn recheck<'a>(monitor: &'a [u8], report: &'a [u8]) -> Call<'a> {
+    Call {
+        other: "r.txt",
+        ..asked(RECHECK, monitor, report)
+    }
 }
 
 /// What a call answered, and what it wrote.
@@ -158,10 +177,10 @@ pub(crate) fn texts_of(alloc: Global, words: &[&str]) -> Result<Vec<String>, All
     Ok(texts)
 }
 
-/// The files `m.mon` and `c.cl` of a call in memory.
+/// The two files of a call in memory.
 pub(crate) fn two_files(alloc: Global, call: &Call<'_>) -> Result<MemFiles, AllocError> {
     let mut held = Vec::new(alloc);
     held.push(mem_file(alloc, "m.mon", call.monitor)?)?;
-    held.push(mem_file(alloc, "c.cl", call.clients)?)?;
+    held.push(mem_file(alloc, call.other, call.clients)?)?;
     Ok(MemFiles::open(held, listed(alloc, call.devices.failing_read)?))
 }

@@ -20,6 +20,10 @@ mod outside;
 #[cfg(test)]
 mod readme;
 #[cfg(test)]
+mod recheck;
+#[cfg(test)]
+mod report;
+#[cfg(test)]
 mod run;
 #[cfg(test)]
 mod runs;

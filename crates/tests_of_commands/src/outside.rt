@@ -1,8 +1,8 @@
 //! Words that are no command, and devices that fail.
 
 use super::asking::{
-    CHECK, COMPILE, Call, Devices, Outcome, RUN, SIMULATE, SOUND, TURNS, answers, asked, check,
-    compile, outcome_of, texts_of, turns, two_files,
+    CHECK, COMPILE, Call, Devices, Outcome, REPORT, RUN, SIMULATE, SOUND, TURNS, answers, asked,
+    check, compile, outcome_of, texts_of, turns, two_files,
 };
 use super::run::LOCK_PLAN;
 use super::runs::TWO_RUN;
@@ -28,12 +28,14 @@ expresso compile FILE
 expresso simulate FILE CLIENTS [--seed N] [--spurious K]
 expresso run FILE CLIENTS [--workers N]
 expresso stress N [--workers N]
+expresso report FILE
+expresso recheck FILE REPORT
 ";
 
 #[test]
 fn other_words_get_the_usage(rt: HostRuntime) -> Result<(), Fail> {
     let none: [&str; 0] = [];
-    let table: [&[&str]; 19] = [
+    let table: [&[&str]; 23] = [
         &["expresso", "turns", "m.mon"],
         &["expresso", "check"],
         &["expresso", "check", "m.mon", "c.cl"],
@@ -53,6 +55,10 @@ fn other_words_get_the_usage(rt: HostRuntime) -> Result<(), Fail> {
         &["expresso", "stress", "x"],
         &["expresso", "stress", "3", "--workers", "17"],
         &["expresso", "stress", "3", "--seed", "1"],
+        &["expresso", "report"],
+        &["expresso", "report", "m.mon", "c.cl"],
+        &["expresso", "recheck", "m.mon"],
+        &["expresso", "recheck", "m.mon", "c.cl", "--workers", "2"],
     ];
     for words in table {
         answers(&rt, asked(words, BUFFER, TWO), Status::Usage, USAGE)?;
@@ -68,9 +74,12 @@ fn buffer_over<'a>(words: &'a [&'a str], devices: Devices) -> Call<'a> {
     }
 }
 
+/// A recheck whose report is the clients' file.
+const RECHECK_CLIENTS: &[&str] = &["expresso", "recheck", "m.mon", "c.cl"];
+
 #[test]
 fn a_read_that_fails_names_its_file(rt: HostRuntime) -> Result<(), Fail> {
-    let table: [(&[&str], u64, &[u8]); 8] = [
+    let table: [(&[&str], u64, &[u8]); 11] = [
         (TURNS, 1, b"read fault: m.mon\n"),
         (TURNS, 2, b"read fault: c.cl\n"),
         (CHECK, 1, b"read fault: m.mon\n"),
@@ -79,6 +88,9 @@ fn a_read_that_fails_names_its_file(rt: HostRuntime) -> Result<(), Fail> {
         (SIMULATE, 2, b"read fault: c.cl\n"),
         (RUN, 1, b"read fault: m.mon\n"),
         (RUN, 2, b"read fault: c.cl\n"),
+        (REPORT, 1, b"read fault: m.mon\n"),
+        (RECHECK_CLIENTS, 1, b"read fault: m.mon\n"),
+        (RECHECK_CLIENTS, 2, b"read fault: c.cl\n"),
     ];
     for (words, number, line) in table {
         let devices = Devices {

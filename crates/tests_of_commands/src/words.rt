@@ -64,6 +64,13 @@ fn each_command_is_taken(rt: HostRuntime) -> Result<(), Fail> {
         &["stress", "3"],
         "Stress { number: 3, workers: 4 }",
     )?;
+    is(&rt, alloc, &["report", "m"], "Report { monitor: \"m\" }")?;
+    is(
+        &rt,
+        alloc,
+        &["recheck", "m", "r"],
+        "Recheck { monitor: \"m\", report: \"r\" }",
+    )?;
     Ok(())
 }
 
@@ -137,6 +144,8 @@ fn other_commands_and_values_are_refused(rt: HostRuntime) -> Result<(), Fail> {
     is_usage(&rt, alloc, &["stress", ""])?;
     is_usage(&rt, alloc, &["stress", "18446744073709551616"])?;
     is_usage(&rt, alloc, &["check", "-m"])?;
+    is_usage(&rt, alloc, &["report", "m", "r"])?;
+    is_usage(&rt, alloc, &["recheck", "m"])?;
     Ok(())
 }
 
@@ -159,6 +168,7 @@ fn other_options_are_refused(rt: HostRuntime) -> Result<(), Fail> {
     is_usage(&rt, alloc, &["stress", "3", "--seed", "1"])?;
     is_usage(&rt, alloc, &["check", "m", "--workers", "2"])?;
     is_usage(&rt, alloc, &["check", "m", "--quiet"])?;
+    is_usage(&rt, alloc, &["report", "m", "--workers", "2"])?;
     Ok(())
 }
 

@@ -174,7 +174,7 @@ fn holds_a_front(alloc: Global, fault: &Fault, room: u64, line: &[u8]) -> Result
 }
 
 /// Faults, and the line of each.
-const LINES: [(Fault, &[u8]); 3] = [
+const LINES: [(Fault, &[u8]); 5] = [
     (
         Fault::Place {
             file: "m.mon",
@@ -191,6 +191,14 @@ const LINES: [(Fault, &[u8]); 3] = [
         b"refused: b.mon: more than 65536 bytes\n",
     ),
     (Fault::Unread { file: "two.cl" }, b"read fault: two.cl\n"),
+    (
+        Fault::OtherTooLong { file: "r.txt" },
+        b"refused: r.txt: more than 16777216 bytes\n",
+    ),
+    (
+        Fault::NotReport { file: "r.txt" },
+        b"refused: r.txt: not a report\n",
+    ),
 ];
 
 #[test]

@@ -10,18 +10,19 @@ use Rattle.expresso.specs.Answers.{AcceptsFiles, AcceptsMonitor, AcceptsRun, IsM
 use Rattle.expresso.specs.Answers.{IsRefusedText, IsRunRefusal}
 use Rattle.expresso.specs.inner.Ending.{CommandEnds}
 
--- the command works on the monitor of this file
-pub record WorksOn (command : Command) (file : List ℕ) : Type 0 where
-  pub files : files_of command ≡ file ∷ []
+-- the command works on the monitor of this file, and reads these others
+pub record WorksOn (command : Command) (file : List ℕ) (others : List (List ℕ)) : Type 0 where
+  pub files : files_of command ≡ file ∷ others
   pub refused : (held : List ℕ → Option (List ℕ)) (text : List ℕ) → IsMonitorRefusal held file text
       → IsRefusedText held command text
   pub accepted : (held : List ℕ → Option (List ℕ)) → AcceptsFiles held command
       → AcceptsMonitor held file
 
--- how any command that works on it ended
-abbrev pub CommandsEndOn : List ℕ → FilesSeen → FilesSeen → Status → SinkSeen → SinkSeen → Type 0
-CommandsEndOn file files files_now result out out_now =
-    (command : Command) → WorksOn command file
+-- how any command that does ended
+abbrev pub CommandsEndOn : List ℕ → List (List ℕ) → FilesSeen → FilesSeen → Status → SinkSeen
+    → SinkSeen → Type 0
+CommandsEndOn file others files files_now result out out_now =
+    (command : Command) → WorksOn command file others
     → CommandEnds command files files_now result out out_now
 
 -- such a fault, unless memory ran out

@@ -1,0 +1,202 @@
+-- How `report` and `recheck` end.
+use Rattle.std.proofs.Common.{◌≡◌, ℕ, ◌<◌, ◌≤◌, true, false, List, [], ◌∷◌, length, Option, Some, None, map, refl, sym, ap, subst, ◌∙◌, inl, inr, arith}
+use Rattle.std.specs.Prelude.{IfSome, IsSomeAnd, slice_get}
+use Rattle.std.proofs.lemmas.Bool.{true≢false}
+use Rattle.mon_io.specs.Outside.{FilesSeen, SinkSeen, IsRead}
+use Rattle.mon_tree.specs.declared.tree.MonitorTree.{MonitorTree}
+use Rattle.mon_monitor.specs.MonitorParts.{MonitorParts}
+use Rattle.mon_monitor.specs.Queries.{query_of}
+use Rattle.mon_cert.specs.declared.cert.Cert.{Cert}
+use Rattle.mon_monitor.specs.declared.claim.Claim.{Claim}
+use Rattle.mon_monitor.specs.declared.candidate.Candidate.{Candidate}
+use Rattle.mon_wp.specs.Limits.{is_query_within}
+use Rattle.mon_place.specs.declared.placed.PlacedPlan.{PlacedPlan}
+use Rattle.mon_place.specs.Backing.{AreProofs, backed_claims}
+use Rattle.mon_text.specs.FaultText.{not_report_text, other_too_long_text}
+use Rattle.mon_recheck.specs.declared.report.Report.{Report}
+use Rattle.mon_recheck.specs.declared.report.Verdict.{Verdict}
+use Rattle.mon_recheck.specs.declared.report.Verdict.TheVariants as verdicts
+use Rattle.mon_recheck.specs.Readings.{IsReportRead}
+use Rattle.mon_recheck.specs.Reports.{IsReport, placed_text, proofs_of, report_of, report_text}
+use Rattle.mon_recheck.specs.Verdicts.{AreChecked, IsOpen, IsProof, IsVerdict, verdict_text}
+use Rattle.mon_recheck.specs.Verdicts.{IsAccepted as IsAcceptedReport}
+use Rattle.mon_recheck.proofs.Pairs.{all_at}
+use Rattle.mon_command.specs.CommandLine.{report, recheck}
+use Rattle.expresso.specs.declared.status.Status.{Status}
+use Rattle.expresso.specs.declared.status.Status.TheVariants as statuses
+use Rattle.expresso.specs.Placements.{IsPlacement}
+use Rattle.expresso.specs.MonitorFiles.{IsAccepted}
+use Rattle.expresso.specs.ReportFiles.{IsAcceptance, IsAcceptanceLine, IsRechecked, IsRejectionLine, IsReportFile, IsReportRefusalLine}
+use Rattle.expresso.specs.Answers.{AcceptsMonitor, AcceptsReport, HoldsMonitor, RejectsReport}
+use Rattle.expresso.specs.inner.Ending.{CommandEnds, IsTurnedAway, IsWritten}
+use Rattle.expresso.specs.inner.Input.{WorksOn}
+use Rattle.expresso.specs.inner.Judging.{IsFinding, IsJudged, finding_status, finding_text, verdict_status}
+use Rattle.expresso.proofs.Telling.{told, is_told, read_short, held_long, holds_same}
+use Rattle.expresso.proofs.FirstFaults.{OneSpelling, OneTree}
+use Rattle.expresso.proofs.OneFile.{no_rejection}
+use Rattle.expresso.proofs.OneMonitor.{one_monitor}
+use Rattle.expresso.proofs.Outcomes.{written_since}
+use Rattle.expresso.proofs.Ending.{memory_ended, refused_ended, work_ended}
+
+-- ---- `report`
+
+-- what is written of a placed plan is the text of its report
+abbrev pub PlacedTexts : Type 0
+PlacedTexts = (monitor : MonitorParts) (placed : PlacedPlan) → map (λ proof. proof.claim) placed.proofs ≡ backed_claims monitor placed.plan
+    → placed_text monitor placed ≡ report_text monitor (report_of placed)
+
+pub report_done : PlacedTexts → (file : List ℕ) (tree : MonitorTree) (monitor : MonitorParts) (placed : PlacedPlan) (files files_now : FilesSeen) (result : Status) (out out_now : SinkSeen)
+    → HoldsMonitor files.held file tree monitor → IsPlacement monitor placed.plan → AreProofs monitor placed.plan.kept (backed_claims monitor placed.plan) placed.proofs
+    → files_now.faults ≡ files.faults → IsWritten statuses.Done (placed_text monitor placed) result out out_now → CommandEnds (report file) files files_now result out out_now
+report_done texts file tree monitor placed files files_now result out out_now holds placement proofs steady written =
+    work_ended (report file) files files_now (placed_text monitor placed) result out out_now true
+    (record { tree = tree; monitor = monitor; placed = placed; holds = holds; placement = placement; proofs = proofs; printed = texts monitor placed proofs.claims })
+    (no_rejection files.held file tree monitor holds) steady written
+
+-- ---- `recheck`
+
+pub recheck_works : (monitor report_file : List ℕ) → WorksOn (recheck monitor report_file) monitor (report_file ∷ [])
+recheck_works monitor report_file = record { files = refl; refused = λ held text line. inl line; accepted = λ held accepts. monitor_accepted held accepts }
+  where
+    monitor_accepted : (held : List ℕ → Option (List ℕ)) → AcceptsReport held monitor report_file → AcceptsMonitor held monitor
+    monitor_accepted held (mb, rb, tree, parts, own, monitor_tells, report_tells, accepted, is) = (mb, tree, parts, monitor_tells, accepted)
+
+-- bytes that were read as a report are one of the monitor, which has a certificate for each claim
+pub read_report_is : (monitor : MonitorParts) (bytes : List ℕ) (own : Report) → IsReportRead monitor bytes (Some own) → IsReport monitor own
+read_report_is monitor bytes own read = read.is
+
+-- and are not read as none
+not_none : (monitor : MonitorParts) (bytes : List ℕ) (own : Report) → IsReportRead monitor bytes (Some own) → IsReportRead monitor bytes None → ⊥
+not_none monitor bytes own read none = none own read.is read.readable read.text
+
+-- bytes are the text of one report at most
+one_report : (monitor : MonitorParts) (bytes : List ℕ) (own any : Report) → IsReportFile bytes monitor own → IsReportFile bytes monitor any → any ≡ own
+one_report monitor bytes own any file other = file.read.only any other.read.is other.read.readable other.read.text
+
+-- no claim of an accepted report is open
+no_open : (monitor : MonitorParts) (kept : List Candidate) (proofs : List (Claim × Cert)) (place : ℕ) → AreChecked monitor kept proofs → IsSomeAnd (slice_get proofs place) (IsOpen monitor kept) → ⊥
+no_open monitor kept proofs place all here = by_found (slice_get proofs place) refl here
+  where
+    by_found : (found : Option (Claim × Cert)) → slice_get proofs place ≡ found → IsSomeAnd found (IsOpen monitor kept) → ⊥
+    by_found None is here = here
+    by_found (Some one) is (inl unproved) =
+        unproved (all_at (λ one. IsProof monitor kept one × (is_query_within monitor (query_of monitor kept one.0) ≡ true)) proofs place one is all).0
+    by_found (Some one) is (inr beyond) =
+        true≢false (sym (all_at (λ one. IsProof monitor kept one × (is_query_within monitor (query_of monitor kept one.0) ≡ true)) proofs place one is all).1 ∙ beyond)
+
+-- an accepted report has no other verdict
+no_other : (monitor : MonitorParts) (own : Report) (verdict : Verdict) → IsAcceptedReport monitor own → IsVerdict monitor own verdict → (IsAcceptance verdict → ⊥) → ⊥
+no_other monitor own (verdicts.Accepted claims) accepted is rejected = rejected tt
+no_other monitor own verdicts.Unlawful accepted is rejected =
+    is (record { starts = accepted.lawful.inductive.starts; reading = accepted.lawful.reading; broadcasts = accepted.lawful.broadcasts })
+no_other monitor own (verdicts.Unproved line) accepted is rejected = no_open monitor own.plan.kept (proofs_of monitor own) is.place accepted.proofs is.here
+
+-- what is said of a verdict
+verdict_judged : (monitor : MonitorParts) (file bytes : List ℕ) (verdict : Verdict) (result : Status) (out out_now : SinkSeen) → length bytes ≤ 16777216 → IsFinding monitor bytes (Some verdict)
+    → IsWritten (verdict_status verdict) (verdict_text verdict) result out out_now → IsJudged monitor file bytes result out out_now
+verdict_judged monitor file bytes (verdicts.Accepted claims) result out out_now short (own, read, is) written =
+    inr (
+      verdict_text (verdicts.Accepted claims),
+      record { report = own; rechecked = record { is = record { short = short; read = read }; accepted = is.0 }; printed = ap (λ n. verdict_text (verdicts.Accepted n)) is.1 },
+      written,
+    )
+verdict_judged monitor file bytes verdicts.Unlawful result out out_now short (own, read, is) written =
+    inl (inr (
+      verdict_text verdicts.Unlawful,
+      inr (inr (record { report = own; verdict = verdicts.Unlawful; is = record { short = short; read = read }; found = is; rejected = λ none. none; printed = refl })),
+      written,
+    ))
+verdict_judged monitor file bytes (verdicts.Unproved line) result out out_now short (own, read, is) written =
+    inl (inr (
+      verdict_text (verdicts.Unproved line),
+      inr (inr (record { report = own; verdict = verdicts.Unproved line; is = record { short = short; read = read }; found = is; rejected = λ none. none; printed = refl })),
+      written,
+    ))
+
+pub found_judged : (monitor : MonitorParts) (file bytes : List ℕ) (found : Option Verdict) (result : Status) (out out_now : SinkSeen) → length bytes ≤ 16777216 → IsFinding monitor bytes found
+    → IsWritten (finding_status found) (finding_text file found) result out out_now → IsJudged monitor file bytes result out out_now
+found_judged monitor file bytes (Some verdict) result out out_now short is written = verdict_judged monitor file bytes verdict result out out_now short is written
+found_judged monitor file bytes None result out out_now short none written = inl (inr (not_report_text file, inr (inl (short, none, refl)), written))
+
+pub long_judged : (monitor : MonitorParts) (file bytes : List ℕ) (result : Status) (out out_now : SinkSeen) → 16777216 < length bytes
+    → IsWritten statuses.Refused (other_too_long_text file) result out out_now → IsJudged monitor file bytes result out out_now
+long_judged monitor file bytes result out out_now long written = inl (inr (other_too_long_text file, inl (long, refl), written))
+
+pub memory_judged : (monitor : MonitorParts) (file bytes : List ℕ) (out : SinkSeen) → IsJudged monitor file bytes statuses.OutOfMemory out out
+memory_judged monitor file bytes out = inl (inl (refl, refl))
+
+module _ (one_spelling : OneSpelling) (one_tree : OneTree) (monitor_file report_file bytes slice : List ℕ) (files : FilesSeen)
+    (same_bytes : slice ≡ bytes) (was_read : IsRead (files.held report_file) 16777216 bytes) (tree : MonitorTree) (monitor : MonitorParts) (holds : HoldsMonitor files.held monitor_file tree monitor) where
+  held : List ℕ
+  held = told (files.held report_file) slice
+
+  held_told : IfSome (files.held report_file) (λ all. all ≡ held)
+  unfolding held
+  held_told = is_told (files.held report_file) slice
+
+  read : IsRead (files.held report_file) 16777216 slice
+  read = subst (λ (b : List ℕ). IsRead (files.held report_file) 16777216 b) (sym same_bytes) was_read
+
+  short_held : length slice ≤ 16777216 → slice ≡ held
+  unfolding held
+  short_held short = read_short 16777216 (files.held report_file) slice read short
+
+  -- what is said of the bytes that were read is said of those that are held
+  rechecked_held : (own : Report) → IsRechecked slice monitor own → IsRechecked held monitor own
+  rechecked_held own is = subst (λ (b : List ℕ). IsRechecked b monitor own) (short_held is.is.short) is
+
+  line_held : (text : List ℕ) → IsReportRefusalLine monitor report_file slice text → IsReportRefusalLine monitor report_file held text
+  unfolding held
+  line_held text (inl (long, is)) = inl (held_long 16777216 (files.held report_file) slice read long, is)
+  line_held text (inr (inl (short, none, is))) = subst (λ (b : List ℕ). IsReportRefusalLine monitor report_file b text) (short_held short) (inr (inl (short, none, is)))
+  line_held text (inr (inr line)) = subst (λ (b : List ℕ). IsReportRefusalLine monitor report_file b text) (short_held line.is.short) (inr (inr line))
+
+  -- another monitor that the file holds is this one
+  one_held : (mb : List ℕ) (other : MonitorTree) (also : MonitorParts) → files.held monitor_file ≡ Some mb → IsAccepted mb other also → also ≡ monitor
+  one_held mb other also tells accepted =
+      let own : mb ≡ holds.bytes = sym (holds_same files.held monitor_file mb holds.bytes tells holds.told) in
+      one_monitor one_spelling one_tree holds.bytes other tree also monitor (subst (λ (b : List ℕ). IsAccepted b other also) own accepted) holds.accepted
+
+  same_report : (rb : List ℕ) → files.held report_file ≡ Some rb → held ≡ rb
+  unfolding held
+  same_report rb tells = holds_same files.held report_file rb (told (files.held report_file) slice) tells (is_told (files.held report_file) slice)
+
+  -- a file that a line refuses is not accepted
+  line_no_report : (text : List ℕ) (own : Report) → IsReportRefusalLine monitor report_file held text → IsRechecked held monitor own → ⊥
+  line_no_report text own (inl (long, is)) file = omega (arith, long, file.is.short)
+  line_no_report text own (inr (inl (short, none, is))) file = not_none monitor held own file.is.read none
+  line_no_report text own (inr (inr line)) file =
+      no_other monitor line.report line.verdict (subst (IsAcceptedReport monitor) (sym (one_report monitor held own line.report file.is line.is)) file.accepted) line.found line.rejected
+
+  no_report : (text : List ℕ) → IsReportRefusalLine monitor report_file held text → AcceptsReport files.held monitor_file report_file → ⊥
+  no_report text line (mb, rb, other, also, own, monitor_tells, report_tells, accepted, is) =
+      let same : rb ≡ held = sym (same_report rb report_tells) in
+      let one : also ≡ monitor = one_held mb other also monitor_tells accepted in
+      line_no_report text own line (subst (λ (m : MonitorParts). IsRechecked held m own) one (subst (λ (b : List ℕ). IsRechecked b also own) same is))
+
+  not_rejected : (text : List ℕ) → IsAcceptanceLine monitor held text → RejectsReport files.held monitor_file report_file → ⊥
+  not_rejected text line (mb, rb, monitor_tells, report_tells, nothing) =
+      nothing tree monitor line.report
+      (subst (λ (b : List ℕ). IsAccepted b tree monitor) (holds_same files.held monitor_file mb holds.bytes monitor_tells holds.told) holds.accepted)
+      (subst (λ (b : List ℕ). IsRechecked b monitor line.report) (same_report rb report_tells) line.rechecked)
+
+  accepted_held : (text : List ℕ) → IsAcceptanceLine monitor slice text → IsAcceptanceLine monitor held text
+  accepted_held text line = record { report = line.report; rechecked = rechecked_held line.report line.rechecked; printed = line.printed }
+
+  module _ (files_now : FilesSeen) (result : Status) (out mid out_now : SinkSeen) (steady : files_now.faults ≡ files.faults) (silent : mid ≡ out) where
+    judged_away : IsTurnedAway (IsReportRefusalLine monitor report_file slice) result mid out_now → CommandEnds (recheck monitor_file report_file) files files_now result out out_now
+    judged_away (inl (memory, nothing)) = memory_ended (recheck monitor_file report_file) files files_now result out out_now memory (nothing ∙ silent)
+    judged_away (inr (text, line, written)) =
+        refused_ended (recheck monitor_file report_file) files files_now text result out out_now
+        (inr (record { tree = tree; monitor = monitor; bytes = held; holds = holds; told = held_told; line = line_held text line }))
+        (no_report text (line_held text line)) steady (written_since statuses.Refused text result out mid out_now silent written)
+
+    judged_done : (text : List ℕ) → IsAcceptanceLine monitor slice text → IsWritten statuses.Done text result mid out_now → CommandEnds (recheck monitor_file report_file) files files_now result out out_now
+    judged_done text line written =
+        work_ended (recheck monitor_file report_file) files files_now text result out out_now true
+        (record { tree = tree; monitor = monitor; bytes = held; holds = holds; told = held_told; line = accepted_held text line })
+        (not_rejected text (accepted_held text line)) steady (written_since statuses.Done text result out mid out_now silent written)
+
+    pub judged_ended : IsJudged monitor report_file slice result mid out_now → CommandEnds (recheck monitor_file report_file) files files_now result out out_now
+    judged_ended (inl away) = judged_away away
+    judged_ended (inr (text, line, written)) = judged_done text line written
