@@ -2,6 +2,7 @@
 
 import itertools
 import re
+import sys
 from collections import namedtuple
 
 from formulas import (CONSTANT, Formula, at_most, combined, flag, forms_of, is_constant, joined,
@@ -73,6 +74,15 @@ def variable(kind, place):
 
 
 def read_monitor(text):
+    """The monitor. The program ends with status 2 where the text is not in canonical form."""
+    try:
+        return monitor_of(text)
+    except (AttributeError, LookupError, StopIteration, TypeError, ValueError):
+        print("the monitor is not in canonical form", file=sys.stderr)
+        raise SystemExit(2) from None
+
+
+def monitor_of(text):
     lines = iter([line.strip(" ;") for line in text.splitlines()])
     monitor = Monitor(next(lines).split()[1], [], [], [])
     scope = {"true": joined("all", []), "false": joined("any", [])}
