@@ -9,10 +9,11 @@ from formulas import (CONSTANT, Formula, at_most, combined, flag, forms_of, is_c
                       negation, number, substituted)
 
 MOST_BOUNDS = 12
+MOST_INPUTS = 6  # the locals stand after them
 OWN, WAITING = 16, 32  # first places: of a block's inputs, and of those of a client that waits
 
-# a field is its name, variable and start; a statement is (field, value) or (if, then, else);
-# `waiting` is the guard at the inputs of a client that waits, and `failing` its negation
+# a field is its name, variable and start; a statement is (variable, value) or (if, then, else);
+# `waiting` is the guard at the inputs and locals of a client that waits, and `failing` its negation
 Monitor = namedtuple("Monitor", "name fields blocks conditions")
 Block = namedtuple("Block", "name guard body condition")
 Condition = namedtuple("Condition", "guard waiting failing reads_inputs shown")
@@ -77,16 +78,17 @@ def read_monitor(text):
     """The monitor. The program ends with status 2 where the text is not in canonical form."""
     try:
         return monitor_of(text)
-    except (AttributeError, LookupError, StopIteration, TypeError, ValueError):
+    except (AttributeError, LookupError, TypeError, ValueError):
         print("the monitor is not in canonical form", file=sys.stderr)
         raise SystemExit(2) from None
 
 
 def monitor_of(text):
-    lines = iter([line.strip(" ;") for line in text.splitlines()])
-    monitor = Monitor(next(lines).split()[1], [], [], [])
+    lines = [line.strip(" ;") for line in text.splitlines()][::-1]
+    monitor = Monitor(lines.pop().split()[1], [], [], [])
     scope = {"true": joined("all", []), "false": joined("any", [])}
-    for line in lines:
+    while lines:
+        line = lines.pop()
         if line.startswith("method "):
             read_method(monitor, line, lines, scope)
         elif line != "}":
@@ -99,17 +101,36 @@ def monitor_of(text):
 
 
 def read_method(monitor, line, lines, scope):
-    name, inputs, shown = re.match(r"method (\w+)\((.*)\) waituntil \((.*)\) {", line).groups()
-    inputs = list(enumerate(re.findall(r"(\w+) (\w+)", inputs)))
-    own, others = ({**scope, **{each: variable(kind, first + k) for k, (kind, each) in inputs}}
-                   for first in (OWN, WAITING))
-    guard, waiting, (body, _) = read(shown, own), read(shown, others), read_body(lines, own)
+    """A method of one block without locals goes on in its line, and any other in the next ones."""
+    name, inputs, block = re.match(r"method (\w+)\((.*?)\)(?: (waituntil .*))?$", line).groups()
+    if block:
+        lines.append(block)
+    inputs, own_locals, blocks = re.findall(r"(\w+) (\w+)", inputs), [], []
+    while lines[-1].startswith("local "):
+        own_locals.append(lines.pop().split(" ")[1:3])
+    own, others = ({**scope, **variables(inputs, first),
+                    **variables(own_locals, first + MOST_INPUTS)} for first in (OWN, WAITING))
+    while lines[-1].startswith("waituntil "):
+        shown = re.match(r"waituntil \((.*)\) {", lines.pop())[1]
+        blocks.append((shown, read(shown, own), read(shown, others), read_body(lines, own)[0]))
+    for number, (shown, guard, waiting, body) in enumerate(blocks, 1):
+        condition = condition_of(monitor, shown, guard, waiting)
+        numbered = f"{name}.{number}" if len(blocks) > 1 else name
+        monitor.blocks.append(Block(numbered, guard, body, condition))
+
+
+def variables(declared, first):
+    return {name: variable(kind, first + k) for k, (kind, name) in enumerate(declared)}
+
+
+def condition_of(monitor, shown, guard, waiting):
+    """The number of the condition of the blocks with this guard."""
     guards = [condition.guard for condition in monitor.conditions]
     if guard not in guards:
         guards.append(guard)
         monitor.conditions.append(
             Condition(guard, waiting, negation(waiting), waiting != guard, shown))
-    monitor.blocks.append(Block(name, guard, body, guards.index(guard) + 1))
+    return guards.index(guard) + 1
 
 
 def holds_at_start(monitor, fact):
@@ -122,7 +143,8 @@ def holds_at_start(monitor, fact):
 def read_body(lines, scope):
     """The statements up to the line that closes them, and that line."""
     body = []
-    for line in lines:
+    while True:
+        line = lines.pop()
         if line.startswith("}"):
             return body, line
         if line.startswith("if ("):
