@@ -1,13 +1,15 @@
--- Where the calls of each client are done no client has a call left, and the other way round.
+-- Where no client has a call left at its place all are finished, and the other way round.
 use Rattle.std.proofs.Common.{◌≡◌, ℕ, zero, suc, ◌+◌, ◌≤◌, Bool, true, false, List, [], ◌∷◌, length, Some, None, refl, subst, arith}
 use Rattle.std.specs.Prelude.{◌&&◌, nat_le, slice_get}
 use Rattle.std.specs.List.{list_all, enumerate_from}
 use Rattle.std.proofs.lemmas.Bool.{false≢true}
-use Rattle.mon_implicit.specs.declared.commit.Commit.{Commit}
 use Rattle.mon_implicit.specs.declared.script.Client.{Client}
+use Rattle.mon_implicit.specs.declared.place.Place.{Place}
 use Rattle.mon_implicit.specs.Scripted.{calls_of}
-use Rattle.mon_implicit.specs.Runs.{IsFinished, done}
-use Rattle.mon_text.specs.LogText.{are_done, has_done}
+use Rattle.mon_implicit.specs.Places.{call_at}
+use Rattle.mon_implicit.specs.Runs.{Situation, IsFinished}
+use Rattle.mon_text.specs.TurnsText.{has_done}
+use Rattle.mon_text.specs.LogText.{are_done}
 
 -- nothing stands from the end on
 past_end : {X : Type 0} (xs : List X) (i : ℕ) → length xs ≤ i → slice_get xs i ≡ None
@@ -37,28 +39,36 @@ all_true : (a b : Bool) → a ≡ true → b ≡ true → (a && b) ≡ true
 all_true true b p q = q
 all_true false b p q = absurd (false≢true p)
 
--- the calls of each of these clients, whose first has this number, are done
-abbrev AreDoneFrom : List Commit → ℕ → List Client → Type 0
-AreDoneFrom history first clients = (place : ℕ) → slice_get (calls_of clients place) (done history (first + place)) ≡ None
+module _ (clients : List Client) where
+  -- none of these places, the first of which is this client's, has a call left
+  abbrev AreDoneFrom : ℕ → List Place → Type 0
+  AreDoneFrom first places = (number : ℕ) (place : Place) → slice_get places number ≡ Some place → call_at clients (first + number) place ≡ None
 
-each_done : (history : List Commit) (first : ℕ) (clients : List Client) → list_all (λ one. has_done history one.0 one.1) (enumerate_from first clients) ≡ true → AreDoneFrom history first clients
-each_done history first [] is place = refl
-each_done history first (client ∷ clients) is zero =
-    subst (λ (n : ℕ). slice_get client.calls (done history n) ≡ None) (omega arith)
-    (past_end client.calls (done history first) (le_true _ _ (both_true (has_done history first client) (list_all (λ one. has_done history one.0 one.1) (enumerate_from (first + 1) clients)) is).0))
-each_done history first (client ∷ clients) is (suc place) =
-    subst (λ (n : ℕ). slice_get (calls_of clients place) (done history n) ≡ None) (omega arith)
-    (each_done history (first + 1) clients (both_true (has_done history first client) (list_all (λ one. has_done history one.0 one.1) (enumerate_from (first + 1) clients)) is).1 place)
+  same_place : (one other : Place) → Some one ≡ Some other → one ≡ other
+  same_place one other is = cc
 
-done_each : (history : List Commit) (first : ℕ) (clients : List Client) → AreDoneFrom history first clients → list_all (λ one. has_done history one.0 one.1) (enumerate_from first clients) ≡ true
-done_each history first [] each = refl
-done_each history first (client ∷ clients) each =
-    all_true (has_done history first client) (list_all (λ one. has_done history one.0 one.1) (enumerate_from (first + 1) clients))
-    (true_le _ _ (none_past client.calls (done history first) (subst (λ (n : ℕ). slice_get client.calls (done history n) ≡ None) (omega arith) (each 0))))
-    (done_each history (first + 1) clients (λ place. subst (λ (n : ℕ). slice_get (calls_of clients place) (done history n) ≡ None) (omega arith) (each (suc place))))
+  no_place : (place : Place) → None ≡ Some place → ⊥
+  no_place place is = cc
 
-pub done_finished : (clients : List Client) (history : List Commit) → are_done clients history ≡ true → IsFinished clients history
-done_finished clients history is client = subst (λ (n : ℕ). slice_get (calls_of clients client) (done history n) ≡ None) (omega arith) (each_done history 0 clients is client)
+  each_done : (first : ℕ) (places : List Place) → list_all (λ one. has_done clients one.0 one.1) (enumerate_from first places) ≡ true → AreDoneFrom first places
+  each_done first [] is number place at = absurd (no_place place at)
+  each_done first (one ∷ more) is zero place at =
+      subst (λ (n : ℕ). call_at clients n place ≡ None) (omega arith)
+      (subst (λ (p : Place). call_at clients first p ≡ None) (same_place one place at)
+      (past_end (calls_of clients first) one.past (le_true _ _ (both_true (has_done clients first one) (list_all (λ one. has_done clients one.0 one.1) (enumerate_from (first + 1) more)) is).0)))
+  each_done first (one ∷ more) is (suc number) place at =
+      subst (λ (n : ℕ). call_at clients n place ≡ None) (omega arith)
+      (each_done (first + 1) more (both_true (has_done clients first one) (list_all (λ one. has_done clients one.0 one.1) (enumerate_from (first + 1) more)) is).1 number place at)
 
-pub finished_done : (clients : List Client) (history : List Commit) → IsFinished clients history → are_done clients history ≡ true
-finished_done clients history all = done_each history 0 clients (λ place. subst (λ (n : ℕ). slice_get (calls_of clients place) (done history n) ≡ None) (omega arith) (all place))
+  done_each : (first : ℕ) (places : List Place) → AreDoneFrom first places → list_all (λ one. has_done clients one.0 one.1) (enumerate_from first places) ≡ true
+  done_each first [] each = refl
+  done_each first (one ∷ more) each =
+      all_true (has_done clients first one) (list_all (λ one. has_done clients one.0 one.1) (enumerate_from (first + 1) more))
+      (true_le _ _ (none_past (calls_of clients first) one.past (subst (λ (n : ℕ). call_at clients n one ≡ None) (omega arith) (each 0 one refl))))
+      (done_each (first + 1) more (λ number place at. subst (λ (n : ℕ). call_at clients n place ≡ None) (omega arith) (each (suc number) place at)))
+
+  pub done_finished : (now : Situation) → are_done clients now.places ≡ true → IsFinished clients now
+  done_finished now is client place at = subst (λ (n : ℕ). call_at clients n place ≡ None) (omega arith) (each_done 0 now.places is client place at)
+
+  pub finished_done : (now : Situation) → IsFinished clients now → are_done clients now.places ≡ true
+  finished_done now all = done_each 0 now.places (λ number place at. subst (λ (n : ℕ). call_at clients n place ≡ None) (omega arith) (all number place at))

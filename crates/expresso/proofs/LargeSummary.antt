@@ -6,9 +6,9 @@ use Rattle.mon_base.specs.declared.value.Value.{Value}
 use Rattle.mon_base.specs.declared.value.Value.TheVariants as values
 use Rattle.mon_monitor.specs.MonitorParts.{MonitorParts}
 use Rattle.mon_implicit.specs.declared.script.Client.{Client}
-use Rattle.mon_implicit.specs.Runs.{Ends, IsFinished, IsRun}
+use Rattle.mon_implicit.specs.Runs.{Situation, Ends, IsFinished, IsRun}
 use Rattle.mon_events.specs.declared.log.Entry.{Entry}
-use Rattle.mon_events.specs.Configurations.{System, Configuration}
+use Rattle.mon_events.specs.Configurations.{System, Configuration, situation_of}
 use Rattle.mon_events.specs.Logs.{commits_of}
 use Rattle.mon_text.specs.TurnsText.{end_text, state_text}
 use Rattle.mon_text.specs.LogText.{are_done}
@@ -40,32 +40,32 @@ state_line : (capacity : ℕ) (monitor : MonitorParts) (state : List Value) → 
 state_line capacity monitor state is empty =
     ap₂ state_text is empty ∙ ap (λ (digits : List ℕ). codes "state" ++ (codes " " ++ codes "count" ++ codes "=" ++ digits ++ []) ++ codes "\n") no_count
 
-end_line : (monitor : MonitorParts) (clients : List Client) (log : List Entry) → IsFinished clients (commits_of log)
-    → end_text monitor clients (commits_of log) (are_done clients (commits_of log)) ≡ codes "done\n"
-end_line monitor clients log finished = ap (end_text monitor clients (commits_of log)) (finished_done clients (commits_of log) finished)
+end_line : (monitor : MonitorParts) (clients : List Client) (now : Situation) → IsFinished clients now
+    → end_text monitor clients now.places (are_done clients now.places) ≡ codes "done\n"
+end_line monitor clients now finished = ap (end_text monitor clients now.places) (finished_done clients now finished)
 
 -- ---- the whole
 
-run_done : (number : ℕ) (system : System) (log : List Entry) (last : Configuration)
+run_done : (number : ℕ) (system : System) (log : List Entry) (now : Situation)
     → system.monitor ≡ buffer_of (capacity_of number) → system.clients ≡ producers_and_consumers
-    → IsRun system.monitor system.clients (commits_of log) last.state → Ends system.monitor system.clients (commits_of log) last.state
-    → IsDone (commits_of log) last.state
-run_done number system log last is are run ends =
-    every_run number (commits_of log) last.state
-    (subst (λ (monitor : MonitorParts). IsRun monitor producers_and_consumers (commits_of log) last.state) is
-    (subst (λ (clients : List Client). IsRun system.monitor clients (commits_of log) last.state) are run))
-    (subst (λ (monitor : MonitorParts). Ends monitor producers_and_consumers (commits_of log) last.state) is
-    (subst (λ (clients : List Client). Ends system.monitor clients (commits_of log) last.state) are ends))
+    → IsRun system.monitor system.clients (commits_of log) now → Ends system.monitor system.clients now
+    → IsDone (commits_of log) now
+run_done number system log now is are run ends =
+    every_run number (commits_of log) now
+    (subst (λ (monitor : MonitorParts). IsRun monitor producers_and_consumers (commits_of log) now) is
+    (subst (λ (clients : List Client). IsRun system.monitor clients (commits_of log) now) are run))
+    (subst (λ (monitor : MonitorParts). Ends monitor producers_and_consumers now) is
+    (subst (λ (clients : List Client). Ends system.monitor clients now) are ends))
 
 -- a log of the large input whose commits are a run that ended is summed up so, whatever the plan and the order of sections
 pub large_summary : (number : ℕ) (system : System) (log : List Entry) (last : Configuration)
     → system.monitor ≡ buffer_of (capacity_of number) → system.clients ≡ producers_and_consumers
-    → IsRun system.monitor system.clients (commits_of log) last.state → Ends system.monitor system.clients (commits_of log) last.state
+    → IsRun system.monitor system.clients (commits_of log) (situation_of last) → Ends system.monitor system.clients (situation_of last)
     → summary_text system log last ≡ codes "calls 16384\ndone\nstate count=0\n"
 large_summary number system log last is are run ends =
-    let over = run_done number system log last is are run ends in
-    let finished = subst (λ (clients : List Client). IsFinished clients (commits_of log)) (sym are) over.finished in
-    ap (λ (text : List ℕ). text ++ end_text system.monitor system.clients (commits_of log) (are_done system.clients (commits_of log)) ++ state_text system.monitor last.state)
+    let over = run_done number system log (situation_of last) is are run ends in
+    let finished = subst (λ (clients : List Client). IsFinished clients (situation_of last)) (sym are) over.finished in
+    ap (λ (text : List ℕ). text ++ (end_text system.monitor system.clients (situation_of last).places (are_done system.clients (situation_of last).places) ++ state_text system.monitor last.state))
     (calls_line (length (commits_of log)) over.calls)
-    ∙ ap (λ (text : List ℕ). codes "calls 16384\n" ++ text ++ state_text system.monitor last.state) (end_line system.monitor system.clients log finished)
-    ∙ ap (λ (text : List ℕ). codes "calls 16384\n" ++ codes "done\n" ++ text) (state_line (capacity_of number) system.monitor last.state is over.empty)
+    ∙ ap (λ (text : List ℕ). codes "calls 16384\n" ++ (text ++ state_text system.monitor last.state)) (end_line system.monitor system.clients (situation_of last) finished)
+    ∙ ap (λ (text : List ℕ). codes "calls 16384\n" ++ (codes "done\n" ++ text)) (state_line (capacity_of number) system.monitor last.state is over.empty)

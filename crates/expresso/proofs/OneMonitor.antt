@@ -6,13 +6,15 @@ use Rattle.std.proofs.lemmas.List.Elements.{All-head, All-tail}
 use Rattle.mon_linear.specs.declared.formula.Formula.{Formula}
 use Rattle.mon_tokens.specs.declared.token.Token.{Token}
 use Rattle.mon_tree.specs.declared.tree.Decl.{Decl}
-use Rattle.mon_tree.specs.declared.tree.MethodTree.{MethodTree}
+use Rattle.mon_tree.specs.declared.tree.BlockTree.{BlockTree}
 use Rattle.mon_tree.specs.declared.tree.MonitorTree.{MonitorTree}
 use Rattle.mon_syntax.specs.Grammar.{Derives}
 use Rattle.mon_monitor.specs.declared.monitor.Block.{Block}
 use Rattle.mon_monitor.specs.declared.monitor.Condition.{Condition}
 use Rattle.mon_monitor.specs.MonitorParts.{MonitorParts}
-use Rattle.mon_types.specs.Typed.{IsTyped, IsBlockOf, AreBlocksOf, AreConditions, condition_of}
+use Rattle.mon_forms.specs.declared.scope.Entry.{Entry}
+use Rattle.mon_forms.specs.Scope.{scope_of}
+use Rattle.mon_types.specs.Typed.{IsTyped, IsBlockOf, AreBlocksOf, AreConditions, PlacedBlock, blocks_from, condition_of}
 use Rattle.expresso.specs.MonitorFiles.{IsAccepted}
 use Rattle.expresso.proofs.FirstFaults.{OneSpelling, OneTree}
 
@@ -61,8 +63,8 @@ distinct_push conditions new distinct none guard i j here there =
 
 -- ---- blocks
 
-same_block : (declared : List Decl) (number : ℕ) (method : MethodTree) (a b : Block) → IsBlockOf declared number method a → IsBlockOf declared number method b → a.condition ≡ b.condition → a ≡ b
-same_block declared number method a b p q condition = λ i. record {
+same_block : (scope : List Entry) (number : ℕ) (tree : BlockTree) (a b : Block) → IsBlockOf scope number tree a → IsBlockOf scope number tree b → a.condition ≡ b.condition → a ≡ b
+same_block scope number tree a b p q condition = λ i. record {
   method = (p.method_number ∙ sym q.method_number) i;
   guard = (p.guard ∙ sym q.guard) i;
   body = (p.body ∙ sym q.body) i;
@@ -74,30 +76,30 @@ both_longer : (a b : Block) (some others : List Block) (all them : List Conditio
 both_longer a b some others all them same more = (λ i. same i ∷ more.0 i, more.1)
 
 -- The blocks determine the conditions, and where the guards so far are distinct, a guard determines its number.
-one_rest : (declared : List Decl) (number : ℕ) (before : List Condition) (methods : List MethodTree) (some others : List Block) (all them : List Condition) → AreDistinct before
-    → AreBlocksOf declared number methods some → AreBlocksOf declared number methods others → AreConditions before methods some all → AreConditions before methods others them
+one_rest : (declared : List Decl) (before : List Condition) (row : List PlacedBlock) (some others : List Block) (all them : List Condition) → AreDistinct before
+    → AreBlocksOf declared row some → AreBlocksOf declared row others → AreConditions before row some all → AreConditions before row others them
     → (some ≡ others) × (all ≡ them)
-one_rest declared number before [] [] [] all them distinct p q c d = (refl, c ∙ sym d)
-one_rest declared number before [] [] (b ∷ others) all them distinct p q c d = absurd q
-one_rest declared number before [] (a ∷ some) others all them distinct p q c d = absurd p
-one_rest declared number before (method ∷ methods) [] others all them distinct p q c d = absurd p
-one_rest declared number before (method ∷ methods) (a ∷ some) [] all them distinct p q c d = absurd q
-one_rest declared number before (method ∷ methods) (a ∷ some) (b ∷ others) all them distinct p q (inl (known, number_is, c)) (inl (also_known, other_is, d)) =
+one_rest declared before [] [] [] all them distinct p q c d = (refl, c ∙ sym d)
+one_rest declared before [] [] (b ∷ others) all them distinct p q c d = absurd q
+one_rest declared before [] (a ∷ some) others all them distinct p q c d = absurd p
+one_rest declared before (placed ∷ row) [] others all them distinct p q c d = absurd p
+one_rest declared before (placed ∷ row) (a ∷ some) [] all them distinct p q c d = absurd q
+one_rest declared before (placed ∷ row) (a ∷ some) (b ∷ others) all them distinct p q (inl (known, number_is, c)) (inl (also_known, other_is, d)) =
     let guards : b.guard ≡ a.guard = q.0.guard ∙ sym p.0.guard in
     let place = distinct a.guard (a.condition - 1) (b.condition - 1) known (subst (λ (g : Formula). HasGuard before g (b.condition - 1)) guards also_known) in
-    let same = same_block declared number method a b p.0 q.0 (number_is ∙ ap (λ k. k + 1) place ∙ sym other_is) in
-    both_longer a b some others all them same (one_rest declared (number + 1) before methods some others all them distinct p.1 q.1 c d)
-one_rest declared number before (method ∷ methods) (a ∷ some) (b ∷ others) all them distinct p q (inl (known, number_is, c)) (inr (none, other_is, d)) =
+    let same = same_block (scope_of declared placed.method) placed.number placed.block a b p.0 q.0 (number_is ∙ ap (λ k. k + 1) place ∙ sym other_is) in
+    both_longer a b some others all them same (one_rest declared before row some others all them distinct p.1 q.1 c d)
+one_rest declared before (placed ∷ row) (a ∷ some) (b ∷ others) all them distinct p q (inl (known, number_is, c)) (inr (none, other_is, d)) =
     let guards : a.guard ≡ b.guard = p.0.guard ∙ sym q.0.guard in
     absurd (none_at before b.guard none (a.condition - 1) (subst (λ (g : Formula). HasGuard before g (a.condition - 1)) guards known))
-one_rest declared number before (method ∷ methods) (a ∷ some) (b ∷ others) all them distinct p q (inr (none, number_is, c)) (inl (known, other_is, d)) =
+one_rest declared before (placed ∷ row) (a ∷ some) (b ∷ others) all them distinct p q (inr (none, number_is, c)) (inl (known, other_is, d)) =
     let guards : b.guard ≡ a.guard = q.0.guard ∙ sym p.0.guard in
     absurd (none_at before a.guard none (b.condition - 1) (subst (λ (g : Formula). HasGuard before g (b.condition - 1)) guards known))
-one_rest declared number before (method ∷ methods) (a ∷ some) (b ∷ others) all them distinct p q (inr (none, number_is, c)) (inr (also_none, other_is, d)) =
-    let same = same_block declared number method a b p.0 q.0 (number_is ∙ sym other_is) in
-    let longer = distinct_push before (condition_of a method) distinct none in
-    let rest = subst (λ (block : Block). AreConditions (before ++ condition_of block method ∷ []) methods others them) (sym same) d in
-    both_longer a b some others all them same (one_rest declared (number + 1) (before ++ condition_of a method ∷ []) methods some others all them longer p.1 q.1 c rest)
+one_rest declared before (placed ∷ row) (a ∷ some) (b ∷ others) all them distinct p q (inr (none, number_is, c)) (inr (also_none, other_is, d)) =
+    let same = same_block (scope_of declared placed.method) placed.number placed.block a b p.0 q.0 (number_is ∙ sym other_is) in
+    let longer = distinct_push before (condition_of a placed.block) distinct none in
+    let rest = subst (λ (block : Block). AreConditions (before ++ condition_of block placed.block ∷ []) row others them) (sym same) d in
+    both_longer a b some others all them same (one_rest declared (before ++ condition_of a placed.block ∷ []) row some others all them longer p.1 q.1 c rest)
 
 -- ---- monitors
 
@@ -109,7 +111,7 @@ none_twice guard i j here there = absurd here
 
 one_of_tree : (tree : MonitorTree) (a b : MonitorParts) → IsTyped tree a → IsTyped tree b → a ≡ b
 one_of_tree tree a b p q = same_parts a b (p.name ∙ sym q.name) (p.fields ∙ sym q.fields) (p.methods ∙ sym q.methods)
-    (one_rest tree.decls 0 [] tree.methods a.blocks b.blocks a.conditions b.conditions none_twice p.blocks q.blocks p.conditions q.conditions)
+    (one_rest tree.decls [] (blocks_from 0 tree.methods) a.blocks b.blocks a.conditions b.conditions none_twice p.blocks q.blocks p.conditions q.conditions)
 
 one_typed : (s t : MonitorTree) (a b : MonitorParts) → s ≡ t → IsTyped s a → IsTyped t b → a ≡ b
 one_typed s t a b same p q = one_of_tree t a b (subst (λ (tree : MonitorTree). IsTyped tree a) same p) q

@@ -4,8 +4,7 @@ use Rattle.std.specs.Io.KnownBytes.{Appends}
 use Rattle.mon_io.specs.Outside.{FilesSeen, SinkSeen}
 use Rattle.mon_implicit.specs.declared.script.Client.{Client}
 use Rattle.mon_implicit.specs.Runs.{IsFinished}
-use Rattle.mon_events.specs.declared.log.Entry.{Entry}
-use Rattle.mon_events.specs.Logs.{commits_of}
+use Rattle.mon_events.specs.Configurations.{Configuration, situation_of}
 use Rattle.mon_command.specs.CommandLine.{Command, run}
 use Rattle.expresso.specs.declared.status.Status.{Status}
 use Rattle.expresso.specs.declared.status.Status.TheVariants.{Done, Stalled}
@@ -31,22 +30,23 @@ appended (Some xs) (Some ys) written text is appends = let same : xs ≡ written
 module _ (held : List ℕ → Option (List ℕ)) (monitor_file clients_file monitor_bytes clients_bytes : List ℕ)
     (monitor_tells : held monitor_file ≡ Some monitor_bytes) (clients_tells : held clients_file ≡ Some clients_bytes) where
   -- the text of a run says what is promised of it
-  run_promised : (clients : List Client) (log : List Entry) (status : Status) (text : List ℕ) → IsRunText held monitor_file clients_file clients log text
-      → ((status ≡ Stalled) → IsFinished clients (commits_of log) → ⊥) → ((IsFinished clients (commits_of log) → ⊥) → status ≡ Stalled)
+  run_promised : (clients : List Client) (last : Configuration) (status : Status) (text : List ℕ) → IsRunText held monitor_file clients_file clients last text
+      → ((status ≡ Stalled) → IsFinished clients (situation_of last) → ⊥) → ((IsFinished clients (situation_of last) → ⊥) → status ≡ Stalled)
       → IsHeadlineText monitor_bytes clients_bytes status text
-  run_promised clients log status text shown stalled left = record {
+  run_promised clients last status text shown stalled left = record {
     tree = shown.files.tree;
     monitor = shown.monitor;
     clients = clients;
     plan = shown.plan;
-    log = log;
-    last = shown.last;
+    log = shown.log;
+    last = last;
     monitor_accepted = subst (λ (b : List ℕ). IsAccepted b shown.files.tree shown.monitor)
         (holds_same held monitor_file monitor_bytes shown.files.monitor_bytes monitor_tells shown.files.monitor_told) shown.files.monitor_accepted;
     clients_accepted = subst (λ (b : List ℕ). AreAccepted b shown.monitor clients)
         (holds_same held clients_file clients_bytes shown.files.clients_bytes clients_tells shown.files.clients_told) shown.files.clients_accepted;
     printed = shown.printed;
     is = shown.placed.is;
+    few = shown.placed.few;
     lawful = shown.placed.placement.lawful;
     backed = shown.placed.placement.backed;
     licensed = shown.placed.placement.licensed;
@@ -60,12 +60,12 @@ module _ (held : List ℕ → Option (List ℕ)) (monitor_file clients_file moni
   }
 
   done_promised : (workers : ℕ) (text : List ℕ) → IsDoneText held (run monitor_file clients_file workers) text → IsHeadlineText monitor_bytes clients_bytes Done text
-  done_promised workers text (clients, log, shown, finished) =
-      run_promised clients log Done text shown (λ is. absurd (done_stalled is)) (λ none. absurd (none finished))
+  done_promised workers text (clients, last, shown, finished) =
+      run_promised clients last Done text shown (λ is. absurd (done_stalled is)) (λ none. absurd (none finished))
 
   stalled_promised : (workers : ℕ) (text : List ℕ) → IsStalledText held (run monitor_file clients_file workers) text → IsHeadlineText monitor_bytes clients_bytes Stalled text
-  stalled_promised workers text (clients, log, shown, left) =
-      run_promised clients log Stalled text shown (λ is. left) (λ none. refl_stalled)
+  stalled_promised workers text (clients, last, shown, left) =
+      run_promised clients last Stalled text shown (λ is. left) (λ none. refl_stalled)
     where
       refl_stalled : Stalled ≡ Stalled
       refl_stalled = cc

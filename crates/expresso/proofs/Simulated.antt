@@ -6,8 +6,8 @@ use Rattle.mon_monitor.specs.MonitorParts.{MonitorParts}
 use Rattle.mon_implicit.specs.declared.script.Client.{Client}
 use Rattle.mon_events.specs.declared.log.Entry.{Entry}
 use Rattle.mon_events.specs.declared.plan.Plan.{Plan}
-use Rattle.mon_events.specs.Configurations.{System, Configuration}
-use Rattle.mon_events.specs.Logs.{IsClosed, commits_of}
+use Rattle.mon_events.specs.Configurations.{System, Configuration, situation_of}
+use Rattle.mon_events.specs.Logs.{IsClosed}
 use Rattle.mon_text.specs.LogText.{are_done}
 use Rattle.mon_events.specs.Configurations.{system_under}
 use Rattle.mon_text.specs.Laws.{plan_and_log_text}
@@ -26,19 +26,19 @@ module _ (monitor_file clients_file : List ℕ) (schedule : Schedule) (files fil
   pub simulation_closed : IsClosed system last
   simulation_closed = subst (λ (s : System). IsClosed s last) (sym system_is) simulation.placed.closed
 
-  simulation_shown : IsSimulateText files.held monitor_file clients_file schedule clients log (plan_and_log_text (system_under monitor clients plan) log last)
-  simulation_shown = record { monitor = monitor; plan = plan; last = last; files = held; simulation = simulation; printed = refl }
+  simulation_shown : IsSimulateText files.held monitor_file clients_file schedule clients last (plan_and_log_text (system_under monitor clients plan) log last)
+  simulation_shown = record { monitor = monitor; plan = plan; log = log; files = held; simulation = simulation; printed = refl }
 
-  log_shown : (finished : Bool) → are_done clients (commits_of log) ≡ finished
+  log_shown : (finished : Bool) → are_done clients (situation_of last).places ≡ finished
       → IsCommandText (simulate monitor_file clients_file schedule) files files_now (ended finished) (plan_and_log_text (system_under monitor clients plan) log last)
-  log_shown true end = (clients, log, simulation_shown, done_finished clients (commits_of log) end)
-  log_shown false end = (clients, log, simulation_shown, λ all. false≢true (sym end ∙ finished_done clients (commits_of log) all))
+  log_shown true end = (clients, last, simulation_shown, done_finished clients (situation_of last) end)
+  log_shown false end = (clients, last, simulation_shown, λ all. false≢true (sym end ∙ finished_done clients (situation_of last) all))
 
   pub simulation_ended : (result : Status) (out out_now : SinkSeen) → files_now.faults ≡ files.faults
-      → IsWritten (ended (are_done system.clients (commits_of log))) (plan_and_log_text system log last) result out out_now
+      → IsWritten (ended (are_done system.clients (situation_of last).places)) (plan_and_log_text system log last) result out out_now
       → CommandEnds (simulate monitor_file clients_file schedule) files files_now result out out_now
   simulation_ended result out out_now steady written =
       work_ended (simulate monitor_file clients_file schedule) files files_now (plan_and_log_text (system_under monitor clients plan) log last) result out out_now
-      (are_done clients (commits_of log)) (log_shown (are_done clients (commits_of log)) refl)
+      (are_done clients (situation_of last).places) (log_shown (are_done clients (situation_of last).places) refl)
       (held_not_rejected files.held monitor_file clients_file monitor clients held) steady
-      (subst (λ (s : System). IsWritten (ended (are_done s.clients (commits_of log))) (plan_and_log_text s log last) result out out_now) system_is written)
+      (subst (λ (s : System). IsWritten (ended (are_done s.clients (situation_of last).places)) (plan_and_log_text s log last) result out out_now) system_is written)

@@ -6,7 +6,7 @@ use Rattle.mon_implicit.specs.declared.script.Client.{Client}
 use Rattle.mon_implicit.specs.Runs.{IsFinished}
 use Rattle.mon_events.specs.declared.log.Entry.{Entry}
 use Rattle.mon_events.specs.declared.plan.Plan.{Plan}
-use Rattle.mon_events.specs.Configurations.{System, Configuration}
+use Rattle.mon_events.specs.Configurations.{System, Configuration, situation_of}
 use Rattle.mon_events.specs.Logs.{IsClosed, commits_of}
 use Rattle.mon_explicit.specs.Sections.{spurious_in}
 use Rattle.mon_text.specs.LogText.{are_done}
@@ -32,8 +32,8 @@ module _ (ends_done : EveryLargeRunEndsDone) (number workers : ℕ) (plan : Plan
   pub stressed_closed : IsClosed system last
   stressed_closed = subst (λ (s : System). IsClosed s last) (sym system_is) placed.closed
 
-  all_finished : IsFinished producers_and_consumers (commits_of log)
-  all_finished = (ends_done number (commits_of log) last.state placed.run placed.ends).finished
+  all_finished : IsFinished producers_and_consumers (situation_of last)
+  all_finished = (ends_done number (commits_of log) (situation_of last) placed.run placed.ends).finished
 
   stress_shown : IsStressText number (summary_text (large number plan) log last)
   stress_shown = record {
@@ -48,18 +48,18 @@ module _ (ends_done : EveryLargeRunEndsDone) (number workers : ℕ) (plan : Plan
   }
 
   pub stress_ended : (files : FilesSeen) (result : Status) (out out_now : SinkSeen)
-      → IsWritten (ended (are_done system.clients (commits_of log))) (summary_text system log last) result out out_now → CommandEnds (stress number workers) files files result out out_now
+      → IsWritten (ended (are_done system.clients (situation_of last).places)) (summary_text system log last) result out out_now → CommandEnds (stress number workers) files files result out out_now
   stress_ended files result out out_now written =
       work_ended (stress number workers) files files (summary_text (large number plan) log last) result out out_now true stress_shown (λ none. none) refl
-      (subst (λ finished. IsWritten (ended finished) (summary_text (large number plan) log last) result out out_now) (finished_done producers_and_consumers (commits_of log) all_finished)
-      (subst (λ (s : System). IsWritten (ended (are_done s.clients (commits_of log))) (summary_text s log last) result out out_now) system_is written))
+      (subst (λ finished. IsWritten (ended finished) (summary_text (large number plan) log last) result out out_now) (finished_done producers_and_consumers (situation_of last) all_finished)
+      (subst (λ (s : System). IsWritten (ended (are_done s.clients (situation_of last).places)) (summary_text s log last) result out out_now) system_is written))
 
 -- the monitor and the clients are those of the large input
 pub large_ended : EveryLargeRunEndsDone → (number workers : ℕ) (monitor : MonitorParts) (clients : List Client) (plan : Plan) (log : List Entry) (last : Configuration) (system : System)
     → monitor ≡ buffer_of (capacity_of number) → clients ≡ producers_and_consumers
     → IsPlacedRun (system_under monitor clients plan) log last → spurious_in log ≡ 0 → system ≡ system_under monitor clients plan
     → (files : FilesSeen) (result : Status) (out out_now : SinkSeen)
-    → IsWritten (ended (are_done system.clients (commits_of log))) (summary_text system log last) result out out_now → CommandEnds (stress number workers) files files result out out_now
+    → IsWritten (ended (are_done system.clients (situation_of last).places)) (summary_text system log last) result out out_now → CommandEnds (stress number workers) files files result out out_now
 large_ended ends_done number workers monitor clients plan log last system monitor_is clients_is placed unprompted system_is files result out out_now written =
     let same : system_under monitor clients plan ≡ large number plan = λ i. system_under (monitor_is i) (clients_is i) plan in
     stress_ended ends_done number workers plan log last system (subst (λ (s : System). IsPlacedRun s log last) same placed) unprompted (system_is ∙ same) files result out out_now written

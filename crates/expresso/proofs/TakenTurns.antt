@@ -7,7 +7,7 @@ use Rattle.mon_monitor.specs.MonitorParts.{MonitorParts}
 use Rattle.mon_implicit.specs.declared.commit.Turns.{Turns}
 use Rattle.mon_implicit.specs.declared.script.Client.{Client}
 use Rattle.mon_implicit.specs.Runs.{IsFinished}
-use Rattle.mon_implicit.specs.Rounds.{AreTurnsByRounds}
+use Rattle.mon_implicit.specs.Rounds.{AreTurnsByRounds, end_of}
 use Rattle.mon_text.specs.TurnsText.{turns_text}
 use Rattle.expresso.specs.declared.status.Status.{Status}
 use Rattle.mon_command.specs.CommandLine.{turns}
@@ -23,10 +23,10 @@ module _ (monitor_file clients_file : List ℕ) (files files_now : FilesSeen) (m
 
   run_shown : (finished : Bool) → run.finished ≡ finished → IsCommandText (turns monitor_file clients_file) files files_now (ended finished) (turns_text monitor clients run)
   run_shown true end =
-      let both : IsTrue run.finished ↔ IsFinished clients run.history = rounds.finished in
+      let both : IsTrue run.finished ↔ IsFinished clients (end_of run) = rounds.finished in
       (clients, run, turns_shown, both.0 (subst IsTrue (sym end) refl))
   run_shown false end =
-      let both : IsTrue run.finished ↔ IsFinished clients run.history = rounds.finished in
+      let both : IsTrue run.finished ↔ IsFinished clients (end_of run) = rounds.finished in
       (clients, run, turns_shown, λ all. false≢true (subst IsTrue end (both.1 all)))
 
   pub run_ended : (result : Status) (out out_now : SinkSeen) → files_now.faults ≡ files.faults → IsWritten (ended run.finished) (turns_text monitor clients run) result out out_now

@@ -6,8 +6,8 @@ use Rattle.mon_monitor.specs.MonitorParts.{MonitorParts}
 use Rattle.mon_implicit.specs.declared.script.Client.{Client}
 use Rattle.mon_events.specs.declared.log.Entry.{Entry}
 use Rattle.mon_events.specs.declared.plan.Plan.{Plan}
-use Rattle.mon_events.specs.Configurations.{System, Configuration}
-use Rattle.mon_events.specs.Logs.{IsClosed, commits_of}
+use Rattle.mon_events.specs.Configurations.{System, Configuration, situation_of}
+use Rattle.mon_events.specs.Logs.{IsClosed}
 use Rattle.mon_explicit.specs.Sections.{spurious_in}
 use Rattle.mon_text.specs.LogText.{are_done}
 use Rattle.mon_events.specs.Configurations.{system_under}
@@ -26,19 +26,19 @@ module _ (monitor_file clients_file : List ℕ) (workers : ℕ) (files files_now
   pub worked_closed : IsClosed system last
   worked_closed = subst (λ (s : System). IsClosed s last) (sym system_is) placed.closed
 
-  worked_shown : IsRunText files.held monitor_file clients_file clients log (plan_and_log_text (system_under monitor clients plan) log last)
-  worked_shown = record { monitor = monitor; plan = plan; last = last; files = held; placed = placed; unprompted = unprompted; printed = refl }
+  worked_shown : IsRunText files.held monitor_file clients_file clients last (plan_and_log_text (system_under monitor clients plan) log last)
+  worked_shown = record { monitor = monitor; plan = plan; log = log; files = held; placed = placed; unprompted = unprompted; printed = refl }
 
-  log_shown : (finished : Bool) → are_done clients (commits_of log) ≡ finished
+  log_shown : (finished : Bool) → are_done clients (situation_of last).places ≡ finished
       → IsCommandText (run monitor_file clients_file workers) files files_now (ended finished) (plan_and_log_text (system_under monitor clients plan) log last)
-  log_shown true end = (clients, log, worked_shown, done_finished clients (commits_of log) end)
-  log_shown false end = (clients, log, worked_shown, λ all. false≢true (sym end ∙ finished_done clients (commits_of log) all))
+  log_shown true end = (clients, last, worked_shown, done_finished clients (situation_of last) end)
+  log_shown false end = (clients, last, worked_shown, λ all. false≢true (sym end ∙ finished_done clients (situation_of last) all))
 
   pub worked_ended : (result : Status) (out out_now : SinkSeen) → files_now.faults ≡ files.faults
-      → IsWritten (ended (are_done system.clients (commits_of log))) (plan_and_log_text system log last) result out out_now
+      → IsWritten (ended (are_done system.clients (situation_of last).places)) (plan_and_log_text system log last) result out out_now
       → CommandEnds (run monitor_file clients_file workers) files files_now result out out_now
   worked_ended result out out_now steady written =
       work_ended (run monitor_file clients_file workers) files files_now (plan_and_log_text (system_under monitor clients plan) log last) result out out_now
-      (are_done clients (commits_of log)) (log_shown (are_done clients (commits_of log)) refl)
+      (are_done clients (situation_of last).places) (log_shown (are_done clients (situation_of last).places) refl)
       (held_not_rejected files.held monitor_file clients_file monitor clients held) steady
-      (subst (λ (s : System). IsWritten (ended (are_done s.clients (commits_of log))) (plan_and_log_text s log last) result out out_now) system_is written)
+      (subst (λ (s : System). IsWritten (ended (are_done s.clients (situation_of last).places)) (plan_and_log_text s log last) result out out_now) system_is written)

@@ -8,11 +8,10 @@ use Rattle.mon_monitor.specs.MonitorParts.{MonitorParts}
 use Rattle.mon_implicit.specs.declared.commit.Turns.{Turns}
 use Rattle.mon_implicit.specs.declared.script.Client.{Client}
 use Rattle.mon_implicit.specs.Runs.{IsFinished}
-use Rattle.mon_implicit.specs.Rounds.{AreTurnsByRounds}
+use Rattle.mon_implicit.specs.Rounds.{AreTurnsByRounds, end_of}
 use Rattle.mon_events.specs.declared.log.Entry.{Entry}
 use Rattle.mon_events.specs.declared.plan.Plan.{Plan}
-use Rattle.mon_events.specs.Configurations.{Configuration}
-use Rattle.mon_events.specs.Logs.{commits_of}
+use Rattle.mon_events.specs.Configurations.{Configuration, situation_of}
 use Rattle.mon_events.specs.PlanText.{plan_text}
 use Rattle.mon_explicit.specs.Sections.{spurious_in}
 use Rattle.mon_text.specs.TurnsText.{turns_text}
@@ -95,10 +94,10 @@ pub record IsCompileText (held : List ℕ → Option (List ℕ)) (file text : Li
 -- the text of a plan that the monitor is compiled to, and of the log of a simulation under it
 pub record IsSimulateText (held : List ℕ
     → Option (List ℕ)) (monitor_file clients_file : List ℕ) (schedule : Schedule)
-    (clients : List Client) (log : List Entry) (text : List ℕ) : Type 0 where
+    (clients : List Client) (last : Configuration) (text : List ℕ) : Type 0 where
   pub monitor : MonitorParts
   pub plan : Plan
-  pub last : Configuration
+  pub log : List Entry
   pub files : HoldRun held monitor_file clients_file monitor clients
   pub simulation : IsSimulation (system_under monitor clients plan) schedule log last
   pub printed : text ≡ plan_and_log_text (system_under monitor clients plan) log last
@@ -107,10 +106,10 @@ pub record IsSimulateText (held : List ℕ
 -- wake-up is spurious
 pub record IsRunText (held : List ℕ
     → Option (List ℕ)) (monitor_file clients_file : List ℕ) (clients : List Client)
-    (log : List Entry) (text : List ℕ) : Type 0 where
+    (last : Configuration) (text : List ℕ) : Type 0 where
   pub monitor : MonitorParts
   pub plan : Plan
-  pub last : Configuration
+  pub log : List Entry
   pub files : HoldRun held monitor_file clients_file monitor clients
   pub placed : IsPlacedRun (system_under monitor clients plan) log last
   pub unprompted : spurious_in log ≡ 0
@@ -125,7 +124,7 @@ pub record IsStressText (number : ℕ) (text : List ℕ) : Type 0 where
   pub placed : IsPlacedRun (system_under (buffer_of (capacity_of number)) producers_and_consumers
       plan) log last
   pub unprompted : spurious_in log ≡ 0
-  pub finished : IsFinished producers_and_consumers (commits_of log)
+  pub finished : IsFinished producers_and_consumers (situation_of last)
   pub summed : text ≡ summary_text
       (system_under (buffer_of (capacity_of number)) producers_and_consumers plan) log last
   pub printed : text ≡ codes "calls 16384\ndone\nstate count=0\n"
@@ -157,15 +156,16 @@ abbrev pub IsDoneText : (List ℕ → Option (List ℕ)) → Command → List �
 IsDoneText held (check file) text = IsCheckText held file text
 IsDoneText held (turns monitor clients) text =
     (scripts : List Client) × (run : Turns) × IsTurnsText held monitor clients scripts run text
-    × IsFinished scripts run.history
+    × IsFinished scripts (end_of run)
 IsDoneText held (compile file) text = IsCompileText held file text
 IsDoneText held (simulate monitor clients schedule) text =
-    (scripts : List Client) × (log : List Entry)
-    × IsSimulateText held monitor clients schedule scripts log text
-    × IsFinished scripts (commits_of log)
+    (scripts : List Client) × (last : Configuration)
+    × IsSimulateText held monitor clients schedule scripts last text
+    × IsFinished scripts (situation_of last)
 IsDoneText held (run monitor clients workers) text =
-    (scripts : List Client) × (log : List Entry) × IsRunText held monitor clients scripts log text
-    × IsFinished scripts (commits_of log)
+    (scripts : List Client) × (last : Configuration)
+    × IsRunText held monitor clients scripts last text
+    × IsFinished scripts (situation_of last)
 IsDoneText held (stress number workers) text = IsStressText number text
 IsDoneText held (report file) text = IsReportText held file text
 IsDoneText held (recheck monitor report_file) text = IsRecheckText held monitor report_file text
@@ -176,15 +176,16 @@ abbrev pub IsStalledText : (List ℕ → Option (List ℕ)) → Command → List
 IsStalledText held (check file) text = ⊥
 IsStalledText held (turns monitor clients) text =
     (scripts : List Client) × (run : Turns) × IsTurnsText held monitor clients scripts run text
-    × (IsFinished scripts run.history → ⊥)
+    × (IsFinished scripts (end_of run) → ⊥)
 IsStalledText held (compile file) text = ⊥
 IsStalledText held (simulate monitor clients schedule) text =
-    (scripts : List Client) × (log : List Entry)
-    × IsSimulateText held monitor clients schedule scripts log text
-    × (IsFinished scripts (commits_of log) → ⊥)
+    (scripts : List Client) × (last : Configuration)
+    × IsSimulateText held monitor clients schedule scripts last text
+    × (IsFinished scripts (situation_of last) → ⊥)
 IsStalledText held (run monitor clients workers) text =
-    (scripts : List Client) × (log : List Entry) × IsRunText held monitor clients scripts log text
-    × (IsFinished scripts (commits_of log) → ⊥)
+    (scripts : List Client) × (last : Configuration)
+    × IsRunText held monitor clients scripts last text
+    × (IsFinished scripts (situation_of last) → ⊥)
 IsStalledText held (stress number workers) text = ⊥
 IsStalledText held (report file) text = ⊥
 IsStalledText held (recheck monitor report_file) text = ⊥

@@ -4,10 +4,11 @@ use Rattle.mon_io.specs.Outside.{FilesSeen, SinkSeen}
 use Rattle.mon_tree.specs.declared.tree.MonitorTree.{MonitorTree}
 use Rattle.mon_monitor.specs.MonitorParts.{MonitorParts}
 use Rattle.mon_implicit.specs.declared.script.Client.{Client}
+use Rattle.mon_implicit.specs.Scripted.{AreClients}
 use Rattle.mon_implicit.specs.Runs.{IsRun, Ends, IsFinished}
 use Rattle.mon_events.specs.declared.log.Entry.{Entry}
 use Rattle.mon_events.specs.declared.plan.Plan.{Plan}
-use Rattle.mon_events.specs.Configurations.{Configuration}
+use Rattle.mon_events.specs.Configurations.{Configuration, situation_of}
 use Rattle.mon_events.specs.Logs.{IsLegal, IsClosed, commits_of}
 use Rattle.mon_events.specs.Pending.{IsSystem}
 use Rattle.mon_events.specs.Plans.{IsLawful}
@@ -42,6 +43,7 @@ pub record IsHeadlineText (monitor_bytes clients_bytes : List ℕ) (status : Sta
   pub printed : text ≡ plan_text monitor plan
       ++ log_text (system_under monitor clients plan) log last
   pub is : IsSystem (system_under monitor clients plan)
+  pub few : AreClients clients
   -- The plan is lawful. (So no wake-up is lost under it: the law `no_wakeup_is_lost` of
   -- `mon_events`.)
   pub lawful : IsLawful monitor plan
@@ -58,13 +60,15 @@ pub record IsHeadlineText (monitor_bytes clients_bytes : List ℕ) (status : Sta
   pub closed : IsClosed (system_under monitor clients plan) last
   -- No wake-up of it is spurious.
   pub unprompted : spurious_in log ≡ 0
-  -- Its committed blocks, each client's in script order and each once, are a run of the implicit
-  -- monitor, to the state that is printed.
-  pub run : IsRun monitor clients (commits_of log) last.state
-  -- The run ends only where no unfinished client's guard holds.
-  pub ends : Ends monitor clients (commits_of log) last.state
+  -- Its committed blocks, refusals and overflows included, each client's in script order and each
+  -- once, are a run of the implicit monitor, to the state that is printed and the places where the
+  -- clients are.
+  pub run : IsRun monitor clients (commits_of log) (situation_of last)
+  -- The run ends only where no unfinished client's guard holds, and none is at the first block of a
+  -- call that tries.
+  pub ends : Ends monitor clients (situation_of last)
   -- The status is `Stalled` exactly where some client has a call left.
-  pub stalled : (status ≡ Stalled) ↔ (IsFinished clients (commits_of log) → ⊥)
+  pub stalled : (status ≡ Stalled) ↔ (IsFinished clients (situation_of last) → ⊥)
 
 -- The words are those of `run`, the files and the sink tell their bytes, and the status is `Done`
 -- or `Stalled`: then the bytes that were appended

@@ -1,8 +1,9 @@
 -- Runs of a monitor by sections, under a plan that it may be compiled to.
 use Rattle.std.specs.Prelude.{List}
+use Rattle.mon_implicit.specs.Scripted.{AreClients}
 use Rattle.mon_implicit.specs.Runs.{IsRun, Ends}
 use Rattle.mon_events.specs.declared.log.Entry.{Entry}
-use Rattle.mon_events.specs.Configurations.{System, Configuration}
+use Rattle.mon_events.specs.Configurations.{System, Configuration, situation_of}
 use Rattle.mon_events.specs.Logs.{IsLegal, IsClosed, commits_of}
 use Rattle.mon_events.specs.Pending.{IsSystem}
 use Rattle.expresso.specs.Placements.{IsPlacement}
@@ -13,9 +14,11 @@ pub record IsPlacedRun (system : System) (log : List Entry) (last : Configuratio
   pub placement : IsPlacement system.monitor system.plan
   -- the clients' calls and the plan fit the monitor
   pub is : IsSystem system
+  -- the clients and their calls are no more than there may be, and their names are distinct
+  pub few : AreClients system.clients
   -- the log is legal for the plan, and ends closed
   pub legal : IsLegal system log last
   pub closed : IsClosed system last
-  -- the replies and the last state are a run, and no client with a call left has a true guard then
-  pub run : IsRun system.monitor system.clients (commits_of log) last.state
-  pub ends : Ends system.monitor system.clients (commits_of log) last.state
+  -- the replies are a run to the last state and the clients' places, where no client may step
+  pub run : IsRun system.monitor system.clients (commits_of log) (situation_of last)
+  pub ends : Ends system.monitor system.clients (situation_of last)

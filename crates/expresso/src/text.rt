@@ -4,7 +4,8 @@
 ghost use Rattle.std.specs.Prelude.{◌≡◌, ℕ, List};
 ghost use Rattle.mon_io.specs.Outside.{SinkSeen};
 ghost use Rattle.mon_io.specs.Writing.{Wrote};
-ghost use Rattle.mon_events.specs.Logs.{IsClosed, commits_of};
+ghost use Rattle.mon_events.specs.Configurations.{situation_of};
+ghost use Rattle.mon_events.specs.Logs.{IsClosed};
 ghost use Rattle.mon_events.specs.PlanText.{plan_text};
 ghost use Rattle.mon_printer.specs.Canonical.{tree_text};
 ghost use Rattle.mon_text.specs.FaultText.{place_text, too_long_text, unread_text};
@@ -194,7 +195,7 @@ pub(crate) fn show_turns<S: Sink>(
 pub(crate) fn show_plan_and_log<S: Sink>(free: &FreeMonitor, out: &mut S) -> Status
     requires { IsClosed free.now.system free.now.now }
     ensures { IsWritten
-        (ended (are_done free.now.system.clients (commits_of free.now.log)))
+        (ended (are_done free.now.system.clients (situation_of free.now.now).places))
         (plan_and_log_text free.now.system free.now.log free.now.now)
         result (S.seen out.old) (S.seen out.new) }
 {
@@ -217,7 +218,7 @@ fn write_plan_and_log<S: Sink>(free: &FreeMonitor, out: &mut S) -> Result<(), Si
 pub(crate) fn show_summary<S: Sink>(free: &FreeMonitor, out: &mut S) -> Status
     requires { IsClosed free.now.system free.now.now }
     ensures { IsWritten
-        (ended (are_done free.now.system.clients (commits_of free.now.log)))
+        (ended (are_done free.now.system.clients (situation_of free.now.now).places))
         (summary_text free.now.system free.now.log free.now.now)
         result (S.seen out.old) (S.seen out.new) }
 {

@@ -15,7 +15,9 @@ counted_rank counted.Constants = 0
 counted_rank counted.Fields = 1
 counted_rank counted.Methods = 2
 counted_rank counted.Parameters = 3
-counted_rank counted.Statements = 4
+counted_rank counted.Locals = 4
+counted_rank counted.Blocks = 5
+counted_rank counted.Statements = 6
 
 -- in the order of the variants
 abbrev pub rank : Refusal → ℕ
@@ -29,11 +31,11 @@ rank refusals.WrongType = 6
 rank refusals.NotLinear = 7
 rank refusals.TooLarge = 8
 rank (refusals.TooMany what) = 9 + counted_rank what
-rank refusals.ReadOnly = 14
-rank refusals.Misplaced = 15
-rank refusals.DuplicateClient = 16
-rank refusals.TooManyClients = 17
-rank refusals.TooManyCalls = 18
+rank refusals.ReadOnly = 16
+rank refusals.Misplaced = 17
+rank refusals.DuplicateClient = 18
+rank refusals.TooManyClients = 19
+rank refusals.TooManyCalls = 20
 
 -- the rule is broken at this offset
 abbrev pub fault_at : Refusal → ℕ → SourceFault

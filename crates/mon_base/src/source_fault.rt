@@ -16,9 +16,9 @@ pub enum Refusal {
     Lex,
     /// The token, or the end, doesn't fit the grammar.
     Syntax,
-    /// A name is no constant, field or input of the method.
+    /// A name is no constant or field, and no input or local of the method.
     Unknown,
-    /// A name is that of an earlier declaration, method or input.
+    /// A name is that of an earlier declaration, method, input or local.
     Duplicate,
     /// A called name is no method. At the name.
     UnknownMethod,
@@ -33,9 +33,9 @@ pub enum Refusal {
     TooLarge,
     /// The first one over a limit of a monitor.
     TooMany(Counted),
-    /// The target of an assignment is a constant or an input.
+    /// The target of an assignment is a constant or an input, and no field or local.
     ReadOnly,
-    /// A `return` is not the last statement of its method's body.
+    /// A `return` is not the last statement of its method's last block.
     Misplaced,
     /// A client has the name of an earlier one. At the later name.
     DuplicateClient,
@@ -80,24 +80,26 @@ fn rank(what: Refusal) -> u32
         Refusal::NotLinear => 7,
         Refusal::TooLarge => 8,
         Refusal::TooMany(counted) => 9 + counted_rank(counted),
-        Refusal::ReadOnly => 14,
-        Refusal::Misplaced => 15,
-        Refusal::DuplicateClient => 16,
-        Refusal::TooManyClients => 17,
-        Refusal::TooManyCalls => 18,
+        Refusal::ReadOnly => 16,
+        Refusal::Misplaced => 17,
+        Refusal::DuplicateClient => 18,
+        Refusal::TooManyClients => 19,
+        Refusal::TooManyCalls => 20,
     }
 }
 
 fn counted_rank(counted: Counted) -> u32
     ensures exact { result ≡ counted_rank counted }
-    ensures small { result ≤ 4 }
+    ensures small { result ≤ 6 }
 {
     match counted {
         Counted::Constants => 0,
         Counted::Fields => 1,
         Counted::Methods => 2,
         Counted::Parameters => 3,
-        Counted::Statements => 4,
+        Counted::Locals => 4,
+        Counted::Blocks => 5,
+        Counted::Statements => 6,
     }
 }
 

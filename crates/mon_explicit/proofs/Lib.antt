@@ -1,3 +1,5 @@
+pub mod Stepping
+pub mod Counting
 pub mod Making
 pub mod MakingEvents
 pub mod MakingNotes

@@ -14,14 +14,15 @@ use Rattle.mon_events.specs.Configurations.Phase.{Idle, Entering, Waiting, Woken
 use Rattle.mon_events.specs.Events.{wake_all}
 use Rattle.mon_events.proofs.Standings.{put_same, put_other, put_length, one_phase, stands_within, woken_from, unwoken_stays}
 use Rattle.mon_explicit.specs.inner.Rings.{line_of, is_not, without, IsLine, AreLines, AreBefore}
+use Rattle.mon_implicit.specs.declared.place.Place.{Place}
 
 -- ---- who waits after an event
 
 -- who waits is who waited, of whom this is true
 abbrev pub WaitsAfter : (ℕ → ℕ → Type 0) → List Standing → List Standing → Type 0
-WaitsAfter P before next = (other past condition : ℕ)
-    → (StandsAt next other past (Waiting condition) → StandsAt before other past (Waiting condition) × P other condition)
-    × (StandsAt before other past (Waiting condition) → P other condition → StandsAt next other past (Waiting condition))
+WaitsAfter P before next = (other : ℕ) (place : Place) (condition : ℕ)
+    → (StandsAt next other place (Waiting condition) → StandsAt before other place (Waiting condition) × P other condition)
+    × (StandsAt before other place (Waiting condition) → P other condition → StandsAt next other place (Waiting condition))
 
 abbrev pub Anyone : ℕ → ℕ → Type 0
 Anyone other condition = Unit {0}
@@ -59,74 +60,74 @@ pub notifying_is_quiet : (notes : List Note) → IsQuiet (Notifying notes)
 notifying_is_quiet notes condition is = cc is
 
 pub nobody_left : (before next : List Standing) → next ≡ before → WaitsAfter Anyone before next
-nobody_left before next is other past condition = (
-  (λ at. (subst (λ (some : List Standing). StandsAt some other past (Waiting condition)) is at, tt)),
-  (λ at any. subst (λ (some : List Standing). StandsAt some other past (Waiting condition)) (sym is) at),
+nobody_left before next is other place condition = (
+  (λ at. (subst (λ (some : List Standing). StandsAt some other place (Waiting condition)) is at, tt)),
+  (λ at any. subst (λ (some : List Standing). StandsAt some other place (Waiting condition)) (sym is) at),
 )
 
 -- the client did not wait before the event, nor does it after it
-pub quiet_put : (P : ℕ → ℕ → Type 0) (client past was_past : ℕ) (phase was : Phase) (before woken next : List Standing) → next ≡ put woken client past phase → StandsAt before client was_past was → IsQuiet was → IsQuiet phase
+pub quiet_put : (P : ℕ → ℕ → Type 0) (client : ℕ) (place was_place : Place) (phase was : Phase) (before woken next : List Standing) → next ≡ put woken client place phase → StandsAt before client was_place was → IsQuiet was → IsQuiet phase
     → WaitsAfter P before woken → WaitsAfter P before next
-quiet_put P client past was_past phase was before woken next is stood quiet_before quiet after other others_past condition = (there, back)
+quiet_put P client place was_place phase was before woken next is stood quiet_before quiet after other others_place condition = (there, back)
   where
-    there : StandsAt next other others_past (Waiting condition) → StandsAt before other others_past (Waiting condition) × P other condition
+    there : StandsAt next other others_place (Waiting condition) → StandsAt before other others_place (Waiting condition) × P other condition
     there at =
-        let here : StandsAt (put woken client past phase) other others_past (Waiting condition) = subst (λ (some : List Standing). StandsAt some other others_past (Waiting condition)) is at in
+        let here : StandsAt (put woken client place phase) other others_place (Waiting condition) = subst (λ (some : List Standing). StandsAt some other others_place (Waiting condition)) is at in
         elim (cases_eq other client) [
           | inl same ↦
-              let its = subst (λ (who : ℕ). StandsAt (put woken client past phase) who others_past (Waiting condition)) same here in
-              let within : client < length woken = omega (arith, put_length woken client past phase, stands_within (put woken client past phase) client others_past (Waiting condition) its) in
-              absurd (quiet condition (one_phase (put woken client past phase) client others_past past (Waiting condition) phase its (put_same woken client past phase within)))
-          | inr differs ↦ (after other others_past condition).0 (sym (put_other woken client past phase other differs) ∙ here)
+              let its = subst (λ (who : ℕ). StandsAt (put woken client place phase) who others_place (Waiting condition)) same here in
+              let within : client < length woken = omega (arith, put_length woken client place phase, stands_within (put woken client place phase) client others_place (Waiting condition) its) in
+              absurd (quiet condition (one_phase (put woken client place phase) client others_place place (Waiting condition) phase its (put_same woken client place phase within)))
+          | inr differs ↦ (after other others_place condition).0 (sym (put_other woken client place phase other differs) ∙ here)
         ]
 
-    back : StandsAt before other others_past (Waiting condition) → P other condition → StandsAt next other others_past (Waiting condition)
+    back : StandsAt before other others_place (Waiting condition) → P other condition → StandsAt next other others_place (Waiting condition)
     back at allowed = elim (cases_eq other client) [
-      | inl same ↦ absurd (quiet_before condition (one_phase before client others_past was_past (Waiting condition) was (subst (λ (who : ℕ). StandsAt before who others_past (Waiting condition)) same at) stood))
-      | inr differs ↦ subst (λ (some : List Standing). StandsAt some other others_past (Waiting condition)) (sym is)
-          (put_other woken client past phase other differs ∙ (after other others_past condition).1 at allowed)
+      | inl same ↦ absurd (quiet_before condition (one_phase before client others_place was_place (Waiting condition) was (subst (λ (who : ℕ). StandsAt before who others_place (Waiting condition)) same at) stood))
+      | inr differs ↦ subst (λ (some : List Standing). StandsAt some other others_place (Waiting condition)) (sym is)
+          (put_other woken client place phase other differs ∙ (after other others_place condition).1 at allowed)
     ]
 
-pub one_left : (target past on : ℕ) (before next : List Standing) → StandsAt before target past (Waiting on) → next ≡ put before target past (Woken on) → WaitsAfter (ButOne target) before next
-one_left target past on before next stood is other others_past condition = (there, back)
+pub one_left : (target : ℕ) (place : Place) (on : ℕ) (before next : List Standing) → StandsAt before target place (Waiting on) → next ≡ put before target place (Woken on) → WaitsAfter (ButOne target) before next
+one_left target place on before next stood is other others_place condition = (there, back)
   where
-    there : StandsAt next other others_past (Waiting condition) → StandsAt before other others_past (Waiting condition) × (other ≡ target → ⊥)
+    there : StandsAt next other others_place (Waiting condition) → StandsAt before other others_place (Waiting condition) × (other ≡ target → ⊥)
     there at =
-        let here : StandsAt (put before target past (Woken on)) other others_past (Waiting condition) = subst (λ (some : List Standing). StandsAt some other others_past (Waiting condition)) is at in
+        let here : StandsAt (put before target place (Woken on)) other others_place (Waiting condition) = subst (λ (some : List Standing). StandsAt some other others_place (Waiting condition)) is at in
         let apart = λ (same : other ≡ target). woken_is_quiet on condition
-        (one_phase (put before target past (Woken on)) target others_past past (Waiting condition) (Woken on) (subst (λ (who : ℕ). StandsAt (put before target past (Woken on)) who others_past (Waiting condition)) same here)
-        (put_same before target past (Woken on) (stands_within before target past (Waiting on) stood))) in
-        (sym (put_other before target past (Woken on) other apart) ∙ here, apart)
+        (one_phase (put before target place (Woken on)) target others_place place (Waiting condition) (Woken on) (subst (λ (who : ℕ). StandsAt (put before target place (Woken on)) who others_place (Waiting condition)) same here)
+        (put_same before target place (Woken on) (stands_within before target place (Waiting on) stood))) in
+        (sym (put_other before target place (Woken on) other apart) ∙ here, apart)
 
-    back : StandsAt before other others_past (Waiting condition) → (other ≡ target → ⊥) → StandsAt next other others_past (Waiting condition)
-    back at apart = subst (λ (some : List Standing). StandsAt some other others_past (Waiting condition)) (sym is) (put_other before target past (Woken on) other apart ∙ at)
+    back : StandsAt before other others_place (Waiting condition) → (other ≡ target → ⊥) → StandsAt next other others_place (Waiting condition)
+    back at apart = subst (λ (some : List Standing). StandsAt some other others_place (Waiting condition)) (sym is) (put_other before target place (Woken on) other apart ∙ at)
 
 pub each_left : (on : ℕ) (before next : List Standing) → next ≡ wake_all on before → WaitsAfter (ButOn on) before next
-each_left on before next is other past condition = (there, back)
+each_left on before next is other place condition = (there, back)
   where
-    there : StandsAt next other past (Waiting condition) → StandsAt before other past (Waiting condition) × (condition ≡ on → ⊥)
-    there at = elim (woken_from before on other past (Waiting condition) (subst (λ (some : List Standing). StandsAt some other past (Waiting condition)) is at)) [
+    there : StandsAt next other place (Waiting condition) → StandsAt before other place (Waiting condition) × (condition ≡ on → ⊥)
+    there at = elim (woken_from before on other place (Waiting condition) (subst (λ (some : List Standing). StandsAt some other place (Waiting condition)) is at)) [
       | inl stayed ↦ (stayed.0, λ same. true≢false (sym (eq-eqb condition on same) ∙ stayed.1))
       | inr woken ↦ absurd (woken_is_quiet on condition woken.1)
     ]
 
-    back : StandsAt before other past (Waiting condition) → (condition ≡ on → ⊥) → StandsAt next other past (Waiting condition)
-    back at apart = subst (λ (some : List Standing). StandsAt some other past (Waiting condition)) (sym is) (unwoken_stays before on other past (Waiting condition) at (ne_eqb condition on apart))
+    back : StandsAt before other place (Waiting condition) → (condition ≡ on → ⊥) → StandsAt next other place (Waiting condition)
+    back at apart = subst (λ (some : List Standing). StandsAt some other place (Waiting condition)) (sym is) (unwoken_stays before on other place (Waiting condition) at (ne_eqb condition on apart))
 
 -- ---- one line
 
 pub line_kept : (P : ℕ → ℕ → Type 0) (since : List ℕ) (before next : List Standing) (condition : ℕ) (line : List ℕ) → WaitsAfter P before next → ((client : ℕ) → Contains line client → P client condition)
     → IsLine since before condition line → IsLine since next condition line
 line_kept P since before next condition line after allowed is = record {
-  all = λ client past at. is.all client past ((after client past condition).0 at).0;
+  all = λ client place at. is.all client place ((after client place condition).0 at).0;
   only = λ client has. let stood = is.only client has in (stood.0, (after client stood.0 condition).1 stood.1 (allowed client has));
   rising = is.rising;
   numbered = is.numbered;
 }
 
-pub no_line : (since : List ℕ) (standings : List Standing) (condition : ℕ) → ((client past : ℕ) → StandsAt standings client past (Waiting condition) → ⊥) → IsLine since standings condition []
+pub no_line : (since : List ℕ) (standings : List Standing) (condition : ℕ) → ((client : ℕ) (place : Place) → StandsAt standings client place (Waiting condition) → ⊥) → IsLine since standings condition []
 no_line since standings condition none = record {
-  all = λ client past at. absurd (none client past at);
+  all = λ client place at. absurd (none client place at);
   only = λ client has. absurd (omega (arith, has.1));
   rising = λ i j d below within. absurd (omega (arith, within));
   numbered = λ client has. absurd (omega (arith, has.1));
@@ -164,7 +165,7 @@ is_apart target client line has same =
 
 pub line_left : (since : List ℕ) (before next : List Standing) (target condition : ℕ) (line : List ℕ) → WaitsAfter (ButOne target) before next → IsLine since before condition line → IsLine since next condition (without target line)
 line_left since before next target condition line after is = record {
-  all = λ client past at. let was = (after client past condition).0 at in still_in target client line was.1 (is.all client past was.0);
+  all = λ client place at. let was = (after client place condition).0 at in still_in target client line was.1 (is.all client place was.0);
   only = λ client has. let stood = is.only client (was_in target client line has) in (stood.0, (after client stood.0 condition).1 stood.1 (is_apart target client line has));
   rising = AllPairs-filter (λ one other. get_or since one 0 < get_or since other 0) (is_not target) line is.rising;
   numbered = λ client has. is.numbered client (was_in target client line has);
@@ -198,15 +199,15 @@ lines_cleared since system next_system before next rings on same lengths after a
   each = λ condition. elim (cases_eq condition on) [
     | inl is ↦ subst (λ (which : ℕ). IsLine since next which (line_of (set rings on []) which)) (sym is)
         (subst (λ (line : List ℕ). IsLine since next on line) (sym (line_set rings on [] (λ over. refl)))
-        (no_line since next on (λ client past at. ((after client past on).0 at).1 refl)))
+        (no_line since next on (λ client place at. ((after client place on).0 at).1 refl)))
     | inr differs ↦ subst (λ (line : List ℕ). IsLine since next condition line) (sym (get_or-set_other rings on condition [] [] differs))
         (line_kept (ButOn on) since before next condition (line_of rings condition) after (λ client has. differs) (are.each condition))
   ];
 }
 
-pub lines_left : (since : List ℕ) (system next_system : System) (before next : List Standing) (rings : List (List ℕ)) (target past on : ℕ) → next_system ≡ system → length next ≡ length before → StandsAt before target past (Waiting on)
+pub lines_left : (since : List ℕ) (system next_system : System) (before next : List Standing) (rings : List (List ℕ)) (target : ℕ) (place : Place) (on : ℕ) → next_system ≡ system → length next ≡ length before → StandsAt before target place (Waiting on)
     → WaitsAfter (ButOne target) before next → AreLines since system before rings → AreLines since next_system next (set rings on (without target (line_of rings on)))
-lines_left since system next_system before next rings target past on same lengths stood after are = record {
+lines_left since system next_system before next rings target place on same lengths stood after are = record {
   one_each = are.one_each ∙ sym lengths;
   conditions = length-set rings on new ∙ are.conditions ∙ ap (λ (s : System). length s.monitor.conditions + 1) (sym same);
   each = λ condition. elim (cases_eq condition on) [
@@ -224,7 +225,7 @@ lines_left since system next_system before next rings target past on same length
     apart : (condition client : ℕ) → (condition ≡ on → ⊥) → Contains (line_of rings condition) client → client ≡ target → ⊥
     apart condition client differs has is =
         let waits = (are.each condition).only client has in
-        differs (same_waiting condition on (one_phase before target waits.0 past (Waiting condition) (Waiting on) (subst (λ (who : ℕ). StandsAt before who waits.0 (Waiting condition)) is waits.1) stood))
+        differs (same_waiting condition on (one_phase before target waits.0 place (Waiting condition) (Waiting on) (subst (λ (who : ℕ). StandsAt before who waits.0 (Waiting condition)) is waits.1) stood))
 
 -- ---- the first leaves a line
 
@@ -259,78 +260,78 @@ rises since client number line apart rising i j d below within =
     let other_apart = λ (is : other ≡ client). apart (subst (λ (who : ℕ). Contains line who) is (Contains-get_or line j d within)) in
     omega (arith, rising i j d below within, get_or-set_other since client one number 0 one_apart, get_or-set_other since client other number 0 other_apart)
 
-line_joined : (since : List ℕ) (before next : List Standing) (client past on place : ℕ) (line : List ℕ) → client < length since → AreBefore since place → StandsAt before client past Inside → next ≡ put before client past (Waiting on)
-    → IsLine since before on line → IsLine (set since client (place + 1)) next on (line ++ client ∷ [])
-line_joined since before next client past on place line within early inside is lined = record {
-  all = λ other others_past at. elim (cases_eq other client) [
+line_joined : (since : List ℕ) (before next : List Standing) (client : ℕ) (place : Place) (on number : ℕ) (line : List ℕ) → client < length since → AreBefore since number → StandsAt before client place Inside → next ≡ put before client place (Waiting on)
+    → IsLine since before on line → IsLine (set since client (number + 1)) next on (line ++ client ∷ [])
+line_joined since before next client place on number line within early inside is lined = record {
+  all = λ other others_place at. elim (cases_eq other client) [
     | inl same ↦ subst (λ (who : ℕ). Contains (line ++ client ∷ []) who) (sym same) (Contains-push line client)
-    | inr differs ↦ Contains-append_left line (client ∷ []) other (lined.all other others_past
-        (sym (put_other before client past (Waiting on) other differs) ∙ subst (λ (some : List Standing). StandsAt some other others_past (Waiting on)) is at))
+    | inr differs ↦ Contains-append_left line (client ∷ []) other (lined.all other others_place
+        (sym (put_other before client place (Waiting on) other differs) ∙ subst (λ (some : List Standing). StandsAt some other others_place (Waiting on)) is at))
   ];
   only = λ other has. elim (Contains-push_cases line client other has) [
     | inl old ↦
         let stood = lined.only other old in
         let differs = λ (same : other ≡ client). absent (subst (λ (who : ℕ). Contains line who) same old) in
-        (stood.0, subst (λ (some : List Standing). StandsAt some other stood.0 (Waiting on)) (sym is) (put_other before client past (Waiting on) other differs ∙ stood.1))
+        (stood.0, subst (λ (some : List Standing). StandsAt some other stood.0 (Waiting on)) (sym is) (put_other before client place (Waiting on) other differs ∙ stood.1))
     | inr same ↦ (
-      past,
-      subst (λ (some : List Standing). StandsAt some other past (Waiting on)) (sym is)
-          (subst (λ (who : ℕ). StandsAt (put before client past (Waiting on)) who past (Waiting on)) same
-          (put_same before client past (Waiting on) (stands_within before client past Inside inside))),
+      place,
+      subst (λ (some : List Standing). StandsAt some other place (Waiting on)) (sym is)
+          (subst (λ (who : ℕ). StandsAt (put before client place (Waiting on)) who place (Waiting on)) same
+          (put_same before client place (Waiting on) (stands_within before client place Inside inside))),
     )
   ];
-  rising = all_pairs_push (λ one other. get_or (set since client (place + 1)) one 0 < get_or (set since client (place + 1)) other 0) line client
-      (rises since client (place + 1) line absent lined.rising)
+  rising = all_pairs_push (λ one other. get_or (set since client (number + 1)) one 0 < get_or (set since client (number + 1)) other 0) line client
+      (rises since client (number + 1) line absent lined.rising)
       (λ k d below.
       let one = get_or line k d in
       let apart = λ (same : one ≡ client). absent (subst (λ (who : ℕ). Contains line who) same (Contains-get_or line k d below)) in
-      omega (arith, get_or-set_other since client one (place + 1) 0 apart, get_or-set_same since client (place + 1) 0 within, early one));
+      omega (arith, get_or-set_other since client one (number + 1) 0 apart, get_or-set_same since client (number + 1) 0 within, early one));
   numbered = λ other has. elim (Contains-push_cases line client other has) [
-    | inl old ↦ omega (arith, get_or-set_other since client other (place + 1) 0 (λ same. absent (subst (λ (who : ℕ). Contains line who) same old)), lined.numbered other old)
-    | inr same ↦ omega (arith, ap (λ (who : ℕ). get_or (set since client (place + 1)) who 0) same, get_or-set_same since client (place + 1) 0 within)
+    | inl old ↦ omega (arith, get_or-set_other since client other (number + 1) 0 (λ same. absent (subst (λ (who : ℕ). Contains line who) same old)), lined.numbered other old)
+    | inr same ↦ omega (arith, ap (λ (who : ℕ). get_or (set since client (number + 1)) who 0) same, get_or-set_same since client (number + 1) 0 within)
   ];
 }
   where
     absent : Contains line client → ⊥
     absent has =
         let stood = lined.only client has in
-        inside_is_quiet on (one_phase before client stood.0 past (Waiting on) Inside stood.1 inside)
+        inside_is_quiet on (one_phase before client stood.0 place (Waiting on) Inside stood.1 inside)
 
-other_line : (since : List ℕ) (before next : List Standing) (client past on place condition : ℕ) (line : List ℕ) → (condition ≡ on → ⊥) → StandsAt before client past Inside → next ≡ put before client past (Waiting on)
-    → IsLine since before condition line → IsLine (set since client (place + 1)) next condition line
-other_line since before next client past on place condition line differs inside is lined = record {
-  all = λ other others_past at.
-      let here : StandsAt (put before client past (Waiting on)) other others_past (Waiting condition) = subst (λ (some : List Standing). StandsAt some other others_past (Waiting condition)) is at in
-      lined.all other others_past (sym (put_other before client past (Waiting on) other (λ same. differs (same_waiting condition on
-      (one_phase (put before client past (Waiting on)) client others_past past (Waiting condition) (Waiting on)
-      (subst (λ (who : ℕ). StandsAt (put before client past (Waiting on)) who others_past (Waiting condition)) same here)
-      (put_same before client past (Waiting on) (stands_within before client past Inside inside)))))) ∙ here);
+other_line : (since : List ℕ) (before next : List Standing) (client : ℕ) (place : Place) (on number condition : ℕ) (line : List ℕ) → (condition ≡ on → ⊥) → StandsAt before client place Inside → next ≡ put before client place (Waiting on)
+    → IsLine since before condition line → IsLine (set since client (number + 1)) next condition line
+other_line since before next client place on number condition line differs inside is lined = record {
+  all = λ other others_place at.
+      let here : StandsAt (put before client place (Waiting on)) other others_place (Waiting condition) = subst (λ (some : List Standing). StandsAt some other others_place (Waiting condition)) is at in
+      lined.all other others_place (sym (put_other before client place (Waiting on) other (λ same. differs (same_waiting condition on
+      (one_phase (put before client place (Waiting on)) client others_place place (Waiting condition) (Waiting on)
+      (subst (λ (who : ℕ). StandsAt (put before client place (Waiting on)) who others_place (Waiting condition)) same here)
+      (put_same before client place (Waiting on) (stands_within before client place Inside inside)))))) ∙ here);
   only = λ other has.
       let stood = lined.only other has in
       let apart = λ (same : other ≡ client). absent (subst (λ (who : ℕ). Contains line who) same has) in
-      (stood.0, subst (λ (some : List Standing). StandsAt some other stood.0 (Waiting condition)) (sym is) (put_other before client past (Waiting on) other apart ∙ stood.1));
-  rising = rises since client (place + 1) line absent lined.rising;
+      (stood.0, subst (λ (some : List Standing). StandsAt some other stood.0 (Waiting condition)) (sym is) (put_other before client place (Waiting on) other apart ∙ stood.1));
+  rising = rises since client (number + 1) line absent lined.rising;
   numbered = λ other has.
-      omega (arith, get_or-set_other since client other (place + 1) 0 (λ same. absent (subst (λ (who : ℕ). Contains line who) same has)), lined.numbered other has);
+      omega (arith, get_or-set_other since client other (number + 1) 0 (λ same. absent (subst (λ (who : ℕ). Contains line who) same has)), lined.numbered other has);
 }
   where
     absent : Contains line client → ⊥
     absent has =
         let stood = lined.only client has in
-        inside_is_quiet condition (one_phase before client stood.0 past (Waiting condition) Inside stood.1 inside)
+        inside_is_quiet condition (one_phase before client stood.0 place (Waiting condition) Inside stood.1 inside)
 
-pub lines_joined : (since : List ℕ) (system next_system : System) (before next : List Standing) (rings : List (List ℕ)) (client past on place : ℕ) → next_system ≡ system → AreBefore since place
-    → on < length rings → StandsAt before client past Inside → next ≡ put before client past (Waiting on)
-    → AreLines since system before rings → AreLines (set since client (place + 1)) next_system next (set rings on (line_of rings on ++ client ∷ []))
-lines_joined since system next_system before next rings client past on place same early below inside is are = record {
-  one_each = length-set since client (place + 1) ∙ are.one_each ∙ sym (ap length is ∙ put_length before client past (Waiting on));
+pub lines_joined : (since : List ℕ) (system next_system : System) (before next : List Standing) (rings : List (List ℕ)) (client : ℕ) (place : Place) (on number : ℕ) → next_system ≡ system → AreBefore since number
+    → on < length rings → StandsAt before client place Inside → next ≡ put before client place (Waiting on)
+    → AreLines since system before rings → AreLines (set since client (number + 1)) next_system next (set rings on (line_of rings on ++ client ∷ []))
+lines_joined since system next_system before next rings client place on number same early below inside is are = record {
+  one_each = length-set since client (number + 1) ∙ are.one_each ∙ sym (ap length is ∙ put_length before client place (Waiting on));
   conditions = length-set rings on new ∙ are.conditions ∙ ap (λ (s : System). length s.monitor.conditions + 1) (sym same);
   each = λ condition. elim (cases_eq condition on) [
-    | inl here ↦ subst (λ (which : ℕ). IsLine (set since client (place + 1)) next which (line_of (set rings on new) which)) (sym here)
-        (subst (λ (line : List ℕ). IsLine (set since client (place + 1)) next on line) (sym (line_set rings on new (λ over. absurd (omega (arith, over, below)))))
-        (line_joined since before next client past on place (line_of rings on) (omega (arith, are.one_each, stands_within before client past Inside inside)) early inside is (are.each on)))
-    | inr differs ↦ subst (λ (line : List ℕ). IsLine (set since client (place + 1)) next condition line) (sym (get_or-set_other rings on condition new [] differs))
-        (other_line since before next client past on place condition (line_of rings condition) differs inside is (are.each condition))
+    | inl here ↦ subst (λ (which : ℕ). IsLine (set since client (number + 1)) next which (line_of (set rings on new) which)) (sym here)
+        (subst (λ (line : List ℕ). IsLine (set since client (number + 1)) next on line) (sym (line_set rings on new (λ over. absurd (omega (arith, over, below)))))
+        (line_joined since before next client place on number (line_of rings on) (omega (arith, are.one_each, stands_within before client place Inside inside)) early inside is (are.each on)))
+    | inr differs ↦ subst (λ (line : List ℕ). IsLine (set since client (number + 1)) next condition line) (sym (get_or-set_other rings on condition new [] differs))
+        (other_line since before next client place on number condition (line_of rings condition) differs inside is (are.each condition))
   ];
 }
   where
@@ -339,29 +340,29 @@ lines_joined since system next_system before next rings client past on place sam
 
 -- ---- there is room in a line for each client
 
-pub line_is_short : (since : List ℕ) (standings : List Standing) (condition client past : ℕ) (phase : Phase) (line : List ℕ) → IsLine since standings condition line → StandsAt standings client past phase → IsQuiet phase
+pub line_is_short : (since : List ℕ) (standings : List Standing) (condition client : ℕ) (place : Place) (phase : Phase) (line : List ℕ) → IsLine since standings condition line → StandsAt standings client place phase → IsQuiet phase
     → length line < length standings
-line_is_short since standings condition client past phase line lined stood quiet =
-    omega (arith, pigeonhole (length line + 1) (length standings) place into one_to_one)
+line_is_short since standings condition client place phase line lined stood quiet =
+    omega (arith, pigeonhole (length line + 1) (length standings) number into one_to_one)
   where
     -- the clients of the line, and this one
-    place : ℕ → ℕ
-    place i = get_or (line ++ client ∷ []) i 0
+    number : ℕ → ℕ
+    number i = get_or (line ++ client ∷ []) i 0
 
     whole : AllPairs (λ one other. one ≡ other → ⊥) (line ++ client ∷ [])
     whole = all_pairs_push (λ one other. one ≡ other → ⊥) line client
         (λ i j d below within same. omega (arith, lined.rising i j d below within, ap (λ (who : ℕ). get_or since who 0) same))
         (λ k d below same. quiet condition (one_phase standings client
-        (lined.only client (subst (λ (who : ℕ). Contains line who) same (Contains-get_or line k d below))).0 past (Waiting condition) phase
+        (lined.only client (subst (λ (who : ℕ). Contains line who) same (Contains-get_or line k d below))).0 place (Waiting condition) phase
         (lined.only client (subst (λ (who : ℕ). Contains line who) same (Contains-get_or line k d below))).1 stood))
 
-    into : (i : ℕ) → i < length line + 1 → place i < length standings
-    into i below = elim (Contains-push_cases line client (place i) (Contains-get_or (line ++ client ∷ []) i 0 (omega (arith, below, length_push line client)))) [
-      | inl old ↦ let waits = lined.only (place i) old in stands_within standings (place i) waits.0 (Waiting condition) waits.1
-      | inr same ↦ omega (arith, same, stands_within standings client past phase stood)
+    into : (i : ℕ) → i < length line + 1 → number i < length standings
+    into i below = elim (Contains-push_cases line client (number i) (Contains-get_or (line ++ client ∷ []) i 0 (omega (arith, below, length_push line client)))) [
+      | inl old ↦ let waits = lined.only (number i) old in stands_within standings (number i) waits.0 (Waiting condition) waits.1
+      | inr same ↦ omega (arith, same, stands_within standings client place phase stood)
     ]
 
-    one_to_one : (i j : ℕ) → i < length line + 1 → j < length line + 1 → place i ≡ place j → i ≡ j
+    one_to_one : (i j : ℕ) → i < length line + 1 → j < length line + 1 → number i ≡ number j → i ≡ j
     one_to_one i j first second same = elim (cases_eq i j) [
       | inl is ↦ is
       | inr differs ↦ elim (apart i j differs) [

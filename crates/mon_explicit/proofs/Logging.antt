@@ -7,20 +7,20 @@ use Rattle.std.proofs.lemmas.Bool.{cases_eq, eq-eqb, ne_eqb, leb-true, leb-false
 use Rattle.mon_monitor.specs.MonitorParts.{MonitorParts, IsMonitor}
 use Rattle.mon_implicit.specs.declared.commit.Commit.{Commit}
 use Rattle.mon_implicit.specs.declared.script.Client.{Client}
-use Rattle.mon_implicit.specs.Scripted.{calls_of, AreClients, FitsScripts}
-use Rattle.mon_implicit.specs.Runs.{IsRun, Ends}
+use Rattle.mon_implicit.specs.Scripted.{all_blocks, calls_of, AreClients, FitsScripts}
+use Rattle.mon_implicit.specs.Runs.{IsRun, Ends, first_places}
 use Rattle.mon_events.specs.declared.plan.Plan.{Plan}
 use Rattle.mon_events.specs.declared.event.Event.TheVariants as events
 use Rattle.mon_events.specs.declared.event.Stage.{Stage}
 use Rattle.mon_events.specs.declared.log.Entry.{Entry}
 use Rattle.mon_events.specs.Plans.{IsLawful, FitsPlan}
-use Rattle.mon_events.specs.Configurations.{System, Phase, Standing, Configuration, StandsAt, put}
+use Rattle.mon_events.specs.Configurations.{System, Phase, Standing, Configuration, StandsAt, put, idle_at, situation_of}
 use Rattle.mon_events.specs.Configurations.Phase.{Idle, Entering, Waiting, Woken, Inside, Notifying}
 use Rattle.mon_events.specs.Events.{WakesSpuriously}
 use Rattle.mon_events.specs.Pending.{IsSystem, IsSound}
 use Rattle.mon_events.specs.Laws.{HasLawfulPlan}
-use Rattle.mon_events.specs.Logs.{IsSection, IsLegal, IsClosed, WaitsSince, is_wait_of, says_waits, rests, all_calls, is_spurious_entry}
-use Rattle.mon_events.specs.Logs.IsSection.{waited, replied}
+use Rattle.mon_events.specs.Logs.{IsSection, IsLegal, IsClosed, WaitsSince, is_wait_of, says_waits, rests, is_spurious_entry}
+use Rattle.mon_events.specs.Logs.IsSection.{waited, refused, replied}
 use Rattle.mon_events.specs.Logs.IsLegal.{empty, sectioned, woken}
 use Rattle.mon_events.proofs.Ending.{IsKept as IsKeptPending, wake_is_pending}
 use Rattle.mon_events.proofs.Legal.{legal_keeps, sound_lasts, kept_lasts, closed_ends}
@@ -32,9 +32,12 @@ use Rattle.mon_explicit.specs.Machines.{Machine, Happened, NotAllowed, opened, s
 use Rattle.mon_explicit.specs.Sections.{FreeMachine, HoldsAlways, HasEnded, is_between, MOST_SPURIOUS, room_of, spurious_in, spurious_entry, Rests, MadeSection, NotMade, WokenByNothing}
 use Rattle.mon_explicit.specs.inner.Waiting.{CanStart, NotStarted, MakesSection, MakesSectionOf, KeepsWaits, IsSettled, IsKept, free_of, since_after, stage_condition}
 use Rattle.mon_explicit.specs.inner.Rings.{line_of, without, IsLine, AreLines, AreBefore}
+use Rattle.mon_events.proofs.Sound.{some_idle}
 use Rattle.mon_explicit.proofs.Came.{came_put}
+use Rattle.mon_explicit.proofs.Counting.{blocks_few}
 use Rattle.mon_explicit.proofs.Lining.{one_left, no_line, lines_left}
-use Rattle.mon_explicit.proofs.Sectioned.{section_settles, none_enters, entering_woken, past_read}
+use Rattle.mon_explicit.proofs.Sectioned.{section_settles, none_enters, entering_woken, place_read}
+use Rattle.mon_implicit.specs.declared.place.Place.{Place}
 
 -- ---- what holds always
 
@@ -45,28 +48,28 @@ locked_not : (c : Configuration) (client : ℕ) → c.owner ≡ None → c.owner
 locked_not c client none owns = none-some client (sym none ∙ owns)
 
 -- no one owns the lock, and no client enters
-between_sections : (system : System) (c : Configuration) → IsSound system c → IsSettled c → (client past : ℕ) (phase : Phase) → StandsAt c.standings client past phase → is_between phase ≡ true
-between_sections system c sound settled client past Idle at = refl
-between_sections system c sound settled client past Entering at = absurd (settled.none_enters client past at)
-between_sections system c sound settled client past (Waiting condition) at = refl
-between_sections system c sound settled client past (Woken condition) at = refl
-between_sections system c sound settled client past Inside at = absurd (locked_not c client settled.free (sound.lock.only client past Inside at refl))
-between_sections system c sound settled client past (Notifying notes) at = absurd (locked_not c client settled.free (sound.lock.only client past (Notifying notes) at refl))
+between_sections : (system : System) (c : Configuration) → IsSound system c → IsSettled c → (client : ℕ) (place : Place) (phase : Phase) → StandsAt c.standings client place phase → is_between phase ≡ true
+between_sections system c sound settled client place Idle at = refl
+between_sections system c sound settled client place Entering at = absurd (settled.none_enters client place at)
+between_sections system c sound settled client place (Waiting condition) at = refl
+between_sections system c sound settled client place (Woken condition) at = refl
+between_sections system c sound settled client place Inside at = absurd (locked_not c client settled.free (sound.lock.only client place Inside at refl))
+between_sections system c sound settled client place (Notifying notes) at = absurd (locked_not c client settled.free (sound.lock.only client place (Notifying notes) at refl))
 
-pub always : (machine : FreeMachine) → IsSystem machine.system → IsLegal machine.system machine.log machine.now → IsSettled machine.now → spurious_in machine.log ≤ machine.extra → machine.extra ≤ MOST_SPURIOUS → HoldsAlways machine
-always machine is legal settled few most =
+pub always : (machine : FreeMachine) → IsSystem machine.system → AreClients machine.system.clients → IsLegal machine.system machine.log machine.now → IsSettled machine.now → spurious_in machine.log ≤ machine.extra → machine.extra ≤ MOST_SPURIOUS → HoldsAlways machine
+always machine is clients legal settled few most =
     let system = machine.system in
     let sound = sound_of system machine.log machine.now is legal in
     let commits = legal_commits system machine.log machine.now legal in
     let bound : length machine.log ≤ room_of machine = omega (arith, log_bounded system is machine.log machine.now legal, few) in
     let kept = λ (lawful : IsLawful system.monitor system.plan). legal_keeps system (IsKeptPending system) (kept_lasts system (record { is = is; lawful = lawful })) machine.log machine.now legal in
-    let product : all_calls system * length system.clients ≤ 16384 * 32 = mul-le-mul is.clients.few_calls is.clients.few in
+    let product : all_blocks system.monitor system.clients * length system.clients ≤ 65536 * 32 = mul-le-mul (blocks_few system.monitor system.clients is.rule clients) clients.few in
     record {
-      rule = record { is = is; legal = legal; free = settled.free; commits = commits; spurious = few; extra = most; bounded = bound; covered = λ lawful. (kept lawful).covered };
+      rule = record { is = is; clients = clients; legal = legal; free = settled.free; commits = commits; spurious = few; extra = most; bounded = bound; covered = λ lawful. (kept lawful).covered };
       sound = sound;
       between = between_sections system machine.now sound settled;
       pending = λ lawful. wake_is_pending system machine.now (record { is = is; lawful = lawful }) sound (kept lawful).covered;
-      run = subst (λ (some : List Commit). IsRun system.monitor system.clients some machine.now.state) commits sound.run;
+      run = subst (λ (some : List Commit). IsRun system.monitor system.clients some (situation_of machine.now)) commits sound.run;
       short = omega (arith, bound, product, most);
     }
 
@@ -74,14 +77,14 @@ pub ended : (machine : FreeMachine) → HoldsAlways machine → IsClosed machine
 ended machine holds closed lawful =
     let system = machine.system in
     let set : HasLawfulPlan system = record { is = holds.rule.is; lawful = lawful } in
-    subst (λ (some : List Commit). Ends system.monitor system.clients some machine.now.state) holds.rule.commits
-    (closed_ends system machine.now set (legal_keeps system (IsKeptPending system) (kept_lasts system set) machine.log machine.now holds.rule.legal) closed)
+    closed_ends system machine.now set (legal_keeps system (IsKeptPending system) (kept_lasts system set) machine.log machine.now holds.rule.legal) closed
 
 -- ---- spurious entries
 
 pub section_not_spurious : (system : System) (log : List Entry) (before : Configuration) (entry : Entry) (next : Configuration) → IsSection system log before entry next → is_spurious_entry entry ≡ false
-section_not_spurious system log before entry next (waited client past begun locked last free begins locks waits) = refl
-section_not_spurious system log before entry next (replied client past bits reply state begun locked ran notified last free begins locks runs notes unlocks are) = refl
+section_not_spurious system log before entry next (waited client place begun locked last free begins locks waits) = refl
+section_not_spurious system log before entry next (refused client place goes reply state begun locked ran last free begins locks refuses unlocks) = refl
+section_not_spurious system log before entry next (replied client place goes bits reply state begun locked ran notified last free begins locks runs notes unlocks are) = refl
 
 pub none_more : (log : List Entry) (entry : Entry) → is_spurious_entry entry ≡ false → spurious_in (log ++ entry ∷ []) ≡ spurious_in log
 none_more log entry is = omega (arith, spurious_more log entry, ap {B = ℕ} (λ (test : Bool). cond test 1 0) is)
@@ -183,24 +186,24 @@ keeps_none clients = record { one_each = same_length clients; each = λ client p
 
 -- ---- who can't make a section rests
 
-phase_rests : (machine : Machine) (client past : ℕ) (phase : Phase) → IsSound machine.system machine.now → IsSettled machine.now → StandsAt machine.now.standings client past phase → (CanStart machine client → ⊥)
-    → rests machine.system client past phase ≡ true
-phase_rests machine client past Idle sound settled at never = by_test (nat_le (length (calls_of machine.system.clients client)) past) refl
+phase_rests : (machine : Machine) (client : ℕ) (place : Place) (phase : Phase) → IsSound machine.system machine.now → IsSettled machine.now → StandsAt machine.now.standings client place phase → (CanStart machine client → ⊥)
+    → rests machine.system client place phase ≡ true
+phase_rests machine client place Idle sound settled at never = by_test (nat_le (length (calls_of machine.system.clients client)) place.past) refl
   where
-    by_test : (test : Bool) → nat_le (length (calls_of machine.system.clients client)) past ≡ test → nat_le (length (calls_of machine.system.clients client)) past ≡ true
+    by_test : (test : Bool) → nat_le (length (calls_of machine.system.clients client)) place.past ≡ test → nat_le (length (calls_of machine.system.clients client)) place.past ≡ true
     by_test true is = is
-    by_test false is = absurd (never (inl (past, at, leb-false (length (calls_of machine.system.clients client)) past is)))
-phase_rests machine client past Entering sound settled at never = absurd (settled.none_enters client past at)
-phase_rests machine client past (Waiting condition) sound settled at never = refl
-phase_rests machine client past (Woken condition) sound settled at never = absurd (never (inr (past, condition, at)))
-phase_rests machine client past Inside sound settled at never = absurd (locked_not machine.now client settled.free (sound.lock.only client past Inside at refl))
-phase_rests machine client past (Notifying notes) sound settled at never = absurd (locked_not machine.now client settled.free (sound.lock.only client past (Notifying notes) at refl))
+    by_test false is = absurd (never (inl (place, at, leb-false (length (calls_of machine.system.clients client)) place.past is)))
+phase_rests machine client place Entering sound settled at never = absurd (settled.none_enters client place at)
+phase_rests machine client place (Waiting condition) sound settled at never = refl
+phase_rests machine client place (Woken condition) sound settled at never = absurd (never (inr (place, condition, at)))
+phase_rests machine client place Inside sound settled at never = absurd (locked_not machine.now client settled.free (sound.lock.only client place Inside at refl))
+phase_rests machine client place (Notifying notes) sound settled at never = absurd (locked_not machine.now client settled.free (sound.lock.only client place (Notifying notes) at refl))
 
 pub rests_when : (machine : Machine) (log : List Entry) (extra client : ℕ) → IsSound machine.system machine.now → IsSettled machine.now → client < length machine.system.clients → (CanStart machine client → ⊥)
     → Rests (record { system = machine.system; now = machine.now; log = log; extra = extra }) client
 rests_when machine log extra client sound settled within never =
     let standing = at_index machine.now.standings client (omega (arith, sound.one_each, within)) in
-    (standing.0.past, standing.0.phase, standing.1, phase_rests machine client standing.0.past standing.0.phase sound settled standing.1 never)
+    (standing.0.place, standing.0.phase, standing.1, phase_rests machine client standing.0.place standing.0.phase sound settled standing.1 never)
 
 -- ---- stages
 
@@ -213,17 +216,17 @@ waiting_stage Inside condition is = absurd (none-some condition is)
 waiting_stage (Notifying notes) condition is = absurd (none-some condition is)
 
 pub stage_tells : (standings : List Standing) (client condition : ℕ) (stage : Stage) → IsSomeAnd (slice_get standings client) (λ standing. stage ≡ stage_of standing.phase) → stage_condition stage ≡ Some condition
-    → (past : ℕ) × StandsAt standings client past (Waiting condition)
+    → (place : Place) × StandsAt standings client place (Waiting condition)
 stage_tells standings client condition stage told waits =
     let found = is_some_and (slice_get standings client) (λ (standing : Standing). stage ≡ stage_of standing.phase) told in
     let which = waiting_stage found.0.phase condition (ap stage_condition (sym found.2) ∙ waits) in
-    (found.0.past, found.1 ∙ ap (λ (phase : Phase). Some (record { past = found.0.past; phase = phase })) which)
+    (found.0.place, found.1 ∙ ap (λ (phase : Phase). Some (record { place = found.0.place; phase = phase })) which)
 
 pub stage_denies : (standings : List Standing) (client : ℕ) (stage : Stage) → IsSomeAnd (slice_get standings client) (λ standing. stage ≡ stage_of standing.phase) → stage_condition stage ≡ None
-    → (past condition : ℕ) → StandsAt standings client past (Waiting condition) → ⊥
-stage_denies standings client stage told waits past condition at =
+    → (place : Place) (condition : ℕ) → StandsAt standings client place (Waiting condition) → ⊥
+stage_denies standings client stage told waits place condition at =
     let found = is_some_and (slice_get standings client) (λ (standing : Standing). stage ≡ stage_of standing.phase) told in
-    let same = one_phase standings client past found.0.past (Waiting condition) found.0.phase at found.1 in
+    let same = one_phase standings client place found.0.place (Waiting condition) found.0.phase at found.1 in
     none-some condition (sym waits ∙ ap stage_condition found.2 ∙ ap stage_condition (ap stage_of (sym same)))
 
 -- ---- what is kept, from call to call
@@ -248,7 +251,7 @@ keeps_early log clients since keeps client = by_test (nat_le (length since) clie
 
 pub opened_kept : (monitor : MonitorParts) (plan : Plan) (clients : List Client) (extra : ℕ) (machine : Machine) (capacity : ℕ) (log : List Entry) (rings : List (List ℕ))
     → IsMonitor monitor → AreClients clients → FitsScripts monitor clients → FitsPlan monitor plan → extra ≤ MOST_SPURIOUS → machine ≡ opened monitor plan clients → log ≡ [] → rings ≡ replicate (length monitor.conditions + 1) []
-    → sum_by (λ client. length client.calls) clients * length clients + 2 * extra ≡ capacity → IsKept (free_of machine log extra) capacity rings 0
+    → all_blocks monitor clients * length clients + 2 * extra ≡ capacity → IsKept (free_of machine log extra) capacity rings 0
 opened_kept monitor plan clients extra machine capacity log rings rule few scripts fits most is empty_log empty_rings room =
     subst (λ (one : Machine). IsKept (free_of one log extra) capacity rings 0) (sym is)
     (subst (λ (entries : List Entry). IsKept (free_of (opened monitor plan clients) entries extra) capacity rings 0) (sym empty_log)
@@ -257,10 +260,11 @@ opened_kept monitor plan clients extra machine capacity log rings rule few scrip
     system : System
     system = record { monitor = monitor; plan = plan; clients = clients }
 
-    idle_only : (phase : Phase) → (Idle ≡ phase → ⊥) → (some : List Client) (client past : ℕ) → StandsAt (map (λ (one : Client). record { past = 0; phase = Idle }) some) client past phase → ⊥
-    idle_only phase apart [] client past at = none-some (record { past = past; phase = phase }) at
-    idle_only phase apart (first ∷ some) zero past at = apart (ap (λ (s : Standing). s.phase) (same_Some (record { past = 0; phase = Idle }) (record { past = past; phase = phase }) at))
-    idle_only phase apart (first ∷ some) (suc client) past at = idle_only phase apart some client past at
+    standings : List Standing
+    standings = map idle_at (first_places monitor clients 0 clients)
+
+    idle_only : (phase : Phase) → (Idle ≡ phase → ⊥) → (client : ℕ) (place : Place) → StandsAt standings client place phase → ⊥
+    idle_only phase apart client place at = apart (sym (some_idle (first_places monitor clients 0 clients) client place phase at).1)
 
     idle_entering : Idle ≡ Entering → ⊥
     idle_entering same = cc same
@@ -273,24 +277,24 @@ opened_kept monitor plan clients extra machine capacity log rings rule few scrip
     empty_line (suc count) zero = refl
     empty_line (suc count) (suc condition) = empty_line count condition
 
-    as_many : (some : List Client) → ◌≡◌ {A = ℕ} (length {A = ℕ} (map (λ (client : Client). 0) some)) (length {A = Standing} (map (λ (one : Client). record { past = 0; phase = Idle }) some))
-    as_many [] = refl
-    as_many (first ∷ some) = ap suc (as_many some)
+    as_many : (number : ℕ) (some : List Client) → ◌≡◌ {A = ℕ} (length {A = ℕ} (map (λ (client : Client). 0) some)) (length {A = Standing} (map idle_at (first_places monitor clients number some)))
+    as_many number [] = refl
+    as_many number (first ∷ some) = ap suc (as_many (number + 1) some)
 
-    lines : AreLines (map (λ (client : Client). 0) clients) system (map (λ (one : Client). record { past = 0; phase = Idle }) clients) (replicate (length monitor.conditions + 1) [])
+    lines : AreLines (map (λ (client : Client). 0) clients) system standings (replicate (length monitor.conditions + 1) [])
     lines = record {
-      one_each = as_many clients;
+      one_each = as_many 0 clients;
       conditions = length-replicate (length monitor.conditions + 1) [];
-      each = λ condition. subst (λ (line : List ℕ). IsLine (map (λ (client : Client). 0) clients) (map (λ (one : Client). record { past = 0; phase = Idle }) clients) condition line) (sym (empty_line (length monitor.conditions + 1) condition))
-          (no_line (map (λ (client : Client). 0) clients) (map (λ (one : Client). record { past = 0; phase = Idle }) clients) condition (λ client past at. idle_only (Waiting condition) (idle_waiting condition) clients client past at));
+      each = λ condition. subst (λ (line : List ℕ). IsLine (map (λ (client : Client). 0) clients) standings condition line) (sym (empty_line (length monitor.conditions + 1) condition))
+          (no_line (map (λ (client : Client). 0) clients) standings condition (λ client place at. idle_only (Waiting condition) (idle_waiting condition) client place at));
     }
 
     settled : IsSettled (opened monitor plan clients).now
-    settled = record { free = refl; none_enters = λ client past at. idle_only Entering idle_entering clients client past at }
+    settled = record { free = refl; none_enters = λ client place at. idle_only Entering idle_entering client place at }
 
     kept : IsKept (free_of (opened monitor plan clients) [] extra) capacity (replicate (length monitor.conditions + 1) []) 0
     kept = record {
-      always = always (free_of (opened monitor plan clients) [] extra) (record { rule = rule; clients = few; scripts = scripts; plan = fits }) empty settled (omega arith) most;
+      always = always (free_of (opened monitor plan clients) [] extra) (record { rule = rule; scripts = scripts; plan = fits }) few empty settled (omega arith) most;
       settled = settled.none_enters;
       room = room;
       since = map (λ (client : Client). 0) clients;
@@ -302,7 +306,7 @@ opened_kept monitor plan clients extra machine capacity log rings rule few scrip
 pub sectioned_kept : (before : Machine) (log : List Entry) (extra capacity client : ℕ) (rings : List (List ℕ)) (spurious : ℕ) (next : Machine) (next_rings : List (List ℕ)) (entry : Entry) → IsKept (free_of before log extra) capacity rings spurious
     → client < length before.system.clients → MakesSectionOf client before rings next next_rings entry → IsKept (free_of next (log ++ entry ∷ []) extra) capacity next_rings spurious
 sectioned_kept before log extra capacity client rings spurious next next_rings entry kept within makes = record {
-  always = always (free_of next (log ++ entry ∷ []) extra) (subst IsSystem (sym made.system) kept.always.rule.is) legal settled (omega (arith, none_more log entry not_spurious, kept.always.rule.spurious)) kept.always.rule.extra;
+  always = always (free_of next (log ++ entry ∷ []) extra) (subst IsSystem (sym made.system) kept.always.rule.is) (subst (λ (system : System). AreClients system.clients) (sym made.system) kept.always.rule.clients) legal settled (omega (arith, none_more log entry not_spurious, kept.always.rule.spurious)) kept.always.rule.extra;
   settled = settled.none_enters;
   room = subst (λ (system : System). room_of (record { system = system; now = next.now; log = log ++ entry ∷ []; extra = extra }) ≡ capacity) (sym made.system) kept.room;
   since = since_after kept.since entry (length log);
@@ -335,22 +339,22 @@ section_room before log extra capacity client rings spurious next next_rings ent
     let after = sectioned_kept before log extra capacity client rings spurious next next_rings entry kept within made in
     omega (arith, after.always.rule.bounded, after.room, length_push log entry)
 
-woken_settles : (client past condition : ℕ) (before next : Configuration) → IsSettled before → WakesSpuriously client past condition before next → IsSettled next
-woken_settles client past condition before next settled wakes = record {
+woken_settles : (client : ℕ) (place : Place) (condition : ℕ) (before next : Configuration) → IsSettled before → WakesSpuriously client place condition before next → IsSettled next
+woken_settles client place condition before next settled wakes = record {
   free = ap (λ (c : Configuration). c.owner) wakes.becomes ∙ settled.free;
-  none_enters = none_enters client past (Woken condition) before next settled.none_enters
-      (came_put client past (Woken condition) before.standings next.standings (ap (λ (c : Configuration). c.standings) wakes.becomes))
-      (subst (λ (c : Configuration). StandsAt c.standings client past (Woken condition)) (sym wakes.becomes)
-      (put_same before.standings client past (Woken condition) (stands_within before.standings client past (Waiting condition) wakes.waits)))
+  none_enters = none_enters client place (Woken condition) before next settled.none_enters
+      (came_put client place (Woken condition) before.standings next.standings (ap (λ (c : Configuration). c.standings) wakes.becomes))
+      (subst (λ (c : Configuration). StandsAt c.standings client place (Woken condition)) (sym wakes.becomes)
+      (put_same before.standings client place (Woken condition) (stands_within before.standings client place (Waiting condition) wakes.waits)))
       (λ is. entering_woken condition is);
 }
 
-pub woken_kept : (before : Machine) (log : List Entry) (extra capacity client call condition : ℕ) (rings : List (List ℕ)) (spurious : ℕ) (next : Machine) → IsKept (free_of before log extra) capacity rings spurious
-    → spurious < extra → (past : ℕ) × StandsAt before.now.standings client past (Waiting condition) → IsSomeAnd (slice_get before.now.standings client) (λ standing. call ≡ standing.past)
+pub woken_kept : (before : Machine) (log : List Entry) (extra capacity client : ℕ) (call : Place) (condition : ℕ) (rings : List (List ℕ)) (spurious : ℕ) (next : Machine) → IsKept (free_of before log extra) capacity rings spurious
+    → spurious < extra → (place : Place) × StandsAt before.now.standings client place (Waiting condition) → IsSomeAnd (slice_get before.now.standings client) (λ standing. call ≡ standing.place)
     → client < length before.system.clients → Happened (events.Spurious client) before next
     → IsKept (free_of next (log ++ spurious_entry client call ∷ []) extra) capacity (set rings condition (without client (line_of rings condition))) (spurious + 1)
 woken_kept before log extra capacity client call condition rings spurious next kept left waits told within happened = record {
-  always = always (free_of next (log ++ entry ∷ []) extra) (subst IsSystem (sym happened.0) kept.always.rule.is) legal settled (omega (arith, one_more log entry refl, kept.counted, left)) kept.always.rule.extra;
+  always = always (free_of next (log ++ entry ∷ []) extra) (subst IsSystem (sym happened.0) kept.always.rule.is) (subst (λ (system : System). AreClients system.clients) (sym happened.0) kept.always.rule.clients) legal settled (omega (arith, one_more log entry refl, kept.counted, left)) kept.always.rule.extra;
   settled = settled.none_enters;
   room = subst (λ (system : System). room_of (record { system = system; now = next.now; log = log ++ entry ∷ []; extra = extra }) ≡ capacity) (sym happened.0) kept.room;
   since = kept.since;
@@ -375,33 +379,33 @@ woken_kept before log extra capacity client call condition rings spurious next k
     settled = woken_settles client happened.1.0 happened.1.1 before.now next.now (record { free = kept.always.rule.free; none_enters = kept.settled }) wakes
 
     same : happened.1.0 ≡ call
-    same = past_read before.now.standings client happened.1.0 call (Waiting happened.1.1) wakes.waits told
+    same = place_read before.now.standings client happened.1.0 call (Waiting happened.1.1) wakes.waits told
 
     legal : IsLegal next.system (log ++ entry ∷ []) next.now
     legal = subst (λ (system : System). IsLegal system (log ++ entry ∷ []) next.now) (sym happened.0)
-        (woken log before.now client call happened.1.1 next.now kept.always.rule.legal (subst (λ (past : ℕ). WakesSpuriously client past happened.1.1 before.now next.now) same wakes))
+        (woken log before.now client call happened.1.1 next.now kept.always.rule.legal (subst (λ (place : Place). WakesSpuriously client place happened.1.1 before.now next.now) same wakes))
 
-pub woken_room : (before : Machine) (log : List Entry) (extra capacity client call condition : ℕ) (rings : List (List ℕ)) (spurious : ℕ) (next : Machine) → IsKept (free_of before log extra) capacity rings spurious
-    → spurious < extra → (past : ℕ) × StandsAt before.now.standings client past (Waiting condition) → IsSomeAnd (slice_get before.now.standings client) (λ standing. call ≡ standing.past)
+pub woken_room : (before : Machine) (log : List Entry) (extra capacity client : ℕ) (call : Place) (condition : ℕ) (rings : List (List ℕ)) (spurious : ℕ) (next : Machine) → IsKept (free_of before log extra) capacity rings spurious
+    → spurious < extra → (place : Place) × StandsAt before.now.standings client place (Waiting condition) → IsSomeAnd (slice_get before.now.standings client) (λ standing. call ≡ standing.place)
     → client < length before.system.clients → Happened (events.Spurious client) before next → length log < capacity
 woken_room before log extra capacity client call condition rings spurious next kept left waits told within happened =
     let after = woken_kept before log extra capacity client call condition rings spurious next kept left waits told within happened in
     omega (arith, after.always.rule.bounded, after.room, length_push log (spurious_entry client call))
 
-pub woken_told : (before : Machine) (log : List Entry) (extra client call spurious : ℕ) (next : Machine) → spurious ≡ spurious_in log → spurious < extra
-    → IsSomeAnd (slice_get before.now.standings client) (λ standing. call ≡ standing.past) → Happened (events.Spurious client) before next
+pub woken_told : (before : Machine) (log : List Entry) (extra client : ℕ) (call : Place) (spurious : ℕ) (next : Machine) → spurious ≡ spurious_in log → spurious < extra
+    → IsSomeAnd (slice_get before.now.standings client) (λ standing. call ≡ standing.place) → Happened (events.Spurious client) before next
     → WokenByNothing client (free_of before log extra) (free_of next (log ++ spurious_entry client call ∷ []) extra)
 woken_told before log extra client call spurious next counted left told happened =
-    let same = past_read before.now.standings client happened.1.0 call (Waiting happened.1.1) happened.1.2.waits told in
+    let same = place_read before.now.standings client happened.1.0 call (Waiting happened.1.1) happened.1.2.waits told in
     record {
-      past = call;
+      place = call;
       condition = happened.1.1;
       left = omega (arith, counted, left);
-      wakes = subst (λ (past : ℕ). WakesSpuriously client past happened.1.1 before.now next.now) same happened.1.2;
+      wakes = subst (λ (place : Place). WakesSpuriously client place happened.1.1 before.now next.now) same happened.1.2;
       appends = record { log = refl; system = happened.0; extra = refl };
     }
 
-pub can_wake : (machine : Machine) (client condition : ℕ) → ((past : ℕ) × StandsAt machine.now.standings client past (Waiting condition)) → NotAllowed machine (events.Spurious client) → ⊥
+pub can_wake : (machine : Machine) (client condition : ℕ) → ((place : Place) × StandsAt machine.now.standings client place (Waiting condition)) → NotAllowed machine (events.Spurious client) → ⊥
 can_wake machine client condition waits never = never _ (waits.0, condition, record { waits = waits.1; becomes = refl })
 
 pub made_told : (before : Machine) (log : List Entry) (extra client place : ℕ) (since : List ℕ) (next : Machine) (entry : Entry) → KeepsWaits log before.system.clients since → place ≡ length log → MakesSection since client before next entry

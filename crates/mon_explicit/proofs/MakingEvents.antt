@@ -1,38 +1,42 @@
 -- The events of the machine as the code keeps it.
-use Rattle.std.proofs.Common.{◌≡◌, ℕ, zero, suc, ◌+◌, ◌<◌, ◌≤◌, true, false, List, [], ◌∷◌, ◌++◌, map, set, drop, length, get_or, Option, Some, None, IsSomeAnd, refl, sym, ap, subst, ◌∙◌, arith}
+use Rattle.std.proofs.Common.{◌≡◌, ◌==◌, ◌&&◌, ℕ, zero, suc, ◌<◌, ◌≤◌, true, false, List, [], ◌∷◌, ◌++◌, map, set, drop, length, get_or, Option, Some, None, refl, sym, ap, subst, ◌∙◌, arith, inl, inr}
 use Rattle.std.specs.Prelude.{slice_get}
 use Rattle.std.specs.Option.{option_map_or}
-use Rattle.std.proofs.lemmas.List.{drop_all}
-use Rattle.std.proofs.lemmas.Option.{none-some, same_Some, slice_get_read}
+use Rattle.std.proofs.lemmas.List.{drop_all, length_push, map-set}
+use Rattle.std.proofs.lemmas.Option.{same_Some, slice_get_read}
 use Rattle.std.proofs.lemmas.Bool.{true≢false}
 use Rattle.mon_base.specs.declared.value.Value.{Value}
 use Rattle.mon_monitor.specs.MonitorParts.{MonitorParts}
 use Rattle.mon_implicit.specs.declared.commit.Commit.{Commit}
 use Rattle.mon_implicit.specs.declared.commit.Reply.{Reply}
 use Rattle.mon_implicit.specs.declared.commit.Reply.TheVariants as replies
+use Rattle.mon_implicit.specs.declared.place.Place.{Place}
 use Rattle.mon_implicit.specs.declared.script.Call.{Call}
 use Rattle.mon_implicit.specs.declared.script.Client.{Client}
-use Rattle.mon_implicit.specs.Steps.{IsImplicitStep, guard_truth}
-use Rattle.mon_implicit.specs.Scripted.{FitsCall, calls_of}
-use Rattle.mon_implicit.proofs.Schedule.{call_number_small}
+use Rattle.mon_implicit.specs.Places.{call_at, block_at, inputs_at, tries_at, FitsPlace, FitsPlaceAt}
+use Rattle.mon_implicit.specs.Steps.{guard_truth}
+use Rattle.mon_implicit.specs.Scripted.{FitsCall, all_blocks, calls_of}
+use Rattle.mon_implicit.proofs.Left.{run_counts}
 use Rattle.mon_events.specs.declared.plan.Note.{Note}
 use Rattle.mon_events.specs.declared.plan.Plan.{Plan}
 use Rattle.mon_events.specs.declared.event.Event.TheVariants as events
-use Rattle.mon_explicit.specs.declared.config.Tested.{Tested}
+use Rattle.mon_explicit.specs.declared.config.Way.{Way}
+use Rattle.mon_explicit.specs.declared.config.Way.TheVariants as ways
 use Rattle.mon_explicit.specs.declared.position.Doing.{Doing}
 use Rattle.mon_explicit.specs.declared.position.Doing.TheVariants as doings
 use Rattle.mon_explicit.specs.declared.position.Position.{Position}
 use Rattle.mon_events.specs.Plans.{notes_at}
-use Rattle.mon_events.specs.Configurations.{System, Phase, Standing, StandsAt, put, call_at, guard_of, block_condition, waited_condition, notes_of}
+use Rattle.mon_events.specs.Configurations.{System, Phase, Standing, Configuration, StandsAt, put, situation_of, guard_of, block_condition, waited_condition}
 use Rattle.mon_events.specs.Configurations.Phase.{Waiting, Inside, Notifying}
-use Rattle.mon_events.specs.Events.{IsEvent, Runs, notes_after}
-use Rattle.mon_events.specs.Pending.{IsSystem, is_idle}
+use Rattle.mon_events.specs.Events.{IsEvent, StepsInside, Runs, Refuses, Waits, WaitsOrRefuses, notes_after}
+use Rattle.mon_events.specs.Pending.{IsSystem, has_begun}
 use Rattle.mon_explicit.specs.Machines.{Machine, IsMachine, NotAllowed}
-use Rattle.mon_explicit.specs.inner.Positions.{phase_of, standing_of, machine_of, made_of, done_in, calls_left, PositionAt, doing_after, HasFinished}
-use Rattle.mon_explicit.specs.inner.Waiting.{IsInside, IsTested}
-use Rattle.mon_events.proofs.Facing.{all_at, at_index, calls_fit, is_some_and}
-use Rattle.mon_events.proofs.Standings.{one_past, put_same, stands_within}
-use Rattle.mon_explicit.proofs.Making.{position_stands, standing_position, map_put, one_past_made}
+use Rattle.mon_explicit.specs.inner.Positions.{phase_of, standing_of, machine_of, PositionAt, HasStepped, doing_after, HasFinished}
+use Rattle.mon_explicit.specs.inner.Waiting.{IsInside, IsWay, Goes}
+use Rattle.mon_events.proofs.Facing.{all_at, at_index, calls_fit}
+use Rattle.mon_events.proofs.Standings.{one_place, put_same, stands_within}
+use Rattle.mon_explicit.proofs.Making.{position_stands, standing_position, map_put, lent_at, lent_place, position_within, event_keeps_machine}
+use Rattle.mon_explicit.proofs.Counting.{call_number_small, small_block}
 
 inside_doing : (plan : Plan) (doing : Doing) → phase_of plan doing ≡ Inside → doing ≡ doings.Inside
 inside_doing plan doings.Idle is = absurd (cc is)
@@ -42,7 +46,7 @@ inside_doing plan (doings.Woken condition) is = absurd (cc is)
 inside_doing plan doings.Inside is = refl
 inside_doing plan (doings.Notifying block from) is = absurd (cc is)
 inside_doing plan (doings.Signalling condition) is = absurd (cc is)
-inside_doing plan doings.Signalled is = absurd (cc is)
+inside_doing plan doings.Unlocking is = absurd (cc is)
 
 waiting_doing : (plan : Plan) (doing : Doing) (condition : ℕ) → phase_of plan doing ≡ Waiting condition → doing ≡ doings.Waiting condition
 waiting_doing plan doings.Idle condition is = absurd (cc is)
@@ -52,194 +56,196 @@ waiting_doing plan (doings.Woken other) condition is = absurd (cc is)
 waiting_doing plan doings.Inside condition is = absurd (cc is)
 waiting_doing plan (doings.Notifying block from) condition is = absurd (cc is)
 waiting_doing plan (doings.Signalling other) condition is = absurd (cc is)
-waiting_doing plan doings.Signalled condition is = absurd (cc is)
+waiting_doing plan doings.Unlocking condition is = absurd (cc is)
 
-pub notifying_made : (plan : Plan) (doing : Doing) (notes : List Note) → phase_of plan doing ≡ Notifying notes → made_of doing ≡ 1
-notifying_made plan doings.Idle notes is = absurd (cc is)
-notifying_made plan doings.Entering notes is = absurd (cc is)
-notifying_made plan (doings.Waiting other) notes is = absurd (cc is)
-notifying_made plan (doings.Woken other) notes is = absurd (cc is)
-notifying_made plan doings.Inside notes is = absurd (cc is)
-notifying_made plan (doings.Notifying block from) notes is = refl
-notifying_made plan (doings.Signalling other) notes is = refl
-notifying_made plan doings.Signalled notes is = refl
+pub inside_made : (plan : Plan) (positions : List Position) (client : ℕ) (place : Place) → StandsAt (map (standing_of plan) positions) client place Inside → PositionAt positions client place doings.Inside
+inside_made plan positions client place at =
+    let found = standing_position plan positions client place Inside at in
+    subst (λ (doing : Doing). PositionAt positions client place doing) (inside_doing plan found.0 found.2) found.1
 
-pub inside_made : (plan : Plan) (positions : List Position) (client past : ℕ) → StandsAt (map (standing_of plan) positions) client past Inside → PositionAt positions client past doings.Inside
-inside_made plan positions client past at =
-    let found = standing_position plan positions client past Inside at in
-    subst (λ (doing : Doing). PositionAt positions client past doing) (inside_doing plan found.0 found.2) found.1
-
-pub waiting_made : (plan : Plan) (positions : List Position) (client past condition : ℕ) → StandsAt (map (standing_of plan) positions) client past (Waiting condition) → PositionAt positions client past (doings.Waiting condition)
-waiting_made plan positions client past condition at =
-    let found = standing_position plan positions client past (Waiting condition) at in
-    subst (λ (doing : Doing). PositionAt positions client past doing) (waiting_doing plan found.0 condition found.2) found.1
+pub waiting_made : (plan : Plan) (positions : List Position) (client : ℕ) (place : Place) (condition : ℕ) → StandsAt (map (standing_of plan) positions) client place (Waiting condition) → PositionAt positions client place (doings.Waiting condition)
+waiting_made plan positions client place condition at =
+    let found = standing_position plan positions client place (Waiting condition) at in
+    subst (λ (doing : Doing). PositionAt positions client place doing) (waiting_doing plan found.0 condition found.2) found.1
 
 -- ---- a call
 
-pub call_is : (system : System) (client past : ℕ) (some : List Call) (call : Call) → some ≡ calls_of system.clients client → past < length some → call ≡ get_or some past call → call_at system client past ≡ Some call
-call_is system client past some call same within is = ap (λ (calls : List Call). slice_get calls past) (sym same) ∙ slice_get_read some (length some) past call refl within is
+pub call_is : (clients : List Client) (client : ℕ) (place : Place) (some : List Call) (call : Call) → some ≡ calls_of clients client → place.past < length some → call ≡ get_or some place.past call → call_at clients client place ≡ Some call
+call_is clients client place some call same within is = ap (λ (calls : List Call). slice_get calls place.past) (sym same) ∙ slice_get_read some (length some) place.past call refl within is
 
-pub call_fits : (system : System) (client past : ℕ) (call : Call) → IsSystem system → call_at system client past ≡ Some call → FitsCall system.monitor call
-call_fits system client past call is at = all_at (FitsCall system.monitor) (calls_of system.clients client) past call at (calls_fit system.monitor system.clients client is.scripts)
+pub call_fits : (system : System) (client : ℕ) (place : Place) (call : Call) → IsSystem system → call_at system.clients client place ≡ Some call → FitsCall system.monitor call
+call_fits system client place call is at = all_at (FitsCall system.monitor) (calls_of system.clients client) place.past call at (calls_fit system.monitor system.clients client is.scripts)
 
--- its guard, its condition and its notes
-guard_at : (system : System) (state : List Value) (client past : ℕ) (call : Call) → call_at system client past ≡ Some call → guard_of system state client past ≡ guard_truth system.monitor state call.method call.inputs
-guard_at system state client past call is = ap (λ (one : Option Call). option_map_or (λ call. guard_truth system.monitor state call.method call.inputs) one false) is
+-- its guard, whether it tries, and its condition
+pub guard_at : (system : System) (state : List Value) (client : ℕ) (place : Place) (call : Call) → call_at system.clients client place ≡ Some call
+    → guard_of system state client place ≡ guard_truth system.monitor state (block_at system.monitor call place) (inputs_at call place)
+guard_at system state client place call is = ap (λ (one : Option Call). option_map_or (λ call. guard_truth system.monitor state (block_at system.monitor call place) (inputs_at call place)) one false) is
 
-condition_at : (system : System) (client past : ℕ) (call : Call) → call_at system client past ≡ Some call → waited_condition system client past ≡ block_condition system.monitor call.method
-condition_at system client past call is = ap (λ (one : Option Call). option_map_or (λ call. block_condition system.monitor call.method) one 0) is
+pub tries_here : (clients : List Client) (client : ℕ) (place : Place) (call : Call) → call_at clients client place ≡ Some call → tries_at clients client place ≡ (call.tries && place.block == 0)
+tries_here clients client place call is = ap (λ (one : Option Call). option_map_or (λ call. call.tries && place.block == 0) one false) is
 
-notes_at_call : (system : System) (client past : ℕ) (call : Call) → call_at system client past ≡ Some call → notes_of system client past ≡ notes_at system.plan call.method
-notes_at_call system client past call is = ap (λ (one : Option Call). option_map_or (λ call. notes_at system.plan call.method) one []) is
+pub condition_at : (system : System) (client : ℕ) (place : Place) (call : Call) → call_at system.clients client place ≡ Some call → waited_condition system client place ≡ block_condition system.monitor (block_at system.monitor call place)
+condition_at system client place call is = ap (λ (one : Option Call). option_map_or (λ call. block_condition system.monitor (block_at system.monitor call place)) one 0) is
 
--- a client that is not idle has a call
-pub has_call : (machine : Machine) (client past : ℕ) (phase : Phase) → IsMachine machine → StandsAt machine.now.standings client past phase → is_idle phase ≡ false → past < length (calls_of machine.system.clients client)
-has_call machine client past phase meets at not_idle = meets.sound.busy client past phase at not_idle
+pub waited_is : (system : System) (client : ℕ) (place : Place) (call : Call) (block condition : ℕ) → call_at system.clients client place ≡ Some call → block ≡ block_at system.monitor call place → condition ≡ block_condition system.monitor block
+    → condition ≡ waited_condition system client place
+waited_is system client place call block condition is number same = same ∙ ap (block_condition system.monitor) number ∙ sym (condition_at system client place call is)
 
-pub past_small : (machine : Machine) (client past : ℕ) (phase : Phase) → IsMachine machine → StandsAt machine.now.standings client past phase → is_idle phase ≡ false → past < 16384
-past_small machine client past phase meets at not_idle =
-    let call = at_index (calls_of machine.system.clients client) past (has_call machine client past phase meets at not_idle) in
-    call_number_small machine.system.clients client past call.0 meets.is.clients call.1
+-- a client that has begun a call has it left
+pub has_call : (machine : Machine) (client : ℕ) (place : Place) (phase : Phase) → IsMachine machine → StandsAt machine.now.standings client place phase → has_begun phase ≡ true → place.past < length (calls_of machine.system.clients client)
+has_call machine client place phase meets at begun = meets.sound.begun client place phase at begun
 
--- ---- room for one more commit
+-- the numbers of a place with a call left are small
+pub record IsSmall (place : Place) : Type 0 where
+  pub past : place.past < 16384
+  pub block : place.block < 4
 
-pub left_falls : (clients : List Client) (positions : List Position) (client : ℕ) (one new : Position) → slice_get positions client ≡ Some one → done_in one < length (calls_of clients client) → done_in new ≡ done_in one + 1
-    → calls_left clients (set positions client new) + 1 ≡ calls_left clients positions
-left_falls [] positions client one new is left same = absurd (omega arith)
-left_falls (first ∷ clients) [] client one new is left same = absurd (none-some one is)
-left_falls (first ∷ clients) (head ∷ positions) zero one new is left same =
-    let head_done = ap done_in (same_Some head one is) in
-    omega (arith, head_done, same, left)
-left_falls (first ∷ clients) (head ∷ positions) (suc client) one new is left same = omega (arith, left_falls clients positions client one new is left same)
+pub place_small : (machine : Machine) (client : ℕ) (place : Place) (phase : Phase) → IsMachine machine → StandsAt machine.now.standings client place phase → has_begun phase ≡ true → IsSmall place
+place_small machine client place phase meets at begun =
+    let system = machine.system in
+    let call = at_index (calls_of system.clients client) place.past (has_call machine client place phase meets at begun) in
+    let fit : FitsPlaceAt system.monitor place (Some call.0) = subst (FitsPlaceAt system.monitor place) call.1 (meets.sound.places client place phase at) in
+    record {
+      past = call_number_small system.clients client place.past call.0 meets.clients call.1;
+      block = small_block system.monitor call.0 place meets.is.rule (call_fits system client place call.0 meets.is call.1) fit;
+    }
 
 -- ---- the events
 
-abbrev Told : MonitorParts → Plan → List Client → System
+abbrev pub Told : MonitorParts → Plan → List Client → System
 Told monitor plan clients = record { monitor = monitor; plan = plan; clients = clients }
 
-pub wakens : (monitor : MonitorParts) (plan : Plan) (clients : List Client) (state : List Value) (owner : Option ℕ) (commits : List Commit) (positions : List Position) (client past condition : ℕ)
-    → PositionAt positions client past (doings.Waiting condition)
+pub wakens : (monitor : MonitorParts) (plan : Plan) (clients : List Client) (state : List Value) (owner : Option ℕ) (commits : List Commit) (positions : List Position) (client : ℕ) (place : Place) (condition : ℕ)
+    → PositionAt positions client place (doings.Waiting condition)
     → IsEvent (record { monitor = monitor; plan = plan; clients = clients }) (events.Spurious client) (machine_of monitor plan clients state owner commits positions).now
-    (machine_of monitor plan clients state owner commits (set positions client (record { past = past; doing = doings.Woken condition }))).now
-wakens monitor plan clients state owner commits positions client past condition at = (
-  past,
+    (machine_of monitor plan clients state owner commits (set positions client (record { place = place; doing = doings.Woken condition }))).now
+wakens monitor plan clients state owner commits positions client place condition at = (
+  place,
   condition,
   record {
-    waits = position_stands plan positions client past (doings.Waiting condition) at;
-    becomes = ap (λ (standings : List Standing). record { state = state; owner = owner; commits = commits; standings = standings }) (map_put plan positions client past (doings.Woken condition));
+    waits = position_stands plan positions client place (doings.Waiting condition) at;
+    becomes = ap (λ (standings : List Standing). record { state = state; owner = owner; commits = commits; standings = standings }) (map_put plan positions client place (doings.Woken condition));
   },
 )
 
 pub wakens_not : (monitor : MonitorParts) (plan : Plan) (clients : List Client) (state : List Value) (owner : Option ℕ) (commits : List Commit) (positions : List Position) (client : ℕ)
-    → ((past condition : ℕ) → PositionAt positions client past (doings.Waiting condition) → ⊥)
+    → ((place : Place) (condition : ℕ) → PositionAt positions client place (doings.Waiting condition) → ⊥)
     → NotAllowed (machine_of monitor plan clients state owner commits positions) (events.Spurious client)
 wakens_not monitor plan clients state owner commits positions client never next happens = never happens.0 happens.1 (waiting_made plan positions client happens.0 happens.1 happens.2.waits)
 
-pub stands_finished : (plan : Plan) (positions : List Position) (client past : ℕ) → HasFinished plan positions client past → StandsAt (map (standing_of plan) positions) client past (Notifying [])
-stands_finished plan positions client past done = subst (λ (phase : Phase). StandsAt (map (standing_of plan) positions) client past phase) done.none (position_stands plan positions client past done.doing done.at)
+pub stands_finished : (plan : Plan) (positions : List Position) (client : ℕ) (place : Place) → HasFinished plan positions client place → StandsAt (map (standing_of plan) positions) client place (Notifying [])
+stands_finished plan positions client place done = subst (λ (phase : Phase). StandsAt (map (standing_of plan) positions) client place phase) done.none (position_stands plan positions client place done.doing done.at)
 
-pub unlocks : (monitor : MonitorParts) (plan : Plan) (clients : List Client) (state : List Value) (owner : Option ℕ) (commits : List Commit) (positions : List Position) (client past : ℕ)
-    → HasFinished plan positions client past
+pub lent_finished : (plan : Plan) (positions : List Position) (client : ℕ) (place : Place) (one : Position) → HasFinished plan positions client place → one ≡ get_or positions client one → HasFinished plan positions client one.place
+lent_finished plan positions client place one done is = record { doing = done.doing; at = lent_at positions client place done.doing one done.at is; none = done.none }
+
+pub unlocks : (monitor : MonitorParts) (plan : Plan) (clients : List Client) (state : List Value) (owner : Option ℕ) (commits : List Commit) (positions : List Position) (client : ℕ) (place : Place)
+    → HasFinished plan positions client place
     → IsEvent (record { monitor = monitor; plan = plan; clients = clients }) (events.Unlock client) (machine_of monitor plan clients state owner commits positions).now
-    (machine_of monitor plan clients state None commits (set positions client (record { past = past + 1; doing = doings.Idle }))).now
-unlocks monitor plan clients state owner commits positions client past done = (
-  past,
+    (machine_of monitor plan clients state None commits (set positions client (record { place = place; doing = doings.Idle }))).now
+unlocks monitor plan clients state owner commits positions client place done = (
+  place,
   record {
-    notifying = stands_finished plan positions client past done;
-    becomes = ap (λ (standings : List Standing). record { state = state; owner = None; commits = commits; standings = standings }) (map_put plan positions client (past + 1) doings.Idle);
+    notifying = stands_finished plan positions client place done;
+    becomes = ap (λ (standings : List Standing). record { state = state; owner = None; commits = commits; standings = standings }) (map_put plan positions client (place) doings.Idle);
   },
 )
 
 pub unlocks_not : (monitor : MonitorParts) (plan : Plan) (clients : List Client) (state : List Value) (owner : Option ℕ) (commits : List Commit) (positions : List Position) (client : ℕ)
-    → ((past : ℕ) → HasFinished plan positions client past → ⊥)
+    → ((place : Place) → HasFinished plan positions client place → ⊥)
     → NotAllowed (machine_of monitor plan clients state owner commits positions) (events.Unlock client)
 unlocks_not monitor plan clients state owner commits positions client never next happens =
     let found = standing_position plan positions client happens.0 (Notifying []) happens.1.notifying in
     never happens.0 (record { doing = found.0; at = found.1; none = found.2 })
 
-pub waits : (monitor : MonitorParts) (plan : Plan) (clients : List Client) (state : List Value) (owner : Option ℕ) (commits : List Commit) (positions : List Position) (client past condition : ℕ) (call : Call)
-    → PositionAt positions client past doings.Inside → call_at (record { monitor = monitor; plan = plan; clients = clients }) client past ≡ Some call
-    → guard_truth monitor state call.method call.inputs ≡ false → condition ≡ block_condition monitor call.method
-    → IsEvent (record { monitor = monitor; plan = plan; clients = clients }) (events.Wait client) (machine_of monitor plan clients state owner commits positions).now
-    (machine_of monitor plan clients state None commits (set positions client (record { past = past; doing = doings.Waiting condition }))).now
-waits monitor plan clients state owner commits positions client past condition call at is guard same = (
-  past,
-  record {
-    inside = position_stands plan positions client past doings.Inside at;
-    guard = guard_at (Told monitor plan clients) state client past call is ∙ guard;
-    becomes = ap (λ (standings : List Standing). record { state = state; owner = None; commits = commits; standings = standings })
-        (map_put plan positions client past (doings.Waiting condition)
-        ∙ ap (λ (one : ℕ). put (map (standing_of plan) positions) client past (Waiting one)) (same ∙ sym (condition_at (Told monitor plan clients) client past call is)));
-  },
-)
+pub waits : (monitor : MonitorParts) (plan : Plan) (clients : List Client) (state : List Value) (owner : Option ℕ) (commits : List Commit) (positions : List Position) (client : ℕ) (place : Place) (condition : ℕ)
+    → PositionAt positions client place doings.Inside → guard_of (record { monitor = monitor; plan = plan; clients = clients }) state client place ≡ false → tries_at clients client place ≡ false
+    → condition ≡ waited_condition (record { monitor = monitor; plan = plan; clients = clients }) client place
+    → Waits (record { monitor = monitor; plan = plan; clients = clients }) client place (machine_of monitor plan clients state owner commits positions).now
+    (machine_of monitor plan clients state None commits (set positions client (record { place = place; doing = doings.Waiting condition }))).now
+waits monitor plan clients state owner commits positions client place condition at guard patient same = record {
+  inside = position_stands plan positions client place doings.Inside at;
+  guard = guard;
+  patient = patient;
+  becomes = ap (λ (standings : List Standing). record { state = state; owner = None; commits = commits; standings = standings })
+      (map_put plan positions client place (doings.Waiting condition)
+      ∙ ap (λ (one : ℕ). put (map (standing_of plan) positions) client place (Waiting one)) same);
+}
 
 -- a client inside that waits now, waits on its condition
-pub waits_now : (plan : Plan) (positions : List Position) (client past condition : ℕ) → StandsAt (map (standing_of plan) positions) client past Inside
-    → StandsAt (map (standing_of plan) (set positions client (record { past = past; doing = doings.Waiting condition }))) client past (Waiting condition)
-waits_now plan positions client past condition inside =
-    subst (λ (standings : List Standing). StandsAt standings client past (Waiting condition)) (sym (map_put plan positions client past (doings.Waiting condition)))
-    (put_same (map (standing_of plan) positions) client past (Waiting condition) (stands_within (map (standing_of plan) positions) client past Inside inside))
+pub waits_now : (plan : Plan) (positions : List Position) (client : ℕ) (place : Place) (condition : ℕ) → StandsAt (map (standing_of plan) positions) client place Inside
+    → StandsAt (map (standing_of plan) (set positions client (record { place = place; doing = doings.Waiting condition }))) client place (Waiting condition)
+waits_now plan positions client place condition inside =
+    subst (λ (standings : List Standing). StandsAt standings client place (Waiting condition)) (sym (map_put plan positions client place (doings.Waiting condition)))
+    (put_same (map (standing_of plan) positions) client place (Waiting condition) (stands_within (map (standing_of plan) positions) client place Inside inside))
 
-notes_next : (monitor : MonitorParts) (plan : Plan) (clients : List Client) (client past block condition : ℕ) (call : Call) (reply : Reply)
-    → call_at (record { monitor = monitor; plan = plan; clients = clients }) client past ≡ Some call → block ≡ call.method → condition ≡ block_condition monitor call.method
-    → phase_of plan (doing_after block condition reply) ≡ Notifying (notes_after (record { monitor = monitor; plan = plan; clients = clients }) client past reply)
-notes_next monitor plan clients client past block condition call replies.Overflow is same conditions =
-    ap (λ (one : ℕ). Notifying (record { condition = one; all = false; tested = false } ∷ [])) (conditions ∙ sym (condition_at (Told monitor plan clients) client past call is))
-notes_next monitor plan clients client past block condition call replies.Unit is same conditions = ap Notifying (ap (notes_at plan) same ∙ sym (notes_at_call (Told monitor plan clients) client past call is))
-notes_next monitor plan clients client past block condition call (replies.Int number) is same conditions = ap Notifying (ap (notes_at plan) same ∙ sym (notes_at_call (Told monitor plan clients) client past call is))
-notes_next monitor plan clients client past block condition call (replies.Bool truth) is same conditions = ap Notifying (ap (notes_at plan) same ∙ sym (notes_at_call (Told monitor plan clients) client past call is))
+-- ---- a client inside that makes its step
 
-pub doing_made : (block condition : ℕ) (reply : Reply) → made_of (doing_after block condition reply) ≡ 1
-doing_made block condition replies.Overflow = refl
-doing_made block condition replies.Unit = refl
-doing_made block condition (replies.Int number) = refl
-doing_made block condition (replies.Bool truth) = refl
+notes_next : (system : System) (block : ℕ) (reply : Reply) → phase_of system.plan (doing_after system.monitor block reply) ≡ Notifying (notes_after system block reply)
+notes_next system block replies.Overflow = refl
+notes_next system block replies.Refused = refl
+notes_next system block replies.Unit = refl
+notes_next system block (replies.Int number) = refl
+notes_next system block (replies.Bool truth) = refl
 
-pub runs : (monitor : MonitorParts) (plan : Plan) (clients : List Client) (state : List Value) (owner : Option ℕ) (commits : List Commit) (positions : List Position) (client past block condition : ℕ) (call : Call) (reply : Reply) (next : List Value)
-    → PositionAt positions client past doings.Inside → call_at (record { monitor = monitor; plan = plan; clients = clients }) client past ≡ Some call
-    → IsImplicitStep monitor call.method call.inputs state reply next → block ≡ call.method → condition ≡ block_condition monitor call.method
-    → Runs (record { monitor = monitor; plan = plan; clients = clients }) client past reply next (machine_of monitor plan clients state owner commits positions).now
-    (machine_of monitor plan clients next owner (commits ++ record { client = client; call = past + 1; reply = reply } ∷ []) (set positions client (record { past = past; doing = doing_after block condition reply }))).now
-runs monitor plan clients state owner commits positions client past block condition call reply next at is step same conditions = record {
-  inside = position_stands plan positions client past doings.Inside at;
-  step = subst (λ (one : Option Call). IsSomeAnd one (λ call. IsImplicitStep monitor call.method call.inputs state reply next)) (sym is) step;
-  becomes = ap (λ (standings : List Standing). record { state = next; owner = owner; commits = commits ++ record { client = client; call = past + 1; reply = reply } ∷ []; standings = standings })
-      (map_put plan positions client past (doing_after block condition reply)
-      ∙ ap (put (map (standing_of plan) positions) client past) (notes_next monitor plan clients client past block condition call reply is same conditions));
+pub steps_inside : (monitor : MonitorParts) (plan : Plan) (clients : List Client) (state next : List Value) (owner : Option ℕ) (commits : List Commit) (positions : List Position) (client : ℕ) (one new : Position) (commit : Commit)
+    → PositionAt positions client one.place doings.Inside → HasStepped monitor clients client state next one new commit
+    → StepsInside (record { monitor = monitor; plan = plan; clients = clients }) client one.place new.place commit.reply next (machine_of monitor plan clients state owner commits positions).now
+    (machine_of monitor plan clients next owner (commits ++ commit ∷ []) (set positions client new)).now
+steps_inside monitor plan clients state next owner commits positions client one new commit at has = record {
+  inside = position_stands plan positions client one.place doings.Inside at;
+  step = has.step;
+  becomes = λ i. record { state = next; owner = owner; commits = commits ++ has.commits i ∷ []; standings = standings i };
 }
+  where
+    standings : map (standing_of plan) (set positions client new)
+        ≡ put (map (standing_of plan) positions) client new.place (Notifying (notes_after (record { monitor = monitor; plan = plan; clients = clients }) (block_at monitor has.step.call one.place) commit.reply))
+    standings =
+        map-set (standing_of plan) positions client new
+        ∙ ap (put (map (standing_of plan) positions) client new.place)
+        (ap (phase_of plan) has.notes ∙ notes_next (record { monitor = monitor; plan = plan; clients = clients }) (block_at monitor has.step.call one.place) commit.reply)
+
+-- there is room for its commit: with it the commits are a run still
+pub room_left : (before next : Machine) (commits : List Commit) (commit : Commit) (len capacity : ℕ) → IsMachine before → IsMachine next → next.system ≡ before.system → next.now.commits ≡ commits ++ commit ∷ []
+    → len ≡ length commits → capacity ≡ all_blocks before.system.monitor before.system.clients → len < capacity
+room_left before next commits commit len capacity was is same grown long room =
+    let counted = run_counts next.system.monitor next.system.clients next.now.commits (situation_of next.now) is.is.rule is.is.scripts is.sound.run in
+    omega (arith, counted, ap length grown, length_push commits commit, long, room, ap (λ (system : System). all_blocks system.monitor system.clients) same)
 
 -- ---- a client that is tested
 
-pub waits_not : (machine : Machine) (client : ℕ) (tested : Tested) → IsTested machine client tested → tested.guard ≡ true → NotAllowed machine (events.Wait client)
-waits_not machine client tested is holds next happens =
-    let same = one_past machine.now.standings client tested.past happens.0 Inside Inside is.0 happens.1.inside in
-    true≢false (sym holds ∙ is.1 ∙ ap (guard_of machine.system machine.now.state client) same ∙ happens.1.guard)
+guard_false : (system : System) (client : ℕ) (place : Place) (before next : Configuration) → WaitsOrRefuses system client place before next
+    → StandsAt before.standings client place Inside × (guard_of system before.state client place ≡ false)
+guard_false system client place before next (inl waits) = (waits.inside, waits.guard)
+guard_false system client place before next (inr (goes, reply, state, refuses)) = (refuses.steps.inside, refuses.guard)
+
+pub waits_not : (machine : Machine) (client : ℕ) → Goes machine client ways.Runs → NotAllowed machine (events.Wait client)
+waits_not machine client (place, inside, holds) next (other, event) =
+    let fails = guard_false machine.system client other machine.now next event in
+    let same = one_place machine.now.standings client place other Inside Inside inside fails.0 in
+    true≢false (sym holds ∙ ap (guard_of machine.system machine.now.state client) same ∙ fails.1)
 
 pub none_waits_inside : (machine : Machine) (client : ℕ) → (IsInside machine client → ⊥) → NotAllowed machine (events.Wait client)
-none_waits_inside machine client never next happens = never (happens.0, happens.1.inside)
+none_waits_inside machine client never next (place, event) = never (place, (guard_false machine.system client place machine.now next event).0)
 
-pub runs_not : (machine : Machine) (client : ℕ) (tested : Tested) → IsTested machine client tested → tested.guard ≡ false → NotAllowed machine (events.Run client)
-runs_not machine client tested is fails next happens =
-    let system = machine.system in
-    let found = is_some_and (call_at system client happens.0) (λ (one : Call). IsImplicitStep system.monitor one.method one.inputs machine.now.state happens.1 happens.2) happens.3.step in
-    let same = one_past machine.now.standings client tested.past happens.0 Inside Inside is.0 happens.3.inside in
-    let held : guard_of system machine.now.state client happens.0 ≡ true = guard_at system machine.now.state client happens.0 found.0 found.1 ∙ found.2.guard in
-    true≢false (sym held ∙ sym (ap (guard_of system machine.now.state client) same) ∙ sym is.1 ∙ fails)
+runs_not : (machine : Machine) (client : ℕ) (place : Place) → StandsAt machine.now.standings client place Inside → guard_of machine.system machine.now.state client place ≡ false → NotAllowed machine (events.Run client)
+runs_not machine client place inside fails next (other, goes, reply, state, runs) =
+    let same = one_place machine.now.standings client place other Inside Inside inside runs.steps.inside in
+    true≢false (sym runs.guard ∙ sym (ap (guard_of machine.system machine.now.state client) same) ∙ fails)
+
+pub given_up_runs_not : (machine : Machine) (client : ℕ) → Goes machine client ways.GivesUp → NotAllowed machine (events.Run client)
+given_up_runs_not machine client (place, inside, way) = runs_not machine client place inside way.0
+
+pub waiting_runs_not : (machine : Machine) (client : ℕ) → Goes machine client ways.Waits → NotAllowed machine (events.Run client)
+waiting_runs_not machine client (place, inside, way) = runs_not machine client place inside way.0
 
 pub none_runs_inside : (machine : Machine) (client : ℕ) → (IsInside machine client → ⊥) → NotAllowed machine (events.Run client)
-none_runs_inside machine client never next happens = never (happens.0, happens.3.inside)
+none_runs_inside machine client never next (place, goes, reply, state, runs) = never (place, runs.steps.inside)
 
--- ---- who is inside
-
-pub guard_here : (system : System) (state : List Value) (client past other : ℕ) (positions : List Position) (call : Call) → PositionAt positions client past doings.Inside → PositionAt positions client other doings.Inside
-    → call_at system client past ≡ Some call → guard_of system state client other ≡ guard_truth system.monitor state call.method call.inputs
-guard_here system state client past other positions call at also is =
-    ap (guard_of system state client) (sym (one_past_made positions client past other doings.Inside doings.Inside at also)) ∙ guard_at system state client past call is
-
--- ---- a client that has positions all its notes
+-- ---- a client that has made all its notes
 
 pub all_made : (plan : Plan) (block from : ℕ) → length (notes_at plan block) ≤ from → phase_of plan (doings.Notifying block from) ≡ Notifying []
-all_made plan block from past = ap Notifying (drop_all from (notes_at plan block) past)
+all_made plan block from over = ap Notifying (drop_all from (notes_at plan block) over)
 
 some_dropped : (notes : List Note) (from : ℕ) → from < length notes → drop from notes ≡ [] → ⊥
 some_dropped [] from within is = absurd (omega arith)
@@ -249,15 +255,15 @@ some_dropped (note ∷ notes) (suc from) within is = some_dropped notes from (om
 pub not_all_made : (plan : Plan) (block from : ℕ) → from < length (notes_at plan block) → phase_of plan (doings.Notifying block from) ≡ Notifying [] → ⊥
 not_all_made plan block from within is = some_dropped (notes_at plan block) from within (cc is)
 
-pub not_made : (plan : Plan) (doing : Doing) → ((block from : ℕ) → doing ≡ doings.Notifying block from → ⊥) → (doing ≡ doings.Signalled → ⊥) → phase_of plan doing ≡ Notifying [] → ⊥
-not_made plan doings.Idle never not_signalled is = cc is
-not_made plan doings.Entering never not_signalled is = cc is
-not_made plan (doings.Waiting other) never not_signalled is = cc is
-not_made plan (doings.Woken other) never not_signalled is = cc is
-not_made plan doings.Inside never not_signalled is = cc is
-not_made plan (doings.Notifying block from) never not_signalled is = never block from refl
-not_made plan doings.Signalled never not_signalled is = not_signalled refl
-not_made plan (doings.Signalling other) never not_signalled is = cc (ap (phase_notes) is)
+pub not_made : (plan : Plan) (doing : Doing) → ((block from : ℕ) → doing ≡ doings.Notifying block from → ⊥) → (doing ≡ doings.Unlocking → ⊥) → phase_of plan doing ≡ Notifying [] → ⊥
+not_made plan doings.Idle never not_unlocking is = cc is
+not_made plan doings.Entering never not_unlocking is = cc is
+not_made plan (doings.Waiting other) never not_unlocking is = cc is
+not_made plan (doings.Woken other) never not_unlocking is = cc is
+not_made plan doings.Inside never not_unlocking is = cc is
+not_made plan (doings.Notifying block from) never not_unlocking is = never block from refl
+not_made plan doings.Unlocking never not_unlocking is = not_unlocking refl
+not_made plan (doings.Signalling other) never not_unlocking is = cc (ap (phase_notes) is)
   where
     phase_notes : Phase → List Note
     phase_notes (Notifying notes) = notes
@@ -265,19 +271,89 @@ not_made plan (doings.Signalling other) never not_signalled is = cc (ap (phase_n
 
 -- ---- the call of a client inside
 
-pub left_here : (monitor : MonitorParts) (plan : Plan) (clients : List Client) (state : List Value) (owner : Option ℕ) (commits : List Commit) (positions : List Position) (client past : ℕ) (some : List Call)
-    → IsMachine (machine_of monitor plan clients state owner commits positions) → PositionAt positions client past doings.Inside → some ≡ calls_of clients client → past < length some
-left_here monitor plan clients state owner commits positions client past some meets at same =
-    subst (λ (calls : List Call). past < length calls) (sym same)
-    (has_call (machine_of monitor plan clients state owner commits positions) client past Inside meets (position_stands plan positions client past doings.Inside at) refl)
+pub left_here : (monitor : MonitorParts) (plan : Plan) (clients : List Client) (state : List Value) (owner : Option ℕ) (commits : List Commit) (positions : List Position) (client : ℕ) (place : Place) (some : List Call)
+    → IsMachine (machine_of monitor plan clients state owner commits positions) → PositionAt positions client place doings.Inside → some ≡ calls_of clients client → place.past < length some
+left_here monitor plan clients state owner commits positions client place some meets at same =
+    subst (λ (calls : List Call). place.past < length calls) (sym same)
+    (has_call (machine_of monitor plan clients state owner commits positions) client place Inside meets (position_stands plan positions client place doings.Inside at) refl)
 
-pub call_here : (monitor : MonitorParts) (plan : Plan) (clients : List Client) (state : List Value) (owner : Option ℕ) (commits : List Commit) (positions : List Position) (client past : ℕ) (some : List Call) (call : Call)
-    → IsMachine (machine_of monitor plan clients state owner commits positions) → PositionAt positions client past doings.Inside → some ≡ calls_of clients client → call ≡ get_or some past call
-    → call_at (record { monitor = monitor; plan = plan; clients = clients }) client past ≡ Some call
-call_here monitor plan clients state owner commits positions client past some call meets at same is =
-    call_is (Told monitor plan clients) client past some call same (left_here monitor plan clients state owner commits positions client past some meets at same) is
+-- what is known of its call
+pub record IsHere (monitor : MonitorParts) (clients : List Client) (client : ℕ) (place : Place) (call : Call) : Type 0 where
+  pub is : call_at clients client place ≡ Some call
+  pub fit : FitsCall monitor call
+  pub place_fits : FitsPlaceAt monitor place (Some call)
 
-pub fits_here : (monitor : MonitorParts) (plan : Plan) (clients : List Client) (state : List Value) (owner : Option ℕ) (commits : List Commit) (positions : List Position) (client past : ℕ) (some : List Call) (call : Call)
-    → IsMachine (machine_of monitor plan clients state owner commits positions) → PositionAt positions client past doings.Inside → some ≡ calls_of clients client → call ≡ get_or some past call → FitsCall monitor call
-fits_here monitor plan clients state owner commits positions client past some call meets at same is =
-    call_fits (Told monitor plan clients) client past call meets.is (call_here monitor plan clients state owner commits positions client past some call meets at same is)
+pub call_here : (monitor : MonitorParts) (plan : Plan) (clients : List Client) (state : List Value) (owner : Option ℕ) (commits : List Commit) (positions : List Position) (client : ℕ) (place : Place) (some : List Call) (call : Call)
+    → IsMachine (machine_of monitor plan clients state owner commits positions) → PositionAt positions client place doings.Inside → some ≡ calls_of clients client → call ≡ get_or some place.past call
+    → IsHere monitor clients client place call
+call_here monitor plan clients state owner commits positions client place some call meets at same is =
+    let found = call_is clients client place some call same (left_here monitor plan clients state owner commits positions client place some meets at same) is in
+    record {
+      is = found;
+      fit = call_fits (Told monitor plan clients) client place call meets.is found;
+      place_fits = subst (FitsPlaceAt monitor place) found (meets.sound.places client place Inside (position_stands plan positions client place doings.Inside at));
+    }
+
+-- ---- a client inside, as its position is lent
+
+pub record GoesAt (monitor : MonitorParts) (plan : Plan) (clients : List Client) (state : List Value) (owner : Option ℕ) (commits : List Commit) (positions : List Position) (client : ℕ) (place : Place) (way : Way) : Type 0 where
+  pub at : PositionAt positions client place doings.Inside
+  pub is : IsWay (machine_of monitor plan clients state owner commits positions) client place way
+  pub fits : FitsPlace monitor clients client place
+
+pub goes_at : (monitor : MonitorParts) (plan : Plan) (clients : List Client) (state : List Value) (owner : Option ℕ) (commits : List Commit) (positions : List Position) (client : ℕ) (one : Position) (way : Way)
+    → IsMachine (machine_of monitor plan clients state owner commits positions) → Goes (machine_of monitor plan clients state owner commits positions) client way → one ≡ get_or positions client one
+    → GoesAt monitor plan clients state owner commits positions client one.place way
+goes_at monitor plan clients state owner commits positions client one way meets (place, inside, is) lent =
+    let here = inside_made plan positions client place inside in
+    let same = lent_place positions client place doings.Inside one here lent in
+    subst (λ (at : Place). GoesAt monitor plan clients state owner commits positions client at way) same (record {
+      at = here;
+      is = is;
+      fits = meets.sound.places client place Inside inside;
+    })
+
+pub goes_within : (monitor : MonitorParts) (plan : Plan) (clients : List Client) (state : List Value) (owner : Option ℕ) (commits : List Commit) (positions : List Position) (client : ℕ) (way : Way)
+    → Goes (machine_of monitor plan clients state owner commits positions) client way → client < length positions
+goes_within monitor plan clients state owner commits positions client way (place, inside, is) = position_within positions client place doings.Inside (inside_made plan positions client place inside)
+
+-- the event of its step
+pub runs : (monitor : MonitorParts) (plan : Plan) (clients : List Client) (state next : List Value) (owner : Option ℕ) (commits : List Commit) (positions : List Position) (client : ℕ) (one new : Position) (commit : Commit)
+    → GoesAt monitor plan clients state owner commits positions client one.place ways.Runs → HasStepped monitor clients client state next one new commit
+    → Runs (record { monitor = monitor; plan = plan; clients = clients }) client one.place new.place commit.reply next (machine_of monitor plan clients state owner commits positions).now
+    (machine_of monitor plan clients next owner (commits ++ commit ∷ []) (set positions client new)).now
+runs monitor plan clients state next owner commits positions client one new commit goes has =
+    record { guard = goes.is; steps = steps_inside monitor plan clients state next owner commits positions client one new commit goes.at has }
+
+pub refuses : (monitor : MonitorParts) (plan : Plan) (clients : List Client) (state : List Value) (owner : Option ℕ) (commits : List Commit) (positions : List Position) (client : ℕ) (one new : Position) (commit : Commit)
+    → GoesAt monitor plan clients state owner commits positions client one.place ways.GivesUp → HasStepped monitor clients client state state one new commit
+    → Refuses (record { monitor = monitor; plan = plan; clients = clients }) client one.place new.place commit.reply state (machine_of monitor plan clients state owner commits positions).now
+    (machine_of monitor plan clients state owner (commits ++ commit ∷ []) (set positions client new)).now
+refuses monitor plan clients state owner commits positions client one new commit goes has =
+    record { guard = goes.is.0; steps = steps_inside monitor plan clients state state owner commits positions client one new commit goes.at has }
+
+pub refused : (monitor : MonitorParts) (plan : Plan) (clients : List Client) (state : List Value) (owner : Option ℕ) (commits : List Commit) (positions : List Position) (client : ℕ) (one new : Position) (commit : Commit)
+    → GoesAt monitor plan clients state owner commits positions client one.place ways.GivesUp → HasStepped monitor clients client state state one new commit → commit.reply ≡ replies.Refused
+    → Refuses (record { monitor = monitor; plan = plan; clients = clients }) client one.place new.place replies.Refused state (machine_of monitor plan clients state owner commits positions).now
+    (machine_of monitor plan clients state owner (commits ++ commit ∷ []) (set positions client new)).now
+refused monitor plan clients state owner commits positions client one new commit goes has is =
+    subst (λ (reply : Reply). Refuses (record { monitor = monitor; plan = plan; clients = clients }) client one.place new.place reply state (machine_of monitor plan clients state owner commits positions).now
+    (machine_of monitor plan clients state owner (commits ++ commit ∷ []) (set positions client new)).now) is
+    (refuses monitor plan clients state owner commits positions client one new commit goes has)
+
+-- what the machine meets after it
+pub ran_meets : (monitor : MonitorParts) (plan : Plan) (clients : List Client) (state next : List Value) (owner : Option ℕ) (commits : List Commit) (positions : List Position) (client : ℕ) (one new : Position) (commit : Commit)
+    → IsMachine (machine_of monitor plan clients state owner commits positions)
+    → GoesAt monitor plan clients state owner commits positions client one.place ways.Runs → HasStepped monitor clients client state next one new commit
+    → IsMachine (machine_of monitor plan clients next owner (commits ++ commit ∷ []) (set positions client new))
+ran_meets monitor plan clients state next owner commits positions client one new commit meets goes has =
+    event_keeps_machine (events.Run client) (machine_of monitor plan clients state owner commits positions) _ meets
+    (one.place, new.place, commit.reply, next, runs monitor plan clients state next owner commits positions client one new commit goes has)
+
+pub refused_meets : (monitor : MonitorParts) (plan : Plan) (clients : List Client) (state : List Value) (owner : Option ℕ) (commits : List Commit) (positions : List Position) (client : ℕ) (one new : Position) (commit : Commit)
+    → IsMachine (machine_of monitor plan clients state owner commits positions)
+    → GoesAt monitor plan clients state owner commits positions client one.place ways.GivesUp → HasStepped monitor clients client state state one new commit
+    → IsMachine (machine_of monitor plan clients state owner (commits ++ commit ∷ []) (set positions client new))
+refused_meets monitor plan clients state owner commits positions client one new commit meets goes has =
+    event_keeps_machine (events.Wait client) (machine_of monitor plan clients state owner commits positions) _ meets
+    (one.place, inr (new.place, commit.reply, state, refuses monitor plan clients state owner commits positions client one new commit goes has))

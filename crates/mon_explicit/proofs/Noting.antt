@@ -14,7 +14,7 @@ use Rattle.mon_events.specs.Configurations.Phase.{Waiting, Woken, Notifying}
 use Rattle.mon_events.specs.Events.{Wakes, NoneWaits, IsEvent, fires, wake_all}
 use Rattle.mon_events.specs.Logs.{IsChosen}
 use Rattle.mon_events.specs.Logs.IsNotified.{all_made, one_made}
-use Rattle.mon_events.proofs.Standings.{put_same, put_length, woken_length, one_past, one_phase, stands_within, apart, stays, unwoken_stays}
+use Rattle.mon_events.proofs.Standings.{put_same, put_length, woken_length, one_place, one_phase, stands_within, apart, stays, unwoken_stays}
 use Rattle.mon_explicit.specs.declared.notes.Next.{Next}
 use Rattle.mon_explicit.specs.Machines.{Machine, Happened}
 use Rattle.mon_explicit.specs.inner.Waiting.{KeepsWaits, HasNote, IsNotifying, IsFirst, IsFired, IsComing, IsTarget, Passes, IsChosenBy, MadeNote, MadeNoteOf, MadeNotesOf, MadeSome, AreMaking, CountsNotes, AreBits, WokeThese}
@@ -22,6 +22,7 @@ use Rattle.mon_explicit.specs.inner.Rings.{line_of, IsLine, AreLines, HaveLines}
 use Rattle.mon_explicit.proofs.MakingWakes.{none_woken}
 use Rattle.mon_explicit.proofs.Lining.{WaitsAfter, Anyone, ButOne, ButOn, notifying_is_quiet, nobody_left, one_left, each_left, quiet_put, lines_kept, lines_cleared, lines_left, without_first}
 use Rattle.mon_explicit.proofs.Waking.{notifying_is_calm, woke_put, woke_nobody, woke_one, woke_each, woke_more}
+use Rattle.mon_implicit.specs.declared.place.Place.{Place}
 
 -- ---- whom a note names
 
@@ -41,13 +42,13 @@ same_waiting condition another is = ap condition_in is
 
 pub is_chosen : (since : List ℕ) (machine : Machine) (log : List Entry) (target : Option ℕ) → KeepsWaits log machine.system.clients since → IsChosenBy since machine target → IsChosen log machine.now target
 is_chosen since machine log None keeps chosen = tt
-is_chosen since machine log (Some target) keeps (condition, first) = λ past on at.
-    let same = same_waiting on condition (one_phase machine.now.standings target past first.past (Waiting on) (Waiting condition) at first.waits) in
-    let place = get_or since target 0 - 1 in (
-      place,
-      keeps.each target place first.within (omega (arith, first.numbered)),
-      λ other others_past waits.
-          let least = first.first other others_past (subst (λ (one : ℕ). StandsAt machine.now.standings other others_past (Waiting one)) same waits) in
+is_chosen since machine log (Some target) keeps (condition, first) = λ place on at.
+    let same = same_waiting on condition (one_phase machine.now.standings target place first.place (Waiting on) (Waiting condition) at first.waits) in
+    let number = get_or since target 0 - 1 in (
+      number,
+      keeps.each target number first.within (omega (arith, first.numbered)),
+      λ other others_place waits.
+          let least = first.first other others_place (subst (λ (one : ℕ). StandsAt machine.now.standings other others_place (Waiting one)) same waits) in
           let later = get_or since other 0 - 1 in
           (later, keeps.each other later least.0 (omega (arith, least.1, first.numbered)), omega (arith, least.1)),
     )
@@ -69,7 +70,7 @@ one_more since client before now next some made = record {
 wakes_length : (system : System) (c : Configuration) (note : Note) (target : Option ℕ) (woken : List Standing) → Wakes system c note target woken → length woken ≡ length c.standings
 wakes_length system c note None woken (inl each) = ap length each.becomes ∙ woken_length c.standings note.condition
 wakes_length system c note None woken (inr nobody) = ap length nobody.becomes
-wakes_length system c note (Some target) woken (past, one) = ap length one.becomes ∙ put_length c.standings target past (Woken note.condition)
+wakes_length system c note (Some target) woken (place, one) = ap length one.becomes ∙ put_length c.standings target place (Woken note.condition)
 
 notes_in : Phase → List Note
 notes_in (Notifying notes) = notes
@@ -80,21 +81,21 @@ unfolding notes_in
 same_notes notes others is = ap notes_in is
 
 -- one note is taken off
-pub one_taken : (since : List ℕ) (client : ℕ) (now next : Machine) (past : ℕ) (notes : List Note) → MadeNote since client now next → StandsAt now.now.standings client past (Notifying notes)
-    → (more : List Note) × StandsAt next.now.standings client past (Notifying more) × (length more + 1 ≡ length notes)
-one_taken since client now next past notes made at =
-    let own_past = made.2.1.0 in
+pub one_taken : (since : List ℕ) (client : ℕ) (now next : Machine) (place : Place) (notes : List Note) → MadeNote since client now next → StandsAt now.now.standings client place (Notifying notes)
+    → (more : List Note) × StandsAt next.now.standings client place (Notifying more) × (length more + 1 ≡ length notes)
+one_taken since client now next place notes made at =
+    let own_beyond = made.2.1.0 in
     let notifies = made.2.1.1 in
-    let within : client < length notifies.woken = omega (arith, wakes_length now.system now.now notifies.note made.0 notifies.woken notifies.wakes, stands_within now.now.standings client past (Notifying notes) at) in
-    let stands : StandsAt next.now.standings client own_past (Notifying notifies.more) = subst (λ (c : Configuration). StandsAt c.standings client own_past (Notifying notifies.more)) (sym notifies.becomes)
-    (put_same notifies.woken client own_past (Notifying notifies.more) within) in
-    let same = one_past now.now.standings client past own_past (Notifying notes) (Notifying (notifies.note ∷ notifies.more)) at notifies.notifying in
-    let whole = same_notes notes (notifies.note ∷ notifies.more) (one_phase now.now.standings client past own_past (Notifying notes) (Notifying (notifies.note ∷ notifies.more)) at notifies.notifying) in
-    (notifies.more, subst (λ (one : ℕ). StandsAt next.now.standings client one (Notifying notifies.more)) (sym same) stands, omega (arith, ap length whole))
+    let within : client < length notifies.woken = omega (arith, wakes_length now.system now.now notifies.note made.0 notifies.woken notifies.wakes, stands_within now.now.standings client place (Notifying notes) at) in
+    let stands : StandsAt next.now.standings client own_beyond (Notifying notifies.more) = subst (λ (c : Configuration). StandsAt c.standings client own_beyond (Notifying notifies.more)) (sym notifies.becomes)
+    (put_same notifies.woken client own_beyond (Notifying notifies.more) within) in
+    let same = one_place now.now.standings client place own_beyond (Notifying notes) (Notifying (notifies.note ∷ notifies.more)) at notifies.notifying in
+    let whole = same_notes notes (notifies.note ∷ notifies.more) (one_phase now.now.standings client place own_beyond (Notifying notes) (Notifying (notifies.note ∷ notifies.more)) at notifies.notifying) in
+    (notifies.more, subst (λ (one : Place). StandsAt next.now.standings client one (Notifying notifies.more)) (sym same) stands, omega (arith, ap length whole))
 
-pub has_note : (machine : Machine) (client past : ℕ) (notes : List Note) → StandsAt machine.now.standings client past (Notifying notes) → 0 < length notes → HasNote machine client
-has_note machine client past [] at some = absurd (omega (arith, some))
-has_note machine client past (note ∷ more) at some = (past, note, more, at)
+pub has_note : (machine : Machine) (client : ℕ) (place : Place) (notes : List Note) → StandsAt machine.now.standings client place (Notifying notes) → 0 < length notes → HasNote machine client
+has_note machine client place [] at some = absurd (omega (arith, some))
+has_note machine client place (note ∷ more) at some = (place, note, more, at)
 
 -- ---- who waits after a note
 
@@ -109,35 +110,35 @@ same_first note other more others is = ap (note_in other) is
 
 -- what an event of the note to come says of this note
 record WokeFor (machine next : Machine) (client : ℕ) (note : Note) (target : Option ℕ) : Type 0 where
-  past : ℕ
+  place : Place
   more : List Note
   woken : List Standing
-  stood : StandsAt machine.now.standings client past (Notifying (note ∷ more))
+  stood : StandsAt machine.now.standings client place (Notifying (note ∷ more))
   wakes : Wakes machine.system machine.now note target woken
-  is : next.now.standings ≡ put woken client past (Notifying more)
+  is : next.now.standings ≡ put woken client place (Notifying more)
   lengths : length next.now.standings ≡ length machine.now.standings
 
-woke_for : (machine next : Machine) (client past : ℕ) (note : Note) (more : List Note) (target : Option ℕ) → StandsAt machine.now.standings client past (Notifying (note ∷ more)) → Happened (events.Notify client target) machine next
+woke_for : (machine next : Machine) (client : ℕ) (place : Place) (note : Note) (more : List Note) (target : Option ℕ) → StandsAt machine.now.standings client place (Notifying (note ∷ more)) → Happened (events.Notify client target) machine next
     → WokeFor machine next client note target
-woke_for machine next client past note more target at happened =
-    let own_past = happened.1.0 in
+woke_for machine next client place note more target at happened =
+    let own_beyond = happened.1.0 in
     let notifies = happened.1.1 in
-    let same = same_first notifies.note note notifies.more more (one_phase machine.now.standings client own_past past (Notifying (notifies.note ∷ notifies.more)) (Notifying (note ∷ more)) notifies.notifying at) in
-    let is : next.now.standings ≡ put notifies.woken client own_past (Notifying notifies.more) = ap (λ (c : Configuration). c.standings) notifies.becomes in
+    let same = same_first notifies.note note notifies.more more (one_phase machine.now.standings client own_beyond place (Notifying (notifies.note ∷ notifies.more)) (Notifying (note ∷ more)) notifies.notifying at) in
+    let is : next.now.standings ≡ put notifies.woken client own_beyond (Notifying notifies.more) = ap (λ (c : Configuration). c.standings) notifies.becomes in
     record {
-      past = own_past;
+      place = own_beyond;
       more = notifies.more;
       woken = notifies.woken;
-      stood = subst (λ (one : Note). StandsAt machine.now.standings client own_past (Notifying (one ∷ notifies.more))) same notifies.notifying;
+      stood = subst (λ (one : Note). StandsAt machine.now.standings client own_beyond (Notifying (one ∷ notifies.more))) same notifies.notifying;
       wakes = subst (λ (one : Note). Wakes machine.system machine.now one target notifies.woken) same notifies.wakes;
       is = is;
-      lengths = ap length is ∙ put_length notifies.woken client own_past (Notifying notifies.more) ∙ wakes_length machine.system machine.now notifies.note target notifies.woken notifies.wakes;
+      lengths = ap length is ∙ put_length notifies.woken client own_beyond (Notifying notifies.more) ∙ wakes_length machine.system machine.now notifies.note target notifies.woken notifies.wakes;
     }
 
 after_note : (P : ℕ → ℕ → Type 0) (machine next : Machine) (client : ℕ) (note : Note) (target : Option ℕ) (woke : WokeFor machine next client note target) → WaitsAfter P machine.now.standings woke.woken
     → WaitsAfter P machine.now.standings next.now.standings
 after_note P machine next client note target woke after =
-    quiet_put P client woke.past woke.past (Notifying woke.more) (Notifying (note ∷ woke.more)) machine.now.standings woke.woken next.now.standings woke.is woke.stood (notifying_is_quiet (note ∷ woke.more)) (notifying_is_quiet woke.more) after
+    quiet_put P client woke.place woke.place (Notifying woke.more) (Notifying (note ∷ woke.more)) machine.now.standings woke.woken next.now.standings woke.is woke.stood (notifying_is_quiet (note ∷ woke.more)) (notifying_is_quiet woke.more) after
 
 each_woken : (system : System) (c : Configuration) (note : Note) (woken : List Standing) → fires system c.state note ≡ true → note.all ≡ true → Wakes system c note None woken → woken ≡ wake_all note.condition c.standings
 each_woken system c note woken fired all (inl each) = each.becomes
@@ -149,35 +150,35 @@ each_woken system c note woken fired all (inr nobody) = elim nobody.nobody [
 -- ---- whom a note woke
 
 -- the client itself is notifying before and after
-woke_note : (machine next : Machine) (client bits : ℕ) (note : Note) (target : Option ℕ) (woke : WokeFor machine next client note target) → StandsAt woke.woken client woke.past (Notifying (note ∷ woke.more))
+woke_note : (machine next : Machine) (client bits : ℕ) (note : Note) (target : Option ℕ) (woke : WokeFor machine next client note target) → StandsAt woke.woken client woke.place (Notifying (note ∷ woke.more))
     → WokeThese machine.now.standings woke.woken bits → WokeThese machine.now.standings next.now.standings bits
 woke_note machine next client bits note target woke stands these =
-    woke_put client woke.past woke.past bits (Notifying woke.more) (Notifying (note ∷ woke.more)) machine.now.standings woke.woken next.now.standings woke.is stands (notifying_is_calm (note ∷ woke.more)) (notifying_is_calm woke.more) these
+    woke_put client woke.place woke.place bits (Notifying woke.more) (Notifying (note ∷ woke.more)) machine.now.standings woke.woken next.now.standings woke.is stands (notifying_is_calm (note ∷ woke.more)) (notifying_is_calm woke.more) these
 
 nobody_woke : (machine next : Machine) (client : ℕ) (note : Note) (target : Option ℕ) (woke : WokeFor machine next client note target) → woke.woken ≡ machine.now.standings → WokeThese machine.now.standings next.now.standings 0
 nobody_woke machine next client note target woke same =
-    woke_note machine next client 0 note target woke (subst (λ (some : List Standing). StandsAt some client woke.past (Notifying (note ∷ woke.more))) (sym same) woke.stood)
+    woke_note machine next client 0 note target woke (subst (λ (some : List Standing). StandsAt some client woke.place (Notifying (note ∷ woke.more))) (sym same) woke.stood)
     (woke_nobody machine.now.standings woke.woken same)
 
 broadcast_woke : (since : List ℕ) (machine next : Machine) (client bits : ℕ) (line : List ℕ) (note : Note) (target : Option ℕ) (woke : WokeFor machine next client note target) → woke.woken ≡ wake_all note.condition machine.now.standings
     → IsLine since machine.now.standings note.condition line → AreBits (λ one. Contains line one) bits → WokeThese machine.now.standings next.now.standings bits
 broadcast_woke since machine next client bits line note target woke each is listed =
     woke_note machine next client bits note target woke
-    (subst (λ (some : List Standing). StandsAt some client woke.past (Notifying (note ∷ woke.more))) (sym each)
-    (unwoken_stays machine.now.standings note.condition client woke.past (Notifying (note ∷ woke.more)) woke.stood refl))
+    (subst (λ (some : List Standing). StandsAt some client woke.place (Notifying (note ∷ woke.more))) (sym each)
+    (unwoken_stays machine.now.standings note.condition client woke.place (Notifying (note ∷ woke.more)) woke.stood refl))
     (woke_each note.condition bits line machine.now.standings woke.woken each is.all is.only listed)
 
 notifying_waiting : (notes : List Note) (condition : ℕ) → Notifying notes ≡ Waiting condition → ⊥
 notifying_waiting notes condition is = cc is
 
-signal_woke : (machine next : Machine) (client past on bits who : ℕ) (note : Note) (target : Option ℕ) (woke : WokeFor machine next client note target) → StandsAt machine.now.standings who past (Waiting on)
-    → woke.woken ≡ put machine.now.standings who past (Woken on) → AreBits (λ one. one ≡ who) bits → WokeThese machine.now.standings next.now.standings bits
-signal_woke machine next client past on bits who note target woke waits one its =
+signal_woke : (machine next : Machine) (client : ℕ) (place : Place) (on bits who : ℕ) (note : Note) (target : Option ℕ) (woke : WokeFor machine next client note target) → StandsAt machine.now.standings who place (Waiting on)
+    → woke.woken ≡ put machine.now.standings who place (Woken on) → AreBits (λ one. one ≡ who) bits → WokeThese machine.now.standings next.now.standings bits
+signal_woke machine next client place on bits who note target woke waits one its =
     let notes = note ∷ woke.more in
-    let differs = apart machine.now.standings who past client woke.past (Waiting on) (Notifying notes) waits woke.stood (notifying_waiting notes on) in
+    let differs = apart machine.now.standings who place client woke.place (Waiting on) (Notifying notes) waits woke.stood (notifying_waiting notes on) in
     woke_note machine next client bits note target woke
-    (subst (λ (some : List Standing). StandsAt some client woke.past (Notifying notes)) (sym one) (stays machine.now.standings who past (Woken on) client woke.past (Notifying notes) differs woke.stood))
-    (woke_one who past on bits machine.now.standings woke.woken waits one its)
+    (subst (λ (some : List Standing). StandsAt some client woke.place (Notifying notes)) (sym one) (stays machine.now.standings who place (Woken on) client woke.place (Notifying notes) differs woke.stood))
+    (woke_one who place on bits machine.now.standings woke.woken waits one its)
 
 -- ---- a note was made
 
@@ -188,7 +189,7 @@ made_note since client before next note target names happened = (target, chosen_
 pub unfired_made : (client : ℕ) (before next : Machine) (rings : List (List ℕ)) (one : Next) → IsComing before client one → fires before.system before.now.state one.note ≡ false → Happened (events.Notify client None) before next
     → MadeNoteOf client before rings next rings 0
 unfired_made client before next rings one is not_fired happened = λ since are.
-    let woke = woke_for before next client one.past one.note is.more None is.at happened in
+    let woke = woke_for before next client is.place one.note is.more None is.at happened in
     let same = none_woken before.system before.now one.note woke.woken (inl not_fired) woke.wakes in (
       made_note since client before next one.note None (inl not_fired) happened,
       lines_kept since before.system next.system before.now.standings next.now.standings rings happened.0 woke.lengths
@@ -197,10 +198,10 @@ unfired_made client before next rings one is not_fired happened = λ since are.
     )
 
 pub unfired_passes : (client : ℕ) (machine : Machine) (one : Next) → IsComing machine client one → fires machine.system machine.now.state one.note ≡ false → Passes machine client
-unfired_passes client machine one is not_fired = (one.past, one.note, is.more, is.at, inl not_fired)
+unfired_passes client machine one is not_fired = (is.place, one.note, is.more, is.at, inl not_fired)
 
 pub fired_of : (client : ℕ) (machine : Machine) (one : Next) → IsComing machine client one → fires machine.system machine.now.state one.note ≡ true → IsFired machine client one.note
-fired_of client machine one is fired = (one.past, is.more, is.at, fired)
+fired_of client machine one is fired = (is.place, is.more, is.at, fired)
 
 -- a broadcast that fires
 pub broadcast_made : (client bits : ℕ) (before next : Machine) (rings : List (List ℕ)) (note : Note) → IsFired before client note → note.all ≡ true → AreBits (λ one. Contains (line_of rings note.condition) one) bits
@@ -216,8 +217,8 @@ broadcast_made client bits before next rings note fired all listed happened = λ
 
 -- a note that fires where no one waits
 none_in : (since : List ℕ) (standings : List Standing) (condition : ℕ) (line : List ℕ) → IsLine since standings condition line → slice_get line 0 ≡ None → NoneWaits standings condition
-none_in since standings condition [] is none client past at = absurd (omega (arith, (is.all client past at).1))
-none_in since standings condition (first ∷ line) is none client past at = none-some first (sym none)
+none_in since standings condition [] is none client place at = absurd (omega (arith, (is.all client place at).1))
+none_in since standings condition (first ∷ line) is none client place at = none-some first (sym none)
 
 pub empty_passes : (client : ℕ) (machine : Machine) (rings : List (List ℕ)) (note : Note) → HaveLines machine.system machine.now.standings rings → IsFired machine client note → slice_get (line_of rings note.condition) 0 ≡ None
     → Passes machine client
@@ -243,11 +244,11 @@ first_is_first since standings condition target (head ∷ line) one_each is firs
     let same : head ≡ target = same_Some head target first in
     let stood = is.only target (0, omega arith, same) in
     record {
-      past = stood.0;
+      place = stood.0;
       waits = stood.1;
       within = omega (arith, one_each, stands_within standings target stood.0 (Waiting condition) stood.1);
       numbered = is.numbered target (0, omega arith, same);
-      first = λ other others_past at. (omega (arith, one_each, stands_within standings other others_past (Waiting condition) at), least other (is.all other others_past at) same);
+      first = λ other others_place at. (omega (arith, one_each, stands_within standings other others_place (Waiting condition) at), least other (is.all other others_place at) same);
     }
   where
     least : (other : ℕ) → Contains (head ∷ line) other → head ≡ target → get_or since target 0 ≤ get_or since other 0
@@ -264,10 +265,10 @@ first_named since machine rings note target are fired one first = record {
 
 -- it waits
 pub first_waits : (machine : Machine) (rings : List (List ℕ)) (condition target : ℕ) → HaveLines machine.system machine.now.standings rings → slice_get (line_of rings condition) 0 ≡ Some target
-    → (past : ℕ) × StandsAt machine.now.standings target past (Waiting condition)
+    → (place : Place) × StandsAt machine.now.standings target place (Waiting condition)
 first_waits machine rings condition target lines first =
     let is = first_is_first lines.0 machine.now.standings condition target (line_of rings condition) lines.1.one_each (lines.1.each condition) first in
-    (is.past, is.waits)
+    (is.place, is.waits)
 
 pub signal_made : (client bits : ℕ) (before next : Machine) (rings : List (List ℕ)) (note : Note) (target : ℕ) → IsFired before client note → note.all ≡ false → slice_get (line_of rings note.condition) 0 ≡ Some target
     → Happened (events.Notify client (Some target)) before next → AreBits (λ other. other ≡ target) bits
@@ -294,14 +295,14 @@ line_few condition machine rings lines few i d within =
 pub first_few : (condition target : ℕ) (machine : Machine) (rings : List (List ℕ)) → HaveLines machine.system machine.now.standings rings → length machine.now.standings ≤ CLIENTS → slice_get (line_of rings condition) 0 ≡ Some target → target < CLIENTS
 first_few condition target machine rings lines few first =
     let is = first_is_first lines.0 machine.now.standings condition target (line_of rings condition) lines.1.one_each (lines.1.each condition) first in
-    omega (arith, few, stands_within machine.now.standings target is.past (Waiting condition) is.waits)
+    omega (arith, few, stands_within machine.now.standings target is.place (Waiting condition) is.waits)
 
 -- ---- all of them
 
 pub making_starts : (client : ℕ) (machine : Machine) (rings : List (List ℕ)) (end : ℕ) → CountsNotes machine.now.standings client end → AreMaking client machine rings machine rings 0 end 0
 making_starts client machine rings end counts = record {
   some = λ since are. (none_made since client machine, are, woke_nobody machine.now.standings machine.now.standings refl);
-  left = λ past notes at. (notes, at, omega (arith, counts past notes at));
+  left = λ place notes at. (notes, at, omega (arith, counts place notes at));
 }
 
 pub making_lines : (client : ℕ) (before : Machine) (rings : List (List ℕ)) (now : Machine) (rings_now : List (List ℕ)) (count end bits : ℕ) → AreMaking client before rings now rings_now count end bits
@@ -316,9 +317,9 @@ making_goes_on client before rings now rings_now next rings_next count end bits 
       let some = making.some since are in
       let one = made since some.1 in
       (one_more since client before now next some.0 one.0, one.1, woke_more before.now.standings now.now.standings next.now.standings bits more some.2 one.2);
-  left = λ past notes at.
-      let rest = making.left past notes at in
-      let taken = one_taken lines.0 client now next past rest.0 (made lines.0 lines.1).0 rest.1 in
+  left = λ place notes at.
+      let rest = making.left place notes at in
+      let taken = one_taken lines.0 client now next place rest.0 (made lines.0 lines.1).0 rest.1 in
       (taken.0, taken.1, omega (arith, taken.2, rest.2));
 }
 
@@ -328,17 +329,17 @@ making_has_note client before rings now rings_now count end bits making notifyin
     let rest = making.left notifying.0 notifying.1 notifying.2 in
     has_note now client notifying.0 rest.0 rest.1 (omega (arith, rest.2, below))
 
-no_notes : (standings : List Standing) (client past : ℕ) (notes : List Note) → StandsAt standings client past (Notifying notes) → length notes ≡ 0 → StandsAt standings client past (Notifying [])
-no_notes standings client past [] at none = at
-no_notes standings client past (note ∷ notes) at none = absurd (omega (arith, none))
+no_notes : (standings : List Standing) (client : ℕ) (place : Place) (notes : List Note) → StandsAt standings client place (Notifying notes) → length notes ≡ 0 → StandsAt standings client place (Notifying [])
+no_notes standings client place [] at none = at
+no_notes standings client place (note ∷ notes) at none = absurd (omega (arith, none))
 
 pub making_ends : (client : ℕ) (before : Machine) (rings : List (List ℕ)) (last : Machine) (rings_last : List (List ℕ)) (count end bits : ℕ) → AreMaking client before rings last rings_last count end bits → IsNotifying before client → end ≤ count
     → MadeNotesOf client before rings last rings_last bits
 making_ends client before rings last rings_last count end bits making notifying over = λ since are.
     let some = making.some since are in
-    let done = λ (past : ℕ) (notes : List Note) (at : StandsAt before.now.standings client past (Notifying notes)).
-    let rest = making.left past notes at in
-    no_notes last.now.standings client past rest.0 rest.1 (omega (arith, rest.2, over)) in (
+    let done = λ (place : Place) (notes : List Note) (at : StandsAt before.now.standings client place (Notifying notes)).
+    let rest = making.left place notes at in
+    no_notes last.now.standings client place rest.0 rest.1 (omega (arith, rest.2, over)) in (
       record {
         system = some.0.system;
         done = done;

@@ -9,18 +9,19 @@ use Rattle.std.specs.Prelude.{is_err, true, false}
 use Rattle.std.proofs.lemmas.Bool.{true≢false}
 use Rattle.mon_explicit.specs.Machines.{Machine, Happened, Refused, Steps, NotAllowed}
 use Rattle.mon_explicit.specs.inner.Waiting.{NoneEnters, Started, NotStarted, IsInside, CanUnlock}
-use Rattle.mon_events.proofs.Standings.{put_same, stands_within, one_past}
+use Rattle.mon_events.proofs.Standings.{put_same, stands_within, one_place}
+use Rattle.mon_implicit.specs.declared.place.Place.{Place}
 
 -- a client that began enters, and the lock is as before
-begun_enters : (system : System) (client past : ℕ) (before begun : Configuration) → Begins system client past before begun → StandsAt begun.standings client past Entering
-begun_enters system client past before begun begins =
-    subst (λ (c : Configuration). StandsAt c.standings client past Entering) (sym begins.becomes)
-    (put_same before.standings client past Entering (stands_within before.standings client past Idle begins.idle))
+begun_enters : (system : System) (client : ℕ) (place : Place) (before begun : Configuration) → Begins system client place before begun → StandsAt begun.standings client place Entering
+begun_enters system client place before begun begins =
+    subst (λ (c : Configuration). StandsAt c.standings client place Entering) (sym begins.becomes)
+    (put_same before.standings client place Entering (stands_within before.standings client place Idle begins.idle))
 
-locked_past : (client past other : ℕ) (begun last : Configuration) → StandsAt begun.standings client past Entering → Locks client other begun last → past ≡ other
-locked_past client past other begun last at locks = elim locks.wants [
-  | inl entering ↦ one_past begun.standings client past other Entering Entering at entering
-  | inr woken ↦ one_past begun.standings client past other Entering (Woken woken.0) at woken.1
+locked_place : (client : ℕ) (place other : Place) (begun last : Configuration) → StandsAt begun.standings client place Entering → Locks client other begun last → place ≡ other
+locked_place client place other begun last at locks = elim locks.wants [
+  | inl entering ↦ one_place begun.standings client place other Entering Entering at entering
+  | inr woken ↦ one_place begun.standings client place other Entering (Woken woken.0) at woken.1
 ]
 
 pub began : {E : Type 0} (before begun last : Machine) (client : ℕ) (result : Result (Unit {0}) E) → before.now.owner ≡ None → Happened (events.Begin client) before begun
@@ -29,8 +30,8 @@ pub began : {E : Type 0} (before begun last : Machine) (client : ℕ) (result : 
 began before begun last client (Ok done) free happened told =
     let begins = happened.1.1 in
     let enters = begun_enters before.system client happened.1.0 before.now begun.now begins in
-    let same = locked_past client happened.1.0 told.1.0 begun.now last.now enters told.1.1 in
-    (told.0 ∙ happened.0, (happened.1.0, begun.now, inl begins, subst (λ (past : ℕ). Locks client past begun.now last.now) (sym same) told.1.1))
+    let same = locked_place client happened.1.0 told.1.0 begun.now last.now enters told.1.1 in
+    (told.0 ∙ happened.0, (happened.1.0, begun.now, inl begins, subst (λ (place : Place). Locks client place begun.now last.now) (sym same) told.1.1))
 began before begun last client (Err error) free happened told =
     let begins = happened.1.1 in
     absurd (told.1 _ (
@@ -63,14 +64,14 @@ went_on before same last client (Err error) free settled refused told =
 -- a client that started is inside
 pub started_inside : (before next : Machine) (client : ℕ) → Started before client next → IsInside next client
 started_inside before next client started =
-    let past = started.1.0 in
+    let place = started.1.0 in
     let begun = started.1.1 in
     let locks = started.1.3 in
-    (past, subst (λ (c : Configuration). StandsAt c.standings client past Inside) (sym locks.becomes) (put_same begun.standings client past Inside (ready_within begun past locks.wants)))
+    (place, subst (λ (c : Configuration). StandsAt c.standings client place Inside) (sym locks.becomes) (put_same begun.standings client place Inside (ready_within begun place locks.wants)))
   where
-    ready_within : (begun : Configuration) (past : ℕ) → WantsLock begun.standings client past → client < length begun.standings
-    ready_within begun past (inl at) = stands_within begun.standings client past Entering at
-    ready_within begun past (inr woken) = stands_within begun.standings client past (Woken woken.0) woken.1
+    ready_within : (begun : Configuration) (place : Place) → WantsLock begun.standings client place → client < length begun.standings
+    ready_within begun place (inl at) = stands_within begun.standings client place Entering at
+    ready_within begun place (inr woken) = stands_within begun.standings client place (Woken woken.0) woken.1
 
 -- ---- outcomes
 

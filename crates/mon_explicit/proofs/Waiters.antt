@@ -10,9 +10,10 @@ use Rattle.mon_monitor.specs.declared.monitor.Block.{Block}
 use Rattle.mon_monitor.specs.declared.monitor.Condition.{Condition}
 use Rattle.mon_implicit.specs.declared.script.Call.{Call}
 use Rattle.mon_implicit.specs.declared.script.Client.{Client}
+use Rattle.mon_implicit.specs.Places.{call_at, block_at}
 use Rattle.mon_events.proofs.Facing.{all_at, is_some_and}
 use Rattle.mon_events.specs.declared.plan.Plan.{Plan}
-use Rattle.mon_events.specs.Configurations.{Standing, StandsAt, System, call_at, block_condition, waited_condition}
+use Rattle.mon_events.specs.Configurations.{Standing, StandsAt, System, block_condition, waited_condition}
 use Rattle.mon_events.specs.Configurations.Phase.{Waiting, Notifying}
 use Rattle.mon_events.specs.Logs.{rests}
 use Rattle.mon_explicit.specs.declared.position.Doing.{Doing}
@@ -22,11 +23,12 @@ use Rattle.mon_explicit.specs.Machines.{Machine, IsMachine}
 use Rattle.mon_explicit.specs.inner.Positions.{phase_of, standing_of, HasNotes}
 use Rattle.mon_explicit.specs.inner.Waiting.{AllRest, doing_rests, position_rests, EachRests, WaitsOn, CountsNotes}
 use Rattle.mon_explicit.proofs.Making.{position_stands, standing_position}
+use Rattle.mon_implicit.specs.declared.place.Place.{Place}
 
 -- ---- on which condition a client waits
 
-block_within : (monitor : MonitorParts) (block : ℕ) → IsMonitor monitor → option_map_or (λ (one : Block). one.condition) (slice_get monitor.blocks block) 0 < length monitor.conditions + 1
-block_within monitor block rule = by_cases (slice_get monitor.blocks block) refl
+condition_within : (monitor : MonitorParts) (block : ℕ) → IsMonitor monitor → option_map_or (λ (one : Block). one.condition) (slice_get monitor.blocks block) 0 < length monitor.conditions + 1
+condition_within monitor block rule = by_cases (slice_get monitor.blocks block) refl
   where
     by_cases : (found : Option Block) → slice_get monitor.blocks block ≡ found → option_map_or (λ (one : Block). one.condition) found 0 < length monitor.conditions + 1
     by_cases None is = omega arith
@@ -35,22 +37,22 @@ block_within monitor block rule = by_cases (slice_get monitor.blocks block) refl
         let at = is_some_and (slice_get monitor.conditions (one.condition - 1)) (λ (condition : Condition). condition.guard ≡ one.guard) has.1 in
         omega (arith, has.0, slice_get_within monitor.conditions (one.condition - 1) at.0 at.1)
 
-waited_within : (system : System) (client past : ℕ) → IsMonitor system.monitor → waited_condition system client past < length system.monitor.conditions + 1
-waited_within system client past rule = by_cases (call_at system client past)
+waited_within : (system : System) (client : ℕ) (place : Place) → IsMonitor system.monitor → waited_condition system client place < length system.monitor.conditions + 1
+waited_within system client place rule = by_cases (call_at system.clients client place)
   where
-    by_cases : (found : Option Call) → option_map_or (λ (call : Call). block_condition system.monitor call.method) found 0 < length system.monitor.conditions + 1
+    by_cases : (found : Option Call) → option_map_or (λ (call : Call). block_condition system.monitor (block_at system.monitor call place)) found 0 < length system.monitor.conditions + 1
     by_cases None = omega arith
-    by_cases (Some call) = block_within system.monitor call.method rule
+    by_cases (Some call) = condition_within system.monitor (block_at system.monitor call place) rule
 
-pub waits_on_one : (machine : Machine) (client past condition : ℕ) → IsMachine machine → StandsAt machine.now.standings client past (Waiting condition) → WaitsOn machine client condition
-waits_on_one machine client past condition rule at =
-    let is = rule.sound.waits client past (Waiting condition) condition at refl in
-    ((past, at), omega (arith, is, waited_within machine.system client past rule.is.rule))
+pub waits_on_one : (machine : Machine) (client : ℕ) (place : Place) (condition : ℕ) → IsMachine machine → StandsAt machine.now.standings client place (Waiting condition) → WaitsOn machine client condition
+waits_on_one machine client place condition rule at =
+    let is = rule.sound.waits client place (Waiting condition) condition at refl in
+    ((place, at), omega (arith, is.0, waited_within machine.system client place rule.is.rule))
 
 pub notes_counted : (plan : Plan) (positions : List Position) (client count : ℕ) → HasNotes plan positions client count → CountsNotes (map (standing_of plan) positions) client count
-notes_counted plan positions client count has past notes at =
-    let found = standing_position plan positions client past (Notifying notes) at in
-    has past found.0 notes found.1 found.2
+notes_counted plan positions client count has place notes at =
+    let found = standing_position plan positions client place (Notifying notes) at in
+    has place found.0 notes found.1 found.2
 
 -- ---- whether each client rests
 
@@ -65,28 +67,28 @@ rests_more clients positions client one at all rest other another below others_a
 pub rests_not : (clients : List Client) (positions : List Position) (client : ℕ) (one : Position) → slice_get positions client ≡ Some one → position_rests clients client one ≡ false → AllRest clients positions (length positions) → ⊥
 rests_not clients positions client one at moves all = true≢false (sym (all client one (slice_get_within positions client one at) at) ∙ moves)
 
-same_rests : (system : System) (plan : Plan) (client past : ℕ) (doing : Doing) → doing_rests system.clients client past doing ≡ rests system client past (phase_of plan doing)
-same_rests system plan client past doings.Idle = refl
-same_rests system plan client past doings.Entering = refl
-same_rests system plan client past (doings.Waiting on) = refl
-same_rests system plan client past (doings.Woken on) = refl
-same_rests system plan client past doings.Inside = refl
-same_rests system plan client past (doings.Notifying block from) = refl
-same_rests system plan client past (doings.Signalling on) = refl
-same_rests system plan client past doings.Signalled = refl
+same_rests : (system : System) (plan : Plan) (client : ℕ) (place : Place) (doing : Doing) → doing_rests system.clients client place doing ≡ rests system client place (phase_of plan doing)
+same_rests system plan client place doings.Idle = refl
+same_rests system plan client place doings.Entering = refl
+same_rests system plan client place (doings.Waiting on) = refl
+same_rests system plan client place (doings.Woken on) = refl
+same_rests system plan client place doings.Inside = refl
+same_rests system plan client place (doings.Notifying block from) = refl
+same_rests system plan client place (doings.Signalling on) = refl
+same_rests system plan client place doings.Unlocking = refl
 
 pub each_rests : (machine : Machine) (positions : List Position) → machine.now.standings ≡ map (standing_of machine.system.plan) positions → AllRest machine.system.clients positions (length positions) ↔ EachRests machine
 each_rests machine positions are = (there, back)
   where
     there : AllRest machine.system.clients positions (length positions) → EachRests machine
-    there all client past phase at =
-        let found = standing_position machine.system.plan positions client past phase (subst (λ (some : List Standing). StandsAt some client past phase) are at) in
-        ap (rests machine.system client past) (sym found.2)
-        ∙ sym (same_rests machine.system machine.system.plan client past found.0)
-        ∙ all client (record { past = past; doing = found.0 }) (slice_get_within positions client (record { past = past; doing = found.0 }) found.1) found.1
+    there all client place phase at =
+        let found = standing_position machine.system.plan positions client place phase (subst (λ (some : List Standing). StandsAt some client place phase) are at) in
+        ap (rests machine.system client place) (sym found.2)
+        ∙ sym (same_rests machine.system machine.system.plan client place found.0)
+        ∙ all client (record { place = place; doing = found.0 }) (slice_get_within positions client (record { place = place; doing = found.0 }) found.1) found.1
 
     back : EachRests machine → AllRest machine.system.clients positions (length positions)
     back each client one below at =
-        same_rests machine.system machine.system.plan client one.past one.doing
-        ∙ each client one.past (phase_of machine.system.plan one.doing)
-        (subst (λ (some : List Standing). StandsAt some client one.past (phase_of machine.system.plan one.doing)) (sym are) (position_stands machine.system.plan positions client one.past one.doing at))
+        same_rests machine.system machine.system.plan client one.place one.doing
+        ∙ each client one.place (phase_of machine.system.plan one.doing)
+        (subst (λ (some : List Standing). StandsAt some client one.place (phase_of machine.system.plan one.doing)) (sym are) (position_stands machine.system.plan positions client one.place one.doing at))

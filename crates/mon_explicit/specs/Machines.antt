@@ -9,8 +9,10 @@ use Rattle.mon_events.specs.declared.event.Stage.{Stage}
 use Rattle.mon_events.specs.declared.event.Stage.TheVariants as stages
 use Rattle.mon_events.specs.Plans.{IsLawful}
 use Rattle.mon_events.specs.Configurations.{System, Phase, Configuration, initial, system_under}
+use Rattle.mon_events.specs.Configurations.{situation_of}
 use Rattle.mon_events.specs.Configurations.Phase.{Idle, Entering, Waiting, Woken, Inside, Notifying}
 use Rattle.mon_events.specs.Events.{IsEvent}
+use Rattle.mon_implicit.specs.Scripted.{AreClients}
 use Rattle.mon_events.specs.Pending.{IsSystem, IsSound, IsCovered, WakePending, IsStuck}
 
 -- what it runs, and its configuration now
@@ -18,10 +20,12 @@ pub record Machine : Type 0 where
   pub system : System
   pub now : Configuration
 
--- The rule of every machine: its monitor, plan and calls fit, and its configuration keeps what
--- events keep, under a lawful plan that wake-ups are on their way.
+-- The rule of every machine: its monitor, plan and calls fit, its clients and calls are no more
+-- than there may be, and its configuration keeps what events keep, under a lawful plan that
+-- wake-ups are on their way.
 pub record IsMachine (machine : Machine) : Type 0 where
   pub is : IsSystem machine.system
+  pub clients : AreClients machine.system.clients
   pub sound : IsSound machine.system machine.now
   pub covered : IsLawful machine.system.monitor machine.system.plan
       → IsCovered machine.system machine.now
@@ -30,7 +34,7 @@ pub record IsMachine (machine : Machine) : Type 0 where
 pub record LosesNoWakeUp (machine : Machine) : Type 0 where
   pub pending : WakePending machine.system machine.now
   pub ends : IsStuck machine.system machine.now
-      → Ends machine.system.monitor machine.system.clients machine.now.commits machine.now.state
+      → Ends machine.system.monitor machine.system.clients (situation_of machine.now)
 
 -- under a lawful plan no wake-up is lost
 abbrev pub KeepsWakeUps : Machine → Type 0

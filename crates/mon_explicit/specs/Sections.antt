@@ -5,18 +5,19 @@ use Rattle.std.specs.Option.{option_map_or}
 pub use Rattle.mon_base.specs.Limits.{MOST_SPURIOUS}
 use Rattle.mon_monitor.specs.MonitorParts.{MonitorParts}
 use Rattle.mon_implicit.specs.declared.script.Client.{Client}
-use Rattle.mon_implicit.specs.Scripted.{calls_of}
+use Rattle.mon_implicit.specs.declared.place.Place.{Place}
+use Rattle.mon_implicit.specs.Scripted.{all_blocks, calls_of, AreClients}
 use Rattle.mon_implicit.specs.Runs.{IsRun, Ends}
 use Rattle.mon_events.specs.declared.plan.Plan.{Plan}
 use Rattle.mon_events.specs.declared.log.Entry.{Entry}
 use Rattle.mon_events.specs.declared.log.Outcome.TheVariants as outcomes
 use Rattle.mon_events.specs.Plans.{IsLawful}
 use Rattle.mon_events.specs.Configurations.{System, Phase, Standing, Configuration, StandsAt}
-use Rattle.mon_events.specs.Configurations.{initial, system_under}
+use Rattle.mon_events.specs.Configurations.{initial, situation_of, system_under}
 use Rattle.mon_events.specs.Configurations.Phase.{Idle, Waiting, Woken}
 use Rattle.mon_events.specs.Events.{WakesSpuriously}
 use Rattle.mon_events.specs.Pending.{IsSystem, IsSound, IsCovered, WakePending}
-use Rattle.mon_events.specs.Logs.{IsSection, IsLegal, rests, all_calls, is_spurious_entry}
+use Rattle.mon_events.specs.Logs.{IsSection, IsLegal, rests, is_spurious_entry, entry_at}
 use Rattle.mon_events.specs.Logs.{commits_of}
 use Rattle.mon_explicit.specs.declared.section.Section.{Section}
 use Rattle.mon_explicit.specs.declared.section.NotReady.{NotReady}
@@ -38,7 +39,9 @@ spurious_in log = count_by is_spurious_entry log
 
 -- the most entries of its log: the room that is made at the start
 abbrev pub room_of : FreeMachine → ℕ
-room_of machine = all_calls machine.system * length machine.system.clients + 2 * machine.extra
+room_of machine =
+    all_blocks machine.system.monitor machine.system.clients * length machine.system.clients
+    + 2 * machine.extra
 
 -- under a lawful plan
 abbrev pub HasLawful : System → Type 0
@@ -48,6 +51,7 @@ HasLawful system = IsLawful system.monitor system.plan
 -- owns the lock.
 pub record IsFree (machine : FreeMachine) : Type 0 where
   pub is : IsSystem machine.system
+  pub clients : AreClients machine.system.clients
   pub legal : IsLegal machine.system machine.log machine.now
   pub free : machine.now.owner ≡ None
   pub commits : machine.now.commits ≡ commits_of machine.log
@@ -69,22 +73,22 @@ is_between phase = false
 pub record HoldsAlways (machine : FreeMachine) : Type 0 where
   pub rule : IsFree machine
   pub sound : IsSound machine.system machine.now
-  pub between : (client past : ℕ) (phase : Phase) → StandsAt machine.now.standings client past phase
-      → is_between phase ≡ true
+  pub between : (client : ℕ) (place : Place) (phase : Phase)
+      → StandsAt machine.now.standings client place phase → is_between phase ≡ true
   pub pending : HasLawful machine.system → WakePending machine.system machine.now
   pub run : IsRun machine.system.monitor machine.system.clients (commits_of machine.log)
-      machine.now.state
+      (situation_of machine.now)
   pub short : length machine.log < 2 ^ 63
 
--- under a lawful plan no client with a call left has a true guard, after the replies of the log
+-- under a lawful plan no client may step, so no client with a call left has a true guard
 abbrev pub HasEnded : FreeMachine → Type 0
 HasEnded machine =
     HasLawful machine.system → Ends machine.system.monitor machine.system.clients
-    (commits_of machine.log) machine.now.state
+    (situation_of machine.now)
 
 -- ---- what the calls do
 
--- the monitor at the start: its log is empty, and each client is idle at its first call
+-- the monitor at the start: its log is empty, and each client is idle at its first place
 abbrev pub opened_free : MonitorParts → Plan → List Client → ℕ → FreeMachine
 opened_free monitor plan clients extra = record {
   system = system_under monitor clients plan;
@@ -102,19 +106,19 @@ pub record AddsEntry (before : FreeMachine) (entry : Entry) (next : FreeMachine)
 -- the client waits, or is idle with no call left
 abbrev pub Rests : FreeMachine → ℕ → Type 0
 Rests machine client =
-    (past : ℕ) × (phase : Phase) × StandsAt machine.now.standings client past phase
-    × (rests machine.system client past phase ≡ true)
+    (place : Place) × (phase : Phase) × StandsAt machine.now.standings client place phase
+    × (rests machine.system client place phase ≡ true)
 
 -- a client can make a section where it is idle with a call left, or was woken
-abbrev pub can_start : System → ℕ → ℕ → Phase → Bool
-can_start system client past Idle = nat_lt past (length (calls_of system.clients client))
-can_start system client past (Woken condition) = true
-can_start system client past phase = false
+abbrev pub can_start : System → ℕ → Place → Phase → Bool
+can_start system client place Idle = nat_lt place.past (length (calls_of system.clients client))
+can_start system client place (Woken condition) = true
+can_start system client place phase = false
 
 -- whether a client is there and can make a section
 abbrev pub is_ready : FreeMachine → ℕ → Bool
 is_ready machine client =
-    option_map_or (λ standing. can_start machine.system client standing.past standing.phase)
+    option_map_or (λ standing. can_start machine.system client standing.place standing.phase)
     (slice_get machine.now.standings client) false
 
 -- the client made a section, and its entry is the last of the log now
@@ -139,19 +143,19 @@ Sections client before next result =
 -- the client waits
 abbrev pub IsWaiting : List Standing → ℕ → Type 0
 IsWaiting standings client =
-    (past : ℕ) × (condition : ℕ) × StandsAt standings client past (Waiting condition)
+    (place : Place) × (condition : ℕ) × StandsAt standings client place (Waiting condition)
 
-abbrev pub spurious_entry : ℕ → ℕ → Entry
-spurious_entry client past =
-    record { client = client; call = past + 1; outcome = outcomes.Spurious }
+-- the entry of a client that was woken by nothing, at the call and block at which it waits
+abbrev pub spurious_entry : ℕ → Place → Entry
+spurious_entry client place = entry_at client place outcomes.Spurious
 
 -- the client was woken by nothing, and the log says so
 pub record WokenByNothing (client : ℕ) (before next : FreeMachine) : Type 0 where
-  pub past : ℕ
+  pub place : Place
   pub condition : ℕ
   pub left : spurious_in before.log < before.extra
-  pub wakes : WakesSpuriously client past condition before.now next.now
-  pub appends : AddsEntry before (spurious_entry client past) next
+  pub wakes : WakesSpuriously client place condition before.now next.now
+  pub appends : AddsEntry before (spurious_entry client place) next
 
 -- why it isn't: it doesn't wait; or it waits, and the log has all the spurious entries that it may
 -- have

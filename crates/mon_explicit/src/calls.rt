@@ -1,12 +1,13 @@
 //! The calls of clients, and their blocks.
 
-ghost use Rattle.std.specs.Prelude.{◌≡◌, ◌<◌, ◌≤◌, length, sum_by};
-ghost use Rattle.mon_base.specs.Limits.{CALLS};
-ghost use Rattle.mon_implicit.specs.Scripted.{AreClients, FitsCall, calls_of};
-ghost use Rattle.mon_implicit.specs.Steps.{FitsState, guard_truth};
+ghost use Rattle.std.specs.Prelude.{◌≡◌, ◌==◌, ◌&&◌, ◌<◌, ◌≤◌, ◌*◌, Some, length, sum_by};
+ghost use Rattle.mon_base.specs.Limits.{CALLS, METHOD_BLOCKS};
+ghost use Rattle.mon_implicit.specs.Places.{FitsPlaceAt, block_at, inputs_at};
+ghost use Rattle.mon_implicit.specs.Scripted.{AreClients, FitsCall, all_blocks, blocks_in, calls_of};
+ghost use Rattle.mon_implicit.specs.Steps.{FitsBlock};
 ghost use Rattle.mon_events.specs.Configurations.{block_condition};
 
-use mon_implicit::{Call, Client, Scripts, State, first_block, guard_holds};
+use mon_implicit::{Call, Client, Place, Scripts};
 use mon_monitor::Monitor;
 
 /// The calls of a client.
@@ -20,32 +21,65 @@ pub fn calls(scripts: &Scripts, client: u32) -> &[Call]
     }
 }
 
-/// Whether the guard of a call's block is true.
-pub fn holds(monitor: &Monitor, state: &State, call: &Call) -> bool
+/// The number in the monitor of the block that a client is at.
+pub fn block_number(monitor: &Monitor, call: &Call, place: &Place) -> u32
     requires call { FitsCall monitor.now call.now }
-    requires state { FitsState monitor.now state.now }
-    ensures { result ≡ guard_truth monitor.now state.now call.now.method call.now.inputs }
+    requires place { FitsPlaceAt monitor.now place.now (Some call.now) }
+    ensures number { result ≡ block_at monitor.now call.now place.now }
+    ensures fits { FitsBlock monitor.now result (inputs_at call.now place.now) }
+    ensures few { place.now.block < METHOD_BLOCKS }
 {
-    let block = first_block(monitor, call);
-    guard_holds(monitor, state, block, call.inputs.items())
+    monitor.methods()[call.method as usize].first + place.block
 }
 
-/// The condition of a call's block.
-pub fn waited_condition(monitor: &Monitor, call: &Call) -> u32
-    requires { call.now.method < length monitor.now.methods }
-    ensures { result ≡ block_condition monitor.now call.now.method }
+/// Whether a call that tries is at its first block.
+pub fn is_first_try(call: &Call, place: &Place) -> bool
+    ensures { result ≡ (call.now.tries && place.now.block == 0) }
 {
-    let block = first_block(monitor, call);
+    call.tries && place.block == 0
+}
+
+/// The condition of a block.
+pub fn condition_of(monitor: &Monitor, block: u32) -> u32
+    requires { block < length monitor.now.blocks }
+    ensures { result ≡ block_condition monitor.now block }
+{
     monitor.blocks()[block as usize].condition
 }
 
-/// How many calls all clients have together.
-pub fn all_calls(clients: &[Client]) -> usize
+/// How many blocks the calls of all clients have together.
+pub fn all_blocks(monitor: &Monitor, clients: &[Client]) -> usize
     requires { AreClients clients.now }
-    ensures { result ≡ sum_by (λ client. length client.calls) clients.now }
+    ensures blocks { result ≡ all_blocks monitor.now clients.now }
+    ensures few { result ≤ METHOD_BLOCKS * CALLS }
 {
-    clients
-        .iter()
-        .map(|client| client.calls.items().len())
-        .sum()
+    let mut all = 0;
+    for client in clients {
+        all += blocks_of(monitor, client.calls.items());
+    }
+    all
+}
+
+/// How many blocks calls have together.
+fn blocks_of(monitor: &Monitor, calls: &[Call]) -> usize
+    requires { length calls.now ≤ CALLS }
+    ensures blocks { result ≡ sum_by (blocks_in monitor.now) calls.now }
+    ensures few { result ≤ METHOD_BLOCKS * length calls.now }
+{
+    let mut blocks = 0;
+    for call in calls {
+        blocks += blocks_in(monitor, call);
+    }
+    blocks
+}
+
+/// How many blocks a call has.
+fn blocks_in(monitor: &Monitor, call: &Call) -> usize
+    ensures blocks { result ≡ blocks_in monitor.now call.now }
+    ensures few { result ≤ METHOD_BLOCKS }
+{
+    match monitor.methods().get(call.method as usize) {
+        Some(method) => method.count as usize,
+        None => 0,
+    }
 }

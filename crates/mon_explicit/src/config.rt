@@ -1,29 +1,33 @@
 //! The event machine.
 
-ghost use Rattle.std.specs.Prelude.{◌≡◌, ◌<◌, ◌↔◌, ℕ, false, true, IfOk, IsSomeAnd, IsTrue, MatchOption, None, Some};
+ghost use Rattle.std.specs.Prelude.{◌≡◌, ◌<◌, ◌↔◌, false, true, IfOk, IsSomeAnd, IsTrue, MatchOption, None, Some};
 ghost use Rattle.std.specs.Prelude.{length, map};
 ghost use Rattle.std.specs.Prelude.{slice_get};
-ghost use Rattle.mon_implicit.specs.Scripted.{FitsScripts};
-ghost use Rattle.mon_events.specs.Configurations.{StandsAt, guard_of};
-ghost use Rattle.mon_events.specs.Configurations.Phase.{Inside, Waiting};
+ghost use Rattle.mon_implicit.specs.declared.place.Place.{Place};
+ghost use Rattle.mon_implicit.specs.Runs.{first_places};
+ghost use Rattle.mon_implicit.specs.Scripted.{FitsScripts, all_blocks};
+ghost use Rattle.mon_events.specs.Configurations.{StandsAt};
+ghost use Rattle.mon_events.specs.Configurations.Phase.{Waiting};
 ghost use Rattle.mon_events.specs.Events.{fires};
-ghost use Rattle.mon_events.specs.Logs.{all_calls};
 ghost use Rattle.mon_events.specs.Plans.{FitsPlan};
 ghost use Rattle.mon_explicit.specs.Machines.{Happened, IsMachine, KeepsWakeUps, Steps};
 ghost use Rattle.mon_explicit.specs.Machines.{opened, stage_of};
 ghost use Rattle.mon_explicit.specs.inner.Positions.{idle_position};
 ghost use Rattle.mon_explicit.specs.Sections.{can_start};
-ghost use Rattle.mon_explicit.specs.inner.Waiting.{Comes, CountsNotes, EachRests, HasRun, IsComing, IsInside};
-ghost use Rattle.mon_explicit.specs.inner.Waiting.{IsTested, NoneComes, Passes, WaitsOn, WentIn};
+ghost use Rattle.mon_explicit.specs.inner.Waiting.{Comes, CountsNotes, EachRests, Goes, HasRun, HasWaited};
+ghost use Rattle.mon_explicit.specs.inner.Waiting.{IsComing, IsInside, NoneComes, Passes, WaitsOn, WasRefused, WentIn};
 
-use super::calls::{all_calls, calls, holds, waited_condition};
-use super::notes::{Next, count_notes, doing_after, finished, fires, next_note};
+use super::calls::{all_blocks, block_number, calls, condition_of, is_first_try};
+use super::notes::{Next, count_notes, finished, fires, next_note};
 use super::position::{
     Doing, Position, idle, inside, ready, some_waits, waiting, waiting_on, wake_all,
 };
+use super::steps::{refuse_step, run_step};
 use super::waiting::{all_rest, starts};
-use mon_events::{Event, Note, Plan, Stage};
-use mon_implicit::{Client, Commit, Reply, Scripts, State, first_block, run_block, start};
+use mon_events::{Event, Plan, Stage};
+use mon_implicit::{
+    Client, Commit, Place, Reply, Scripts, State, guard_of_call, place_at_start, start,
+};
 use mon_monitor::Monitor;
 use std::alloc::{AllocError, Global};
 use std::marker::Model;
@@ -34,18 +38,23 @@ use thiserror::Error;
 #[error("the event isn't allowed now")]
 pub struct NotEnabled;
 
-/// A client inside: how many calls it is past, and whether the guard of its next is true.
+/// What a client inside may do.
 #[derive(Clone, Copy)]
-pub struct Tested {
-    pub past: u32,
-    pub guard: bool,
+pub enum Way {
+    /// Its guard is true: it runs its block.
+    Runs,
+    /// Its guard is false at the first block of a call that tries: its call is refused.
+    GivesUp,
+    /// Its guard is false elsewhere: it waits.
+    Waits,
 }
 
-/// What a client inside does: it waits on a condition, or runs its block with a reply.
+/// What a client inside did: it waits on a condition, it ran its block with a reply, or its call was refused.
 #[derive(Clone, Copy)]
 pub enum Went {
     Waits(u32),
     Ran(Reply),
+    GaveUp,
 }
 
 /// A client's first note to come, and whether it fires.
@@ -68,7 +77,7 @@ pub struct Config {
 }
 
 impl Model for Config {
-    ghost use Rattle.std.specs.Prelude.{vec_len, vec_capacity};
+    ghost use Rattle.std.specs.Prelude.{vec_capacity};
     ghost use Rattle.std.specs.Coded.{codes};
     ghost use Rattle.mon_tree.specs.contracts.tree.Expr as expression;
     ghost use Rattle.mon_linear.specs.contracts.formula.Formula as formula;
@@ -84,12 +93,13 @@ impl Model for Config {
 
     ghost invariant = { λ c.
         IsMachine (machine_of c.monitor c.plan c.scripts c.state c.owner c.commits.items c.positions.items)
-        × HasRoom c.scripts (vec_len c.commits) (vec_capacity c.commits) c.positions.items };
+        × HasRoom c.monitor c.scripts (vec_capacity c.commits) };
 }
 
 impl Config {
-    /// The configuration at the start: no owner, no commits, and every client idle at its first call. It makes room
-    /// for a commit of each call and no more, so no later call takes memory. It fails only for want of memory.
+    /// The configuration at the start: no owner, no commits, and every client idle at its first place. It makes room
+    /// for a commit of each block of all calls and no more, so no later call takes memory. It fails only for want of
+    /// memory.
     pub fn open(
         alloc: Global,
         monitor: Monitor,
@@ -120,8 +130,8 @@ impl Config {
         ensures { IfOk result (λ config. config ≡ opened monitor plan scripts) }
     {
         let clients = scripts.clients();
-        let room = all_calls(clients);
-        let positions = all_idle(alloc, clients)?;
+        let room = all_blocks(&monitor, clients);
+        let positions = all_idle(alloc, &monitor, clients)?;
         let commits = Vec::with_capacity(alloc, room)?;
         let state = start(&monitor);
         Ok(Config {
@@ -203,11 +213,11 @@ impl Config {
             Doing::Inside => Stage::Inside,
             Doing::Notifying { block: _, from: _ } => Stage::Notifying,
             Doing::Signalling { condition: _ } => Stage::Notifying,
-            Doing::Signalled => Stage::Notifying,
+            Doing::Unlocking => Stage::Notifying,
         }
     }
 
-    /// The commits so far, in order. With the state they are a run of the implicit machine.
+    /// The commits so far, in order. They are a run of the implicit machine to the state and the clients' places.
     pub fn commits(&self) -> &[Commit]
         ensures commits { result.now ≡ self.now.now.commits }
         ensures rule { IsMachine self.now }
@@ -216,9 +226,9 @@ impl Config {
         &self.commits
     }
 
-    /// For how many commits there is room: one of each call.
+    /// For how many commits there is room: one of each block of all calls.
     pub fn room(&self) -> usize
-        ensures room { result ≡ all_calls self.now.system }
+        ensures room { result ≡ all_blocks self.now.system.monitor self.now.system.clients }
         ensures rule { IsMachine self.now }
         ensures wakes { KeepsWakeUps self.now }
     {
@@ -255,23 +265,23 @@ impl Config {
         &self.scripts
     }
 
-    /// How many calls a client is past.
-    pub(crate) fn past(&self, client: u32) -> u32
+    /// Where a client is in its script.
+    pub(crate) fn place(&self, client: u32) -> &Place
         requires { client < length self.now.system.clients }
-        ensures past { IsSomeAnd (slice_get self.now.now.standings client)
-            (λ standing. result ≡ standing.past) }
+        ensures place { IsSomeAnd (slice_get self.now.now.standings client)
+            (λ standing. result.now ≡ standing.place) }
         ensures rule { IsMachine self.now }
     {
-        self.positions[client as usize].past
+        &self.positions[client as usize].place
     }
 
     /// Whether a client is idle with a call left, or was woken.
     pub(crate) fn starts(&self, client: u32) -> bool
         requires { client < length self.now.system.clients }
         ensures { IsSomeAnd (slice_get self.now.now.standings client)
-            (λ standing. result ≡ can_start self.now.system client standing.past standing.phase) }
+            (λ standing. result ≡ can_start self.now.system client standing.place standing.phase) }
     {
-        starts(&self.scripts, client, self.positions[client as usize])
+        starts(&self.scripts, client, &self.positions[client as usize])
     }
 
     /// Whether each client waits, or is idle with no call left.
@@ -301,33 +311,35 @@ impl Config {
         Some(Coming { next, fires })
     }
 
-    /// Whether the guard of a client inside is true.
-    fn test(&self, client: u32) -> Option<Tested>
+    /// What a client inside may do. It tests its guard, once.
+    fn test(&self, client: u32) -> Option<Way>
         ensures { MatchOption result (IsInside self.now client → ⊥)
-            (λ tested. IsTested self.now client tested) }
+            (λ way. Goes self.now client way) }
     {
-        let Some(past) = inside(&self.positions, client) else {
+        let Some(place) = inside(&self.positions, client) else {
             return None;
         };
-        let call = &calls(&self.scripts, client)[past as usize];
-        let guard = holds(&self.monitor, &self.state, call);
-        Some(Tested { past, guard })
+        let call = &calls(&self.scripts, client)[place.past as usize];
+        if guard_of_call(&self.monitor, &self.state, call, place) {
+            return Some(Way::Runs);
+        }
+        if is_first_try(call, place) {
+            return Some(Way::GivesUp);
+        }
+        Some(Way::Waits)
     }
 
     /// An idle client with a call left enters.
     pub(crate) fn begin(&mut self, client: u32) -> Result<(), NotEnabled>
         ensures { Steps (Event.Begin client) self.old self.new result }
     {
-        let Some(past) = idle(&self.positions, client) else {
+        let Some(place) = idle(&self.positions, client) else {
             return Err(NotEnabled);
         };
-        if past as usize >= calls(&self.scripts, client).len() {
+        if place.past as usize >= calls(&self.scripts, client).len() {
             return Err(NotEnabled);
         }
-        self.positions[client as usize] = Position {
-            past,
-            doing: Doing::Entering,
-        };
+        self.positions[client as usize].doing = Doing::Entering;
         Ok(())
     }
 
@@ -338,97 +350,113 @@ impl Config {
         if self.owner.is_some() {
             return Err(NotEnabled);
         }
-        let Some(past) = ready(&self.positions, client) else {
+        let Some(_place) = ready(&self.positions, client) else {
             return Err(NotEnabled);
         };
         self.owner = Some(client);
-        self.positions[client as usize] = Position {
-            past,
-            doing: Doing::Inside,
-        };
+        self.positions[client as usize].doing = Doing::Inside;
         Ok(())
     }
 
-    /// A client inside waits where its guard is false, and makes its step where it is true.
+    /// A client inside makes its step where its guard is true, and is refused or waits where it is false.
     pub(crate) fn go_on(&mut self, client: u32) -> Went
         requires { IsInside self.old client }
         ensures { WentIn client self.old self.new result }
     {
-        let Some(tested) = self.test(client) else {
+        let Some(way) = self.test(client) else {
             unreachable!()
         };
-        if tested.guard {
-            return Went::Ran(self.run_inside(client, tested.past));
+        match way {
+            Way::Runs => Went::Ran(self.run_inside(client)),
+            Way::GivesUp => {
+                self.refuse_inside(client);
+                Went::GaveUp
+            }
+            Way::Waits => Went::Waits(self.wait_inside(client)),
         }
-        Went::Waits(self.wait_inside(client, tested.past))
     }
 
-    /// A client inside whose guard is false waits.
+    /// A client inside whose guard is false waits, or is refused where its call tries.
     fn wait(&mut self, client: u32) -> Result<(), NotEnabled>
         ensures { Steps (Event.Wait client) self.old self.new result }
     {
-        let Some(tested) = self.test(client) else {
+        let Some(way) = self.test(client) else {
             return Err(NotEnabled);
         };
-        if tested.guard {
-            return Err(NotEnabled);
+        match way {
+            Way::Runs => Err(NotEnabled),
+            Way::GivesUp => {
+                self.refuse_inside(client);
+                Ok(())
+            }
+            Way::Waits => {
+                let _condition = self.wait_inside(client);
+                Ok(())
+            }
         }
-        let _condition = self.wait_inside(client, tested.past);
-        Ok(())
     }
 
     /// A client inside whose guard is true makes its step.
     fn run(&mut self, client: u32) -> Result<(), NotEnabled>
         ensures { Steps (Event.Run client) self.old self.new result }
     {
-        let Some(tested) = self.test(client) else {
+        let Some(way) = self.test(client) else {
             return Err(NotEnabled);
         };
-        if !tested.guard {
-            return Err(NotEnabled);
+        match way {
+            Way::Runs => {
+                let _reply = self.run_inside(client);
+                Ok(())
+            }
+            Way::GivesUp => Err(NotEnabled),
+            Way::Waits => Err(NotEnabled),
         }
-        let _reply = self.run_inside(client, tested.past);
-        Ok(())
     }
 
-    /// A client inside whose guard is false gives the lock back and waits; on which condition.
-    fn wait_inside(&mut self, client: u32, past: u32) -> u32
-        requires inside { StandsAt self.old.now.standings client past Inside }
-        requires guard { guard_of self.old.system self.old.now.state client past ≡ false }
-        ensures happened { Happened (Event.Wait client) self.old self.new }
+    /// A client inside that waits gives the lock back; on which condition it waits.
+    fn wait_inside(&mut self, client: u32) -> u32
+        requires { Goes self.old client Way.Waits }
+        ensures waited { HasWaited client self.old self.new }
         ensures condition { WaitsOn self.new client result }
         ensures rule { IsMachine self.new }
     {
-        let call = &calls(&self.scripts, client)[past as usize];
-        let condition = waited_condition(&self.monitor, call);
+        let position = &mut self.positions[client as usize];
+        let call = &calls(&self.scripts, client)[position.place.past as usize];
+        let block = block_number(&self.monitor, call, &position.place);
+        let condition = condition_of(&self.monitor, block);
+        position.doing = Doing::Waiting(condition);
         self.owner = None;
-        self.positions[client as usize] = Position {
-            past,
-            doing: Doing::Waiting(condition),
-        };
         condition
     }
 
     /// A client inside whose guard is true makes its step, with this reply.
-    fn run_inside(&mut self, client: u32, past: u32) -> Reply
-        requires inside { StandsAt self.old.now.standings client past Inside }
-        requires guard { guard_of self.old.system self.old.now.state client past ≡ true }
+    fn run_inside(&mut self, client: u32) -> Reply
+        requires { Goes self.old client Way.Runs }
         ensures { HasRun client self.old self.new result }
     {
-        let call = &calls(&self.scripts, client)[past as usize];
-        let block = first_block(&self.monitor, call);
-        let condition = waited_condition(&self.monitor, call);
-        let reply = run_block(&self.monitor, &mut self.state, block, call.inputs.items());
-        self.commits.push_reserved(Commit {
+        let commit = run_step(
+            &self.monitor,
+            self.scripts.clients(),
             client,
-            call: past + 1,
-            reply,
-        });
-        self.positions[client as usize] = Position {
-            past,
-            doing: doing_after(block, condition, reply),
-        };
-        reply
+            &mut self.state,
+            &mut self.positions[client as usize],
+        );
+        self.commits.push_reserved(commit);
+        commit.reply
+    }
+
+    /// A client inside is refused, and has no note to make.
+    fn refuse_inside(&mut self, client: u32)
+        requires { Goes self.old client Way.GivesUp }
+        ensures { WasRefused client self.old self.new }
+    {
+        let commit = refuse_step(
+            &self.monitor,
+            self.scripts.clients(),
+            client,
+            &mut self.positions[client as usize],
+        );
+        self.commits.push_reserved(commit);
     }
 
     /// A client makes its first note to come, which wakes nobody.
@@ -437,10 +465,7 @@ impl Config {
         requires nobody { Passes self.old client }
         ensures { Happened (Event.Notify client None) self.old self.new }
     {
-        self.positions[client as usize] = Position {
-            past: next.past,
-            doing: next.rest,
-        };
+        self.positions[client as usize].doing = next.rest;
     }
 
     /// A client makes its first note to come, a broadcast that fires: it wakes each client that waits.
@@ -451,10 +476,7 @@ impl Config {
         ensures { Happened (Event.Notify client None) self.old self.new }
     {
         wake_all(&mut self.positions, next.note.condition);
-        self.positions[client as usize] = Position {
-            past: next.past,
-            doing: next.rest,
-        };
+        self.positions[client as usize].doing = next.rest;
     }
 
     /// A client makes its first note to come, a signal that fires: it wakes this client, which waits.
@@ -462,21 +484,12 @@ impl Config {
         requires next { IsComing self.old client next }
         requires fires { fires self.old.system self.old.now.state next.note ≡ true }
         requires one { next.note.all ≡ false }
-        requires waits { (past : ℕ)
-            × StandsAt self.old.now.standings target past (Waiting next.note.condition) }
+        requires waits { (place : Place)
+            × StandsAt self.old.now.standings target place (Waiting next.note.condition) }
         ensures { Happened (Event.Notify client (Some target)) self.old self.new }
     {
-        let Some(past) = waiting_on(&self.positions, target, next.note.condition) else {
-            unreachable!()
-        };
-        self.positions[target as usize] = Position {
-            past,
-            doing: Doing::Woken(next.note.condition),
-        };
-        self.positions[client as usize] = Position {
-            past: next.past,
-            doing: next.rest,
-        };
+        self.positions[target as usize].doing = Doing::Woken(next.note.condition);
+        self.positions[client as usize].doing = next.rest;
     }
 
     /// A note of a client that names no target: it wakes each client that waits, or nobody.
@@ -516,25 +529,22 @@ impl Config {
         if !coming.fires {
             return Err(NotEnabled);
         }
-        let Some(_past) = waiting_on(&self.positions, target, next.note.condition) else {
+        let Some(_place) = waiting_on(&self.positions, target, next.note.condition) else {
             return Err(NotEnabled);
         };
         self.wake_one(client, next, target);
         Ok(())
     }
 
-    /// A client with no note to come gives the lock back, and is past its call.
+    /// A client with no note to come gives the lock back.
     pub(crate) fn unlock(&mut self, client: u32) -> Result<(), NotEnabled>
         ensures { Steps (Event.Unlock client) self.old self.new result }
     {
-        let Some(past) = finished(&self.plan, &self.positions, client) else {
+        let Some(_place) = finished(&self.plan, &self.positions, client) else {
             return Err(NotEnabled);
         };
         self.owner = None;
-        self.positions[client as usize] = Position {
-            past: past + 1,
-            doing: Doing::Idle,
-        };
+        self.positions[client as usize].doing = Doing::Idle;
         Ok(())
     }
 
@@ -542,25 +552,28 @@ impl Config {
     pub(crate) fn spurious(&mut self, client: u32) -> Result<(), NotEnabled>
         ensures { Steps (Event.Spurious client) self.old self.new result }
     {
-        let Some((past, condition)) = waiting(&self.positions, client) else {
+        let Some((_place, condition)) = waiting(&self.positions, client) else {
             return Err(NotEnabled);
         };
-        self.positions[client as usize] = Position {
-            past,
-            doing: Doing::Woken(condition),
-        };
+        self.positions[client as usize].doing = Doing::Woken(condition);
         Ok(())
     }
 }
 
-/// Each client idle at its first call, or an error where memory runs out.
-fn all_idle(alloc: Global, clients: &[Client]) -> Result<Vec<Position>, AllocError>
-    ensures { IfOk result (λ positions. positions.items ≡ map idle_position clients.now) }
+/// Each client idle at its first place, or an error where memory runs out.
+fn all_idle(
+    alloc: Global,
+    monitor: &Monitor,
+    clients: &[Client],
+) -> Result<Vec<Position>, AllocError>
+    requires { FitsScripts monitor.now clients.now }
+    ensures { IfOk result (λ positions. positions.items
+        ≡ map idle_position (first_places monitor.now clients.now 0 clients.now)) }
 {
     let mut positions = Vec::with_capacity(alloc, clients.len())?;
-    for _client in clients {
+    for client in 0..clients.len() {
         positions.push(Position {
-            past: 0,
+            place: place_at_start(monitor, clients, client, 0),
             doing: Doing::Idle,
         })?;
     }

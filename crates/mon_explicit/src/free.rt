@@ -1,8 +1,8 @@
 //! A monitor that runs by sections.
 
 ghost use Rattle.std.specs.Prelude.{◌≡◌, ◌≤◌, ◌<◌, ◌↔◌, ◌+◌, ◌*◌, IsTrue, IfOk, IsSomeAnd};
-ghost use Rattle.std.specs.Prelude.{length, slice_get, sum_by};
-ghost use Rattle.mon_implicit.specs.Scripted.{AreClients, FitsScripts};
+ghost use Rattle.std.specs.Prelude.{length, slice_get};
+ghost use Rattle.mon_implicit.specs.Scripted.{AreClients, FitsScripts, all_blocks};
 ghost use Rattle.mon_events.specs.Plans.{FitsPlan};
 ghost use Rattle.mon_events.specs.Logs.{IsClosed};
 ghost use Rattle.mon_explicit.specs.Machines.{stage_of};
@@ -10,13 +10,13 @@ ghost use Rattle.mon_explicit.specs.Sections.{MOST_SPURIOUS, HoldsAlways, HasEnd
 ghost use Rattle.mon_explicit.specs.Sections.{WakesByNothing, is_ready, opened_free, room_of};
 ghost use Rattle.mon_explicit.specs.inner.Waiting.{stage_condition};
 
-use super::calls::all_calls;
+use super::calls::all_blocks;
 use super::config::Config;
 use super::rings::Rings;
 use super::section::{NotReady, Section, SpuriousFault};
 use super::sectioning::make_section;
 use mon_events::{Entry, Outcome, Plan, Stage};
-use mon_implicit::{Client, Scripts, State};
+use mon_implicit::{Client, Place, Scripts, State};
 use mon_monitor::Monitor;
 use std::alloc::{AllocError, Global};
 use std::marker::Model;
@@ -55,7 +55,7 @@ impl Model for FreeMonitor {
 }
 
 impl FreeMonitor {
-    /// The monitor at the start: an empty log, and every client idle at its first call. The log may have so many
+    /// The monitor at the start: an empty log, and every client idle at its first place. The log may have so many
     /// spurious entries, at most 16,384. It makes room for the longest log and no more, so no later call takes
     /// memory. It fails only for want of memory.
     pub fn open(
@@ -92,7 +92,7 @@ impl FreeMonitor {
     {
         // Conditions are numbered from 1; the ring of 0 stays empty.
         let rings = Rings::open(alloc, monitor.conditions().len() + 1)?;
-        let log = Vec::with_capacity(alloc, room(scripts.clients(), extra))?;
+        let log = Vec::with_capacity(alloc, room(&monitor, scripts.clients(), extra))?;
         let config = Config::open(alloc, monitor, plan, scripts)?;
         Ok(FreeMonitor {
             config,
@@ -103,9 +103,10 @@ impl FreeMonitor {
         })
     }
 
-    /// Makes a section of a client: it begins its next call, or goes on where it was woken, takes the lock, and waits
-    /// where its guard is false, or runs its block, makes its notes and gives the lock back. A signal wakes the client
-    /// that has waited longest in its condition. `NotReady` comes exactly where the client waits, or has no call left,
+    /// Makes a section of a client: it begins its next block, or goes on where it was woken, takes the lock, and runs its
+    /// block, makes its notes and gives the lock back, where its guard is true. Where it is false the client waits, or at
+    /// the first block of a call that tries, is refused and gives the lock back. A signal wakes the client that has waited
+    /// longest in its condition. `NotReady` comes exactly where the client waits, or has no call left,
     /// and then all is as before. It takes no memory.
     pub fn section(&mut self, client: u32) -> Result<Section, NotReady>
         requires { client < length self.old.system.clients }
@@ -156,7 +157,8 @@ impl FreeMonitor {
         if self.spurious >= self.extra {
             return Err(SpuriousFault::Spent);
         }
-        let call = self.config.past(client) + 1;
+        let place = self.config.place(client);
+        let (call, block) = (place.past + 1, place.block + 1);
         if self.config.spurious(client).is_err() {
             unreachable!()
         }
@@ -165,13 +167,13 @@ impl FreeMonitor {
         self.log.push_reserved(Entry {
             client,
             call,
+            block,
             outcome: Outcome::Spurious,
         });
         Ok(())
     }
 
-    /// Whether each client waits, or is idle with no call left. Under a lawful plan no client with a call left has a
-    /// true guard then.
+    /// Whether each client waits, or is idle with no call left. Under a lawful plan no client may step then.
     pub fn closed(&self) -> bool
         ensures closed { IsTrue result ↔ IsClosed self.now.system self.now.now }
         ensures ends { IsTrue result → HasEnded self.now }
@@ -231,6 +233,16 @@ impl FreeMonitor {
         self.config.plan()
     }
 
+    /// Where a client is in its script.
+    pub fn place(&self, client: u32) -> &Place
+        requires { client < length self.now.system.clients }
+        ensures place { IsSomeAnd (slice_get self.now.now.standings client)
+            (λ standing. result.now ≡ standing.place) }
+        ensures always { HoldsAlways self.now }
+    {
+        self.config.place(client)
+    }
+
     /// What its clients call.
     pub fn scripts(&self) -> &Scripts
         ensures scripts { result.now ≡ self.now.system.clients }
@@ -257,13 +269,12 @@ impl FreeMonitor {
 }
 
 /// The most entries of a log.
-fn room(clients: &[Client], extra: u64) -> usize
+fn room(monitor: &Monitor, clients: &[Client], extra: u64) -> usize
     requires clients { AreClients clients.now }
     requires extra { extra ≤ MOST_SPURIOUS }
-    ensures { result ≡ sum_by (λ client. length client.calls) clients.now * length clients.now
-        + 2 * extra }
+    ensures { result ≡ all_blocks monitor.now clients.now * length clients.now + 2 * extra }
 {
-    all_calls(clients) * clients.len() + 2 * extra as usize
+    all_blocks(monitor, clients) * clients.len() + 2 * extra as usize
 }
 
 /// The condition on which a client at this stage waits.

@@ -15,6 +15,7 @@ mod position;
 mod rings;
 mod section;
 mod sectioning;
+mod steps;
 mod waiting;
 
 pub use config::{Config, NotEnabled};

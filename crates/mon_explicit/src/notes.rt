@@ -1,21 +1,22 @@
 //! The notes that a client has to make.
 
-ghost use Rattle.std.specs.Prelude.{◌≡◌, ◌≤◌, ℕ, true, MatchOption, length};
+ghost use Rattle.std.specs.Prelude.{◌≡◌, ◌<◌, ◌≤◌, true, MatchOption, length};
 ghost use Rattle.mon_implicit.specs.Steps.{FitsState};
+ghost use Rattle.mon_implicit.specs.declared.place.Place.{Place};
 ghost use Rattle.mon_events.specs.Plans.{notes_at};
 ghost use Rattle.mon_explicit.specs.inner.Positions.{HasFinished, HasNoNext, HasNotes};
 ghost use Rattle.mon_explicit.specs.inner.Positions.{IsNext, IsNoteOf};
 ghost use Rattle.mon_explicit.specs.inner.Positions.{CanTest, doing_after, fires_in};
 
+use super::calls::condition_of;
 use super::position::{Doing, Position};
 use mon_events::{Note, Plan};
-use mon_implicit::{Reply, State, condition_holds};
+use mon_implicit::{Place, Reply, State, condition_holds};
 use mon_monitor::Monitor;
 
-/// The first note to come of a client that is past so many calls, and what it does after it.
+/// The first note to come of a client, and what it does after it.
 #[derive(Clone, Copy, Debug)]
 pub struct Next {
-    pub past: u32,
     pub note: Note,
     pub rest: Doing,
 }
@@ -31,33 +32,37 @@ fn notes(plan: &Plan, block: u32) -> &[Note]
 }
 
 /// What a client does after the reply of its block.
-pub fn doing_after(block: u32, condition: u32, reply: Reply) -> Doing
-    ensures { result ≡ doing_after block condition reply }
+pub fn doing_after(monitor: &Monitor, block: u32, reply: Reply) -> Doing
+    requires { block < length monitor.now.blocks }
+    ensures { result ≡ doing_after monitor.now block reply }
 {
     match reply {
-        Reply::Overflow => Doing::Signalling { condition },
+        Reply::Overflow => Doing::Signalling {
+            condition: condition_of(monitor, block),
+        },
+        Reply::Refused => Doing::Unlocking,
         Reply::Unit => Doing::Notifying { block, from: 0 },
         Reply::Int(_) => Doing::Notifying { block, from: 0 },
         Reply::Bool(_) => Doing::Notifying { block, from: 0 },
     }
 }
 
-/// How many calls a client is past that has made all its notes.
-pub fn finished(plan: &Plan, positions: &[Position], client: u32) -> Option<u32>
+/// The place of a client that has made all its notes.
+pub fn finished<'a>(plan: &Plan, positions: &'a [Position], client: u32) -> Option<&'a Place>
     ensures { MatchOption result
-        ((past : ℕ) → HasFinished plan.now positions.now client past → ⊥)
-        (λ past. HasFinished plan.now positions.now client past) }
+        ((place : Place) → HasFinished plan.now positions.now client place → ⊥)
+        (λ place. HasFinished plan.now positions.now client place.now) }
 {
     match positions.get(client as usize) {
         Some(one) => match one.doing {
             Doing::Notifying { block, from } => {
                 if from >= notes(plan, block).len() {
-                    Some(one.past)
+                    Some(&one.place)
                 } else {
                     None
                 }
             }
-            Doing::Signalled => Some(one.past),
+            Doing::Unlocking => Some(&one.place),
             _ => None,
         },
         None => None,
@@ -85,15 +90,14 @@ pub fn next_note(plan: &Plan, positions: &[Position], client: u32) -> Option<Nex
 {
     match positions.get(client as usize) {
         Some(one) => match one.doing {
-            Doing::Notifying { block, from } => own_note(plan, block, from, one.past),
+            Doing::Notifying { block, from } => own_note(plan, block, from),
             Doing::Signalling { condition } => Some(Next {
-                past: one.past,
                 note: Note {
                     condition,
                     all: false,
                     tested: false,
                 },
-                rest: Doing::Signalled,
+                rest: Doing::Unlocking,
             }),
             _ => None,
         },
@@ -102,13 +106,12 @@ pub fn next_note(plan: &Plan, positions: &[Position], client: u32) -> Option<Nex
 }
 
 /// The first note of a block from one on.
-fn own_note(plan: &Plan, block: u32, from: usize, past: u32) -> Option<Next>
+fn own_note(plan: &Plan, block: u32, from: usize) -> Option<Next>
     ensures { MatchOption result (length (notes_at plan.now block) ≤ from)
-        (λ next. IsNoteOf plan.now block from past next) }
+        (λ next. IsNoteOf plan.now block from next) }
 {
     match notes(plan, block).get(from) {
         Some(note) => Some(Next {
-            past,
             note: *note,
             rest: Doing::Notifying {
                 block,

@@ -2,11 +2,15 @@
 
 ghost use Rattle.std.specs.Prelude.{◌≡◌, ℕ, MatchOption, map};
 ghost use Rattle.std.specs.List.{list_any};
+ghost use Rattle.mon_implicit.specs.declared.place.Place.{Place};
 ghost use Rattle.mon_explicit.specs.inner.Positions.{PositionAt, WantsLockAt};
-ghost use Rattle.mon_explicit.specs.inner.Positions.{position_waits, waking_position};
+ghost use Rattle.mon_explicit.specs.inner.Positions.{doing_waits, position_waits, waking_doing};
+ghost use Rattle.mon_explicit.specs.inner.Positions.{waking_position};
+
+use mon_implicit::Place;
 
 /// What a client does with its call. The notes to come are those of a block from one on, or a signal after an
-/// overflow: so a position takes no memory.
+/// overflow: so they take no memory.
 #[derive(Clone, Copy, Debug)]
 pub enum Doing {
     Idle,
@@ -16,95 +20,96 @@ pub enum Doing {
     Inside,
     Notifying { block: u32, from: usize },
     Signalling { condition: u32 },
-    /// Its signal is made.
-    Signalled,
+    /// It has no note to make, and gives the lock back.
+    Unlocking,
 }
 
-/// How many calls a client is past, and what it does with the next.
-#[derive(Clone, Copy, Debug)]
+/// Where a client is in its script, and what it does there.
+#[derive(Debug, Drop)]
 pub struct Position {
-    pub past: u32,
+    pub place: Place,
     pub doing: Doing,
 }
 
-/// How many calls an idle client is past.
-pub fn idle(positions: &[Position], client: u32) -> Option<u32>
+/// The place of an idle client.
+pub fn idle(positions: &[Position], client: u32) -> Option<&Place>
     ensures { MatchOption result
-        ((past : ℕ) → PositionAt positions.now client past Doing.Idle → ⊥)
-        (λ past. PositionAt positions.now client past Doing.Idle) }
+        ((place : Place) → PositionAt positions.now client place Doing.Idle → ⊥)
+        (λ place. PositionAt positions.now client place.now Doing.Idle) }
 {
     match positions.get(client as usize) {
         Some(one) => match one.doing {
-            Doing::Idle => Some(one.past),
+            Doing::Idle => Some(&one.place),
             _ => None,
         },
         None => None,
     }
 }
 
-/// How many calls a client is past that enters or was woken.
-pub fn ready(positions: &[Position], client: u32) -> Option<u32>
-    ensures { MatchOption result ((past : ℕ) → WantsLockAt positions.now client past → ⊥)
-        (λ past. WantsLockAt positions.now client past) }
+/// The place of a client that enters or was woken.
+pub fn ready(positions: &[Position], client: u32) -> Option<&Place>
+    ensures { MatchOption result
+        ((place : Place) → WantsLockAt positions.now client place → ⊥)
+        (λ place. WantsLockAt positions.now client place.now) }
 {
     match positions.get(client as usize) {
         Some(one) => match one.doing {
-            Doing::Entering => Some(one.past),
-            Doing::Woken(_) => Some(one.past),
+            Doing::Entering => Some(&one.place),
+            Doing::Woken(_) => Some(&one.place),
             _ => None,
         },
         None => None,
     }
 }
 
-/// How many calls a client inside is past.
-pub fn inside(positions: &[Position], client: u32) -> Option<u32>
+/// The place of a client inside.
+pub fn inside(positions: &[Position], client: u32) -> Option<&Place>
     ensures { MatchOption result
-        ((past : ℕ) → PositionAt positions.now client past Doing.Inside → ⊥)
-        (λ past. PositionAt positions.now client past Doing.Inside) }
+        ((place : Place) → PositionAt positions.now client place Doing.Inside → ⊥)
+        (λ place. PositionAt positions.now client place.now Doing.Inside) }
 {
     match positions.get(client as usize) {
         Some(one) => match one.doing {
-            Doing::Inside => Some(one.past),
+            Doing::Inside => Some(&one.place),
             _ => None,
         },
         None => None,
     }
 }
 
-/// How many calls a client is past that waits, and on which condition.
-pub fn waiting(positions: &[Position], client: u32) -> Option<(u32, u32)>
+/// The place of a client that waits, and its condition.
+pub fn waiting(positions: &[Position], client: u32) -> Option<(&Place, u32)>
     ensures { MatchOption result
-        ((past condition : ℕ)
-        → PositionAt positions.now client past (Doing.Waiting condition) → ⊥)
-        (λ found. PositionAt positions.now client found.0 (Doing.Waiting found.1)) }
+        ((place : Place) (condition : ℕ)
+        → PositionAt positions.now client place (Doing.Waiting condition) → ⊥)
+        (λ found. PositionAt positions.now client found.0.now (Doing.Waiting found.1)) }
 {
     match positions.get(client as usize) {
         Some(one) => match one.doing {
-            Doing::Waiting(condition) => Some((one.past, condition)),
+            Doing::Waiting(condition) => Some((&one.place, condition)),
             _ => None,
         },
         None => None,
     }
 }
 
-/// How many calls a client is past that waits on a condition.
-pub fn waiting_on(positions: &[Position], client: u32, condition: u32) -> Option<u32>
+/// The place of a client that waits on a condition.
+pub fn waiting_on(positions: &[Position], client: u32, condition: u32) -> Option<&Place>
     ensures { MatchOption result
-        ((past : ℕ) → PositionAt positions.now client past (Doing.Waiting condition) → ⊥)
-        (λ past. PositionAt positions.now client past (Doing.Waiting condition)) }
+        ((place : Place) → PositionAt positions.now client place (Doing.Waiting condition) → ⊥)
+        (λ place. PositionAt positions.now client place.now (Doing.Waiting condition)) }
 {
     match waiting(positions, client) {
-        Some((past, on)) => { if on == condition { Some(past) } else { None } }
+        Some((place, on)) => { if on == condition { Some(place) } else { None } }
         None => None,
     }
 }
 
 /// Whether a client waits on a condition.
-pub fn waits_on(one: Position, condition: u32) -> bool
-    ensures { result ≡ position_waits condition one }
+fn waits_on(doing: Doing, condition: u32) -> bool
+    ensures { result ≡ doing_waits condition doing }
 {
-    match one.doing {
+    match doing {
         Doing::Waiting(on) => on == condition,
         _ => false,
     }
@@ -115,24 +120,21 @@ pub fn some_waits(positions: &[Position], condition: u32) -> bool
     ensures { result ≡ list_any (position_waits condition) positions.now }
 {
     for one in positions {
-        if waits_on(*one, condition) {
+        if waits_on(one.doing, condition) {
             return true;
         }
     }
     false
 }
 
-/// A client, woken if it waits on the condition.
-fn woken(one: Position, condition: u32) -> Position
-    ensures { result ≡ waking_position condition one }
+/// What a client does after it is woken, if it waits on the condition.
+fn woken(doing: Doing, condition: u32) -> Doing
+    ensures { result ≡ waking_doing condition doing }
 {
-    if waits_on(one, condition) {
-        Position {
-            past: one.past,
-            doing: Doing::Woken(condition),
-        }
+    if waits_on(doing, condition) {
+        Doing::Woken(condition)
     } else {
-        one
+        doing
     }
 }
 
@@ -141,6 +143,6 @@ pub fn wake_all(positions: &mut [Position], condition: u32)
     ensures { positions.new ≡ map (waking_position condition) positions.old }
 {
     for i in 0..positions.len() {
-        positions[i] = woken(positions[i], condition);
+        positions[i].doing = woken(positions[i].doing, condition);
     }
 }

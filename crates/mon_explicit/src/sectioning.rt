@@ -12,6 +12,7 @@ use super::clients::Clients;
 use super::config::{Config, NotEnabled, Went};
 use super::rings::Rings;
 use mon_events::{Entry, Outcome};
+use mon_implicit::Reply;
 
 /// Makes a section of a client, or changes nothing where it waits, or has no call left. The rings list who waits.
 pub fn make_section(config: &mut Config, rings: &mut Rings, client: u32) -> Option<Entry>
@@ -25,11 +26,13 @@ pub fn make_section(config: &mut Config, rings: &mut Rings, client: u32) -> Opti
     if start_section(config, client).is_err() {
         return None;
     }
-    let call = config.past(client) + 1;
+    let place = config.place(client);
+    let (call, block) = (place.past + 1, place.block + 1);
     let outcome = go_on(config, rings, client);
     Some(Entry {
         client,
         call,
+        block,
         outcome,
     })
 }
@@ -46,7 +49,8 @@ fn start_section(config: &mut Config, client: u32) -> Result<(), NotEnabled>
     }
 }
 
-/// A client inside waits where its guard is false, or runs its block, makes its notes and gives the lock back.
+/// A client inside runs its block, makes its notes and gives the lock back, where its guard is true. Where it is false
+/// it is refused and gives the lock back, if its call tries, and else waits.
 fn go_on(config: &mut Config, rings: &mut Rings, client: u32) -> Outcome
     requires inside { IsInside config.old client }
     requires lines { HaveLines config.old.system config.old.now.standings rings.old }
@@ -63,6 +67,13 @@ fn go_on(config: &mut Config, rings: &mut Rings, client: u32) -> Outcome
             Outcome::Replies {
                 reply,
                 woken: woken.bits,
+            }
+        }
+        Went::GaveUp => {
+            unlock(config, client);
+            Outcome::Replies {
+                reply: Reply::Refused,
+                woken: 0,
             }
         }
     }

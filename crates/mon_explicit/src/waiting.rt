@@ -15,7 +15,7 @@ pub fn all_rest(scripts: &Scripts, positions: &[Position]) -> bool
     ensures { IsTrue result ↔ AllRest scripts.now positions.now (length positions.now) }
 {
     for client in 0..positions.len() {
-        if !rests(scripts, client as u32, positions[client]) {
+        if !rests(scripts, client as u32, &positions[client]) {
             return false;
         }
     }
@@ -23,23 +23,23 @@ pub fn all_rest(scripts: &Scripts, positions: &[Position]) -> bool
 }
 
 /// Whether a client is idle with a call left, or was woken.
-pub fn starts(scripts: &Scripts, client: u32, one: Position) -> bool
-    ensures { result ≡ position_starts scripts.now client one }
+pub fn starts(scripts: &Scripts, client: u32, one: &Position) -> bool
+    ensures { result ≡ position_starts scripts.now client one.now }
 {
     match one.doing {
         Doing::Woken(_) => true,
-        Doing::Idle => (one.past as usize) < calls(scripts, client).len(),
+        Doing::Idle => (one.place.past as usize) < calls(scripts, client).len(),
         _ => false,
     }
 }
 
 /// Whether a client waits, or is idle with no call left.
-fn rests(scripts: &Scripts, client: u32, one: Position) -> bool
-    ensures { result ≡ position_rests scripts.now client one }
+fn rests(scripts: &Scripts, client: u32, one: &Position) -> bool
+    ensures { result ≡ position_rests scripts.now client one.now }
 {
     match one.doing {
         Doing::Waiting(_) => true,
-        Doing::Idle => one.past as usize >= calls(scripts, client).len(),
+        Doing::Idle => one.place.past as usize >= calls(scripts, client).len(),
         _ => false,
     }
 }

@@ -133,17 +133,17 @@ module _ (valuation : Valuation) (scope : List Entry) (at : ℕ) where
     bools = λ fine. let broken = fine.0 in absurd cc;
   }
 
-  entry_agrees : (index : ℕ) (name : List ℕ) (meaning : Meaning) (is_field : Bool) → slice_get scope index ≡ Some (record { name = name; meaning = meaning; is_field = is_field })
-      → Agrees valuation scope (name_sense scope at (Some index) (Some (record { name = name; meaning = meaning; is_field = is_field }))) (entry_value valuation (Some (record { name = name; meaning = meaning; is_field = is_field })))
-  entry_agrees index name (meanings.Number number) is_field h = record {
+  entry_agrees : (index : ℕ) (name : List ℕ) (meaning : Meaning) (is_variable : Bool) → slice_get scope index ≡ Some (record { name = name; meaning = meaning; is_variable = is_variable })
+      → Agrees valuation scope (name_sense scope at (Some index) (Some (record { name = name; meaning = meaning; is_variable = is_variable }))) (entry_value valuation (Some (record { name = name; meaning = meaning; is_variable = is_variable })))
+  entry_agrees index name (meanings.Number number) is_variable h = record {
     ints = record { entries = length_of_number scope number; worth = λ fine. value_of_number valuation scope number };
     bools = λ fine. let other = fine.1 in absurd cc;
   }
-  entry_agrees index name (meanings.Int place) is_field h = record {
+  entry_agrees index name (meanings.Int place) is_variable h = record {
     ints = record { entries = length_of_once scope index; worth = λ fine. value_of_once valuation scope index _ h };
     bools = λ fine. let other = fine.1 in absurd cc;
   }
-  entry_agrees index name (meanings.Flag place) is_field h = record {
+  entry_agrees index name (meanings.Flag place) is_variable h = record {
     ints = record { entries = length_of_number scope (pos 0); worth = λ fine. let other = fine.1 in absurd cc };
     bools = λ fine. truth_flag valuation place;
   }
@@ -151,7 +151,7 @@ module _ (valuation : Valuation) (scope : List Entry) (at : ℕ) where
   name_agrees : (index : Option ℕ) (entry : Option Entry) → entry_at scope index ≡ entry → Agrees valuation scope (name_sense scope at index entry) (entry_value valuation entry)
   name_agrees index None h = unknown_agrees index
   name_agrees None (Some entry) h = absurd cc
-  name_agrees (Some index) (Some entry) h = entry_agrees index entry.name entry.meaning entry.is_field h
+  name_agrees (Some index) (Some entry) h = entry_agrees index entry.name entry.meaning entry.is_variable h
 
 -- ---- parts one after the other
 

@@ -9,6 +9,8 @@ use Rattle.mon_tree.specs.declared.tree.Decl.TheVariants as decls
 use Rattle.mon_base.specs.declared.kind.Kind.{Kind}
 use Rattle.mon_base.specs.declared.kind.Kind.TheVariants as kinds
 use Rattle.mon_tree.specs.declared.tree.InputTree.{InputTree}
+use Rattle.mon_tree.specs.declared.tree.MethodTree.{MethodTree}
+use Rattle.mon_forms.specs.declared.scope.Entry.{Entry}
 use Rattle.mon_base.specs.Limits.{GREATEST_NUMBER}
 use Rattle.mon_forms.specs.Scope.{constant_value, declared_from, input_meaning, inputs_from, scope_of, signed}
 use Rattle.mon_base.specs.Numbers.{is_within}
@@ -29,15 +31,24 @@ input_small : (kind : Kind) (place : ℕ) → has_small_number (input_meaning ki
 input_small kinds.Int place = refl
 input_small kinds.Bool place = refl
 
-inputs_small : (place : ℕ) (taken : List InputTree) → has_small_numbers (inputs_from place taken) ≡ true
-inputs_small place [] = refl
-inputs_small place (input ∷ more) = rw (input_small input.kind place) (inputs_small (place + 1) more)
+inputs_small : (place : ℕ) (taken : List InputTree) (later : List Entry) → has_small_numbers later ≡ true → has_small_numbers (inputs_from place taken ++ later) ≡ true
+inputs_small place [] later small = small
+inputs_small place (input ∷ more) later small = rw (input_small input.kind place) (inputs_small (place + 1) more later small)
 
-declared_small : (place : ℕ) (declared : List Decl) (taken : List InputTree) → has_small_numbers (declared_from place declared ++ inputs_from 16 taken) ≡ true
-declared_small place [] taken = inputs_small 16 taken
-declared_small place (decls.Const at name value ∷ more) taken = rw (constant_small value) (declared_small place more taken)
-declared_small place (decls.Int at name value ∷ more) taken = declared_small (place + 1) more taken
-declared_small place (decls.Flag at name value ∷ more) taken = declared_small (place + 1) more taken
+declared_small : (place : ℕ) (declared : List Decl) (later : List Entry) → has_small_numbers later ≡ true → has_small_numbers (declared_from place declared ++ later) ≡ true
+declared_small place [] later small = small
+declared_small place (decls.Const at name value ∷ more) later small = rw (constant_small value) (declared_small place more later small)
+declared_small place (decls.Int at name value ∷ more) later small = declared_small (place + 1) more later small
+declared_small place (decls.Flag at name value ∷ more) later small = declared_small (place + 1) more later small
 
-pub scopes_are_small : (declared : List Decl) (taken : List InputTree) → has_small_numbers (scope_of declared taken) ≡ true
-scopes_are_small declared taken = declared_small 0 declared taken
+locals_small : (place : ℕ) (locals : List Decl) → has_small_numbers (declared_from place locals) ≡ true
+locals_small place [] = refl
+locals_small place (decls.Const at name value ∷ more) = rw (constant_small value) (locals_small place more)
+locals_small place (decls.Int at name value ∷ more) = locals_small (place + 1) more
+locals_small place (decls.Flag at name value ∷ more) = locals_small (place + 1) more
+
+pub scopes_are_small : (declared : List Decl) (method : MethodTree) → has_small_numbers (scope_of declared method) ≡ true
+scopes_are_small declared method =
+    let locals = declared_from 22 method.locals in
+    let own = inputs_from 16 method.inputs ++ locals in
+    declared_small 0 declared own (inputs_small 16 method.inputs locals (locals_small 22 method.locals))

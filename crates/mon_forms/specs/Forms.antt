@@ -1,13 +1,13 @@
 -- Flattened forms: how many times each name of a scope counts, and a constant.
 use Rattle.std.specs.Prelude.{ℕ, ◌≤◌, ℤ, pos, neg_ℤ, ◌+ℤ◌, ◌*ℤ◌, Bool, ◌&&◌, List, [], ◌∷◌, map}
-use Rattle.std.specs.Prelude.{Option, Some, slice_set, if◌then◌else◌}
-use Rattle.mon_base.specs.Limits.{FIELDS, GREATEST_CONSTANT, MOST_TIMES}
+use Rattle.std.specs.Prelude.{Option, Some, length, slice_set, if◌then◌else◌}
+use Rattle.mon_base.specs.Limits.{FIELDS, GREATEST_CONSTANT, INPUTS, MOST_TIMES}
 use Rattle.mon_base.specs.Numbers.{is_within}
 use Rattle.std.specs.List.{list_all}
 use Rattle.std.specs.List.Sorted.{IsStrictlyIncreasing}
 use Rattle.std.specs.Ordering.{int_eq}
 use Rattle.mon_tree.specs.declared.tree.Decl.{Decl}
-use Rattle.mon_tree.specs.declared.tree.InputTree.{InputTree}
+use Rattle.mon_tree.specs.declared.tree.MethodTree.{MethodTree}
 use Rattle.mon_linear.specs.declared.form.Term.{Term}
 use Rattle.mon_linear.specs.Linear.{Linear}
 use Rattle.mon_forms.specs.declared.scope.Meaning.{Meaning}
@@ -113,6 +113,9 @@ places_of (entry ∷ scope) = meaning_places entry.meaning (places_of scope)
 abbrev pub IsOrdered : List Entry → Type 0
 IsOrdered scope = IsStrictlyIncreasing (places_of scope)
 
--- with no more fields than a monitor has, the scope of a method is ordered
-abbrev pub HasOrderedScope : List Decl → List InputTree → Type 0
-HasOrderedScope declared taken = field_count declared ≤ FIELDS → IsOrdered (scope_of declared taken)
+-- with no more fields than a monitor has, and no more inputs than a method has, the scope of a
+-- method is ordered
+abbrev pub HasOrderedScope : List Decl → MethodTree → Type 0
+HasOrderedScope declared method =
+    field_count declared ≤ FIELDS → length method.inputs ≤ INPUTS
+    → IsOrdered (scope_of declared method)

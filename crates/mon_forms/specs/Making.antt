@@ -3,7 +3,7 @@ use Rattle.std.specs.Prelude.{◌≡◌, Bool, true, false, IsTrue, List, []}
 use Rattle.std.specs.List.{list_all}
 use Rattle.mon_tree.specs.declared.tree.Expr.{Expr}
 use Rattle.mon_tree.specs.declared.tree.Decl.{Decl}
-use Rattle.mon_tree.specs.declared.tree.InputTree.{InputTree}
+use Rattle.mon_tree.specs.declared.tree.MethodTree.{MethodTree}
 use Rattle.mon_base.specs.declared.kind.Kind.TheVariants as kinds
 use Rattle.mon_forms.specs.declared.scope.Meaning.{Meaning}
 use Rattle.mon_forms.specs.declared.scope.Meaning.TheVariants as meanings
@@ -33,5 +33,5 @@ pub record IsBool (scope : List Entry) (expression : Expr) : Type 0 where
   pub bool : is_other kinds.Bool (sense scope expression).kind ≡ false
 
 -- the numbers of constants in the scope of a method are small
-abbrev pub HasSmallScope : List Decl → List InputTree → Type 0
-HasSmallScope declared taken = IsTrue (has_small_numbers (scope_of declared taken))
+abbrev pub HasSmallScope : List Decl → MethodTree → Type 0
+HasSmallScope declared method = IsTrue (has_small_numbers (scope_of declared method))

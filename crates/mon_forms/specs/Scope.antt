@@ -1,14 +1,16 @@
--- What the names of an expression stand for: constants, fields and the inputs of its method.
+-- What the names of an expression stand for: constants, fields, and the inputs and locals of its
+-- method.
 use Rattle.std.specs.Prelude.{ℕ, ◌+◌, ℤ, pos, neg_ℤ, Bool, true, false, nat_le, List, [], ◌∷◌, ◌++◌}
 use Rattle.std.specs.Prelude.{Option, Some, None, position, slice_get, if◌then◌else◌}
 use Rattle.std.specs.Str.{bytes_eq}
-use Rattle.mon_base.specs.Limits.{FIRST_INPUT, GREATEST_NUMBER}
+use Rattle.mon_base.specs.Limits.{FIRST_INPUT, FIRST_LOCAL, GREATEST_NUMBER}
 use Rattle.mon_tree.specs.declared.tree.Lit.{Lit}
 use Rattle.mon_tree.specs.declared.tree.Decl.{Decl}
 use Rattle.mon_tree.specs.declared.tree.Decl.TheVariants as decls
 use Rattle.mon_base.specs.declared.kind.Kind.{Kind}
 use Rattle.mon_base.specs.declared.kind.Kind.TheVariants as kinds
 use Rattle.mon_tree.specs.declared.tree.InputTree.{InputTree}
+use Rattle.mon_tree.specs.declared.tree.MethodTree.{MethodTree}
 use Rattle.mon_forms.specs.declared.scope.Meaning.{Meaning}
 use Rattle.mon_forms.specs.declared.scope.Meaning.TheVariants as meanings
 use Rattle.mon_forms.specs.declared.scope.Entry.{Entry}
@@ -29,21 +31,23 @@ abbrev pub constant_entry : List ℕ → Lit → Entry
 constant_entry name value = record {
   name = name;
   meaning = meanings.Number (constant_value value);
-  is_field = false;
+  is_variable = false;
 }
 
-abbrev pub field_entry : List ℕ → Meaning → Entry
-field_entry name meaning = record { name = name; meaning = meaning; is_field = true }
+-- a field, or a local
+abbrev pub variable_entry : List ℕ → Meaning → Entry
+variable_entry name meaning = record { name = name; meaning = meaning; is_variable = true }
 
--- The names of declarations: fields have the places from the given one on, in file order.
+-- The names of declarations: the variables among them have the places from the given one on, in
+-- file order.
 abbrev pub declared_from : ℕ → List Decl → List Entry
 declared_from place [] = []
 declared_from place (decls.Const at name value ∷ more) =
     constant_entry name value ∷ declared_from place more
 declared_from place (decls.Int at name value ∷ more) =
-    field_entry name (meanings.Int place) ∷ declared_from (place + 1) more
+    variable_entry name (meanings.Int place) ∷ declared_from (place + 1) more
 declared_from place (decls.Flag at name value ∷ more) =
-    field_entry name (meanings.Flag place) ∷ declared_from (place + 1) more
+    variable_entry name (meanings.Flag place) ∷ declared_from (place + 1) more
 
 -- how many of the declarations are fields
 abbrev pub field_count : List Decl → ℕ
@@ -60,7 +64,7 @@ abbrev pub input_entry : ℕ → InputTree → Entry
 input_entry place input = record {
   name = input.name;
   meaning = input_meaning input.kind place;
-  is_field = false;
+  is_variable = false;
 }
 
 abbrev pub inputs_from : ℕ → List InputTree → List Entry
@@ -70,9 +74,14 @@ inputs_from place (input ∷ more) = input_entry place input ∷ inputs_from (pl
 abbrev pub input_entries : List InputTree → List Entry
 input_entries taken = inputs_from FIRST_INPUT taken
 
--- the names that a method sees: field `k` has place `k`, and its input `k` has place `16 + k`
-abbrev pub scope_of : List Decl → List InputTree → List Entry
-scope_of declared taken = declared_from 0 declared ++ input_entries taken
+abbrev pub local_entries : List Decl → List Entry
+local_entries locals = declared_from FIRST_LOCAL locals
+
+-- The names that a method and its blocks see: field `k` has place `k`, input `k` of the method has
+-- place `16 + k`, and its local `k` has place `22 + k`.
+abbrev pub scope_of : List Decl → MethodTree → List Entry
+scope_of declared method =
+    declared_from 0 declared ++ (input_entries method.inputs ++ local_entries method.locals)
 
 -- where the first entry of this name stands
 abbrev pub index_of : List Entry → List ℕ → Option ℕ

@@ -2,7 +2,7 @@
 
 ghost use Rattle.std.specs.Prelude.{◌≡◌, List, [], None};
 ghost use Rattle.mon_tree.specs.declared.tree.Decl.{Decl};
-ghost use Rattle.mon_tree.specs.declared.tree.InputTree.{InputTree};
+ghost use Rattle.mon_tree.specs.declared.tree.MethodTree.{MethodTree};
 ghost use Rattle.mon_base.specs.declared.source_fault.SourceFault.{SourceFault};
 ghost use Rattle.mon_forms.specs.declared.scope.Entry.{Entry};
 ghost use Rattle.mon_forms.specs.Forms.{HasOrderedScope};
@@ -23,12 +23,13 @@ pub fn least_is_least()
     ensures none { (among : List SourceFault) → least among ≡ None → among ≡ [] }
 {}
 
-/// With no more fields than a monitor has, the places of fields and inputs rise strictly in their scope.
+/// With no more fields than a monitor has, and no more inputs than a method has, the places of
+/// fields, inputs and locals rise strictly in their scope.
 pub fn scope_is_ordered()
-    ensures { (declared : List Decl) (taken : List InputTree) → HasOrderedScope declared taken }
+    ensures { (declared : List Decl) (method : MethodTree) → HasOrderedScope declared method }
 {}
 
 /// The numbers of a method's scope are small enough for the forms that are made in it.
 pub fn scope_numbers_are_small()
-    ensures { (declared : List Decl) (taken : List InputTree) → HasSmallScope declared taken }
+    ensures { (declared : List Decl) (method : MethodTree) → HasSmallScope declared method }
 {}

@@ -2,13 +2,13 @@
 
 ghost use Rattle.std.specs.Prelude.{◌≡◌, ◌++◌, ◌≤◌, [], ◌∷◌, IfOk, length};
 ghost use Rattle.std.specs.Str.{bytes_eq};
-ghost use Rattle.mon_base.specs.Limits.{FILE_BYTES};
+ghost use Rattle.mon_base.specs.Limits.{FILE_BYTES, FIRST_LOCAL};
 ghost use Rattle.mon_forms.specs.Forms.{meaning_place};
 ghost use Rattle.mon_forms.specs.Scope.{constant_value, declared_from, index_of, input_entries, input_meaning, scope_of};
 
 use mon_base::{Kind, Name, limits};
 use mon_list::Seq;
-use mon_tree::{Decl, InputTree, Lit};
+use mon_tree::{Decl, InputTree, Lit, MethodTree};
 use std::alloc::{AllocError, Global};
 
 /// What a name stands for: a constant's number, or the place of an int or a bool.
@@ -32,45 +32,51 @@ impl Meaning {
     }
 }
 
-/// A name of a scope. A field may be assigned.
+/// A name of a scope. A variable, a field or a local, may be assigned.
 #[derive(Debug, Drop)]
 pub struct Entry {
     pub name: Name,
     pub meaning: Meaning,
-    pub is_field: bool,
+    pub is_variable: bool,
 }
 
-/// The names that a method sees: those of the declarations, where field `k` has place `k`, and its
-/// inputs, where input `k` has place `FIRST_INPUT + k`. It fails only for want of memory.
+/// The names that a method and its blocks see: of declarations, where field `k` has place `k`, of
+/// its inputs, where input `k` has place `FIRST_INPUT + k`, and of its locals, where local `k` has
+/// place `FIRST_LOCAL + k`. It fails only for want of memory.
 pub fn scope_of(
     alloc: Global,
     decls: &[Decl],
-    inputs: &[InputTree],
+    method: &MethodTree,
 ) -> Result<Seq<Entry>, AllocError>
     requires decls { length decls.now ≤ FILE_BYTES }
-    requires inputs { length inputs.now ≤ FILE_BYTES }
-    ensures { IfOk result (λ scope. scope ≡ scope_of decls.now inputs.now) }
+    requires inputs { length method.now.inputs ≤ FILE_BYTES }
+    requires locals { length method.now.locals ≤ FILE_BYTES }
+    ensures { IfOk result (λ scope. scope ≡ scope_of decls.now method.now) }
 {
-    let mut scope = declared_of(alloc, decls)?;
-    push_inputs(&mut scope, inputs)?;
+    let mut scope = Vec::new(alloc);
+    push_declared(&mut scope, 0, decls)?;
+    push_inputs(&mut scope, method.inputs.items())?;
+    push_declared(&mut scope, limits::FIRST_LOCAL, method.locals.items())?;
     Ok(Seq::of(scope))
 }
 
-fn declared_of(alloc: Global, decls: &[Decl]) -> Result<Vec<Entry>, AllocError>
-    requires { length decls.now ≤ FILE_BYTES }
-    ensures { IfOk result (λ scope. scope.items ≡ declared_from 0 decls.now) }
+/// The variables among the declarations have the places from the first one on.
+fn push_declared(scope: &mut Vec<Entry>, first: u32, decls: &[Decl]) -> Result<(), AllocError>
+    requires few { length decls.now ≤ FILE_BYTES }
+    requires low { first ≤ FIRST_LOCAL }
+    ensures { IfOk result (λ _.
+        scope.new.items ≡ scope.old.items ++ declared_from first decls.now) }
 {
-    let mut scope = Vec::new(alloc);
-    let mut place = 0;
+    let mut place = first;
     for decl in decls {
         let entry = declared_entry(decl, place)?;
-        place += u32::from(entry.is_field);
+        place += u32::from(entry.is_variable);
         scope.push(entry)?;
     }
-    Ok(scope)
+    Ok(())
 }
 
-/// The entry of a declaration, at this place if it is a field.
+/// The entry of a declaration, at this place if it is a variable.
 fn declared_entry(decl: &Decl, place: u32) -> Result<Entry, AllocError>
     ensures { IfOk result (λ entry. declared_from place (decl.now ∷ []) ≡ entry ∷ []) }
 {
@@ -78,17 +84,17 @@ fn declared_entry(decl: &Decl, place: u32) -> Result<Entry, AllocError>
         Decl::Const { name, value, .. } => Ok(Entry {
             name: name.clone()?,
             meaning: Meaning::Number(constant_value(value)),
-            is_field: false,
+            is_variable: false,
         }),
         Decl::Int { name, .. } => Ok(Entry {
             name: name.clone()?,
             meaning: Meaning::Int { place },
-            is_field: true,
+            is_variable: true,
         }),
         Decl::Flag { name, .. } => Ok(Entry {
             name: name.clone()?,
             meaning: Meaning::Flag { place },
-            is_field: true,
+            is_variable: true,
         }),
     }
 }
@@ -101,7 +107,7 @@ fn push_inputs(scope: &mut Vec<Entry>, inputs: &[InputTree]) -> Result<(), Alloc
         scope.push(Entry {
             name: input.name.clone()?,
             meaning: input_meaning(input.kind, limits::FIRST_INPUT + index as u32),
-            is_field: false,
+            is_variable: false,
         })?;
     }
     Ok(())

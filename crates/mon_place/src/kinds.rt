@@ -18,7 +18,8 @@ pub(crate) struct Kinds {
     pub(crate) proofs: Vec<Proof>,
 }
 
-/// Proofs that one waiter is enough after each block that waits at the condition, or none where one isn't found.
+/// Proofs that one waiter is enough after each block that waits at the condition, or none where one
+/// isn't found.
 fn proofs_of_class(
     alloc: Global,
     monitor: &Monitor,
@@ -46,8 +47,8 @@ fn proofs_of_class(
     Ok(Some(proofs))
 }
 
-/// The kind of a condition: signal where it reads no inputs and one waiter is enough after each block that waits at
-/// it, and the proofs of this are added; else broadcast.
+/// The kind of a condition: signal where it reads no inputs and one waiter is enough after each
+/// block that waits at it, and the proofs of this are added; else broadcast.
 fn kind_of(
     alloc: Global,
     monitor: &Monitor,

@@ -12,8 +12,8 @@ use mon_cert::refuted_formula_is_false;
 use mon_prune::open_claims_are_hard;
 use mon_wp::refuted_query_is_valid;
 
-/// A plan that the prover's answers make fits, is lawful and licensed, and exact where no claim of the monitor is hard,
-/// as none of a small one is.
+/// A plan that the prover's answers make fits, is lawful and licensed, and exact where no claim of
+/// the monitor is hard, as none of a small one is.
 pub(crate) fn answered_plans_are_placed()
     ensures fits { (monitor : MonitorParts) (plan : Plan) → IsMonitor monitor
         → IsAnswered monitor plan → FitsPlan monitor plan }

@@ -40,8 +40,8 @@ fn wakes_all(kind: CondKind) -> bool
     }
 }
 
-/// Whether a note of the block on the condition is tested: it is where the condition reads no inputs and no proof is
-/// found that no test is needed. A proof that is found is added.
+/// Whether a note of the block on the condition is tested: it is where the condition reads no
+/// inputs and no proof is found that no test is needed. A proof that is found is added.
 fn is_tested(
     alloc: Global,
     monitor: &Monitor,
@@ -102,7 +102,8 @@ fn note_of(
     })
 }
 
-/// The note of the block on the condition, unless a proof is found that none is needed. That proof is added.
+/// The note of the block on the condition, unless a proof is found that none is needed. That proof
+/// is added.
 fn note_on(
     alloc: Global,
     monitor: &Monitor,

@@ -17,17 +17,18 @@ use mon_monitor::{Claim, Monitor};
 use mon_prune::{Invariant, Kept, invariant};
 use std::alloc::{AllocError, Global};
 
-/// A plan for a monitor, with a proof of each claim that it rests on, in the order of [`Claim`]: exactly one
-/// certificate for each. It fails only for want of memory.
+/// A plan for a monitor, with a proof of each claim that it rests on, in the order of [`Claim`]:
+/// exactly one certificate for each. It fails only for want of memory.
 ///
-/// The kept candidates are those of [`invariant`]. A block has a note on a condition unless a certificate is found
-/// that none is needed. A condition is of kind signal where its guard reads no inputs and after each block that waits
-/// at it one waiter is enough, and else of kind broadcast; each note has its condition's kind. A note on a condition
-/// that reads no inputs is tested unless a certificate is found that no test is needed. So the plan is lawful; where
-/// no claim is hard it is exact, and else it does more than it has to only where a hard query leaves that open.
+/// The kept candidates are those of [`invariant`]. A block has a note on a condition unless a
+/// certificate is found that none is needed. A condition is of kind signal where its guard reads no
+/// inputs and after each block that waits at it one waiter is enough, and else of kind broadcast;
+/// each note has its condition's kind. A note on a condition that reads no inputs is tested unless
+/// a certificate is found that no test is needed. So the plan is lawful; where no claim is hard it
+/// is exact, and else it does more than it has to only where a hard query leaves that open.
 ///
-/// Placing signals by such triples is due to K. Ferles, J. Van Geffen, I. Dillig and Y. Smaragdakis, "Symbolic
-/// Reasoning for Automatic Signal Placement" (PLDI 2018).
+/// Placing signals by such triples is due to K. Ferles, J. Van Geffen, I. Dillig and Y.
+/// Smaragdakis, "Symbolic Reasoning for Automatic Signal Placement" (PLDI 2018).
 pub fn place(alloc: Global, monitor: &Monitor) -> Result<PlacedPlan, AllocError>
     ensures fits { IfOk result (λ placed. FitsPlan monitor.now placed.plan) }
     ensures lawful { IfOk result (λ placed. IsLawful monitor.now placed.plan) }

@@ -87,7 +87,8 @@ fn push_of_parts(numbers: &mut Vec<i128>, field: u32, parts: &[Formula]) -> Resu
     Ok(())
 }
 
-/// 0, the number at the start, and the numbers with which guards compare the field, blocks in order.
+/// 0, the number at the start, and the numbers with which guards compare the field, blocks in
+/// order.
 pub(crate) fn numbers_of(
     alloc: Global,
     blocks: &[Block],

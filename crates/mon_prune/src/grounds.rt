@@ -1,5 +1,5 @@
-//! What certificates rest on. No clause speaks of it: a claim that is wrongly taken to stand is asked again by the
-//! last round.
+//! What certificates rest on. No clause speaks of it: a claim that is wrongly taken to stand is
+//! asked again by the last round.
 
 use mon_cert::{Cert, Combine};
 use mon_monitor::Candidate;
@@ -24,8 +24,8 @@ impl Ground {
     }
 }
 
-/// Notes the candidate of this number, where it is one. The first literals of a negated query are its hypotheses,
-/// one of each candidate that is kept.
+/// Notes the candidate of this number, where it is one. The first literals of a negated query are
+/// its hypotheses, one of each candidate that is kept.
 fn note_number(
     used: &mut Vec<Candidate>,
     kept: &[Candidate],
@@ -81,7 +81,8 @@ fn note_used_by_each(
     Ok(())
 }
 
-/// Whether the claim at the block has a ground all of which is left. The last dropped stand at the end.
+/// Whether the claim at the block has a ground all of which is left. The last dropped stand at the
+/// end.
 pub(crate) fn has_ground(grounds: &mut [Ground], block: u32, dropped: &[Candidate]) -> bool {
     match grounds.get_mut(block as usize) {
         None => false,

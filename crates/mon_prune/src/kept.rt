@@ -4,7 +4,8 @@ use mon_cert::Cert;
 use mon_list::Seq;
 use mon_monitor::Candidate;
 
-/// The proof that a block keeps a candidate: a certificate that refutes the negated query. Blocks are numbered from 0.
+/// The proof that a block keeps a candidate: a certificate that refutes the negated query. Blocks
+/// are numbered from 0.
 #[derive(Debug, Drop)]
 pub struct Kept {
     pub candidate: Candidate,
@@ -12,8 +13,9 @@ pub struct Kept {
     pub cert: Cert,
 }
 
-/// An invariant: candidates that are true at the start and that each block keeps, in the order of the monitor's
-/// candidates, with a proof for each of them and each block, in the order of the candidates and then of the blocks.
+/// An invariant: candidates that are true at the start and that each block keeps, in the order of
+/// the monitor's candidates, with a proof for each of them and each block, in the order of the
+/// candidates and then of the blocks.
 #[derive(Debug, Drop)]
 pub struct Invariant {
     pub kept: Seq<Candidate>,

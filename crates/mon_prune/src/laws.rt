@@ -9,15 +9,16 @@ ghost use Rattle.mon_monitor.specs.Queries.{query_of};
 ghost use Rattle.mon_wp.specs.PlainClaims.{is_plain};
 ghost use Rattle.mon_prune.specs.Hardness.{IsHard, MayStayOpen};
 
-/// Where the query of a claim may stay open, whichever of the candidates are kept, the claim is hard.
+/// Where the query of a claim may stay open, whichever of the candidates are kept, the claim is
+/// hard.
 pub fn open_claims_are_hard()
     ensures { (monitor : MonitorParts) (claim : Claim) (kept : List Candidate)
         → AreSomeOf kept (candidates_of monitor)
         → MayStayOpen monitor (query_of monitor kept claim) → IsHard monitor claim }
 {}
 
-/// A claim is not hard whose query, with all candidates kept, is negated within the limits to a formula of difference
-/// rows alone.
+/// A claim is not hard whose query, with all candidates kept, is negated within the limits to a
+/// formula of difference rows alone.
 pub fn plain_claims_are_not_hard()
     ensures { (monitor : MonitorParts) (claim : Claim)
         → is_plain monitor (query_of monitor (candidates_of monitor) claim) ≡ true

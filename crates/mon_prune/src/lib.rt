@@ -1,11 +1,12 @@
-//! Invariants of monitors, in the manner of Cormac Flanagan and K. Rustan M. Leino, "Houdini, an Annotation Assistant
-//! for ESC/Java" (2001): of all candidates those are dropped that are false at the start, then in rounds those that
-//! some block does not keep under the others, until each block keeps each.
+//! Invariants of monitors, in the manner of Cormac Flanagan and K. Rustan M. Leino, "Houdini, an
+//! Annotation Assistant for ESC/Java" (2001): of all candidates those are dropped that are false at
+//! the start, then in rounds those that some block does not keep under the others, until each block
+//! keeps each.
 //!
-//! [`candidates`] lists the candidates of a monitor, [`certificate_of`] decides a query, and [`invariant`] sifts the
-//! candidates one after the other, and prunes what is left in rounds, with a certificate for each that is kept and each
-//! block (`specs/Invariants`). Which queries may stay open, which claims are hard and which monitors are small:
-//! `specs/Hardness`.
+//! [`candidates`] lists the candidates of a monitor, [`certificate_of`] decides a query, and
+//! [`invariant`] sifts the candidates one after the other, and prunes what is left in rounds, with
+//! a certificate for each that is kept and each block (`specs/Invariants`). Which queries may stay
+//! open, which claims are hard and which monitors are small: `specs/Hardness`.
 #![tactic(auto)]
 
 mod bounds;

@@ -151,11 +151,12 @@ fn push_pairs(candidates: &mut Vec<Candidate>, fields: &[u32]) -> Result<(), All
     Ok(())
 }
 
-/// The candidates of a monitor (`specs/Candidates` of `mon_monitor`): for each int field in order that it is at most,
-/// and at least, each of its numbers, for each bool field that it is true, and that it is false, and then for each
-/// ordered pair of int fields that the one is at most the other. The numbers of a field are 0, the one at its start,
-/// and those around each bound that a guard's row sets on the field alone; the first 12 that differ are taken. It fails
-/// only for want of memory.
+/// The candidates of a monitor (`specs/Candidates` of `mon_monitor`): for each int field in order
+/// that it is at most, and at least, each of its numbers, for each bool field that it is true, and
+/// that it is false, and then for each ordered pair of int fields that the one is at most the
+/// other. The numbers of a field are 0, the one at its start, and those around each bound that a
+/// guard's row sets on the field alone; the first 12 that differ are taken. It fails only for want
+/// of memory.
 pub fn candidates(alloc: Global, monitor: &Monitor) -> Result<Vec<Candidate>, AllocError>
     ensures { IfOk result (λ made. made.items ≡ candidates_of monitor.now) }
 {

@@ -25,7 +25,8 @@ fn note(pool: &mut Vec<i128>, number: i128) -> Result<(), AllocError>
     Ok(())
 }
 
-/// The first numbers that differ of 0, the number at the start, and those with which guards compare the field.
+/// The first numbers that differ of 0, the number at the start, and those with which guards compare
+/// the field.
 pub(crate) fn pool(
     alloc: Global,
     blocks: &[Block],

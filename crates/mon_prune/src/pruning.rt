@@ -34,17 +34,19 @@ fn pruned(alloc: Global, monitor: &Monitor, first: Vec<Candidate>) -> Result<Rou
     }
 }
 
-/// The candidates that are true at the start and that each block keeps under all of them, with a proof for each of them
-/// and each block. It contains every invariant of the monitor's candidates none of whose claims is hard, and so where no
-/// claim of the monitor is hard it is the greatest invariant of its candidates. The makers of queries take what is
-/// kept. It fails only for want of memory.
+/// The candidates that are true at the start and that each block keeps under all of them, with a
+/// proof for each of them and each block. It contains every invariant of the monitor's candidates
+/// none of whose claims is hard, and so where no claim of the monitor is hard it is the greatest
+/// invariant of its candidates. The makers of queries take what is kept. It fails only for want of
+/// memory.
 ///
-/// The candidates that are false at the start are dropped, and then those that some block is not found to keep under all
-/// that are left. Each is dropped at once, and a claim is asked again only where a candidate was dropped that its last
-/// certificate used; what certificates used is all that is held of them. Then rounds ask all that are left, until one
-/// drops none: mostly the first, whose certificates are the proofs. So most claims are asked twice. Of `c` candidates
-/// (at most 624) and `b` blocks (at most 16) a round asks at most `c * b` queries, and all together ask at most
-/// `c * b * (c + 2)`, where each drop takes a hypothesis away from every certificate.
+/// The candidates that are false at the start are dropped, and then those that some block is not
+/// found to keep under all that are left. Each is dropped at once, and a claim is asked again only
+/// where a candidate was dropped that its last certificate used; what certificates used is all that
+/// is held of them. Then rounds ask all that are left, until one drops none: mostly the first,
+/// whose certificates are the proofs. So most claims are asked twice. Of `c` candidates (at most
+/// 624) and `b` blocks (at most 16) a round asks at most `c * b` queries, and all together ask at
+/// most `c * b * (c + 2)`, where each drop takes a hypothesis away from every certificate.
 pub fn invariant(alloc: Global, monitor: &Monitor) -> Result<Invariant, AllocError>
     ensures invariant { IfOk result (λ made. IsInvariant monitor.now made.kept) }
     ensures expressible { IfOk result (λ made. list_all is_expressible made.kept ≡ true) }

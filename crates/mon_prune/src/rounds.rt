@@ -11,7 +11,8 @@ use mon_monitor::{Candidate, Monitor};
 use mon_wp::keeps;
 use std::alloc::{AllocError, Global};
 
-/// What a round keeps: candidates, and the proofs that each block keeps them under those that were there before.
+/// What a round keeps: candidates, and the proofs that each block keeps them under those that were
+/// there before.
 #[derive(Debug, Drop)]
 pub(crate) struct Round {
     pub(crate) kept: Vec<Candidate>,

@@ -1,4 +1,5 @@
-//! Candidates sifted before the rounds: a claim is asked again only where its certificate may have lost a hypothesis.
+//! Candidates sifted before the rounds: a claim is asked again only where its certificate may have
+//! lost a hypothesis.
 
 ghost use Rattle.std.specs.Prelude.{◌≡◌, ◌<◌, ◌≤◌, IfOk, length};
 ghost use Rattle.mon_monitor.specs.Candidates.{candidates_of};
@@ -13,7 +14,8 @@ use mon_monitor::{Candidate, Monitor, Query};
 use mon_wp::keeps;
 use std::alloc::{AllocError, Global};
 
-/// Candidates that are left, what the claims of each rest on, and the candidates that were dropped, in this order.
+/// Candidates that are left, what the claims of each rest on, and the candidates that were dropped,
+/// in this order.
 #[derive(Debug, Drop)]
 struct Sieve {
     kept: Vec<Candidate>,
@@ -36,8 +38,8 @@ fn without_guard(query: Query) -> Query
     }
 }
 
-/// Whether the block is found to keep the candidate under it alone, whatever its guard is. This is a small query of few
-/// cubes, and most are refuted: a block leaves most fields as they are.
+/// Whether the block is found to keep the candidate under it alone, whatever its guard is. This is
+/// a small query of few cubes, and most are refuted: a block leaves most fields as they are.
 fn stands_alone(
     alloc: Global,
     monitor: &Monitor,
@@ -55,8 +57,8 @@ fn stands_alone(
     }
 }
 
-/// Whether the block keeps the candidate under the others, as far as is found. It is asked, unless what an earlier
-/// certificate used is left, or it stands alone.
+/// Whether the block keeps the candidate under the others, as far as is found. It is asked, unless
+/// what an earlier certificate used is left, or it stands alone.
 fn stands_at(
     alloc: Global,
     monitor: &Monitor,
@@ -116,7 +118,8 @@ fn stands(
     Ok(true)
 }
 
-/// Drops candidates that do not stand, each at once, so that those after it are asked under those that are left.
+/// Drops candidates that do not stand, each at once, so that those after it are asked under those
+/// that are left.
 fn sweep(alloc: Global, monitor: &Monitor, sieve: Sieve) -> Result<Sieve, AllocError>
     requires askable { AreAskable (candidates_of monitor.now) }
     requires sieve { IsSieve monitor.now sieve.kept.items sieve.grounds.items }

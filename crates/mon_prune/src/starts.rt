@@ -4,7 +4,7 @@ ghost use Rattle.std.specs.Prelude.{◌≡◌, ◌≤◌, ◌∷◌, ◌++◌, �
 ghost use Rattle.std.specs.Prelude.{if◌then◌else◌};
 ghost use Rattle.std.specs.List.{filter, list_all};
 ghost use Rattle.mon_base.specs.Limits.{FIELDS};
-ghost use Rattle.mon_monitor.specs.Bodies.{fits_64, number_of_value, truth_of_value, value_at};
+ghost use Rattle.mon_monitor.specs.Bodies.{fits_64, no_inputs, number_of_value, truth_of_value, value_at};
 ghost use Rattle.mon_monitor.specs.Candidates.{AllHold, candidate_truth, candidates_of};
 ghost use Rattle.mon_monitor.specs.MonitorParts.{start_of};
 ghost use Rattle.mon_wp.specs.Expressible.{is_expressible};
@@ -40,7 +40,7 @@ pub(crate) fn read_starts(fields: &[Field])
 /// The value of a field at the start. A field that is not there has 0.
 fn start_at(fields: &[Field], field: u32) -> Value
     requires { length fields.now ≤ FIELDS }
-    ensures { result ≡ value_at (starts fields.now) [] field }
+    ensures { result ≡ value_at (starts fields.now) no_inputs field }
 {
     match fields.get(field as usize) {
         None => Value::Int(0),
@@ -50,14 +50,14 @@ fn start_at(fields: &[Field], field: u32) -> Value
 
 fn start_number(fields: &[Field], field: u32) -> i128
     requires { length fields.now ≤ FIELDS }
-    ensures { result ≡ number_of_value (value_at (starts fields.now) [] field) }
+    ensures { result ≡ number_of_value (value_at (starts fields.now) no_inputs field) }
 {
     number_of(start_at(fields, field))
 }
 
 fn start_truth(fields: &[Field], field: u32) -> bool
     requires { length fields.now ≤ FIELDS }
-    ensures { result ≡ truth_of_value (value_at (starts fields.now) [] field) }
+    ensures { result ≡ truth_of_value (value_at (starts fields.now) no_inputs field) }
 {
     match start_at(fields, field) {
         Value::Int(_) => false,
@@ -97,7 +97,8 @@ pub fn are_true_at_start(monitor: &Monitor, candidates: &[Candidate]) -> bool
     all_true_at_start(monitor.fields(), candidates)
 }
 
-/// Each candidate of a monitor has a formula: the numbers of its fields at the start fit 64 bits, as this call reads.
+/// Each candidate of a monitor has a formula: the numbers of its fields at the start fit 64 bits,
+/// as this call reads.
 pub fn candidates_have_formulas(monitor: &Monitor)
     ensures { list_all is_expressible (candidates_of monitor.now) ≡ true }
 {

@@ -27,7 +27,8 @@ use Rattle.mon_recheck.specs.Verdicts.{AreChecked, IsAccepted, IsLawfulAtSight, 
 use Rattle.mon_recheck.specs.inner.Checks.{IsFirstOpen}
 use Rattle.mon_recheck.proofs.Pairs.{all_at, at_place, from_places, zip_at}
 
-checked_backed : (monitor : MonitorParts) (report : Report) → IsReport monitor report → AreChecked monitor report.plan.kept (proofs_of monitor report) → IsBacked monitor report.plan
+checked_backed : (monitor : MonitorParts) (report : Report) → IsReport monitor report
+    → AreChecked monitor report.plan.kept (proofs_of monitor report) → IsBacked monitor report.plan
 checked_backed monitor report is checked =
     from_places (HasCertificate monitor report.plan.kept) (backed_claims monitor report.plan) (λ k claim there.
     let low = slice_get_within (backed_claims monitor report.plan) k claim there in
@@ -37,7 +38,8 @@ checked_backed monitor report is checked =
     (proofs_of monitor report) k (claim, cert.0) here checked in
     (cert.0, both.0))
 
-kept_held : Laws → (monitor : MonitorParts) (plan : Plan) → IsMonitor monitor → IsBacked monitor plan → (block : ℕ) → block < length monitor.blocks
+kept_held : Laws → (monitor : MonitorParts) (plan : Plan) → IsMonitor monitor
+    → IsBacked monitor plan → (block : ℕ) → block < length monitor.blocks
     → All (λ candidate. Keeps monitor plan.kept candidate block) plan.kept
 kept_held laws monitor plan rule backed block within =
     let P = HasCertificate monitor plan.kept in
@@ -51,7 +53,8 @@ kept_held laws monitor plan rule backed block within =
     held laws monitor plan.kept (claims.Keeps candidate block) rule within
     (in_range (λ (one : ℕ). P (claims.Keeps candidate one)) 0 (length monitor.blocks) block (omega arith) (omega arith) (all_mapped P (claims.Keeps candidate) (block_numbers monitor) own)))
 
-pub accepted : Laws → (monitor : MonitorParts) (report : Report) → IsMonitor monitor → IsReport monitor report → IsLawfulAtSight monitor report.plan
+pub accepted : Laws → (monitor : MonitorParts) (report : Report) → IsMonitor monitor
+    → IsReport monitor report → IsLawfulAtSight monitor report.plan
     → AreChecked monitor report.plan.kept (proofs_of monitor report) → IsAccepted monitor report
 accepted laws monitor report rule is sight checked =
     let plan = report.plan in
@@ -77,20 +80,28 @@ accepted laws monitor report rule is sight checked =
 
 -- ---- what was found of claims and certificates is found of the report
 
-moved : (monitor : MonitorParts) (report : Report) (kept : List Candidate) (wanted : List Claim) (certs : List Cert) (found : Option ℕ) → kept ≡ report.plan.kept
-    → wanted ≡ backed_claims monitor report.plan → certs ≡ report.proofs → IsFirstOpen monitor kept (zip wanted certs) found → IsFirstOpen monitor report.plan.kept (proofs_of monitor report) found
+moved : (monitor : MonitorParts) (report : Report) (kept : List Candidate) (wanted : List Claim)
+    (certs : List Cert) (found : Option ℕ) → kept ≡ report.plan.kept
+    → wanted ≡ backed_claims monitor report.plan → certs ≡ report.proofs
+    → IsFirstOpen monitor kept (zip wanted certs) found
+    → IsFirstOpen monitor report.plan.kept (proofs_of monitor report) found
 moved monitor report kept wanted certs found is are same first =
     subst (λ (one : List Candidate). IsFirstOpen monitor one (proofs_of monitor report) found) is
     (subst (λ (all : List Claim). IsFirstOpen monitor kept (zip all report.proofs) found) are
     (subst (λ (all : List Cert). IsFirstOpen monitor kept (zip wanted all) found) same first))
 
-pub unproved_at : (monitor : MonitorParts) (report : Report) (kept : List Candidate) (wanted : List Claim) (certs : List Cert) (place line : ℕ) → kept ≡ report.plan.kept
-    → wanted ≡ backed_claims monitor report.plan → certs ≡ report.proofs → IsLawfulAtSight monitor report.plan → line ≡ plan_lines monitor report.plan + (place + 1)
+pub unproved_at : (monitor : MonitorParts) (report : Report) (kept : List Candidate)
+    (wanted : List Claim) (certs : List Cert) (place line : ℕ) → kept ≡ report.plan.kept
+    → wanted ≡ backed_claims monitor report.plan → certs ≡ report.proofs
+    → IsLawfulAtSight monitor report.plan → line ≡ plan_lines monitor report.plan + (place + 1)
     → IsFirstOpen monitor kept (zip wanted certs) (Some place) → IsUnproved monitor report line
 unproved_at monitor report kept wanted certs place line is are same sight at first =
     let own = moved monitor report kept wanted certs (Some place) is are same first in
     record { sight = sight; place = place; line_is = at; before = own.0; here = own.1 }
 
-pub checked_of : (monitor : MonitorParts) (report : Report) (kept : List Candidate) (wanted : List Claim) (certs : List Cert) → kept ≡ report.plan.kept
-    → wanted ≡ backed_claims monitor report.plan → certs ≡ report.proofs → IsFirstOpen monitor kept (zip wanted certs) None → AreChecked monitor report.plan.kept (proofs_of monitor report)
+pub checked_of : (monitor : MonitorParts) (report : Report) (kept : List Candidate)
+    (wanted : List Claim) (certs : List Cert) → kept ≡ report.plan.kept
+    → wanted ≡ backed_claims monitor report.plan → certs ≡ report.proofs
+    → IsFirstOpen monitor kept (zip wanted certs) None
+    → AreChecked monitor report.plan.kept (proofs_of monitor report)
 checked_of monitor report kept wanted certs is are same none = moved monitor report kept wanted certs None is are same none

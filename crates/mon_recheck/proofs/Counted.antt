@@ -13,17 +13,20 @@ use Rattle.mon_monitor.specs.Candidates.{AreSomeOf, bounded, candidates_of, dist
 use Rattle.mon_monitor.specs.MonitorParts.{MonitorParts, IsMonitor}
 use Rattle.mon_prune.proofs.SomeOf.{some_length}
 
-doubled : (field : ℕ) (bounds : List ℤ) → length (flat_map (bounded field) bounds) ≡ 2 * length bounds
+doubled : (field : ℕ) (bounds : List ℤ)
+    → length (flat_map (bounded field) bounds) ≡ 2 * length bounds
 doubled field [] = refl
 doubled field (bound ∷ bounds) = omega (arith, doubled field bounds)
 
-of_kind : (blocks : List Block) (field : ℕ) (start : ℤ) (kind : Kind) → length (kind_candidates blocks field start kind) ≤ 24
+of_kind : (blocks : List Block) (field : ℕ) (start : ℤ) (kind : Kind)
+    → length (kind_candidates blocks field start kind) ≤ 24
 of_kind blocks field start kinds.Int =
     let all : List ℤ = distinct (pos 0 ∷ start ∷ flat_map (guard_bounds field) blocks) in
     omega (arith, doubled field (pool blocks field start), length-take 12 all)
 of_kind blocks field start kinds.Bool = omega arith
 
-of_fields : (blocks : List Block) (number : ℕ) (fields : List Field) → length (field_candidates blocks number fields) ≤ 24 * length fields
+of_fields : (blocks : List Block) (number : ℕ) (fields : List Field)
+    → length (field_candidates blocks number fields) ≤ 24 * length fields
 of_fields blocks number [] = omega arith
 of_fields blocks number (field ∷ fields) =
     let here = kind_candidates blocks number (number_of_value field.start) field.kind in
@@ -42,18 +45,22 @@ fewer : (test : ℕ → Bool) (xs : List ℕ) → length (filter test xs) ≤ le
 fewer test [] = omega arith
 fewer test (x ∷ xs) = by_test (test x) (fewer test xs)
   where
-    by_test : (passes : Bool) → length (filter test xs) ≤ length xs → length (cond passes (x ∷ filter test xs) (filter test xs)) ≤ length (x ∷ xs)
+    by_test : (passes : Bool) → length (filter test xs) ≤ length xs
+        → length (cond passes (x ∷ filter test xs) (filter test xs)) ≤ length (x ∷ xs)
     by_test true rest = omega (arith, rest)
     by_test false rest = omega (arith, rest)
 
-of_pairs : (all lefts : List ℕ) → length all ≤ 16 → length (flat_map (λ left. map (candidates.Below left) (filter (λ right. not (right == left)) all)) lefts) ≤ 16 * length lefts
+of_pairs : (all lefts : List ℕ) → length all ≤ 16
+    → length
+    (flat_map (λ left. map (candidates.Below left) (filter (λ right. not (right == left)) all)) lefts) ≤ 16 * length lefts
 of_pairs all [] few = omega arith
 of_pairs all (left ∷ lefts) few =
     let rights : List ℕ = filter (λ right. not (right == left)) all in
     let more : List Candidate = flat_map (λ left. map (candidates.Below left) (filter (λ right. not (right == left)) all)) lefts in
     omega (arith, length-append (map (candidates.Below left) rights) more, length-map rights (candidates.Below left), fewer (λ right. not (right == left)) all, few, of_pairs all lefts few)
 
-pub kept_are_few : (monitor : MonitorParts) (kept : List Candidate) → IsMonitor monitor → AreSomeOf kept (candidates_of monitor) → length kept ≤ 640
+pub kept_are_few : (monitor : MonitorParts) (kept : List Candidate) → IsMonitor monitor
+    → AreSomeOf kept (candidates_of monitor) → length kept ≤ 640
 kept_are_few monitor kept rule some =
     let numbers : List ℕ = int_fields 0 monitor.fields in
     let fields = field_candidates monitor.blocks 0 monitor.fields in

@@ -11,14 +11,19 @@ use Rattle.mon_recheck.specs.inner.Reading.{AreFor, IsAfter, IsFront, IsNoFront,
 
 -- ---- one piece
 
-pub stripped : (bytes piece : List ℕ) (found : Option (Bor (List ℕ))) → MatchOption found ((rest : List ℕ) → bytes ≢ piece ++ rest) (λ rest. bytes ≡ piece ++ rest.now) → IsAfter bytes piece found
+pub stripped : (bytes piece : List ℕ) (found : Option (Bor (List ℕ)))
+    → MatchOption found ((rest : List ℕ) → bytes ≢ piece ++ rest)
+    (λ rest. bytes ≡ piece ++ rest.now) → IsAfter bytes piece found
 stripped bytes piece None none = λ rest same. none rest (sym same)
 stripped bytes piece (Some rest) is = sym is
 
 -- ---- pieces, one after the other
 
-pub pieces_stop : {X : Type 0} (text : X → List ℕ) (pieces : List X) (i : ℕ) (d : X) (bytes rest : List ℕ) → i < length pieces
-    → flat_map text (take i pieces) ++ rest ≡ bytes → ((more : List ℕ) → text (get_or pieces i d) ++ more ≡ rest → ⊥) → (more : List ℕ) → flat_map text pieces ++ more ≡ bytes → ⊥
+pub pieces_stop : {X : Type 0} (text : X → List ℕ) (pieces : List X) (i : ℕ) (d : X)
+    (bytes rest : List ℕ) → i < length pieces
+    → flat_map text (take i pieces) ++ rest ≡ bytes
+    → ((more : List ℕ) → text (get_or pieces i d) ++ more ≡ rest → ⊥) → (more : List ℕ)
+    → flat_map text pieces ++ more ≡ bytes → ⊥
 pieces_stop {X} text pieces i d bytes rest low before none more same =
     let piece : X = get_or pieces i d in
     let front : List ℕ = flat_map text (take i pieces) in
@@ -38,10 +43,14 @@ pub record AreGoing {I Y : Type 0} (line : I → Y → List ℕ) (Is : Y → Typ
   pub count : length done ≡ i
   pub each : All Is done
   pub front : lines_of line (take i items) done ++ rest ≡ bytes
-  pub only : (others : List Y) (more : List ℕ) → AreFor items Is others → lines_of line items others ++ more ≡ bytes
-      → (left : List Y) × (length left ≡ length (drop i items)) × All Is left × (others ≡ done ++ left) × (lines_of line (drop i items) left ++ more ≡ rest)
+  pub only : (others : List Y) (more : List ℕ) → AreFor items Is others
+      → lines_of line items others ++ more ≡ bytes
+      →
+      (left : List Y) × (length left ≡ length (drop i items)) × All Is left
+      × (others ≡ done ++ left) × (lines_of line (drop i items) left ++ more ≡ rest)
 
-pub going_start : {I Y : Type 0} (line : I → Y → List ℕ) (Is : Y → Type 0) (items : List I) (bytes : List ℕ) → AreGoing line Is items bytes 0 [] bytes
+pub going_start : {I Y : Type 0} (line : I → Y → List ℕ) (Is : Y → Type 0) (items : List I)
+    (bytes : List ℕ) → AreGoing line Is items bytes 0 [] bytes
 going_start line Is items bytes = record {
   within = omega arith;
   count = refl;
@@ -50,8 +59,10 @@ going_start line Is items bytes = record {
   only = λ others more are same. (others, are.count, are.each, refl, same);
 }
 
-lines_push : {I Y : Type 0} (line : I → Y → List ℕ) (items : List I) (values : List Y) (item : I) (value : Y) → length values ≡ length items
-    → lines_of line (items ++ item ∷ []) (values ++ value ∷ []) ≡ lines_of line items values ++ line item value
+lines_push : {I Y : Type 0} (line : I → Y → List ℕ) (items : List I) (values : List Y) (item : I)
+    (value : Y) → length values ≡ length items
+    → lines_of line (items ++ item ∷ []) (values ++ value ∷ [])
+    ≡ lines_of line items values ++ line item value
 lines_push line [] [] item value same = append-nil (line item value)
 lines_push line [] (other ∷ values) item value same = absurd (omega (arith, same))
 lines_push line (one ∷ items) [] item value same = absurd (omega (arith, same))
@@ -59,13 +70,17 @@ lines_push line (one ∷ items) (other ∷ values) item value same =
     ap (λ text. line one other ++ text) (lines_push line items values item value (omega (arith, same))) ∙ sym (append_assoc (line one other) (lines_of line items values) (line item value))
 
 -- the values of the items from here on, of which there is one
-abbrev Left : {I Y : Type 0} → (I → Y → List ℕ) → (Y → Type 0) → List I → List Y → List Y → List ℕ → List ℕ → Type 0
+abbrev Left : {I Y : Type 0} → (I → Y → List ℕ) → (Y → Type 0) → List I → List Y → List Y → List ℕ
+    → List ℕ → Type 0
 Left {I} {Y} line Is items others done more rest =
     (left : List Y) × (length left ≡ length items) × All Is left × (others ≡ done ++ left) × (lines_of line items left ++ more ≡ rest)
 
-step_left : {I Y : Type 0} (line : I → Y → List ℕ) (Is : Y → Type 0) (item : I) (items : List I) (others done : List Y) (value : Y) (more rest next : List ℕ)
-    → ((other : Y) (after : List ℕ) → Is other → line item other ++ after ≡ rest → (other ≡ value) × (after ≡ next))
-    → Left line Is (item ∷ items) others done more rest → Left line Is items others (done ++ value ∷ []) more next
+step_left : {I Y : Type 0} (line : I → Y → List ℕ) (Is : Y → Type 0) (item : I) (items : List I)
+    (others done : List Y) (value : Y) (more rest next : List ℕ)
+    →
+    ((other : Y) (after : List ℕ) → Is other → line item other ++ after ≡ rest → (other ≡ value) × (after ≡ next))
+    → Left line Is (item ∷ items) others done more rest
+    → Left line Is items others (done ++ value ∷ []) more next
 step_left line Is item items others done value more rest next only ([], count, each, are, same) = absurd (omega (arith, count))
 step_left {I} {Y} line Is item items others done value more rest next only (first ∷ left, count, each, are, same) =
     let found = only first (lines_of line items left ++ more) (All-head Is first left each) (sym (append_assoc (line item first) (lines_of line items left) more) ∙ same) in (
@@ -76,16 +91,21 @@ step_left {I} {Y} line Is item items others done value more rest next only (firs
       found.1,
     )
 
-none_left : {I Y : Type 0} (line : I → Y → List ℕ) (Is : Y → Type 0) (item : I) (items : List I) (others done : List Y) (more rest : List ℕ)
+none_left : {I Y : Type 0} (line : I → Y → List ℕ) (Is : Y → Type 0) (item : I) (items : List I)
+    (others done : List Y) (more rest : List ℕ)
     → ((other : Y) (after : List ℕ) → Is other → line item other ++ after ≡ rest → ⊥)
     → Left line Is (item ∷ items) others done more rest → ⊥
 none_left line Is item items others done more rest none ([], count, each, are, same) = absurd (omega (arith, count))
 none_left line Is item items others done more rest none (first ∷ left, count, each, are, same) =
     none first (lines_of line items left ++ more) (All-head Is first left each) (sym (append_assoc (line item first) (lines_of line items left) more) ∙ same)
 
-pub going_more : {I Y : Type 0} (line : I → Y → List ℕ) (Is : Y → Type 0) (items : List I) (bytes : List ℕ) (i : ℕ) (done : List Y) (rest : List ℕ) (item d : I) (value : Y) (next : List ℕ) → i < length items
-    → item ≡ get_or items i d → AreGoing line Is items bytes i done rest → Is value → line item value ++ next ≡ rest
-    → ((other : Y) (after : List ℕ) → Is other → line item other ++ after ≡ rest → (other ≡ value) × (after ≡ next))
+pub going_more : {I Y : Type 0} (line : I → Y → List ℕ) (Is : Y → Type 0) (items : List I)
+    (bytes : List ℕ) (i : ℕ) (done : List Y) (rest : List ℕ) (item d : I) (value : Y)
+    (next : List ℕ) → i < length items
+    → item ≡ get_or items i d → AreGoing line Is items bytes i done rest → Is value
+    → line item value ++ next ≡ rest
+    →
+    ((other : Y) (after : List ℕ) → Is other → line item other ++ after ≡ rest → (other ≡ value) × (after ≡ next))
     → AreGoing line Is items bytes (i + 1) (done ++ value ∷ []) next
 going_more {I} {Y} line Is items bytes i done rest item d value next low is going holds begins only = record {
   within = omega (arith, low);
@@ -106,20 +126,26 @@ going_more {I} {Y} line Is items bytes i done rest item d value next low is goin
     length_taken : length (take i items) ≡ i
     length_taken = length-take-le i items (omega (arith, low))
 
-pub going_none : {I Y : Type 0} (line : I → Y → List ℕ) (Is : Y → Type 0) (items : List I) (bytes : List ℕ) (i : ℕ) (done : List Y) (rest : List ℕ) (item d : I) → i < length items
-    → item ≡ get_or items i d → AreGoing line Is items bytes i done rest → ((other : Y) (after : List ℕ) → Is other → line item other ++ after ≡ rest → ⊥)
-    → (others : List Y) (more : List ℕ) → AreFor items Is others → lines_of line items others ++ more ≡ bytes → ⊥
+pub going_none : {I Y : Type 0} (line : I → Y → List ℕ) (Is : Y → Type 0) (items : List I)
+    (bytes : List ℕ) (i : ℕ) (done : List Y) (rest : List ℕ) (item d : I) → i < length items
+    → item ≡ get_or items i d → AreGoing line Is items bytes i done rest
+    → ((other : Y) (after : List ℕ) → Is other → line item other ++ after ≡ rest → ⊥)
+    → (others : List Y) (more : List ℕ) → AreFor items Is others
+    → lines_of line items others ++ more ≡ bytes → ⊥
 going_none {I} {Y} line Is items bytes i done rest item d low is going none others more are same =
     none_left line Is item (drop (i + 1) items) others done more rest none
     (subst (λ (all : List I). Left line Is all others done more rest) (drop_more items i d low ∙ ap (λ (one : I). one ∷ drop (i + 1) items) (sym is)) (going.only others more are same))
 
-end_left : {I Y : Type 0} (line : I → Y → List ℕ) (Is : Y → Type 0) (others done : List Y) (more rest : List ℕ) → Left line Is [] others done more rest → (others ≡ done) × (more ≡ rest)
+end_left : {I Y : Type 0} (line : I → Y → List ℕ) (Is : Y → Type 0) (others done : List Y)
+    (more rest : List ℕ) → Left line Is [] others done more rest → (others ≡ done) × (more ≡ rest)
 end_left line Is others done more rest ([], count, each, are, same) = (are ∙ append-nil done, same)
 end_left line Is others done more rest (first ∷ left, count, each, are, same) = absurd (omega (arith, count))
 
 -- all items were read
-pub going_end : {I Y : Type 0} (line : I → Y → List ℕ) (Is : Y → Type 0) (Ends : List ℕ → Type 0) (items : List I) (bytes : List ℕ) (i : ℕ) (done : List Y) (rest : List ℕ) → length items ≤ i
-    → AreGoing line Is items bytes i done rest → IsFront (List Y) (AreFor items Is) Ends (lines_of line items) bytes done rest
+pub going_end : {I Y : Type 0} (line : I → Y → List ℕ) (Is : Y → Type 0) (Ends : List ℕ → Type 0)
+    (items : List I) (bytes : List ℕ) (i : ℕ) (done : List Y) (rest : List ℕ) → length items ≤ i
+    → AreGoing line Is items bytes i done rest
+    → IsFront (List Y) (AreFor items Is) Ends (lines_of line items) bytes done rest
 going_end {I} {Y} line Is Ends items bytes i done rest end going = record {
   holds = record { count = omega (arith, going.count, going.within, end); each = going.each };
   begins = ap (λ (all : List I). lines_of line all done ++ rest) (sym (take_all i items (omega (arith, end)))) ∙ going.front;
@@ -130,8 +156,11 @@ going_end {I} {Y} line Is Ends items bytes i done rest end going = record {
 
 -- ---- after a front that they have in common
 
-front_after : {X : Type 0} (Is : X → Type 0) (Ends : List ℕ → Type 0) (head : List ℕ) (text also : X → List ℕ) (bytes left : List ℕ) (found : X) (rest : List ℕ) → ((x : X) → also x ≡ head ++ text x)
-    → head ++ left ≡ bytes → IsFront X Is Ends text left found rest → IsFront X Is Ends also bytes found rest
+front_after : {X : Type 0} (Is : X → Type 0) (Ends : List ℕ → Type 0) (head : List ℕ)
+    (text also : X → List ℕ) (bytes left : List ℕ) (found : X) (rest : List ℕ)
+    → ((x : X) → also x ≡ head ++ text x)
+    → head ++ left ≡ bytes → IsFront X Is Ends text left found rest
+    → IsFront X Is Ends also bytes found rest
 front_after Is Ends head text also bytes left found rest same here front = record {
   holds = front.holds;
   begins = ap (λ one. one ++ rest) (same found) ∙ append_assoc head (text found) rest ∙ ap (λ one. head ++ one) front.begins ∙ here;
@@ -140,32 +169,41 @@ front_after Is Ends head text also bytes left found rest same here front = recor
       (append_cancel_left head (text other ++ more) left (sym (append_assoc head (text other) more) ∙ ap (λ one. one ++ more) (sym (same other)) ∙ begins ∙ sym here));
 }
 
-none_after : {X : Type 0} (Is : X → Type 0) (Ends : List ℕ → Type 0) (head : List ℕ) (text also : X → List ℕ) (bytes left : List ℕ) → ((x : X) → also x ≡ head ++ text x)
+none_after : {X : Type 0} (Is : X → Type 0) (Ends : List ℕ → Type 0) (head : List ℕ)
+    (text also : X → List ℕ) (bytes left : List ℕ) → ((x : X) → also x ≡ head ++ text x)
     → head ++ left ≡ bytes → IsNoFront X Is Ends text left → IsNoFront X Is Ends also bytes
 none_after Is Ends head text also bytes left same here none other more is ends begins =
     none other more is ends
     (append_cancel_left head (text other ++ more) left (sym (append_assoc head (text other) more) ∙ ap (λ one. one ++ more) (sym (same other)) ∙ begins ∙ sym here))
 
 -- the front that they have in common isn't there
-pub none_there : {X : Type 0} (Is : X → Type 0) (Ends : List ℕ → Type 0) (head : List ℕ) (text also : X → List ℕ) (bytes : List ℕ) → ((x : X) → also x ≡ head ++ text x)
+pub none_there : {X : Type 0} (Is : X → Type 0) (Ends : List ℕ → Type 0) (head : List ℕ)
+    (text also : X → List ℕ) (bytes : List ℕ) → ((x : X) → also x ≡ head ++ text x)
     → ((rest : List ℕ) → head ++ rest ≡ bytes → ⊥) → IsNoFront X Is Ends also bytes
 none_there Is Ends head text also bytes same none other more is ends begins =
     none (text other ++ more) (sym (append_assoc head (text other) more) ∙ ap (λ one. one ++ more) (sym (same other)) ∙ begins)
 
-pub either_after : {X : Type 0} (Is : X → Type 0) (Ends : List ℕ → Type 0) (head : List ℕ) (text also : X → List ℕ) (bytes left : List ℕ) (answer : Result (Option (X × Bor (List ℕ))) AllocError)
+pub either_after : {X : Type 0} (Is : X → Type 0) (Ends : List ℕ → Type 0) (head : List ℕ)
+    (text also : X → List ℕ) (bytes left : List ℕ)
+    (answer : Result (Option (X × Bor (List ℕ))) AllocError)
     → ((x : X) → also x ≡ head ++ text x) → head ++ left ≡ bytes
-    → IfOk answer (λ found. MatchOption found (IsNoFront X Is Ends text left) (λ read. IsFront X Is Ends text left read.0 read.1.now))
-    → IfOk answer (λ found. MatchOption found (IsNoFront X Is Ends also bytes) (λ read. IsFront X Is Ends also bytes read.0 read.1.now))
+    → IfOk answer
+    (λ found. MatchOption found (IsNoFront X Is Ends text left) (λ read. IsFront X Is Ends text left read.0 read.1.now))
+    → IfOk answer
+    (λ found. MatchOption found (IsNoFront X Is Ends also bytes) (λ read. IsFront X Is Ends also bytes read.0 read.1.now))
 either_after Is Ends head text also bytes left (Ok None) same here told = none_after Is Ends head text also bytes left same here told
 either_after Is Ends head text also bytes left (Ok (Some read)) same here told = front_after Is Ends head text also bytes left read.0 read.1.now same here told
 either_after Is Ends head text also bytes left (Err fault) same here told = tt
 
 -- what a reader of one thing answers
-abbrev pub Found : {X : Type 0} → (X → Type 0) → (List ℕ → Type 0) → (X → List ℕ) → List ℕ → Option (X × Bor (List ℕ)) → Type 0
+abbrev pub Found : {X : Type 0} → (X → Type 0) → (List ℕ → Type 0) → (X → List ℕ) → List ℕ
+    → Option (X × Bor (List ℕ)) → Type 0
 Found {X} Is Ends text bytes found = MatchOption found (IsNoFront X Is Ends text bytes) (λ read. IsFront X Is Ends text bytes read.0 read.1.now)
 
-pub at_some : {A : Type 0} (P : Type 0) (Q : A → Type 0) {found : Option A} {a : A} → found ≡ Some a → MatchOption found P Q → Q a
+pub at_some : {A : Type 0} (P : Type 0) (Q : A → Type 0) {found : Option A} {a : A} → found ≡ Some a
+    → MatchOption found P Q → Q a
 at_some {A} P Q is told = subst (λ (one : Option A). MatchOption one P Q) is told
 
-pub at_none : {A : Type 0} (P : Type 0) (Q : A → Type 0) {found : Option A} → found ≡ None → MatchOption found P Q → P
+pub at_none : {A : Type 0} (P : Type 0) (Q : A → Type 0) {found : Option A} → found ≡ None
+    → MatchOption found P Q → P
 at_none {A} P Q is told = subst (λ (one : Option A). MatchOption one P Q) is told

@@ -19,11 +19,13 @@ use Rattle.mon_recheck.specs.inner.Reading.{IsAfterKept, IsFront, IsTurn}
 
 -- ---- some of the candidates
 
-some_more : (kept all : List Candidate) (first : Candidate) → AreSomeOf kept all → AreSomeOf kept (first ∷ all)
+some_more : (kept all : List Candidate) (first : Candidate) → AreSomeOf kept all
+    → AreSomeOf kept (first ∷ all)
 some_more [] all first are = tt
 some_more (one ∷ kept) all first are = inr are
 
-some_rest : (one : Candidate) (kept all : List Candidate) → AreSomeOf (one ∷ kept) all → AreSomeOf kept all
+some_rest : (one : Candidate) (kept all : List Candidate) → AreSomeOf (one ∷ kept) all
+    → AreSomeOf kept all
 some_rest one kept [] are = absurd are
 some_rest one kept (first ∷ all) (inl both) = some_more kept all first both.1
 some_rest one kept (first ∷ all) (inr are) = some_more kept all first (some_rest one kept all are)
@@ -32,7 +34,8 @@ some_self : (all : List Candidate) → AreSomeOf all all
 some_self [] = tt
 some_self (first ∷ all) = inl (refl, some_self all)
 
-some_each : (P : Candidate → Type 0) (kept all : List Candidate) → AreSomeOf kept all → Each P all → Each P kept
+some_each : (P : Candidate → Type 0) (kept all : List Candidate) → AreSomeOf kept all → Each P all
+    → Each P kept
 some_each P [] all are each = tt
 some_each P (one ∷ kept) [] are each = absurd are
 some_each P (one ∷ kept) (first ∷ all) (inl both) each = (subst P (sym both.0) each.0, some_each P kept all both.1 each.1)
@@ -42,18 +45,22 @@ none_some : (kept : List Candidate) → AreSomeOf kept [] → kept ≡ []
 none_some [] are = refl
 none_some (one ∷ kept) are = absurd are
 
-each_drop : (P : Candidate → Type 0) (i : ℕ) (all : List Candidate) → Each P all → Each P (drop i all)
+each_drop : (P : Candidate → Type 0) (i : ℕ) (all : List Candidate) → Each P all
+    → Each P (drop i all)
 each_drop P zero all each = each
 each_drop P (suc i) [] each = tt
 each_drop P (suc i) (first ∷ all) each = each_drop P i all each.1
 
 -- ---- what the lines are
 
-known_each : (monitor : MonitorParts) (kept : List Candidate) → Each (λ candidate. is_low (length monitor.fields) candidate ≡ true) kept → Each (IsNearStart (start_at monitor.fields)) kept → Each (IsKnown monitor) kept
+known_each : (monitor : MonitorParts) (kept : List Candidate)
+    → Each (λ candidate. is_low (length monitor.fields) candidate ≡ true) kept
+    → Each (IsNearStart (start_at monitor.fields)) kept → Each (IsKnown monitor) kept
 known_each monitor [] low near = tt
 known_each monitor (candidate ∷ kept) low near = (record { low = low.0; near = near.0 }, known_each monitor kept low.1 near.1)
 
-pub candidates_known : (monitor : MonitorParts) → IsMonitor monitor → Each (IsKnown monitor) (candidates_of monitor)
+pub candidates_known : (monitor : MonitorParts) → IsMonitor monitor
+    → Each (IsKnown monitor) (candidates_of monitor)
 candidates_known monitor rule =
     let self = some_self (candidates_of monitor) in
     known_each monitor (candidates_of monitor)
@@ -63,17 +70,20 @@ candidates_known monitor rule =
 -- ---- what was read so far
 
 -- what other candidates are left
-abbrev Left : MonitorParts → List Candidate → List Candidate → List Candidate → List ℕ → List ℕ → Type 0
+abbrev Left : MonitorParts → List Candidate → List Candidate → List Candidate → List ℕ → List ℕ
+    → Type 0
 Left monitor all others done more rest =
     (left : List Candidate) × AreSomeOf left all × (others ≡ done ++ left) × (flat_map (kept_text monitor.fields) left ++ more ≡ rest)
 
 pub record IsGoing (monitor : MonitorParts) (all : List Candidate) (bytes : List ℕ) (i : ℕ) (done : List Candidate) (rest : List ℕ) : Type 0 where
   pub some : (left : List Candidate) → AreSomeOf left (drop i all) → AreSomeOf (done ++ left) all
   pub front : flat_map (kept_text monitor.fields) done ++ rest ≡ bytes
-  pub only : (others : List Candidate) (more : List ℕ) → AreSomeOf others all → IsAfterKept more → flat_map (kept_text monitor.fields) others ++ more ≡ bytes
+  pub only : (others : List Candidate) (more : List ℕ) → AreSomeOf others all → IsAfterKept more
+      → flat_map (kept_text monitor.fields) others ++ more ≡ bytes
       → Left monitor (drop i all) others done more rest
 
-pub going_start : (monitor : MonitorParts) (all : List Candidate) (bytes : List ℕ) → IsGoing monitor all bytes 0 [] bytes
+pub going_start : (monitor : MonitorParts) (all : List Candidate) (bytes : List ℕ)
+    → IsGoing monitor all bytes 0 [] bytes
 going_start monitor all bytes = record {
   some = λ left are. are;
   front = refl;
@@ -82,8 +92,11 @@ going_start monitor all bytes = record {
 
 -- ---- the next candidate's line stands there
 
-taken_left : (monitor : MonitorParts) (one : Candidate) (all others done : List Candidate) (more rest next : List ℕ) → IsMonitor monitor → Each (IsKnown monitor) (one ∷ all) → IsAfterKept more
-    → kept_text monitor.fields one ++ next ≡ rest → Left monitor (one ∷ all) others done more rest → Left monitor all others (done ++ one ∷ []) more next
+taken_left : (monitor : MonitorParts) (one : Candidate) (all others done : List Candidate)
+    (more rest next : List ℕ) → IsMonitor monitor → Each (IsKnown monitor) (one ∷ all)
+    → IsAfterKept more
+    → kept_text monitor.fields one ++ next ≡ rest → Left monitor (one ∷ all) others done more rest
+    → Left monitor all others (done ++ one ∷ []) more next
 taken_left monitor one all others done more rest next rule known after here ([], some, are, same) =
     absurd (after (candidate_text monitor.fields one ++ codes "\n" ++ next) (same ∙ sym here))
 taken_left monitor one all others done more rest next rule known after here (first ∷ left, inl both, are, same) =
@@ -107,8 +120,10 @@ taken_left monitor one all others done more rest next rule known after here (fir
       lines.1,
     )
 
-going_taken : (monitor : MonitorParts) (all : List Candidate) (bytes : List ℕ) (i : ℕ) (done : List Candidate) (one d : Candidate) (rest next : List ℕ) → IsMonitor monitor
-    → Each (IsKnown monitor) all → i < length all → one ≡ get_or all i d → kept_text monitor.fields one ++ next ≡ rest → IsGoing monitor all bytes i done rest
+going_taken : (monitor : MonitorParts) (all : List Candidate) (bytes : List ℕ) (i : ℕ)
+    (done : List Candidate) (one d : Candidate) (rest next : List ℕ) → IsMonitor monitor
+    → Each (IsKnown monitor) all → i < length all → one ≡ get_or all i d
+    → kept_text monitor.fields one ++ next ≡ rest → IsGoing monitor all bytes i done rest
     → IsGoing monitor all bytes (i + 1) (done ++ one ∷ []) next
 going_taken monitor all bytes i done one d rest next rule known low is here going = record {
   some = λ left are.
@@ -128,7 +143,8 @@ going_taken monitor all bytes i done one d rest next rule known low is here goin
 
 -- ---- it doesn't
 
-passed_left : (monitor : MonitorParts) (one : Candidate) (all others done : List Candidate) (more rest : List ℕ) → ((next : List ℕ) → kept_text monitor.fields one ++ next ≡ rest → ⊥)
+passed_left : (monitor : MonitorParts) (one : Candidate) (all others done : List Candidate)
+    (more rest : List ℕ) → ((next : List ℕ) → kept_text monitor.fields one ++ next ≡ rest → ⊥)
     → Left monitor (one ∷ all) others done more rest → Left monitor all others done more rest
 passed_left monitor one all others done more rest none ([], some, are, same) = ([], tt, are, same)
 passed_left monitor one all others done more rest none (first ∷ left, inl both, are, same) =
@@ -137,8 +153,11 @@ passed_left monitor one all others done more rest none (first ∷ left, inl both
     (sym (append_assoc (text one) (flat_map text left) more) ∙ ap (λ (which : Candidate). text which ++ flat_map text left ++ more) (sym both.0) ∙ same))
 passed_left monitor one all others done more rest none (first ∷ left, inr some, are, same) = (first ∷ left, some, are, same)
 
-going_passed : (monitor : MonitorParts) (all : List Candidate) (bytes : List ℕ) (i : ℕ) (done : List Candidate) (one d : Candidate) (rest : List ℕ) → i < length all → one ≡ get_or all i d
-    → ((next : List ℕ) → kept_text monitor.fields one ++ next ≡ rest → ⊥) → IsGoing monitor all bytes i done rest → IsGoing monitor all bytes (i + 1) done rest
+going_passed : (monitor : MonitorParts) (all : List Candidate) (bytes : List ℕ) (i : ℕ)
+    (done : List Candidate) (one d : Candidate) (rest : List ℕ) → i < length all
+    → one ≡ get_or all i d
+    → ((next : List ℕ) → kept_text monitor.fields one ++ next ≡ rest → ⊥)
+    → IsGoing monitor all bytes i done rest → IsGoing monitor all bytes (i + 1) done rest
 going_passed monitor all bytes i done one d rest low is none going = record {
   some = λ left are. going.some left (subst (AreSomeOf left) (sym split) (some_more left (drop (i + 1) all) one are));
   front = going.front;
@@ -150,8 +169,11 @@ going_passed monitor all bytes i done one d rest low is none going = record {
     split : drop i all ≡ one ∷ drop (i + 1) all
     split = drop_more all i d low ∙ ap (λ (which : Candidate). which ∷ drop (i + 1) all) (sym is)
 
-pub going_turn : (monitor : MonitorParts) (all : List Candidate) (bytes : List ℕ) (i : ℕ) (before now : List Candidate) (one d : Candidate) (rest next : List ℕ) → IsMonitor monitor
-    → all ≡ candidates_of monitor → i < length all → one ≡ get_or all i d → IsTurn (kept_text monitor.fields one) one rest next before now → IsGoing monitor all bytes i before rest
+pub going_turn : (monitor : MonitorParts) (all : List Candidate) (bytes : List ℕ) (i : ℕ)
+    (before now : List Candidate) (one d : Candidate) (rest next : List ℕ) → IsMonitor monitor
+    → all ≡ candidates_of monitor → i < length all → one ≡ get_or all i d
+    → IsTurn (kept_text monitor.fields one) one rest next before now
+    → IsGoing monitor all bytes i before rest
     → IsGoing monitor all bytes (i + 1) now next
 going_turn monitor all bytes i before now one d rest next rule whole low is (inl (here, pushed)) going =
     subst (λ (done : List Candidate). IsGoing monitor all bytes (i + 1) done next) (sym pushed)
@@ -162,13 +184,16 @@ going_turn monitor all bytes i before now one d rest next rule whole low is (inr
 
 -- ---- the end
 
-end_left : (monitor : MonitorParts) (others done : List Candidate) (more rest : List ℕ) → Left monitor [] others done more rest → (others ≡ done) × (more ≡ rest)
+end_left : (monitor : MonitorParts) (others done : List Candidate) (more rest : List ℕ)
+    → Left monitor [] others done more rest → (others ≡ done) × (more ≡ rest)
 end_left monitor others done more rest ([], some, are, same) = (are ∙ append-nil done, same)
 end_left monitor others done more rest (first ∷ left, some, are, same) = absurd some
 
-pub going_end : (monitor : MonitorParts) (all : List Candidate) (bytes : List ℕ) (i : ℕ) (done : List Candidate) (rest : List ℕ) → length all ≤ i → all ≡ candidates_of monitor
+pub going_end : (monitor : MonitorParts) (all : List Candidate) (bytes : List ℕ) (i : ℕ)
+    (done : List Candidate) (rest : List ℕ) → length all ≤ i → all ≡ candidates_of monitor
     → IsGoing monitor all bytes i done rest
-    → IsFront (List Candidate) (λ kept. AreSomeOf kept (candidates_of monitor)) IsAfterKept (λ kept. flat_map (kept_text monitor.fields) kept) bytes done rest
+    → IsFront (List Candidate) (λ kept. AreSomeOf kept (candidates_of monitor)) IsAfterKept
+    (λ kept. flat_map (kept_text monitor.fields) kept) bytes done rest
 going_end monitor all bytes i done rest end whole going = record {
   holds = subst (AreSomeOf done) whole (subst (λ (kept : List Candidate). AreSomeOf kept all) (append-nil done) (going.some [] tt));
   begins = going.front;
@@ -179,8 +204,10 @@ going_end monitor all bytes i done rest end whole going = record {
 
 -- ---- the line of a flag
 
-pub flag_line : (fields : List Field) (candidate : Candidate) (field : ℕ) (is : Bool) (left name : List ℕ) → candidate ≡ candidates.Flag field is → left ≡ flag_mark is
-    → name ≡ field_name (slice_get fields field) → codes "keep " ++ (left ++ name ++ []) ++ codes "\n" ≡ kept_text fields candidate
+pub flag_line : (fields : List Field) (candidate : Candidate) (field : ℕ) (is : Bool)
+    (left name : List ℕ) → candidate ≡ candidates.Flag field is → left ≡ flag_mark is
+    → name ≡ field_name (slice_get fields field)
+    → codes "keep " ++ (left ++ name ++ []) ++ codes "\n" ≡ kept_text fields candidate
 flag_line fields candidate field is left name same mark named =
     ap (λ text. codes "keep " ++ text ++ codes "\n") (append-nil (left ++ name) ∙ ap (λ one. one ++ name) mark ∙ ap (λ one. flag_mark is ++ one) named)
     ∙ ap (kept_text fields) (sym same)

@@ -5,7 +5,6 @@ pub mod Seen
 pub mod Askable
 pub mod PlacedTexts
 pub mod Accepted
-pub mod WrittenLines
 pub mod SmallReports
 pub mod Answered
 pub mod CertParts
@@ -16,3 +15,4 @@ pub mod KeptLines
 pub mod NoteLines
 pub mod PlanParts
 pub mod ReportParts
+pub mod WrittenLines

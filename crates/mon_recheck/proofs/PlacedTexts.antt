@@ -16,17 +16,20 @@ use Rattle.mon_recheck.proofs.Askable.{within_some}
 use Rattle.mon_recheck.proofs.Pairs.{all_at, from_places}
 
 lines : (monitor : MonitorParts) (proofs : List Proof)
-    → flat_map (λ proof. proof_text monitor proof.claim proof.cert) proofs ≡ proofs_text monitor (map (λ proof. proof.claim) proofs) (map (λ proof. proof.cert) proofs)
+    → flat_map (λ proof. proof_text monitor proof.claim proof.cert) proofs
+    ≡ proofs_text monitor (map (λ proof. proof.claim) proofs) (map (λ proof. proof.cert) proofs)
 lines monitor [] = refl
 lines monitor (proof ∷ proofs) = ap (λ text. proof_text monitor proof.claim proof.cert ++ text) (lines monitor proofs)
 
-pub placed_lines : (monitor : MonitorParts) (placed : PlacedPlan) → map (λ proof. proof.claim) placed.proofs ≡ backed_claims monitor placed.plan
+pub placed_lines : (monitor : MonitorParts) (placed : PlacedPlan)
+    → map (λ proof. proof.claim) placed.proofs ≡ backed_claims monitor placed.plan
     → placed_text monitor placed ≡ report_text monitor (report_of placed)
 placed_lines monitor placed are =
     ap (λ text. plan_text monitor placed.plan ++ text) (lines monitor placed.proofs)
     ∙ ap (λ (wanted : List Claim). plan_text monitor placed.plan ++ proofs_text monitor wanted (map (λ proof. proof.cert) placed.proofs)) are
 
-notes_on : (monitor : MonitorParts) (note : Note) → FitsNote monitor note → IsOnCondition monitor note
+notes_on : (monitor : MonitorParts) (note : Note) → FitsNote monitor note
+    → IsOnCondition monitor note
 notes_on monitor note fits =
     let place = within_some monitor.conditions (note.condition - 1) _ fits.1 in
     (fits.0, omega (arith, place, fits.0))
@@ -45,7 +48,8 @@ plan_of monitor plan fits = record {
       });
 }
 
-pub placed_report : (monitor : MonitorParts) (placed : PlacedPlan) → FitsPlan monitor placed.plan → map (λ proof. proof.claim) placed.proofs ≡ backed_claims monitor placed.plan
+pub placed_report : (monitor : MonitorParts) (placed : PlacedPlan) → FitsPlan monitor placed.plan
+    → map (λ proof. proof.claim) placed.proofs ≡ backed_claims monitor placed.plan
     → IsReport monitor (report_of placed)
 placed_report monitor placed fits are = record {
   plan = plan_of monitor placed.plan fits;

@@ -28,19 +28,26 @@ use Rattle.mon_recheck.proofs.Fronts.{AreGoing, Found, going_end, going_more, go
 abbrev pub cert_line : Cert → List ℕ
 cert_line cert = cert_text cert ++ codes "\n"
 
-pub proof_line : (monitor : MonitorParts) (claim : Claim) (cert : Cert) → proof_text monitor claim cert ≡ (codes "proof " ++ claim_text monitor claim ++ codes ": ") ++ cert_line cert
+pub proof_line : (monitor : MonitorParts) (claim : Claim) (cert : Cert)
+    → proof_text monitor claim cert
+    ≡ (codes "proof " ++ claim_text monitor claim ++ codes ": ") ++ cert_line cert
 proof_line monitor claim cert = append_assoc (codes "proof " ++ claim_text monitor claim ++ codes ": ") (cert_text cert) (codes "\n")
 
 abbrev both : Cert → Bor (List ℕ) → Cert × Bor (List ℕ)
 both cert rest = (cert, rest)
 
-line_again : (bytes : List ℕ) (cert : Cert) (middle : Bor (List ℕ)) → IsRead cert_text IsReadable bytes (Some (both cert middle)) → (other : Cert) (more : List ℕ) → IsReadable other → cert_line other ++ more ≡ bytes
+line_again : (bytes : List ℕ) (cert : Cert) (middle : Bor (List ℕ))
+    → IsRead cert_text IsReadable bytes (Some (both cert middle)) → (other : Cert) (more : List ℕ)
+    → IsReadable other → cert_line other ++ more ≡ bytes
     → (cert ≡ other) × (middle.now ≡ codes "\n" ++ more)
 line_again bytes cert middle read other more fits same =
     read.again other (codes "\n" ++ more) fits refl (sym (append_assoc (cert_text other) (codes "\n") more) ∙ same)
 
-pub line_found : (bytes : List ℕ) (cert : Cert) (middle : Bor (List ℕ)) (answer : Option (Cert × Bor (List ℕ))) → IsRead cert_text IsReadable bytes (Some (both cert middle))
-    → MatchOption answer ((rest : List ℕ) → codes "\n" ++ rest ≡ middle.now → ⊥) (λ read. (read.0 ≡ cert) × (codes "\n" ++ read.1.now ≡ middle.now))
+pub line_found : (bytes : List ℕ) (cert : Cert) (middle : Bor (List ℕ))
+    (answer : Option (Cert × Bor (List ℕ)))
+    → IsRead cert_text IsReadable bytes (Some (both cert middle))
+    → MatchOption answer ((rest : List ℕ) → codes "\n" ++ rest ≡ middle.now → ⊥)
+    (λ read. (read.0 ≡ cert) × (codes "\n" ++ read.1.now ≡ middle.now))
     → Found IsReadable Anything cert_line bytes answer
 line_found bytes cert middle None read none = λ other more fits ends same. none more (sym (line_again bytes cert middle read other more fits same).1)
 line_found bytes cert middle (Some one) read is = record {
@@ -52,32 +59,47 @@ line_found bytes cert middle (Some one) read is = record {
       (sym again.0 ∙ sym is.0, append_cancel_left (codes "\n") more one.1.now (sym again.1 ∙ sym is.1));
 }
 
-pub line_none : (bytes : List ℕ) → IsRead cert_text IsReadable bytes None → IsNoFront Cert IsReadable Anything cert_line bytes
+pub line_none : (bytes : List ℕ) → IsRead cert_text IsReadable bytes None
+    → IsNoFront Cert IsReadable Anything cert_line bytes
 line_none bytes read other more fits ends same = read.again other (codes "\n" ++ more) fits refl (sym (append_assoc (cert_text other) (codes "\n") more) ∙ same)
 
 -- ---- the lines of the claims
 
-pub proofs_more : (monitor : MonitorParts) (claims : List Claim) (bytes : List ℕ) (i : ℕ) (done : List Cert) (rest : List ℕ) (claim d : Claim) (cert : Cert) (next : List ℕ) → i < length claims
-    → claim ≡ get_or claims i d → AreGoing (proof_text monitor) IsReadable claims bytes i done rest → IsFront Cert IsReadable Anything (proof_text monitor claim) rest cert next
+pub proofs_more : (monitor : MonitorParts) (claims : List Claim) (bytes : List ℕ) (i : ℕ)
+    (done : List Cert) (rest : List ℕ) (claim d : Claim) (cert : Cert) (next : List ℕ)
+    → i < length claims
+    → claim ≡ get_or claims i d → AreGoing (proof_text monitor) IsReadable claims bytes i done rest
+    → IsFront Cert IsReadable Anything (proof_text monitor claim) rest cert next
     → AreGoing (proof_text monitor) IsReadable claims bytes (i + 1) (done ++ cert ∷ []) next
 proofs_more monitor claims bytes i done rest claim d cert next low is going front =
     going_more (proof_text monitor) IsReadable claims bytes i done rest claim d cert next low is going front.holds front.begins (λ other after holds same. front.only other after holds tt same)
 
-pub proofs_stop : (monitor : MonitorParts) (claims : List Claim) (bytes : List ℕ) (i : ℕ) (done : List Cert) (rest : List ℕ) (claim d : Claim) → i < length claims → claim ≡ get_or claims i d
-    → AreGoing (proof_text monitor) IsReadable claims bytes i done rest → IsNoFront Cert IsReadable Anything (proof_text monitor claim) rest
+pub proofs_stop : (monitor : MonitorParts) (claims : List Claim) (bytes : List ℕ) (i : ℕ)
+    (done : List Cert) (rest : List ℕ) (claim d : Claim) → i < length claims
+    → claim ≡ get_or claims i d
+    → AreGoing (proof_text monitor) IsReadable claims bytes i done rest
+    → IsNoFront Cert IsReadable Anything (proof_text monitor claim) rest
     → IsNoFront (List Cert) (AreFor claims IsReadable) Anything (proofs_text monitor claims) bytes
 proofs_stop monitor claims bytes i done rest claim d low is going none others more are ends same =
     going_none (proof_text monitor) IsReadable claims bytes i done rest claim d low is going (λ other after holds begins. none other after holds tt begins) others more are same
 
-pub proofs_end : (monitor : MonitorParts) (claims : List Claim) (bytes : List ℕ) (i : ℕ) (done : List Cert) (rest : List ℕ) → length claims ≤ i
-    → AreGoing (proof_text monitor) IsReadable claims bytes i done rest → IsFront (List Cert) (AreFor claims IsReadable) Anything (proofs_text monitor claims) bytes done rest
+pub proofs_end : (monitor : MonitorParts) (claims : List Claim) (bytes : List ℕ) (i : ℕ)
+    (done : List Cert) (rest : List ℕ) → length claims ≤ i
+    → AreGoing (proof_text monitor) IsReadable claims bytes i done rest
+    → IsFront (List Cert) (AreFor claims IsReadable) Anything
+    (proofs_text monitor claims) bytes done rest
 proofs_end monitor claims bytes i done rest end going = going_end (proof_text monitor) IsReadable Anything claims bytes i done rest end going
 
 -- ---- with the plan
 
-pub with_all : (monitor : MonitorParts) (plan : Plan) (claims : List Claim) (bytes : List ℕ) (proofs : List Cert) (rest : List ℕ) (answer : Option Report) → claims ≡ backed_claims monitor plan
-    → IsFront (List Cert) (AreFor claims IsReadable) Anything (proofs_text monitor claims) bytes proofs rest
-    → MatchOption answer (rest ≡ [] → ⊥) (λ report. (report.plan ≡ plan) × (report.proofs ≡ proofs) × (rest ≡ [])) → IsWithProofs monitor plan bytes answer
+pub with_all : (monitor : MonitorParts) (plan : Plan) (claims : List Claim) (bytes : List ℕ)
+    (proofs : List Cert) (rest : List ℕ) (answer : Option Report)
+    → claims ≡ backed_claims monitor plan
+    → IsFront (List Cert) (AreFor claims IsReadable) Anything
+    (proofs_text monitor claims) bytes proofs rest
+    → MatchOption answer (rest ≡ [] → ⊥)
+    (λ report. (report.plan ≡ plan) × (report.proofs ≡ proofs) × (rest ≡ []))
+    → IsWithProofs monitor plan bytes answer
 with_all monitor plan claims bytes proofs rest None are front some = λ others each same.
     some (sym (front.only others [] (subst (λ (all : List Claim). AreFor all IsReadable others) (sym are) each) tt
     (append-nil (proofs_text monitor claims others) ∙ ap (λ (all : List Claim). proofs_text monitor all others) are ∙ same)).1)
@@ -92,21 +114,26 @@ with_all monitor plan claims bytes proofs rest (Some report) are front is = (
       ∙ sym is.1,
 )
 
-pub with_none : (monitor : MonitorParts) (plan : Plan) (claims : List Claim) (bytes : List ℕ) → claims ≡ backed_claims monitor plan
-    → IsNoFront (List Cert) (AreFor claims IsReadable) Anything (proofs_text monitor claims) bytes → IsWithProofs monitor plan bytes None
+pub with_none : (monitor : MonitorParts) (plan : Plan) (claims : List Claim) (bytes : List ℕ)
+    → claims ≡ backed_claims monitor plan
+    → IsNoFront (List Cert) (AreFor claims IsReadable) Anything (proofs_text monitor claims) bytes
+    → IsWithProofs monitor plan bytes None
 with_none monitor plan claims bytes are none others each same =
     none others [] (subst (λ (all : List Claim). AreFor all IsReadable others) (sym are) each) tt
     (append-nil (proofs_text monitor claims others) ∙ ap (λ (all : List Claim). proofs_text monitor all others) are ∙ same)
 
 -- no line of a proof is a candidate's
-after_proofs : (monitor : MonitorParts) (claims : List Claim) (certs : List Cert) → IsAfterKept (proofs_text monitor claims certs)
+after_proofs : (monitor : MonitorParts) (claims : List Claim) (certs : List Cert)
+    → IsAfterKept (proofs_text monitor claims certs)
 after_proofs monitor [] certs more same = absurd (omega (arith, ap {B = ℕ} length same))
 after_proofs monitor (claim ∷ claims) [] more same = absurd (omega (arith, ap {B = ℕ} length same))
 after_proofs monitor (claim ∷ claims) (cert ∷ certs) more same =
     absurd (omega (arith, same_first 112 107 (codes "roof " ++ claim_text monitor claim ++ codes ": " ++ cert_text cert ++ codes "\n" ++ proofs_text monitor claims certs) (codes "eep " ++ more) same))
 
-pub report_answer : (monitor : MonitorParts) (bytes rest : List ℕ) (plan : Plan) (answer : Result (Option Report) AllocError)
-    → IsFront Plan (IsPlanOf monitor) IsAfterKept (plan_text monitor) bytes plan rest → IfOk answer (IsWithProofs monitor plan rest) → IfOk answer (IsReportRead monitor bytes)
+pub report_answer : (monitor : MonitorParts) (bytes rest : List ℕ) (plan : Plan)
+    (answer : Result (Option Report) AllocError)
+    → IsFront Plan (IsPlanOf monitor) IsAfterKept (plan_text monitor) bytes plan rest
+    → IfOk answer (IsWithProofs monitor plan rest) → IfOk answer (IsReportRead monitor bytes)
 report_answer monitor bytes rest plan (Err fault) front told = tt
 report_answer monitor bytes rest plan (Ok None) front none = λ report is readable same.
     let found = front.only report.plan (proofs_text monitor (backed_claims monitor report.plan) report.proofs) is.plan (after_proofs monitor (backed_claims monitor report.plan) report.proofs) same in
@@ -130,6 +157,8 @@ report_answer monitor bytes rest plan (Ok (Some report)) front told =
           λ i. record { plan = plans i; proofs = proofs i };
     }
 
-pub report_none : (monitor : MonitorParts) (bytes : List ℕ) → IsNoFront Plan (IsPlanOf monitor) IsAfterKept (plan_text monitor) bytes → IsReportRead monitor bytes None
+pub report_none : (monitor : MonitorParts) (bytes : List ℕ)
+    → IsNoFront Plan (IsPlanOf monitor) IsAfterKept (plan_text monitor) bytes
+    → IsReportRead monitor bytes None
 report_none monitor bytes none report is readable same =
     none report.plan (proofs_text monitor (backed_claims monitor report.plan) report.proofs) is.plan (after_proofs monitor (backed_claims monitor report.plan) report.proofs) same

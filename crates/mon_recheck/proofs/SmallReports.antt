@@ -41,19 +41,25 @@ use Rattle.mon_recheck.proofs.Pairs.{all_at, at_place, from_places}
 
 -- ---- what passes a test
 
-passing : {X : Type 0} (test : X → Bool) (P : X → Type 0) (xs : List X) → All (λ x. test x ≡ true → P x) xs → All P (filter test xs)
+passing : {X : Type 0} (test : X → Bool) (P : X → Type 0) (xs : List X)
+    → All (λ x. test x ≡ true → P x) xs → All P (filter test xs)
 passing test P [] all = All-nil P
 passing {X} test P (x ∷ xs) all = by_test (test x) refl (passing test P xs (All-tail (λ (x : X). test x ≡ true → P x) x xs all))
   where
-    by_test : (passes : Bool) → test x ≡ passes → All P (filter test xs) → All P (cond passes (x ∷ filter test xs) (filter test xs))
+    by_test : (passes : Bool) → test x ≡ passes → All P (filter test xs)
+        → All P (cond passes (x ∷ filter test xs) (filter test xs))
     by_test true is rest = All-cons P x (filter test xs) (All-head (λ (x : X). test x ≡ true → P x) x xs all is) rest
     by_test false is rest = rest
 
-waits_of_test : (found : Option Block) (condition : ℕ) → option_map_or (λ held. held.condition == condition) found false ≡ true → IsSomeAnd found (λ held. held.condition ≡ condition)
+waits_of_test : (found : Option Block) (condition : ℕ)
+    → option_map_or (λ held. held.condition == condition) found false ≡ true
+    → IsSomeAnd found (λ held. held.condition ≡ condition)
 waits_of_test None condition is = absurd (true≢false (sym is))
 waits_of_test (Some held) condition is = eqb-true held.condition condition is
 
-reads_of_test : (found : Option Condition) → option_map_or (λ held. not held.reads_inputs) found false ≡ true → IsSomeAnd found (λ held. held.reads_inputs ≡ false)
+reads_of_test : (found : Option Condition)
+    → option_map_or (λ held. not held.reads_inputs) found false ≡ true
+    → IsSomeAnd found (λ held. held.reads_inputs ≡ false)
 reads_of_test None is = absurd (true≢false (sym is))
 reads_of_test (Some held) is = not-true held.reads_inputs is
 
@@ -68,7 +74,8 @@ some_contained (one ∷ kept) (first ∷ all) (inl both) =
 some_contained (one ∷ kept) (first ∷ all) (inr are) =
     λ i other low. let is = some_contained (one ∷ kept) all are i other low in (suc is.0, omega (arith, is.1), is.2)
 
-keeps_of : (monitor : MonitorParts) (plan : Plan) → FitsPlan monitor plan → All (IsClaimOf monitor) (keeps_claims monitor plan.kept)
+keeps_of : (monitor : MonitorParts) (plan : Plan) → FitsPlan monitor plan
+    → All (IsClaimOf monitor) (keeps_claims monitor plan.kept)
 keeps_of monitor plan fits =
     flat_all (IsClaimOf monitor) (λ candidate. map (claims.Keeps candidate) (block_numbers monitor)) plan.kept (λ k candidate is.
     All-map (IsClaimOf monitor) (claims.Keeps candidate) (block_numbers monitor)
@@ -76,7 +83,8 @@ keeps_of monitor plan fits =
     (λ block low high. (all_at (Contains (candidates_of monitor)) plan.kept k candidate is (some_contained plan.kept (candidates_of monitor) fits.kept), omega arith))))
 
 unnoted_of : (monitor : MonitorParts) (plan : Plan) → FitsPlan monitor plan
-    → All (IsClaimOf monitor) (flat_map (λ (one : ℕ × List Note). unnoted_claims monitor one.0 one.1) (enumerate_from 0 plan.notes))
+    → All (IsClaimOf monitor)
+    (flat_map (λ (one : ℕ × List Note). unnoted_claims monitor one.0 one.1) (enumerate_from 0 plan.notes))
 unnoted_of monitor plan fits =
     numbered_all (IsClaimOf monitor) (λ (one : ℕ × List Note). unnoted_claims monitor one.0 one.1) 0 plan.notes (λ k notes is.
     let low = slice_get_within plan.notes k notes is in
@@ -87,7 +95,8 @@ unnoted_of monitor plan fits =
     (λ condition first last passes. (omega (arith, low, fits.notes), (first, omega arith))))))
 
 untested_of : (monitor : MonitorParts) (plan : Plan) → FitsPlan monitor plan
-    → All (IsClaimOf monitor) (flat_map (λ (one : ℕ × List Note). untested_claims monitor one.0 one.1) (enumerate_from 0 plan.notes))
+    → All (IsClaimOf monitor)
+    (flat_map (λ (one : ℕ × List Note). untested_claims monitor one.0 one.1) (enumerate_from 0 plan.notes))
 untested_of monitor plan fits =
     numbered_all (IsClaimOf monitor) (λ (one : ℕ × List Note). untested_claims monitor one.0 one.1) 0 plan.notes (λ k notes is.
     let low = slice_get_within plan.notes k notes is in
@@ -102,7 +111,9 @@ untested_of monitor plan fits =
     (omega (arith, low, fits.notes), (one.0, reads_of_test (slice_get monitor.conditions (note.condition - 1)) reads))))))
 
 -- a condition of kind signal reads no inputs
-signal_reads_none : (monitor : MonitorParts) (plan : Plan) (k : ℕ) → IsMonitor monitor → FitsPlan monitor plan → IsLawfulAtSight monitor plan → slice_get plan.kinds k ≡ Some kinds.Signal
+signal_reads_none : (monitor : MonitorParts) (plan : Plan) (k : ℕ) → IsMonitor monitor
+    → FitsPlan monitor plan → IsLawfulAtSight monitor plan
+    → slice_get plan.kinds k ≡ Some kinds.Signal
     → ReadsNone monitor (1 + k)
 signal_reads_none monitor plan k rule fits sight is =
     let low = slice_get_within plan.kinds k kinds.Signal is in
@@ -124,12 +135,15 @@ signal_reads_none monitor plan k rule fits sight is =
     no_signal : Some kinds.Signal ≡ Some kinds.Broadcast → ⊥
     no_signal same = true≢false (ap is_signal same)
 
-kinds_of : (monitor : MonitorParts) (plan : Plan) → IsMonitor monitor → FitsPlan monitor plan → IsLawfulAtSight monitor plan
-    → All (IsClaimOf monitor) (flat_map (λ (one : ℕ × CondKind). kind_claims monitor one.0 one.1) (enumerate_from 1 plan.kinds))
+kinds_of : (monitor : MonitorParts) (plan : Plan) → IsMonitor monitor → FitsPlan monitor plan
+    → IsLawfulAtSight monitor plan
+    → All (IsClaimOf monitor)
+    (flat_map (λ (one : ℕ × CondKind). kind_claims monitor one.0 one.1) (enumerate_from 1 plan.kinds))
 kinds_of monitor plan rule fits sight =
     numbered_all (IsClaimOf monitor) (λ (one : ℕ × CondKind). kind_claims monitor one.0 one.1) 1 plan.kinds (λ k kind is. by_kind kind k is)
   where
-    by_kind : (kind : CondKind) (k : ℕ) → slice_get plan.kinds k ≡ Some kind → All (IsClaimOf monitor) (kind_claims monitor (1 + k) kind)
+    by_kind : (kind : CondKind) (k : ℕ) → slice_get plan.kinds k ≡ Some kind
+        → All (IsClaimOf monitor) (kind_claims monitor (1 + k) kind)
     by_kind kinds.Signal k is =
         let test : ℕ → Bool = waits_at monitor (1 + k) in
         All-map (IsClaimOf monitor) (claims.One (1 + k)) (filter test (block_numbers monitor))
@@ -138,7 +152,8 @@ kinds_of monitor plan rule fits sight =
         (λ block first last passes. (signal_reads_none monitor plan k rule fits sight is, waits_of_test (slice_get monitor.blocks block) (1 + k) passes))))
     by_kind kinds.Broadcast k is = All-nil (IsClaimOf monitor)
 
-claims_are : (monitor : MonitorParts) (plan : Plan) → IsMonitor monitor → FitsPlan monitor plan → IsLawfulAtSight monitor plan → All (IsClaimOf monitor) (backed_claims monitor plan)
+claims_are : (monitor : MonitorParts) (plan : Plan) → IsMonitor monitor → FitsPlan monitor plan
+    → IsLawfulAtSight monitor plan → All (IsClaimOf monitor) (backed_claims monitor plan)
 claims_are monitor plan rule fits sight =
     let a = keeps_claims monitor plan.kept in
     let b = flat_map (λ (one : ℕ × List Note). unnoted_claims monitor one.0 one.1) (enumerate_from 0 plan.notes) in
@@ -154,7 +169,8 @@ abbrev pub FewerWithin : Type 0
 FewerWithin = (monitor : MonitorParts) (claim : Claim) (kept all : List Candidate) → AreSomeOf kept all
     → is_within_limits monitor (query_of monitor all claim) ≡ true → is_within_limits monitor (query_of monitor kept claim) ≡ true
 
-claim_within : FewerWithin → (monitor : MonitorParts) (kept : List Candidate) (claim : Claim) → AreSomeOf kept (candidates_of monitor) → HasNoHardClaim monitor → IsClaimOf monitor claim
+claim_within : FewerWithin → (monitor : MonitorParts) (kept : List Candidate) (claim : Claim)
+    → AreSomeOf kept (candidates_of monitor) → HasNoHardClaim monitor → IsClaimOf monitor claim
     → is_query_within monitor (query_of monitor kept claim) ≡ true
 claim_within fewer monitor kept claim some none is =
     let all : is_within_limits monitor (query_of monitor (candidates_of monitor) claim) ≡ true = elim (cases_Bool (is_within_limits monitor (query_of monitor (candidates_of monitor) claim))) [
@@ -166,7 +182,8 @@ claim_within fewer monitor kept claim some none is =
 abbrev pair : Claim → Cert → Claim × Cert
 pair claim cert = (claim, cert)
 
-zipped : (P : Claim × Cert → Type 0) (proofs : List Proof) → All (λ proof. P (pair proof.claim proof.cert)) proofs
+zipped : (P : Claim × Cert → Type 0) (proofs : List Proof)
+    → All (λ proof. P (pair proof.claim proof.cert)) proofs
     → All P (zip (map (λ proof. proof.claim) proofs) (map (λ proof. proof.cert) proofs))
 zipped P [] all = All-nil P
 zipped P (proof ∷ proofs) all =
@@ -176,8 +193,10 @@ zipped P (proof ∷ proofs) all =
 abbrev Checked : MonitorParts → List Candidate → Claim × Cert → Type 0
 Checked monitor kept one = IsProof monitor kept one × (is_query_within monitor (query_of monitor kept one.0) ≡ true)
 
-all_checked : FewerWithin → (monitor : MonitorParts) (placed : PlacedPlan) → IsMonitor monitor → FitsPlan monitor placed.plan → IsLawfulAtSight monitor placed.plan
-    → AreProofs monitor placed.plan.kept (backed_claims monitor placed.plan) placed.proofs → HasNoHardClaim monitor
+all_checked : FewerWithin → (monitor : MonitorParts) (placed : PlacedPlan) → IsMonitor monitor
+    → FitsPlan monitor placed.plan → IsLawfulAtSight monitor placed.plan
+    → AreProofs monitor placed.plan.kept (backed_claims monitor placed.plan) placed.proofs
+    → HasNoHardClaim monitor
     → All (Checked monitor placed.plan.kept) (proofs_of monitor (report_of placed))
 all_checked fewer monitor placed rule fits sight are none =
     let kept = placed.plan.kept in
@@ -187,16 +206,22 @@ all_checked fewer monitor placed rule fits sight are none =
     (zipped (Checked monitor kept) placed.proofs (λ i other low.
     (are.certificates i other low, claim_within fewer monitor kept _ fits.kept none (each i other low))))
 
-no_open : (monitor : MonitorParts) (kept : List Candidate) (proofs : List (Claim × Cert)) (place : ℕ) → All (Checked monitor kept) proofs → IsSomeAnd (slice_get proofs place) (IsOpen monitor kept) → ⊥
+no_open : (monitor : MonitorParts) (kept : List Candidate) (proofs : List (Claim × Cert))
+    (place : ℕ) → All (Checked monitor kept) proofs
+    → IsSomeAnd (slice_get proofs place) (IsOpen monitor kept) → ⊥
 no_open monitor kept proofs place all here = by_found (slice_get proofs place) refl here
   where
-    by_found : (found : Option (Claim × Cert)) → slice_get proofs place ≡ found → IsSomeAnd found (IsOpen monitor kept) → ⊥
+    by_found : (found : Option (Claim × Cert)) → slice_get proofs place ≡ found
+        → IsSomeAnd found (IsOpen monitor kept) → ⊥
     by_found None is here = here
     by_found (Some one) is (inl unproved) = unproved (all_at (Checked monitor kept) proofs place one is all).0
     by_found (Some one) is (inr beyond) = true≢false (sym (all_at (Checked monitor kept) proofs place one is all).1 ∙ beyond)
 
-pub small_accepted : FewerWithin → (monitor : MonitorParts) (placed : PlacedPlan) (verdict : Verdict) → IsMonitor monitor → FitsPlan monitor placed.plan → IsLawful monitor placed.plan
-    → AreProofs monitor placed.plan.kept (backed_claims monitor placed.plan) placed.proofs → HasNoHardClaim monitor → IsVerdict monitor (report_of placed) verdict
+pub small_accepted : FewerWithin → (monitor : MonitorParts) (placed : PlacedPlan)
+    (verdict : Verdict) → IsMonitor monitor → FitsPlan monitor placed.plan
+    → IsLawful monitor placed.plan
+    → AreProofs monitor placed.plan.kept (backed_claims monitor placed.plan) placed.proofs
+    → HasNoHardClaim monitor → IsVerdict monitor (report_of placed) verdict
     → verdict ≡ verdicts.Accepted (length placed.proofs)
 small_accepted fewer monitor placed (verdicts.Accepted claims) rule fits lawful are none is = ap verdicts.Accepted (is.1 ∙ length-map placed.proofs (λ (proof : Proof). proof.cert))
 small_accepted fewer monitor placed verdicts.Unlawful rule fits lawful are none is =

@@ -1,8 +1,7 @@
 -- Reports: a plan with one certificate for each claim that it rests on.
-use Rattle.std.specs.Prelude.{◌≡◌, ◌≤◌, ℕ, List, [], ◌++◌, length, map, codes, decimal, slice_get}
+use Rattle.std.specs.Prelude.{◌≡◌, ◌≤◌, ℕ, List, ◌++◌, length, map, codes, decimal}
 use Rattle.std.specs.Prelude.{All}
 use Rattle.std.specs.List.{flat_map, zip}
-use Rattle.std.specs.Option.{option_map_or}
 use Rattle.mon_cert.specs.declared.cert.Cert.{Cert}
 use Rattle.mon_cert.specs.CertText.{cert_text}
 use Rattle.mon_monitor.specs.declared.claim.Claim.{Claim}
@@ -12,7 +11,7 @@ use Rattle.mon_monitor.specs.MonitorParts.{MonitorParts}
 use Rattle.mon_events.specs.declared.plan.Note.{Note}
 use Rattle.mon_events.specs.declared.plan.Plan.{Plan}
 use Rattle.mon_events.specs.Rising.{AreRising}
-use Rattle.mon_events.specs.PlanText.{candidate_text, method_name, plan_text}
+use Rattle.mon_events.specs.PlanText.{block_name, candidate_text, plan_text}
 use Rattle.mon_place.specs.declared.placed.PlacedPlan.{PlacedPlan}
 use Rattle.mon_place.specs.Backing.{backed_claims}
 use Rattle.mon_recheck.specs.declared.report.Report.{Report}
@@ -49,12 +48,6 @@ abbrev pub proofs_of : MonitorParts → Report → List (Claim × Cert)
 proofs_of monitor report = zip (backed_claims monitor report.plan) report.proofs
 
 -- ---- the text of a report
-
--- the name of a block's method, and none where there is no such block
-abbrev pub block_name : MonitorParts → ℕ → List ℕ
-block_name monitor block =
-    option_map_or (λ held. method_name (slice_get monitor.methods held.method))
-    (slice_get monitor.blocks block) []
 
 -- `keep x <= 4 put`, `none put 2`, `one 1 put`, `untested put 2`
 abbrev pub claim_text : MonitorParts → Claim → List ℕ

@@ -3,7 +3,8 @@
 ghost use Rattle.std.specs.List.{flat_map};
 ghost use Rattle.mon_recheck.specs.inner.Reading.{IsAfter};
 
-/// What is left of the bytes after these pieces, one after the other, and none where the bytes don't begin with them.
+/// What is left of the bytes after these pieces, one after the other, and none where the bytes
+/// don't begin with them.
 pub(crate) fn after<'a>(bytes: &'a [u8], pieces: &[&[u8]]) -> Option<&'a [u8]>
     ensures { IsAfter bytes.now (flat_map (λ piece. piece.now) pieces.now) result }
 {

@@ -20,19 +20,21 @@ use mon_cert::{Cert, Combine};
 use mon_list::Seq;
 use std::alloc::{AllocError, Global};
 
-/// A certificate that is read has so many levels at most: a split is a level above its parts, and a clash or a chain
-/// is one level. Reading and dropping call themselves once for each level; that 2 MB of stack bear so many is tested.
+/// A certificate that is read has so many levels at most: a split is a level above its parts, and a
+/// clash or a chain is one level. Reading and dropping call themselves once for each level; that 2
+/// MB of stack bear so many is tested.
 ///
-/// A report with a deeper certificate is refused, though its plan may be lawful. A deeper certificate refutes only a
-/// formula with at least so many anys on one way.
+/// A report with a deeper certificate is refused, though its plan may be lawful. A deeper
+/// certificate refutes only a formula with at least so many anys on one way.
 pub const MOST_NESTING: u32 = 4_096;
 
-/// The certificate at the front of the bytes, and the bytes after it (`specs/Nesting`). It is none where no certificate
-/// of so many levels at most, with numbers of their types, stands there.
+/// The certificate at the front of the bytes, and the bytes after it (`specs/Nesting`). It is none
+/// where no certificate of so many levels at most, with numbers of their types, stands there.
 ///
-/// Where the bytes are the text of such a certificate, and then what begins with no digit, as a line feed, then that
-/// certificate was read, and what follows it is what is left: the clause `again` of `IsRead`, which leaves nothing to
-/// prove about other certificates. Memory is taken for parts that were found, and not by a count that stands there.
+/// Where the bytes are the text of such a certificate, and then what begins with no digit, as a
+/// line feed, then that certificate was read, and what follows it is what is left: the clause
+/// `again` of `IsRead`, which leaves nothing to prove about other certificates. Memory is taken for
+/// parts that were found, and not by a count that stands there.
 pub(crate) fn read_cert<'a>(
     alloc: Global,
     bytes: &'a [u8],

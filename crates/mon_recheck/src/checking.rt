@@ -18,13 +18,15 @@ use mon_prune::{candidates_have_formulas, open_claims_are_hard};
 use mon_wp::{claim_query, negated, refuted_query_is_valid};
 use std::alloc::{AllocError, Global};
 
-/// Checks a report, which has one certificate for each claim that its plan rests on, and asks no prover.
+/// Checks a report, which has one certificate for each claim that its plan rests on, and asks no
+/// prover.
 ///
-/// It is accepted only where its plan is lawful and each certificate refutes the negated query of its claim. It is
-/// unlawful exactly where a candidate that the plan keeps is false at the start, or its kinds and notes don't suit the
-/// conditions. It is unproved at a line only where it isn't unlawful, the certificates on the lines before are accepted,
-/// and the one on this line doesn't refute the negated query of its claim, or this query isn't negated within the limits
-/// of [`negated`]. It fails only for want of memory.
+/// It is accepted only where its plan is lawful and each certificate refutes the negated query of
+/// its claim. It is unlawful exactly where a candidate that the plan keeps is false at the start,
+/// or its kinds and notes don't suit the conditions. It is unproved at a line only where it isn't
+/// unlawful, the certificates on the lines before are accepted, and the one on this line doesn't
+/// refute the negated query of its claim, or this query isn't negated within the limits of
+/// [`negated`]. It fails only for want of memory.
 pub fn recheck(alloc: Global, monitor: &Monitor, report: &Report) -> Result<Verdict, AllocError>
     requires { IsReport monitor.now report.now }
     ensures { IfOk result (IsVerdict monitor.now report.now) }
@@ -84,7 +86,8 @@ fn first_open(
     Ok(None)
 }
 
-/// Whether the certificate refutes the negated query of the claim, which is negated within the limits.
+/// Whether the certificate refutes the negated query of the claim, which is negated within the
+/// limits.
 fn is_proved(
     alloc: Global,
     monitor: &Monitor,

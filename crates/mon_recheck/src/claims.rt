@@ -120,7 +120,8 @@ fn has_note(notes: &[Note], condition: u32) -> bool
 
 // ---- that one waiter is enough
 
-/// Appends for each condition of kind signal that after each block that waits at it one waiter is enough.
+/// Appends for each condition of kind signal that after each block that waits at it one waiter is
+/// enough.
 fn push_enough(
     claims: &mut Vec<Claim>,
     monitor: &Monitor,
@@ -177,7 +178,8 @@ fn waits_at(monitor: &Monitor, condition: u32, block: u32) -> bool
 
 // ---- that no test is needed
 
-/// Appends for each block that each untested note on a condition that reads no inputs needs no test.
+/// Appends for each block that each untested note on a condition that reads no inputs needs no
+/// test.
 fn push_untested(
     claims: &mut Vec<Claim>,
     monitor: &Monitor,
@@ -193,7 +195,8 @@ fn push_untested(
     Ok(())
 }
 
-/// Appends that each of the block's notes that is untested, on a condition that reads no inputs, needs no test.
+/// Appends that each of the block's notes that is untested, on a condition that reads no inputs,
+/// needs no test.
 fn push_untested_of(
     claims: &mut Vec<Claim>,
     monitor: &Monitor,

@@ -14,7 +14,8 @@ use mon_monitor::{Candidate, Field, Monitor};
 use mon_prune::candidates;
 use std::alloc::{AllocError, Global};
 
-/// The candidates whose lines stand at the front of the bytes, in the order of the monitor's, and what is left.
+/// The candidates whose lines stand at the front of the bytes, in the order of the monitor's, and
+/// what is left.
 pub(crate) fn read_kept<'a>(
     alloc: Global,
     monitor: &Monitor,

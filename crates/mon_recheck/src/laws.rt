@@ -13,8 +13,8 @@ ghost use Rattle.mon_recheck.specs.Verdicts.{IsVerdict};
 
 use mon_wp::fewer_kept_are_no_harder;
 
-/// Where a plan was placed with a proof of each claim that it rests on, in their order, what [`write_report`] writes is
-/// the text of its report, which has one certificate for each claim.
+/// Where a plan was placed with a proof of each claim that it rests on, in their order, what
+/// [`write_report`] writes is the text of its report, which has one certificate for each claim.
 ///
 /// [`write_report`]: super::write_report
 pub fn placed_text_is_report_text()
@@ -27,8 +27,8 @@ pub fn placed_text_is_report_text()
         → IsReport monitor (report_of placed) }
 {}
 
-/// Where no claim of the monitor is hard, as none of a small one is, the report of a lawful plan that was placed with a
-/// proof of each claim is accepted.
+/// Where no claim of the monitor is hard, as none of a small one is, the report of a lawful plan
+/// that was placed with a proof of each claim is accepted.
 pub fn easy_reports_are_accepted()
     ensures { (monitor : MonitorParts) (placed : PlacedPlan) (verdict : Verdict)
         → IsMonitor monitor → FitsPlan monitor placed.plan → IsLawful monitor placed.plan

@@ -1,9 +1,11 @@
-//! Reports: a plan with a certificate for each claim that it rests on, as text, read and checked without a prover.
+//! Reports: a plan with a certificate for each claim that it rests on, as text, read and checked
+//! without a prover.
 //!
-//! [`read_plan`] and [`read_report`] read such texts (`specs/Readings`), and [`recheck`] says whether the plan of a
-//! [`Report`] is lawful by its certificates alone (`specs/Verdicts`). [`write_report`] writes the report of a plan that
-//! was placed (`specs/Reports`), and [`write_verdict`] the line of what a check says. Each report of a placed plan is
-//! accepted where no claim of the monitor is hard (`laws`).
+//! [`read_plan`] and [`read_report`] read such texts (`specs/Readings`), and [`recheck`] says
+//! whether the plan of a [`Report`] is lawful by its certificates alone (`specs/Verdicts`).
+//! [`write_report`] writes the report of a plan that was placed (`specs/Reports`), and
+//! [`write_verdict`] the line of what a check says. Each report of a placed plan is accepted where
+//! no claim of the monitor is hard (`laws`).
 #![tactic(auto)]
 
 mod after;

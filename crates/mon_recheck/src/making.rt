@@ -9,8 +9,8 @@ use mon_list::Seq;
 use mon_place::{PlacedPlan, Proof};
 use std::alloc::{AllocError, Global};
 
-/// The report of a plan that was placed: the plan, and the certificates of its proofs in their order. It fails only for
-/// want of memory.
+/// The report of a plan that was placed: the plan, and the certificates of its proofs in their
+/// order. It fails only for want of memory.
 pub fn report_of(alloc: Global, placed: PlacedPlan) -> Result<Report, AllocError>
     ensures { IfOk result (λ report. report ≡ report_of placed) }
 {

@@ -2,19 +2,19 @@
 
 ghost use Rattle.std.specs.Prelude.{◌≡◌, ◌++◌, [], Bool, IfOk, List, MatchOption, codes};
 ghost use Rattle.mon_events.specs.declared.plan.Note.{Note};
-ghost use Rattle.mon_events.specs.PlanText.{block_text, blocks_text, kind_text, note_kind};
-ghost use Rattle.mon_events.specs.PlanText.{note_text, notes_text, tested_text};
+ghost use Rattle.mon_events.specs.PlanText.{block_name, block_text, blocks_text, kind_text};
+ghost use Rattle.mon_events.specs.PlanText.{note_kind, note_text, notes_text, tested_text};
 ghost use Rattle.mon_recheck.specs.Reports.{AreNotesOf};
 ghost use Rattle.mon_recheck.specs.inner.Reading.{Anything, AreFor, AreSomeNotesOf, IsAfter};
 ghost use Rattle.mon_recheck.specs.inner.Reading.{IsAfterMarks, IsFront, IsLineEnd, IsNoFront};
 ghost use Rattle.mon_recheck.specs.inner.Reading.{IsNoteTurn};
 ghost use Rattle.mon_recheck.specs.inner.Reading.{marks_text, notes_after, sign_after};
 
-use super::after::after;
-use super::writing::method_bytes;
+use super::after::{after, after_piece};
+use super::shown::block_head;
 use itoa::Buffer;
 use mon_events::{Note, NoteList};
-use mon_monitor::{Block, Monitor};
+use mon_monitor::Monitor;
 use std::alloc::{AllocError, Global};
 
 /// The notes of the blocks whose lines stand at the front of the bytes, and what is left.
@@ -31,9 +31,8 @@ pub(crate) fn read_lists<'a>(
 {
     let mut lists = Vec::new(alloc);
     let mut rest = bytes;
-    let blocks = monitor.blocks();
-    for index in 0..blocks.len() {
-        match read_list(alloc, monitor, &blocks[index], rest)? {
+    for index in 0..monitor.blocks().len() {
+        match read_list(alloc, monitor, index, rest)? {
             Some((list, left)) => {
                 lists.push(list)?;
                 rest = left;
@@ -44,26 +43,38 @@ pub(crate) fn read_lists<'a>(
     Ok(Some((lists, rest)))
 }
 
-/// The notes of the block whose line stands at the front of the bytes, and what is left.
+/// The notes of the block, by its number, whose line stands at the front of the bytes, and what is
+/// left.
 fn read_list<'a>(
     alloc: Global,
     monitor: &Monitor,
-    block: &Block,
+    block: usize,
     bytes: &'a [u8],
 ) -> Result<Option<(NoteList, &'a [u8])>, AllocError>
     ensures { IfOk result (λ found. MatchOption found
-        (IsNoFront (List Note) (AreNotesOf monitor.now) Anything (block_text monitor.now block.now)
+        (IsNoFront (List Note) (AreNotesOf monitor.now) Anything (block_text monitor.now block)
         bytes.now)
         (λ read. IsFront (List Note) (AreNotesOf monitor.now) Anything
-        (block_text monitor.now block.now) bytes.now read.0 read.1.now)) }
+        (block_text monitor.now block) bytes.now read.0 read.1.now)) }
 {
-    match after(
-        bytes,
-        &[b"block ", method_bytes(monitor, block.method), b": "],
-    ) {
+    match after_block(alloc, monitor, block, bytes)? {
         Some(rest) => read_notes(alloc, monitor, rest),
         None => Ok(None),
     }
+}
+
+/// What is left after `block put: `.
+fn after_block<'a>(
+    alloc: Global,
+    monitor: &Monitor,
+    block: usize,
+    bytes: &'a [u8],
+) -> Result<Option<&'a [u8]>, AllocError>
+    ensures { IfOk result (IsAfter bytes.now
+        (codes "block " ++ block_name monitor.now block ++ codes ": ")) }
+{
+    let head = block_head(alloc, monitor, block)?;
+    Ok(after_piece(bytes, head.as_slice()))
 }
 
 /// The notes that stand at the front of the bytes, and what is left after them and a line feed.
@@ -84,7 +95,8 @@ fn read_notes<'a>(
     }
 }
 
-/// The notes, at least one, that stand at the front of the bytes, and what is left after them and a line feed.
+/// The notes, at least one, that stand at the front of the bytes, and what is left after them and a
+/// line feed.
 fn read_some_notes<'a>(
     alloc: Global,
     monitor: &Monitor,
@@ -124,7 +136,8 @@ fn read_each<'a>(
     Ok((notes, rest))
 }
 
-/// Takes the note on this condition, where it stands at the front of the bytes, and answers what is left.
+/// Takes the note on this condition, where it stands at the front of the bytes, and answers what is
+/// left.
 fn take_note<'a>(
     number: u32,
     notes: &mut Vec<Note>,
@@ -152,8 +165,8 @@ fn sign_after(notes: &[Note]) -> &'static [u8]
     }
 }
 
-/// The note on this condition that stands, after what separates it from the one before, at the front of the bytes,
-/// and what is left.
+/// The note on this condition that stands, after what separates it from the one before, at the
+/// front of the bytes, and what is left.
 fn read_note<'a>(number: u32, sign: &[u8], bytes: &'a [u8]) -> Option<(Note, &'a [u8])>
     ensures { MatchOption result
         (IsNoFront Note (λ note. note.condition ≡ number) IsAfterMarks
@@ -191,7 +204,8 @@ fn after_number<'a, 'b>(sign: &'b [u8], digits: &'b [u8], bytes: &'a [u8]) -> Op
     after(bytes, &[sign, digits, b" "])
 }
 
-/// Whether a broadcast stands at the front of the bytes, and whether a tested one, and what is left.
+/// Whether a broadcast stands at the front of the bytes, and whether a tested one, and what is
+/// left.
 fn read_marks<'a>(bytes: &'a [u8]) -> Option<((bool, bool), &'a [u8])>
     ensures { MatchOption result
         (IsNoFront (Bool × Bool) Anything IsAfterMarks marks_text bytes.now)

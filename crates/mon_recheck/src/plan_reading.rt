@@ -16,7 +16,8 @@ use mon_list::Seq;
 use mon_monitor::Monitor;
 use std::alloc::{AllocError, Global};
 
-/// The plan whose text the bytes are, or none where they are no plan's text. It fails only for want of memory.
+/// The plan whose text the bytes are, or none where they are no plan's text. It fails only for want
+/// of memory.
 pub fn read_plan(alloc: Global, monitor: &Monitor, bytes: &[u8]) -> Result<Option<Plan>, AllocError>
     ensures { IfOk result (IsPlanRead monitor.now bytes.now) }
 {

@@ -21,8 +21,8 @@ use mon_list::Seq;
 use mon_monitor::{Claim, Monitor};
 use std::alloc::{AllocError, Global};
 
-/// The report whose text the bytes are, with certificates that nest within `MOST_NESTING` levels, or none where they are
-/// no such report's text. It fails only for want of memory.
+/// The report whose text the bytes are, with certificates that nest within `MOST_NESTING` levels,
+/// or none where they are no such report's text. It fails only for want of memory.
 pub fn read_report(
     alloc: Global,
     monitor: &Monitor,
@@ -127,7 +127,8 @@ fn after_claim<'a>(
     Ok(after_piece(bytes, head.as_slice()))
 }
 
-/// The certificate that stands at the front of the bytes, and what is left after it and a line feed.
+/// The certificate that stands at the front of the bytes, and what is left after it and a line
+/// feed.
 fn read_line<'a>(alloc: Global, bytes: &'a [u8]) -> Result<Option<(Cert, &'a [u8])>, AllocError>
     ensures { IfOk result (λ found. MatchOption found
         (IsNoFront Cert IsReadable Anything (λ cert. cert_text cert ++ codes "\n")

@@ -2,9 +2,10 @@
 
 ghost use Rattle.std.specs.Prelude.{◌≡◌, ◌++◌, IfOk, codes};
 ghost use Rattle.mon_printer.specs.Canonical.{expression_text};
+ghost use Rattle.mon_events.specs.PlanText.{block_name};
 ghost use Rattle.mon_recheck.specs.Reports.{claim_text};
 
-use super::writing::write_claim;
+use super::writing::{write_claim, write_named};
 use mon_io::{Sink, SinkFailed};
 use mon_monitor::{Claim, Monitor};
 use mon_printer::write_around;
@@ -47,6 +48,25 @@ pub(crate) fn shown_text(alloc: Global, expression: &Expr) -> Result<Vec<u8>, Al
         faults: 0,
     };
     match write_around(&[], expression, b"", &mut out) {
+        Ok(()) => Ok(out.bytes),
+        Err(SinkFailed) => Err(AllocError),
+    }
+}
+
+/// What stands in a block's line before its notes: `block put: `.
+pub(crate) fn block_head(
+    alloc: Global,
+    monitor: &Monitor,
+    block: usize,
+) -> Result<Vec<u8>, AllocError>
+    ensures { IfOk result (λ text. text.items
+        ≡ codes "block " ++ block_name monitor.now block ++ codes ": ") }
+{
+    let mut out = Kept {
+        bytes: Vec::new(alloc),
+        faults: 0,
+    };
+    match write_named(b"block ", monitor, block, b": ", &mut out) {
         Ok(()) => Ok(out.bytes),
         Err(SinkFailed) => Err(AllocError),
     }

@@ -58,8 +58,8 @@ fn is_kind_suited(condition: &Condition, kind: CondKind) -> bool
     !condition.reads_inputs || is_broadcast(kind)
 }
 
-/// Whether each note on a condition of kind broadcast is a broadcast, and each tested one is on a condition that reads
-/// no inputs.
+/// Whether each note on a condition of kind broadcast is a broadcast, and each tested one is on a
+/// condition that reads no inputs.
 fn are_lists_suited(monitor: &Monitor, kinds: &[CondKind], lists: &[NoteList]) -> bool
     ensures { IsTrue result ↔ AreListsSuited monitor.now kinds.now lists.now }
 {

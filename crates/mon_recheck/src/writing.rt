@@ -3,8 +3,8 @@
 ghost use Rattle.std.specs.Prelude.{◌≡◌, ◌++◌, codes, decimal, slice_get};
 ghost use Rattle.std.specs.List.{flat_map};
 ghost use Rattle.mon_io.specs.Writing.{Wrote};
-ghost use Rattle.mon_events.specs.PlanText.{candidate_text, field_name, flag_mark, method_name};
-ghost use Rattle.mon_recheck.specs.Reports.{block_name, claim_text, placed_text, proof_text};
+ghost use Rattle.mon_events.specs.PlanText.{block_name, candidate_text, field_name, flag_mark};
+ghost use Rattle.mon_recheck.specs.Reports.{claim_text, placed_text, proof_text};
 ghost use Rattle.mon_recheck.specs.Verdicts.{verdict_text};
 
 use super::report::Verdict;
@@ -13,10 +13,10 @@ use mon_cert::{Cert, print_cert};
 use mon_io::{Sink, SinkFailed, write_piece, write_pieces};
 use mon_monitor::{Candidate, Claim, Field, Monitor};
 use mon_place::{PlacedPlan, Proof};
-use mon_text::{write_candidate, write_plan};
+use mon_text::{write_block_name, write_candidate, write_plan};
 
-/// Writes the report of a plan that was placed: the text of the plan, and then a line for each claim that it rests on,
-/// with its certificate. It takes no memory.
+/// Writes the report of a plan that was placed: the text of the plan, and then a line for each
+/// claim that it rests on, with its certificate. It takes no memory.
 ///
 /// After `SinkFailed` the first bytes of the text were taken, fewer than all and maybe none.
 pub fn write_report<S: Sink>(
@@ -66,78 +66,78 @@ pub(crate) fn write_claim<S: Sink>(
         (codes "proof " ++ claim_text monitor.now claim ++ codes ": ") }
 {
     match claim {
-        Claim::Keeps { candidate, block } => {
-            write_keeps(
-                monitor.fields(),
-                candidate,
-                block_bytes(monitor, block),
-                out,
-            )
-        }
+        Claim::Keeps { candidate, block } => write_keeps(monitor, candidate, block, out),
         Claim::NoNote { block, condition } => {
-            let mut digits = Buffer::new();
-            let number = digits.format(condition).as_bytes();
-            write_three(
-                b"proof none ",
-                block_bytes(monitor, block),
-                b" ",
-                number,
-                out,
-            )
+            write_after_block(b"proof none ", monitor, block, condition, out)
         }
-        Claim::One { condition, block } => {
-            let mut digits = Buffer::new();
-            let number = digits.format(condition).as_bytes();
-            write_three(
-                b"proof one ",
-                number,
-                b" ",
-                block_bytes(monitor, block),
-                out,
-            )
-        }
+        Claim::One { condition, block } => write_one(monitor, condition, block, out),
         Claim::NoTest { block, condition } => {
-            let mut digits = Buffer::new();
-            let number = digits.format(condition).as_bytes();
-            write_three(
-                b"proof untested ",
-                block_bytes(monitor, block),
-                b" ",
-                number,
-                out,
-            )
+            write_after_block(b"proof untested ", monitor, block, condition, out)
         }
     }
 }
 
-/// A word, two parts with a blank between them, and a colon.
-fn write_three<'a, S: Sink>(
-    word: &'a [u8],
-    left: &'a [u8],
-    blank: &'a [u8],
-    right: &'a [u8],
-    out: &mut S,
-) -> Result<(), SinkFailed>
-    ensures { Wrote (S.seen out.old) (S.seen out.new) result
-        (word.now ++ left.now ++ blank.now ++ right.now ++ codes ": ") }
-{
-    write_pieces(&[word, left, blank, right, b": "], out)
-}
-
 /// `proof keep x <= 4 put: `
 fn write_keeps<S: Sink>(
-    fields: &[Field],
+    monitor: &Monitor,
     candidate: Candidate,
-    block: &[u8],
+    block: u32,
     out: &mut S,
 ) -> Result<(), SinkFailed>
     ensures { Wrote (S.seen out.old) (S.seen out.new) result
-        (codes "proof keep " ++ candidate_text fields.now candidate ++ codes " " ++ block.now
-        ++ codes ": ") }
+        (codes "proof keep " ++ candidate_text monitor.now.fields candidate ++ codes " "
+        ++ block_name monitor.now block ++ codes ": ") }
 {
     write_piece(b"proof keep ", out)?;
-    write_candidate(fields, candidate, out)?;
-    write_pieces(&[b" ", block, b": "], out)
+    write_candidate(monitor.fields(), candidate, out)?;
+    write_named(b" ", monitor, block as usize, b": ", out)
+}
+
+/// `proof one 1 put: `
+fn write_one<S: Sink>(
+    monitor: &Monitor,
+    condition: u32,
+    block: u32,
+    out: &mut S,
+) -> Result<(), SinkFailed>
+    ensures { Wrote (S.seen out.old) (S.seen out.new) result
+        (codes "proof one " ++ decimal condition ++ codes " " ++ block_name monitor.now block
+        ++ codes ": ") }
+{
+    write_count(b"proof one ", condition as u64, b" ", out)?;
+    write_named(b"", monitor, block as usize, b": ", out)
+}
+
+/// `proof none put 2: `, with these words before the block.
+fn write_after_block<S: Sink>(
+    words: &[u8],
+    monitor: &Monitor,
+    block: u32,
+    condition: u32,
+    out: &mut S,
+) -> Result<(), SinkFailed>
+    ensures { Wrote (S.seen out.old) (S.seen out.new) result
+        (words.now ++ block_name monitor.now block ++ codes " " ++ decimal condition
+        ++ codes ": ") }
+{
+    write_named(words, monitor, block as usize, b" ", out)?;
+    write_count(b"", condition as u64, b": ", out)
+}
+
+/// The name of a block between two words.
+pub(crate) fn write_named<S: Sink>(
+    before: &[u8],
+    monitor: &Monitor,
+    block: usize,
+    after: &[u8],
+    out: &mut S,
+) -> Result<(), SinkFailed>
+    ensures { Wrote (S.seen out.old) (S.seen out.new) result
+        (before.now ++ block_name monitor.now block ++ after.now) }
+{
+    write_piece(before, out)?;
+    write_block_name(monitor, block, out)?;
+    write_piece(after, out)
 }
 
 /// What stands on both sides of a sign.
@@ -169,26 +169,8 @@ pub(crate) fn flag_bytes(is: bool) -> &'static [u8]
     if is { b"" } else { b"!" }
 }
 
-/// The name of a block's method, or nothing where there is no such block.
-pub(crate) fn block_bytes(monitor: &Monitor, block: u32) -> &[u8]
-    ensures { result.now ≡ block_name monitor.now block }
-{
-    match monitor.blocks().get(block as usize) {
-        Some(held) => method_bytes(monitor, held.method),
-        None => b"",
-    }
-}
-
-pub(crate) fn method_bytes(monitor: &Monitor, method: u32) -> &[u8]
-    ensures { result.now ≡ method_name (slice_get monitor.now.methods method) }
-{
-    match monitor.methods().get(method as usize) {
-        Some(method) => method.name.bytes(),
-        None => b"",
-    }
-}
-
-/// Writes the line of a verdict: `accepted 6 claims`, `rejected: plan` or `rejected: line 6`. It takes no memory.
+/// Writes the line of a verdict: `accepted 6 claims`, `rejected: plan` or `rejected: line 6`. It
+/// takes no memory.
 ///
 /// After `SinkFailed` the first bytes of the line were taken, fewer than all and maybe none.
 pub fn write_verdict<S: Sink>(verdict: &Verdict, out: &mut S) -> Result<(), SinkFailed>

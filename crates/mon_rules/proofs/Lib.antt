@@ -8,4 +8,6 @@ pub mod ProductRules
 pub mod ExpressionRules
 pub mod NameRules
 pub mod StatementRules
+pub mod BlockRules
+pub mod MethodRules
 pub mod TreeRules

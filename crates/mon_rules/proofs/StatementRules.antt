@@ -73,20 +73,20 @@ other_expected scope kind place value other =
 abbrev TargetCases : ℕ → Option Entry → SourceFault → Type 0
 TargetCases at target fault =
     ((fault ≡ fault_at refusals.Unknown at) × (target ≡ None))
-    ⊎ ((fault ≡ fault_at refusals.ReadOnly at) × ((entry : Entry) × (target ≡ Some entry) × (entry.is_field ≡ false)))
+    ⊎ ((fault ≡ fault_at refusals.ReadOnly at) × ((entry : Entry) × (target ≡ Some entry) × (entry.is_variable ≡ false)))
 
 target_cases : (at : ℕ) (target : Option Entry) (fault : SourceFault) → Contains (target_faults at target) fault → TargetCases at target fault
 target_cases at None fault within = inl (sym (only_in (fault_at refusals.Unknown at) fault within), refl)
-target_cases at (Some entry) fault within = by_test entry.is_field refl within
+target_cases at (Some entry) fault within = by_test entry.is_variable refl within
   where
-    by_test : (test : Bool) → entry.is_field ≡ test → Contains (if test then [] else fault_at refusals.ReadOnly at ∷ []) fault → TargetCases at (Some entry) fault
+    by_test : (test : Bool) → entry.is_variable ≡ test → Contains (if test then [] else fault_at refusals.ReadOnly at ∷ []) fault → TargetCases at (Some entry) fault
     by_test true is within = none_in fault within
     by_test false is within = inr (sym (only_in (fault_at refusals.ReadOnly at) fault within), (entry, refl, is))
 
 unknown_target : (at : ℕ) (target : Option Entry) → target ≡ None → Contains (target_faults at target) (fault_at refusals.Unknown at)
 unknown_target at target none = rw none (contains_head (fault_at refusals.Unknown at) [])
 
-read_only_target : (at : ℕ) (target : Option Entry) (entry : Entry) → target ≡ Some entry → entry.is_field ≡ false → Contains (target_faults at target) (fault_at refusals.ReadOnly at)
+read_only_target : (at : ℕ) (target : Option Entry) (entry : Entry) → target ≡ Some entry → entry.is_variable ≡ false → Contains (target_faults at target) (fault_at refusals.ReadOnly at)
 read_only_target at target entry is other = rw (is, other) (contains_head (fault_at refusals.ReadOnly at) [])
 
 -- ---- one layer

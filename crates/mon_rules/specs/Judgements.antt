@@ -13,8 +13,10 @@ use Rattle.mon_tree.specs.declared.tree.Expr.TheOpen.{Expr-F, Number, Named, Min
 use Rattle.mon_tree.specs.declared.tree.Expr.TheOpen.{Sum, Compare, Both, Either}
 use Rattle.mon_tree.specs.declared.tree.StmtTree.{StmtTree, out-StmtTree}
 use Rattle.mon_tree.specs.declared.tree.StmtTree.TheOpen.{StmtTree-F, Set, If, Return}
+use Rattle.mon_tree.specs.declared.tree.BlockTree.{BlockTree}
 use Rattle.mon_tree.specs.declared.tree.MonitorTree.{MonitorTree}
-use Rattle.mon_base.specs.Limits.{CONSTANTS, FIELDS, GREATEST_NUMBER, INPUTS, METHODS, STATEMENTS}
+use Rattle.mon_base.specs.Limits.{CONSTANTS, FIELDS, GREATEST_NUMBER, INPUTS, LOCALS, METHODS}
+use Rattle.mon_base.specs.Limits.{METHOD_BLOCKS, STATEMENTS}
 use Rattle.mon_base.specs.declared.kind.Kind.{Kind}
 use Rattle.mon_base.specs.declared.kind.Kind.TheVariants as kinds
 use Rattle.mon_base.specs.declared.counted.Counted.{Counted}
@@ -26,9 +28,10 @@ use Rattle.mon_forms.specs.declared.scope.Entry.{Entry}
 use Rattle.mon_forms.specs.Scope.{entry_named}
 use Rattle.mon_forms.specs.Forms.{Form, is_constant, is_limited, minus}
 use Rattle.mon_forms.specs.Sense.{entry_kind, faults_in, first_in, form_in, is_other, kind_in}
-use Rattle.mon_rules.specs.Occurrences.{OfExpression, OfMethod, OfStatement, inner_of, parts_of}
-use Rattle.mon_rules.specs.Rules.{PlacedName, constant_place, declared_names, faults_of}
-use Rattle.mon_rules.specs.Rules.{field_place, input_names, method_names, places_in}
+use Rattle.mon_rules.specs.Occurrences.{OfBlock, OfExpression, OfMethod, OfStatement, inner_of}
+use Rattle.mon_rules.specs.Occurrences.{parts_of}
+use Rattle.mon_rules.specs.Rules.{PlacedName, constant_place, declared_at, declared_names}
+use Rattle.mon_rules.specs.Rules.{faults_of, field_place, method_names, own_names, places_in}
 
 -- ---- what a rule asks of the expressions that it speaks of
 
@@ -126,7 +129,7 @@ HasUnknownTarget scope place layer = ⊥
 abbrev pub HasReadOnlyTarget : List Entry → ℕ → StmtTree-F StmtTree → Type 0
 HasReadOnlyTarget scope place (Set at name value) =
     (at ≡ place)
-    × ((entry : Entry) × (entry_named scope name ≡ Some entry) × (entry.is_field ≡ false))
+    × ((entry : Entry) × (entry_named scope name ≡ Some entry) × (entry.is_variable ≡ false))
 HasReadOnlyTarget scope place layer = ⊥
 
 -- the value of an assignment has the target's kind, and a condition is bool
@@ -153,6 +156,14 @@ HasEarlyReturn place body =
     × (body ≡ before ++ statement ∷ next ∷ after)
     × IsReturn place (out-StmtTree statement)
 
+-- a `return` stands in a block that has another after it
+abbrev pub ReturnsBeforeLast : ℕ → List BlockTree → Type 0
+ReturnsBeforeLast place blocks =
+    (before : List BlockTree) × (block : BlockTree) × (next : BlockTree) × (after : List BlockTree)
+    × (blocks ≡ before ++ block ∷ next ∷ after)
+    × ((statement : StmtTree) × Contains block.body statement
+    × IsReturn place (out-StmtTree statement))
+
 -- ---- rules of declarations
 
 -- a name of the list that stands there is an earlier one's, or one of those before the list
@@ -166,10 +177,14 @@ Repeats others place names =
 abbrev pub IsLargeLiteral : ℕ → Lit → Type 0
 IsLargeLiteral place literal = (literal.at ≡ place) × (GREATEST_NUMBER < literal.digits)
 
-abbrev pub HasLargeLiteral : ℕ → Decl → Type 0
-HasLargeLiteral place (decls.Const at name value) = IsLargeLiteral place value
-HasLargeLiteral place (decls.Int at name value) = IsLargeLiteral place value
-HasLargeLiteral place (decls.Flag at name value) = ⊥
+abbrev pub IsLargeValue : ℕ → Decl → Type 0
+IsLargeValue place (decls.Const at name value) = IsLargeLiteral place value
+IsLargeValue place (decls.Int at name value) = IsLargeLiteral place value
+IsLargeValue place (decls.Flag at name value) = ⊥
+
+abbrev pub HasLargeLiteral : ℕ → List Decl → Type 0
+HasLargeLiteral place declared =
+    (decl : Decl) × Contains declared decl × IsLargeValue place decl
 
 -- it is the first one over the limit, counted in the order of the file
 abbrev pub IsFirstOver : ℕ → ℕ → List ℕ → Type 0
@@ -183,20 +198,20 @@ BreaksUnknown tree place =
     OfExpression tree (λ scope expression. IsUnknownName scope place (out-Expr expression))
     ⊎ OfStatement tree (λ scope statement. HasUnknownTarget scope place (out-StmtTree statement))
 
--- constants, fields and methods have distinct names, and inputs have names distinct from each other
--- and from constants and fields
+-- constants, fields and methods have distinct names, and parameters and locals of a method have
+-- names distinct from each other and from constants and fields
 abbrev pub BreaksDuplicate : MonitorTree → ℕ → Type 0
 BreaksDuplicate tree place =
     Repeats [] place (declared_names tree.decls ++ method_names tree.methods)
     ⊎ OfMethod tree (λ scope method.
-    Repeats (declared_names tree.decls) place (input_names method.inputs))
+    Repeats (declared_names tree.decls) place (own_names method))
 
 -- parts of expressions have their kind, values of assignments their target's; guards and conditions
 -- are bool
 abbrev pub BreaksWrongType : MonitorTree → ℕ → Type 0
 BreaksWrongType tree place =
     OfExpression tree (λ scope expression. HasWrongPart scope place expression)
-    ⊎ OfMethod tree (λ scope method. IsOther scope kinds.Bool place method.guard)
+    ⊎ OfBlock tree (λ scope block. IsOther scope kinds.Bool place block.guard)
     ⊎ OfStatement tree (λ scope statement. HasWrongValue scope place (out-StmtTree statement))
 
 -- of a product before a `*` and the factor after it one is constant
@@ -208,7 +223,8 @@ BreaksNotLinear tree place =
 -- written numbers and those of flattened forms are at most their limits
 abbrev pub BreaksTooLarge : MonitorTree → ℕ → Type 0
 BreaksTooLarge tree place =
-    ((decl : Decl) × Contains tree.decls decl × HasLargeLiteral place decl)
+    HasLargeLiteral place tree.decls
+    ⊎ OfMethod tree (λ scope method. HasLargeLiteral place method.locals)
     ⊎ OfExpression tree (λ scope expression. IsLargeNumber place (out-Expr expression))
     ⊎ OfExpression tree (λ scope expression.
     (first_in scope expression ≡ place)
@@ -225,19 +241,25 @@ BreaksTooMany tree counted.Methods place =
     IsFirstOver METHODS place (map (λ method. method.at) tree.methods)
 BreaksTooMany tree counted.Parameters place =
     OfMethod tree (λ scope method. IsFirstOver INPUTS place (map (λ input. input.at) method.inputs))
+BreaksTooMany tree counted.Locals place =
+    OfMethod tree (λ scope method. IsFirstOver LOCALS place (map declared_at method.locals))
+BreaksTooMany tree counted.Blocks place =
+    OfMethod tree (λ scope method.
+    IsFirstOver METHOD_BLOCKS place (map (λ block. block.at) method.blocks))
 BreaksTooMany tree counted.Statements place =
-    OfMethod tree (λ scope method. IsFirstOver STATEMENTS place (places_in method.body))
+    OfBlock tree (λ scope block. IsFirstOver STATEMENTS place (places_in block.body))
 
--- the target of an assignment is a field
+-- the target of an assignment is a field or a local
 abbrev pub BreaksReadOnly : MonitorTree → ℕ → Type 0
 BreaksReadOnly tree place =
     OfStatement tree (λ scope statement. HasReadOnlyTarget scope place (out-StmtTree statement))
 
--- a `return` is the last statement of its method's body, and stands in no `if`
+-- a `return` is the last statement of its method's last block, and stands in no `if`
 abbrev pub BreaksMisplaced : MonitorTree → ℕ → Type 0
 BreaksMisplaced tree place =
     OfStatement tree (λ scope statement. HasInnerReturn place statement)
-    ⊎ OfMethod tree (λ scope method. HasEarlyReturn place method.body)
+    ⊎ OfBlock tree (λ scope block. HasEarlyReturn place block.body)
+    ⊎ OfMethod tree (λ scope method. ReturnsBeforeLast place method.blocks)
 
 -- The tree breaks this rule at this place. Of a product the first `*` with a break is named, and of
 -- too many things the first over the limit. Rules of tokens, of the grammar and of clients are no

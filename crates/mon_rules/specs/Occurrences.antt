@@ -8,6 +8,7 @@ use Rattle.mon_tree.specs.declared.tree.Expr.TheOpen.{Expr-F, Number, Truth, Nam
 use Rattle.mon_tree.specs.declared.tree.Expr.TheOpen.{Product, Sum, Compare, Both, Either}
 use Rattle.mon_tree.specs.declared.tree.StmtTree.{StmtTree, out-StmtTree}
 use Rattle.mon_tree.specs.declared.tree.StmtTree.TheOpen.{StmtTree-F, Set, If, Return}
+use Rattle.mon_tree.specs.declared.tree.BlockTree.{BlockTree}
 use Rattle.mon_tree.specs.declared.tree.MethodTree.{MethodTree}
 use Rattle.mon_tree.specs.declared.tree.MonitorTree.{MonitorTree}
 use Rattle.mon_forms.specs.declared.scope.Entry.{Entry}
@@ -63,17 +64,17 @@ layer_expression (Return at value) = value
 abbrev pub expression_of : StmtTree → Expr
 expression_of statement = layer_expression (out-StmtTree statement)
 
--- ---- methods
+-- ---- blocks
 
-abbrev pub HasStatement : MethodTree → StmtTree → Type 0
-HasStatement method statement =
-    (outer : StmtTree) × Contains method.body outer × StandsIn inner_of outer statement
+abbrev pub HasStatement : BlockTree → StmtTree → Type 0
+HasStatement block statement =
+    (outer : StmtTree) × Contains block.body outer × StandsIn inner_of outer statement
 
 -- the guard, an expression of a statement, or a part of one of these
-abbrev pub HasExpression : MethodTree → Expr → Type 0
-HasExpression method expression =
-    StandsIn parts_of method.guard expression
-    ⊎ ((statement : StmtTree) × HasStatement method statement
+abbrev pub HasExpression : BlockTree → Expr → Type 0
+HasExpression block expression =
+    StandsIn parts_of block.guard expression
+    ⊎ ((statement : StmtTree) × HasStatement block statement
     × StandsIn parts_of (expression_of statement) expression)
 
 -- ---- files
@@ -82,15 +83,21 @@ HasExpression method expression =
 abbrev pub OfMethod : MonitorTree → (List Entry → MethodTree → Type 0) → Type 0
 OfMethod tree Rule =
     (method : MethodTree) × Contains tree.methods method
-    × Rule (scope_of tree.decls method.inputs) method
+    × Rule (scope_of tree.decls method) method
+
+-- it is so of a block, with the names that are known in its method
+abbrev pub OfBlock : MonitorTree → (List Entry → BlockTree → Type 0) → Type 0
+OfBlock tree Rule =
+    OfMethod tree (λ scope method.
+    (block : BlockTree) × Contains method.blocks block × Rule scope block)
 
 -- it is so of a statement, and of an expression, with the names that are known there
 abbrev pub OfStatement : MonitorTree → (List Entry → StmtTree → Type 0) → Type 0
 OfStatement tree Rule =
-    OfMethod tree (λ scope method.
-    (statement : StmtTree) × HasStatement method statement × Rule scope statement)
+    OfBlock tree (λ scope block.
+    (statement : StmtTree) × HasStatement block statement × Rule scope statement)
 
 abbrev pub OfExpression : MonitorTree → (List Entry → Expr → Type 0) → Type 0
 OfExpression tree Rule =
-    OfMethod tree (λ scope method.
-    (expression : Expr) × HasExpression method expression × Rule scope expression)
+    OfBlock tree (λ scope block.
+    (expression : Expr) × HasExpression block expression × Rule scope expression)

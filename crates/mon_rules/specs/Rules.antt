@@ -10,15 +10,18 @@ use Rattle.mon_tree.specs.declared.tree.InputTree.{InputTree}
 use Rattle.mon_tree.specs.declared.tree.StmtTree.{StmtTree}
 use Rattle.mon_tree.specs.declared.tree.StmtTree.TheOpen.{StmtTree-F, Set, If, Return}
 use Rattle.mon_tree.specs.declared.tree.StmtTree.TheFolds.{fold-StmtTree}
+use Rattle.mon_tree.specs.declared.tree.BlockTree.{BlockTree}
 use Rattle.mon_tree.specs.declared.tree.MethodTree.{MethodTree}
 use Rattle.mon_tree.specs.declared.tree.MonitorTree.{MonitorTree}
 use Rattle.mon_tree.specs.Names.{declared_name as bare_name}
-use Rattle.mon_base.specs.Limits.{CONSTANTS, FIELDS, FILE_BYTES, INPUTS, METHODS, STATEMENTS}
+use Rattle.mon_base.specs.Limits.{CONSTANTS, FIELDS, FILE_BYTES, INPUTS, LOCALS, METHODS}
+use Rattle.mon_base.specs.Limits.{METHOD_BLOCKS, STATEMENTS}
 use Rattle.mon_base.specs.declared.kind.Kind.{Kind}
 use Rattle.mon_base.specs.declared.kind.Kind.TheVariants as kinds
 use Rattle.mon_base.specs.declared.counted.Counted.{Counted}
 use Rattle.mon_base.specs.declared.counted.Counted.TheVariants.{Constants, Fields, Methods}
-use Rattle.mon_base.specs.declared.counted.Counted.TheVariants.{Parameters, Statements}
+use Rattle.mon_base.specs.declared.counted.Counted.TheVariants.{Parameters, Locals, Blocks}
+use Rattle.mon_base.specs.declared.counted.Counted.TheVariants.{Statements}
 use Rattle.mon_base.specs.declared.source_fault.SourceFault.{SourceFault}
 use Rattle.mon_base.specs.declared.source_fault.Refusal.TheVariants.{Unknown, Duplicate, TooMany}
 use Rattle.mon_base.specs.declared.source_fault.Refusal.TheVariants.{ReadOnly, Misplaced}
@@ -57,6 +60,10 @@ input_names inputs = map input_name inputs
 abbrev pub method_names : List MethodTree → List PlacedName
 method_names methods = map method_name methods
 
+-- those of a method's parameters, then those of its locals
+abbrev pub own_names : MethodTree → List PlacedName
+own_names method = input_names method.inputs ++ declared_names method.locals
+
 -- names that are those of earlier ones
 abbrev pub repeated : List PlacedName → List PlacedName → List SourceFault
 repeated earlier [] = []
@@ -94,10 +101,10 @@ abbrev pub expected : Option Kind → Sense → List SourceFault
 expected None value = value.faults
 expected (Some wanted) value = value.faults or_else wrong_type wanted value
 
--- the target of an assignment is a field
+-- the target of an assignment is a field or a local
 abbrev pub target_faults : ℕ → Option Entry → List SourceFault
 target_faults at None = fault_at Unknown at ∷ []
-target_faults at (Some entry) = if entry.is_field then [] else fault_at ReadOnly at ∷ []
+target_faults at (Some entry) = if entry.is_variable then [] else fault_at ReadOnly at ∷ []
 
 -- What is found of a statement: the rules that it and its inner ones break, and where it returns.
 pub record Finding : Type 0 where
@@ -127,7 +134,7 @@ finding_step scope (Return at value) =
 abbrev pub finding : List Entry → StmtTree → Finding
 finding scope = fold-StmtTree Finding (finding_step scope)
 
--- a `return` is the last statement of its method's body
+-- a `return` is the last statement of its body
 abbrev pub early_returns : List Finding → List ℕ
 early_returns [] = []
 early_returns (last ∷ []) = []
@@ -139,32 +146,59 @@ faults_in_each scope body = flat_map (λ statement. (finding scope statement).fa
 abbrev pub early_faults : List Entry → List StmtTree → List SourceFault
 early_faults scope body = misplaced (early_returns (map (finding scope) body))
 
-abbrev pub body_faults : List Entry → List StmtTree → List SourceFault
-body_faults scope body =
-    faults_in_each scope body
-    ++ early_faults scope body
-    ++ over STATEMENTS Statements (places_in body)
+-- ---- blocks
+
+-- a guard is bool
+abbrev pub block_faults : List Entry → BlockTree → List SourceFault
+block_faults scope block =
+    expected (Some kinds.Bool) (sense scope block.guard)
+    ++ faults_in_each scope block.body
+    ++ over STATEMENTS Statements (places_in block.body)
+
+abbrev pub faults_in_blocks : List Entry → List BlockTree → List SourceFault
+faults_in_blocks scope blocks = flat_map (block_faults scope) blocks
+
+-- no `return` stands in these statements
+abbrev pub return_faults : List Entry → List StmtTree → List SourceFault
+return_faults scope body = misplaced (flat_map (λ inner. (finding scope inner).returns) body)
+
+-- a `return` is the last statement of its method's last block
+abbrev pub early_in_blocks : List Entry → List BlockTree → List SourceFault
+early_in_blocks scope [] = []
+early_in_blocks scope (last ∷ []) = early_faults scope last.body
+early_in_blocks scope (first ∷ next ∷ more) =
+    return_faults scope first.body ++ early_in_blocks scope (next ∷ more)
 
 -- ---- methods
-
--- inputs have names distinct from each other and from declarations
-abbrev pub method_faults : List Decl → MethodTree → List SourceFault
-method_faults declared method =
-    repeated (declared_names declared) (input_names method.inputs)
-    ++ over INPUTS Parameters (map (λ input. input.at) method.inputs)
-    ++ expected (Some kinds.Bool) (sense (scope_of declared method.inputs) method.guard)
-    ++ body_faults (scope_of declared method.inputs) method.body
-
-abbrev pub faults_in_methods : List Decl → List MethodTree → List SourceFault
-faults_in_methods declared methods = flat_map (method_faults declared) methods
-
--- ---- files
 
 -- a written number of a declaration is at most the greatest one
 abbrev pub literal_faults : Decl → List SourceFault
 literal_faults (decls.Const at name value) = large_number value.at value.digits
 literal_faults (decls.Int at name value) = large_number value.at value.digits
 literal_faults (decls.Flag at name value) = []
+
+abbrev pub faults_in_literals : List Decl → List SourceFault
+faults_in_literals declared = flat_map literal_faults declared
+
+-- parameters and locals have names distinct from each other and from declarations
+abbrev pub own_faults : List Decl → MethodTree → List SourceFault
+own_faults declared method =
+    repeated (declared_names declared) (own_names method)
+    ++ over INPUTS Parameters (map (λ input. input.at) method.inputs)
+    ++ over LOCALS Locals (map declared_at method.locals)
+    ++ over METHOD_BLOCKS Blocks (map (λ block. block.at) method.blocks)
+    ++ faults_in_literals method.locals
+
+abbrev pub method_faults : List Decl → MethodTree → List SourceFault
+method_faults declared method =
+    own_faults declared method
+    ++ faults_in_blocks (scope_of declared method) method.blocks
+    ++ early_in_blocks (scope_of declared method) method.blocks
+
+abbrev pub faults_in_methods : List Decl → List MethodTree → List SourceFault
+faults_in_methods declared methods = flat_map (method_faults declared) methods
+
+-- ---- files
 
 abbrev pub constant_place : Decl → List ℕ
 constant_place (decls.Const at name value) = at ∷ []
@@ -179,7 +213,7 @@ field_place (decls.Flag at name value) = at ∷ []
 -- constants, fields and methods have distinct names
 abbrev pub faults_of : MonitorTree → List SourceFault
 faults_of tree =
-    flat_map literal_faults tree.decls
+    faults_in_literals tree.decls
     ++ repeated [] (declared_names tree.decls ++ method_names tree.methods)
     ++ over CONSTANTS Constants (flat_map constant_place tree.decls)
     ++ over FIELDS Fields (flat_map field_place tree.decls)
@@ -190,3 +224,4 @@ faults_of tree =
 pub record HasFewNames (tree : MonitorTree) : Type 0 where
   pub declared : length tree.decls ≤ FILE_BYTES
   pub taken : All (λ method. length method.inputs ≤ FILE_BYTES) tree.methods
+  pub locals : All (λ method. length method.locals ≤ FILE_BYTES) tree.methods

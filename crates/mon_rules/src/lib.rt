@@ -5,6 +5,7 @@
 //! goes over it, and [`faults_are_broken_rules`] is the law that these are the same.
 #![tactic(auto)]
 
+mod blocks;
 mod laws;
 mod limits;
 mod methods;

@@ -1,18 +1,18 @@
-//! How many constants, fields, methods, inputs and statements there are.
+//! How many constants, fields, methods, inputs, locals, blocks and statements there are.
 //! A fault is at the first one over the limit.
 
 ghost use Rattle.std.specs.Prelude.{◌≡◌, map, slice_get};
 ghost use Rattle.std.specs.List.{flat_map};
-ghost use Rattle.mon_base.specs.Limits.{CONSTANTS, FIELDS, INPUTS, METHODS, STATEMENTS};
+ghost use Rattle.mon_base.specs.Limits.{CONSTANTS, FIELDS, INPUTS, LOCALS, METHODS, METHOD_BLOCKS, STATEMENTS};
 ghost use Rattle.mon_tree.specs.declared.tree.StmtTree.{out-StmtTree};
-ghost use Rattle.mon_base.specs.declared.counted.Counted.TheVariants.{Constants, Fields, Methods, Parameters, Statements};
+ghost use Rattle.mon_base.specs.declared.counted.Counted.TheVariants.{Blocks, Constants, Fields, Locals, Methods, Parameters, Statements};
 ghost use Rattle.mon_base.specs.SourceFaults.{least};
-ghost use Rattle.mon_rules.specs.Rules.{constant_place, field_place, over, over_at, places_in, statement_places};
+ghost use Rattle.mon_rules.specs.Rules.{constant_place, declared_at, field_place, over, over_at, places_in, statement_places};
 ghost use Rattle.mon_rules.specs.inner.Counting.{counted, declares_constant, statement_place};
 
 use crate::names::place_of_name;
 use mon_base::{Counted, Refusal, SourceFault, limits};
-use mon_tree::{Decl, InputTree, MethodTree, StmtTree};
+use mon_tree::{BlockTree, Decl, InputTree, MethodTree, StmtTree};
 
 /// There are no more constants than a monitor may have.
 pub(crate) fn over_constants(decls: &[Decl]) -> Option<SourceFault>
@@ -40,6 +40,20 @@ pub(crate) fn over_inputs(inputs: &[InputTree]) -> Option<SourceFault>
     ensures { result ≡ least (over INPUTS Parameters (map (λ input. input.at) inputs.now)) }
 {
     over_at(Counted::Parameters, input_at(inputs, limits::INPUTS))
+}
+
+/// There are no more locals than a method may have.
+pub(crate) fn over_locals(locals: &[Decl]) -> Option<SourceFault>
+    ensures { result ≡ least (over LOCALS Locals (map declared_at locals.now)) }
+{
+    over_at(Counted::Locals, local_at(locals, limits::LOCALS))
+}
+
+/// There are no more blocks than a method may have.
+pub(crate) fn over_blocks(blocks: &[BlockTree]) -> Option<SourceFault>
+    ensures { result ≡ least (over METHOD_BLOCKS Blocks (map (λ block. block.at) blocks.now)) }
+{
+    over_at(Counted::Blocks, block_at(blocks, limits::METHOD_BLOCKS))
 }
 
 /// There are no more statements than a body may have, inner ones counted.
@@ -77,6 +91,26 @@ fn input_at(inputs: &[InputTree], number: usize) -> Option<u32>
 {
     match inputs.get(number) {
         Some(input) => Some(input.at),
+        None => None,
+    }
+}
+
+/// Where the local with this number stands, counted from 0.
+fn local_at(locals: &[Decl], number: usize) -> Option<u32>
+    ensures { result ≡ slice_get (map declared_at locals.now) number }
+{
+    match locals.get(number) {
+        Some(local) => Some(place_of_name(local)),
+        None => None,
+    }
+}
+
+/// Where the block with this number stands, counted from 0.
+fn block_at(blocks: &[BlockTree], number: usize) -> Option<u32>
+    ensures { result ≡ slice_get (map (λ block. block.at) blocks.now) number }
+{
+    match blocks.get(number) {
+        Some(block) => Some(block.at),
         None => None,
     }
 }

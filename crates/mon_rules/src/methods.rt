@@ -3,12 +3,13 @@
 ghost use Rattle.std.specs.Prelude.{◌≡◌, ◌≤◌, All, IfOk, length};
 ghost use Rattle.mon_base.specs.Limits.{FILE_BYTES};
 ghost use Rattle.mon_base.specs.SourceFaults.{least};
-ghost use Rattle.mon_rules.specs.Rules.{faults_in_methods, method_faults};
+ghost use Rattle.mon_rules.specs.Rules.{faults_in_methods, method_faults, own_faults};
 
-use crate::limits::over_inputs;
-use crate::names::repeated_input;
-use crate::statements::{fault_in_body, fault_in_expected};
-use mon_base::{Kind, SourceFault, earlier_of};
+use crate::blocks::{early_return_in, fault_in_blocks};
+use crate::limits::{over_blocks, over_inputs, over_locals};
+use crate::names::repeated_own;
+use crate::numbers::large_literal;
+use mon_base::{SourceFault, earlier_of};
 use mon_forms::{scope_numbers_are_small, scope_of};
 use mon_tree::{Decl, MethodTree};
 use std::alloc::{AllocError, Global};
@@ -21,6 +22,7 @@ pub(crate) fn fault_in_methods(
 ) -> Result<Option<SourceFault>, AllocError>
     requires declared { length decls.now ≤ FILE_BYTES }
     requires taken { All (λ method. length method.inputs ≤ FILE_BYTES) methods.now }
+    requires locals { All (λ method. length method.locals ≤ FILE_BYTES) methods.now }
     ensures { IfOk result (λ fault. fault ≡ least (faults_in_methods decls.now methods.now)) }
 {
     let mut fault = None;
@@ -37,14 +39,25 @@ fn fault_in_method(
 ) -> Result<Option<SourceFault>, AllocError>
     requires declared { length decls.now ≤ FILE_BYTES }
     requires taken { length method.now.inputs ≤ FILE_BYTES }
+    requires locals { length method.now.locals ≤ FILE_BYTES }
     ensures { IfOk result (λ fault. fault ≡ least (method_faults decls.now method.now)) }
 {
-    let inputs = method.inputs.items();
-    let scope = scope_of(alloc, decls, inputs)?;
-    let names = scope.items();
+    let scope = scope_of(alloc, decls, method)?;
     scope_numbers_are_small();
-    let guard = fault_in_expected(alloc, names, Some(Kind::Bool), &method.guard)?;
-    let body = fault_in_body(alloc, names, method.body.items())?;
-    let inputs_fault = earlier_of(repeated_input(decls, inputs), over_inputs(inputs));
-    Ok(earlier_of(earlier_of(inputs_fault, guard), body))
+    let blocks = method.blocks.items();
+    let inner = fault_in_blocks(alloc, scope.items(), blocks)?;
+    let first = earlier_of(own_fault(decls, method), inner);
+    Ok(earlier_of(first, early_return_in(blocks)))
+}
+
+/// The first fault in a method's parameters and locals, or that it has too many blocks.
+fn own_fault(decls: &[Decl], method: &MethodTree) -> Option<SourceFault>
+    ensures { result ≡ least (own_faults decls.now method.now) }
+{
+    let inputs = method.inputs.items();
+    let locals = method.locals.items();
+    let first = earlier_of(repeated_own(decls, inputs, locals), over_inputs(inputs));
+    let first = earlier_of(first, over_locals(locals));
+    let first = earlier_of(first, over_blocks(method.blocks.items()));
+    earlier_of(first, large_literal(locals))
 }

@@ -1,4 +1,4 @@
-//! Names that are those of earlier declarations, methods or inputs.
+//! Names that are those of earlier declarations, methods, inputs or locals.
 
 ghost use Rattle.std.specs.Prelude.{◌≡◌, ◌↔◌, ◌<◌, [], ◌++◌, Contains, IsTrue, Some, None, if◌then◌else◌, length, map, slice_get, take};
 ghost use Rattle.mon_tree.specs.Names.{declared_name as bare_name};
@@ -38,14 +38,40 @@ fn repeated_method(decls: &[Decl], methods: &[MethodTree]) -> Option<SourceFault
     fault
 }
 
-/// The first of the inputs with the name of a declaration or of an earlier input.
-pub(crate) fn repeated_input(decls: &[Decl], inputs: &[InputTree]) -> Option<SourceFault>
+/// The first of a method's inputs and locals with the name of a declaration or an earlier one.
+pub(crate) fn repeated_own(
+    decls: &[Decl],
+    inputs: &[InputTree],
+    locals: &[Decl],
+) -> Option<SourceFault>
+    ensures { result ≡ least (repeated (declared_names decls.now)
+        (input_names inputs.now ++ declared_names locals.now)) }
+{
+    earlier_of(
+        repeated_input(decls, inputs),
+        repeated_local(decls, inputs, locals),
+    )
+}
+
+fn repeated_input(decls: &[Decl], inputs: &[InputTree]) -> Option<SourceFault>
     ensures { result ≡ least (repeated (declared_names decls.now) (input_names inputs.now)) }
 {
     let mut fault = None;
     for (i, input) in inputs.iter().enumerate() {
         let again = is_taken(decls, inputs, i);
         fault = earlier_of(fault, repeated_at(again, input.at));
+    }
+    fault
+}
+
+fn repeated_local(decls: &[Decl], inputs: &[InputTree], locals: &[Decl]) -> Option<SourceFault>
+    ensures { result ≡ least (repeated (declared_names decls.now ++ input_names inputs.now)
+        (declared_names locals.now)) }
+{
+    let mut fault = None;
+    for (i, local) in locals.iter().enumerate() {
+        let again = is_local_taken(decls, inputs, locals, i);
+        fault = earlier_of(fault, repeated_at(again, place_of_name(local)));
     }
     fault
 }
@@ -72,6 +98,16 @@ fn is_taken<T: Named>(decls: &[Decl], items: &[T], place: usize) -> bool
         (T.name_of item) }
 {
     is_repeated(items, place) || is_among(decls, items[place].name())
+}
+
+/// The name of the local at this place is a declaration's or an input's, or also stands earlier.
+fn is_local_taken(decls: &[Decl], inputs: &[InputTree], locals: &[Decl], place: usize) -> bool
+    requires { place < length locals.now }
+    ensures { (local : _) → slice_get locals.now place ≡ Some local → IsTrue result
+        ↔ Contains (map bare_name decls.now ++ map (λ input. input.name) inputs.now
+        ++ map bare_name (take place locals.now)) (bare_name local) }
+{
+    is_taken(decls, locals, place) || is_among(inputs, locals[place].name())
 }
 
 /// The offset of the name that a declaration declares.

@@ -1,9 +1,8 @@
 //! Numbers of declarations.
 
 ghost use Rattle.std.specs.Prelude.{◌≡◌};
-ghost use Rattle.std.specs.List.{flat_map};
 ghost use Rattle.mon_base.specs.SourceFaults.{least};
-ghost use Rattle.mon_rules.specs.Rules.{literal_faults};
+ghost use Rattle.mon_rules.specs.Rules.{faults_in_literals, literal_faults};
 
 use mon_base::{SourceFault, earlier_of};
 use mon_forms::large_number;
@@ -11,7 +10,7 @@ use mon_tree::Decl;
 
 /// The first of the written numbers of declarations that is too large.
 pub(crate) fn large_literal(decls: &[Decl]) -> Option<SourceFault>
-    ensures { result ≡ least (flat_map literal_faults decls.now) }
+    ensures { result ≡ least (faults_in_literals decls.now) }
 {
     let mut fault = None;
     for decl in decls {

@@ -1,4 +1,4 @@
-//! The rules of expressions, statements and bodies.
+//! The rules of expressions and statements.
 
 ghost use Rattle.std.specs.Prelude.{◌≡◌, IfOk, IsTrue, List};
 ghost use Rattle.mon_forms.specs.declared.scope.Entry.{Entry};
@@ -6,10 +6,9 @@ ghost use Rattle.mon_base.specs.SourceFaults.{least};
 ghost use Rattle.mon_forms.specs.Making.{has_small_numbers};
 ghost use Rattle.mon_forms.specs.Scope.{entry_named};
 ghost use Rattle.mon_forms.specs.Sense.{sense};
-ghost use Rattle.mon_rules.specs.Rules.{body_faults, early_faults, expected, faults_in_each, finding, target_faults};
-ghost use Rattle.mon_rules.specs.inner.Parts.{block_faults, misplaced_in, misplaced_in_each, set_faults, unwanted};
+ghost use Rattle.mon_rules.specs.Rules.{early_faults, expected, faults_in_each, finding, return_faults, target_faults};
+ghost use Rattle.mon_rules.specs.inner.Parts.{branch_faults, misplaced_in, set_faults, unwanted};
 
-use crate::limits::over_statements;
 use mon_base::{Kind, Refusal, SourceFault, earlier_of};
 use mon_forms::{Entry, fault_in, find, kind_of_name, wrong_type};
 use mon_tree::{Expr, StmtTree};
@@ -57,7 +56,7 @@ fn fault_in_set(
     Ok(earlier_of(target, valued))
 }
 
-/// The target of an assignment is a field.
+/// The target of an assignment is a field or a local.
 fn target_fault(scope: &[Entry], at: u32, name: &[u8]) -> Option<SourceFault>
     ensures { result ≡ least (target_faults at (entry_named scope.now name.now)) }
 {
@@ -66,7 +65,7 @@ fn target_fault(scope: &[Entry], at: u32, name: &[u8]) -> Option<SourceFault>
             at,
             what: Refusal::Unknown,
         }),
-        Some(index) => if scope[index].is_field {
+        Some(index) => if scope[index].is_variable {
             None
         } else {
             Some(SourceFault {
@@ -96,8 +95,8 @@ fn fault_in_statement(
             ..
         } => {
             let condition = fault_in_expected(alloc, scope, Some(Kind::Bool), when)?;
-            let chosen = fault_in_block(alloc, scope, then.items())?;
-            let otherwise = fault_in_block(alloc, scope, other.items())?;
+            let chosen = fault_in_branch(alloc, scope, then.items())?;
+            let otherwise = fault_in_branch(alloc, scope, other.items())?;
             Ok(earlier_of(condition, earlier_of(chosen, otherwise)))
         }
         StmtTree::Return { value, .. } => fault_in(alloc, scope, value),
@@ -106,13 +105,13 @@ fn fault_in_statement(
 
 /// The first fault in the statements of an `if`, where no `return` stands.
 #[cycle(fault_in_statement)]
-fn fault_in_block(
+fn fault_in_branch(
     alloc: Global,
     scope: &[Entry],
     statements: &[StmtTree],
 ) -> Result<Option<SourceFault>, AllocError>
     requires numbers { IsTrue (has_small_numbers scope.now) }
-    ensures { IfOk result (λ fault. fault ≡ least (block_faults scope.now statements.now)) }
+    ensures { IfOk result (λ fault. fault ≡ least (branch_faults scope.now statements.now)) }
 {
     let mut fault = None;
     for statement in statements {
@@ -136,20 +135,8 @@ fn misplaced_return(statement: &StmtTree) -> Option<SourceFault>
     }
 }
 
-/// The first fault in a body.
-pub(crate) fn fault_in_body(
-    alloc: Global,
-    scope: &[Entry],
-    body: &[StmtTree],
-) -> Result<Option<SourceFault>, AllocError>
-    requires numbers { IsTrue (has_small_numbers scope.now) }
-    ensures { IfOk result (λ fault. fault ≡ least (body_faults scope.now body.now)) }
-{
-    let inner = fault_in_each(alloc, scope, body)?;
-    Ok(earlier_of(earlier_of(inner, early_return(body)), over_statements(body)))
-}
-
-fn fault_in_each(
+/// The first fault in the statements of a body.
+pub(crate) fn fault_in_each(
     alloc: Global,
     scope: &[Entry],
     body: &[StmtTree],
@@ -165,7 +152,7 @@ fn fault_in_each(
 }
 
 /// The first `return` that is not the last statement of its body.
-fn early_return(body: &[StmtTree]) -> Option<SourceFault>
+pub(crate) fn early_return(body: &[StmtTree]) -> Option<SourceFault>
     ensures { (scope : List Entry) → result ≡ least (early_faults scope body.now) }
 {
     match body.len().checked_sub(1) {
@@ -175,8 +162,8 @@ fn early_return(body: &[StmtTree]) -> Option<SourceFault>
 }
 
 /// The first `return` of statements among which none may stand.
-fn any_return(statements: &[StmtTree]) -> Option<SourceFault>
-    ensures { (scope : List Entry) → result ≡ least (misplaced_in_each scope statements.now) }
+pub(crate) fn any_return(statements: &[StmtTree]) -> Option<SourceFault>
+    ensures { (scope : List Entry) → result ≡ least (return_faults scope statements.now) }
 {
     let mut fault = None;
     for statement in statements {

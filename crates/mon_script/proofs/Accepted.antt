@@ -110,14 +110,14 @@ named_within : (methods : List Method) (name : List ℕ) (method : ℕ) → posi
 named_within [] name method found = absurd cc
 named_within (one ∷ more) name method found = (position-Some (λ m. bytes_eq m.name name) (one ∷ more) method one found).0
 
-call_fits : (monitor : MonitorParts) (call : PlacedCall) → call_faults monitor call ≡ [] → FitsCall monitor (call_of monitor call.name call.arguments)
-call_fits monitor call none = by_named (method_named monitor call.name) refl (no_front (method_faults monitor call.at call.arguments (method_named monitor call.name)) (flat_map number_faults call.arguments) none)
+call_fits : (monitor : MonitorParts) (tries : Bool) (call : PlacedCall) → call_faults monitor call ≡ [] → FitsCall monitor (call_of monitor tries call.name call.arguments)
+call_fits monitor tries call none = by_named (method_named monitor call.name) refl (no_front (method_faults monitor call.name_at call.arguments (method_named monitor call.name)) (flat_map number_faults call.arguments) none)
   where
-    by_named : (named : Option ℕ) → method_named monitor call.name ≡ named → method_faults monitor call.at call.arguments named ≡ [] → FitsCall monitor (call_of monitor call.name call.arguments)
+    by_named : (named : Option ℕ) → method_named monitor call.name ≡ named → method_faults monitor call.name_at call.arguments named ≡ [] → FitsCall monitor (call_of monitor tries call.name call.arguments)
     by_named None unknown found = absurd cc
     by_named (Some method) calls_it found =
-        subst (λ (n : Option ℕ). FitsCall monitor (record { method = unwrap_or n 0; inputs = map value_of call.arguments })) (sym calls_it)
-        (record { method = named_within monitor.methods call.name method calls_it; inputs = arguments_fit (inputs_of monitor method) call.at call.arguments found })
+        subst (λ (n : Option ℕ). FitsCall monitor (record { method = unwrap_or n 0; inputs = map value_of call.arguments; tries = tries })) (sym calls_it)
+        (record { method = named_within monitor.methods call.name method calls_it; inputs = arguments_fit (inputs_of monitor method) call.name_at call.arguments found })
 
 -- ---- items
 
@@ -130,11 +130,11 @@ copies_fit P (suc times) calls all = All-append P calls (joined (replicate times
 
 item_fits : (monitor : MonitorParts) (item : Item) → Fits monitor item
 item_fits monitor = by_items (Fits monitor)
-    (λ at name arguments none.
-    let call : PlacedCall = record { at = at; name = name; arguments = arguments } in
-    let fine = no_front (call_faults monitor call) [] (sym (faults-Call monitor at name arguments) ∙ none) in
-    All-same (FitsCall monitor) (calls_of_item monitor (items.Call at name arguments)) (call_of monitor name arguments ∷ []) (calls-Call monitor at name arguments)
-    (All-cons (FitsCall monitor) (call_of monitor name arguments) [] (call_fits monitor call fine) (All-nil (FitsCall monitor))))
+    (λ at tries place name arguments none.
+    let call : PlacedCall = record { name_at = place; name = name; arguments = arguments } in
+    let fine = no_front (call_faults monitor call) [] (sym (faults-Call monitor at tries place name arguments) ∙ none) in
+    All-same (FitsCall monitor) (calls_of_item monitor (items.Call at tries place name arguments)) (call_of monitor tries name arguments ∷ []) (calls-Call monitor at tries place name arguments)
+    (All-cons (FitsCall monitor) (call_of monitor tries name arguments) [] (call_fits monitor tries call fine) (All-nil (FitsCall monitor))))
     (λ at times inner each none.
     let fine = each_empty (item_faults monitor) inner (sym (faults-Repeat monitor at times inner) ∙ none) in
     let calls = flat_map (calls_of_item monitor) inner in
@@ -148,7 +148,7 @@ item_small : (monitor : MonitorParts) (item : Item) → item_faults monitor item
 item_small monitor item none =
     All-weaker (λ call. call_faults monitor call ≡ []) HasSmallArguments (λ call fine.
     All-weaker (λ argument. number_faults argument ≡ []) IsSmallArgument number_small call.arguments
-    (each_empty number_faults call.arguments (no_back (method_faults monitor call.at call.arguments (method_named monitor call.name)) (flat_map number_faults call.arguments) fine)))
+    (each_empty number_faults call.arguments (no_back (method_faults monitor call.name_at call.arguments (method_named monitor call.name)) (flat_map number_faults call.arguments) fine)))
     (placed_calls item) (each_empty (call_faults monitor) (placed_calls item) none)
 
 -- ---- clients
@@ -248,11 +248,11 @@ module _ (monitor : MonitorParts) (tree : ClientsTree) (unbroken : faults_of mon
 
 -- ---- what the makers ask of a tree
 
-pub small_arguments : (item : Item) (at : ℕ) (name : List ℕ) (arguments slice : List Arg) → item ≡ items.Call at name arguments → slice ≡ arguments → IsSmallItem item → All IsSmallArgument slice
-small_arguments item at name arguments slice is same small =
+pub small_arguments : (item : Item) (at : ℕ) (tries : Bool) (place : ℕ) (name : List ℕ) (arguments slice : List Arg) → item ≡ items.Call at tries place name arguments → slice ≡ arguments → IsSmallItem item → All IsSmallArgument slice
+small_arguments item at tries place name arguments slice is same small =
     All-same IsSmallArgument slice arguments same
-    (All-head HasSmallArguments (record { at = at; name = name; arguments = arguments }) []
-    (All-same HasSmallArguments (record { at = at; name = name; arguments = arguments } ∷ []) (placed_calls item) (sym (ap placed_calls is ∙ placed-Call at name arguments)) small))
+    (All-head HasSmallArguments (record { name_at = place; name = name; arguments = arguments }) []
+    (All-same HasSmallArguments (record { name_at = place; name = name; arguments = arguments } ∷ []) (placed_calls item) (sym (ap placed_calls is ∙ placed-Call at tries place name arguments)) small))
 
 pub small_inner : (item : Item) (at times : ℕ) (inner slice : List Item) → item ≡ items.Repeat at times inner → slice ≡ inner → IsSmallItem item → AreSmallItems slice
 small_inner item at times inner slice is same small =

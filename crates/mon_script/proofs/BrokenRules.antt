@@ -65,24 +65,24 @@ module _ (monitor : MonitorParts) (tree : ClientsTree) where
         by_test true fits found = none_in fault found
         by_test false other found = subst (Breaks monitor tree) (only_in (fault_at refusals.WrongType (argument_place argument)) fault found) (call, stands, (method, kind, argument, calls_it, same, one, other, refl))
 
-    from_arguments : (method : ℕ) → CallsMethod monitor call method → Contains (argument_faults (inputs_of monitor method) call.at call.arguments) fault → Breaks monitor tree fault
+    from_arguments : (method : ℕ) → CallsMethod monitor call method → Contains (argument_faults (inputs_of monitor method) call.name_at call.arguments) fault → Breaks monitor tree fault
     from_arguments method calls_it within = by_test (length call.arguments == length (inputs_of monitor method)) refl within
       where
         by_test : (test : Bool) → (length call.arguments == length (inputs_of monitor method)) ≡ test
-            → Contains (if test then flat_map type_faults (zip (inputs_of monitor method) call.arguments) else fault_at refusals.WrongCount call.at ∷ []) fault → Breaks monitor tree fault
+            → Contains (if test then flat_map type_faults (zip (inputs_of monitor method) call.arguments) else fault_at refusals.WrongCount call.name_at ∷ []) fault → Breaks monitor tree fault
         by_test true same found =
             let source = from_flat_map type_faults (zip (inputs_of monitor method) call.arguments) fault found in
             from_type method calls_it (equal_from (length call.arguments) (length (inputs_of monitor method)) same) source.from source.one source.within
         by_test false other found =
-            subst (Breaks monitor tree) (only_in (fault_at refusals.WrongCount call.at) fault found)
+            subst (Breaks monitor tree) (only_in (fault_at refusals.WrongCount call.name_at) fault found)
             (call, stands, (method, refl, calls_it, differ_from (length call.arguments) (length (inputs_of monitor method)) other))
 
-    from_method : (named : Option ℕ) → method_named monitor call.name ≡ named → Contains (method_faults monitor call.at call.arguments named) fault → Breaks monitor tree fault
-    from_method None unknown within = subst (Breaks monitor tree) (only_in (fault_at refusals.UnknownMethod call.at) fault within) (call, stands, (refl, unknown))
+    from_method : (named : Option ℕ) → method_named monitor call.name ≡ named → Contains (method_faults monitor call.name_at call.arguments named) fault → Breaks monitor tree fault
+    from_method None unknown within = subst (Breaks monitor tree) (only_in (fault_at refusals.UnknownMethod call.name_at) fault within) (call, stands, (refl, unknown))
     from_method (Some method) calls_it within = from_arguments method calls_it within
 
     from_call : Contains (call_faults monitor call) fault → Breaks monitor tree fault
-    from_call within = elim (Contains-append_cases (method_faults monitor call.at call.arguments (method_named monitor call.name)) (flat_map number_faults call.arguments) fault within) [
+    from_call within = elim (Contains-append_cases (method_faults monitor call.name_at call.arguments (method_named monitor call.name)) (flat_map number_faults call.arguments) fault within) [
       | inl here ↦ from_method (method_named monitor call.name) refl here
       | inr numbers ↦ let source = from_flat_map number_faults call.arguments fault numbers in from_number source.from source.one source.within
     ]
@@ -166,22 +166,22 @@ module _ (monitor : MonitorParts) (tree : ClientsTree) where
       let item = from_flat_map placed_calls (items_in tree.clients) call stands in
       by_call fault (in_flat_map (item_faults monitor) (items_in tree.clients) item.from fault item.one (in_flat_map (call_faults monitor) (placed_calls item.from) call fault item.within within))
 
-  in_method : (fault : SourceFault) (call : PlacedCall) (named : Option ℕ) → method_named monitor call.name ≡ named → Contains (method_faults monitor call.at call.arguments named) fault → Contains (call_faults monitor call) fault
+  in_method : (fault : SourceFault) (call : PlacedCall) (named : Option ℕ) → method_named monitor call.name ≡ named → Contains (method_faults monitor call.name_at call.arguments named) fault → Contains (call_faults monitor call) fault
   in_method fault call named is within =
-      Contains-append_left (method_faults monitor call.at call.arguments (method_named monitor call.name)) (flat_map number_faults call.arguments) fault
-      (subst (λ (n : Option ℕ). Contains (method_faults monitor call.at call.arguments n) fault) (sym is) within)
+      Contains-append_left (method_faults monitor call.name_at call.arguments (method_named monitor call.name)) (flat_map number_faults call.arguments) fault
+      (subst (λ (n : Option ℕ). Contains (method_faults monitor call.name_at call.arguments n) fault) (sym is) within)
 
   in_number : (call : PlacedCall) (at : ℕ) (value : Lit) → Contains call.arguments (args.Int at value) → GREATEST_NUMBER < value.digits → Contains (call_faults monitor call) (fault_at refusals.TooLarge value.at)
   in_number call at value one large =
       let here : Contains (number_faults (args.Int at value)) (fault_at refusals.TooLarge value.at) = rw (less_test GREATEST_NUMBER value.digits large) (contains_head (fault_at refusals.TooLarge value.at) []) in
-      Contains-append_right (method_faults monitor call.at call.arguments (method_named monitor call.name)) (flat_map number_faults call.arguments) (fault_at refusals.TooLarge value.at)
+      Contains-append_right (method_faults monitor call.name_at call.arguments (method_named monitor call.name)) (flat_map number_faults call.arguments) (fault_at refusals.TooLarge value.at)
       (in_flat_map number_faults call.arguments (args.Int at value) (fault_at refusals.TooLarge value.at) one here)
 
-  in_count : (call : PlacedCall) (method : ℕ) → length call.arguments ≢ length (inputs_of monitor method) → Contains (argument_faults (inputs_of monitor method) call.at call.arguments) (fault_at refusals.WrongCount call.at)
-  in_count call method other = rw (differ_test (length call.arguments) (length (inputs_of monitor method)) other) (contains_head (fault_at refusals.WrongCount call.at) [])
+  in_count : (call : PlacedCall) (method : ℕ) → length call.arguments ≢ length (inputs_of monitor method) → Contains (argument_faults (inputs_of monitor method) call.name_at call.arguments) (fault_at refusals.WrongCount call.name_at)
+  in_count call method other = rw (differ_test (length call.arguments) (length (inputs_of monitor method)) other) (contains_head (fault_at refusals.WrongCount call.name_at) [])
 
   in_type : (call : PlacedCall) (method : ℕ) (kind : Kind) (argument : Arg) → length call.arguments ≡ length (inputs_of monitor method) → Contains (zip (inputs_of monitor method) call.arguments) (kind, argument) → is_for kind argument ≡ false
-      → Contains (argument_faults (inputs_of monitor method) call.at call.arguments) (fault_at refusals.WrongType (argument_place argument))
+      → Contains (argument_faults (inputs_of monitor method) call.name_at call.arguments) (fault_at refusals.WrongType (argument_place argument))
   in_type call method kind argument same one other =
       let pairs = zip (inputs_of monitor method) call.arguments in
       let here : Contains (type_faults (kind, argument)) (fault_at refusals.WrongType (argument_place argument)) = rw other (contains_head (fault_at refusals.WrongType (argument_place argument)) []) in
@@ -193,10 +193,10 @@ module _ (monitor : MonitorParts) (tree : ClientsTree) where
   in_faults : (what : Refusal) (at : ℕ) → BreaksRule monitor tree what at → Listed (fault_at what at)
   in_faults refusals.UnknownMethod at (call, stands, (here, unknown)) =
       subst (λ (n : ℕ). Listed (fault_at refusals.UnknownMethod n)) here
-      (in_call (fault_at refusals.UnknownMethod call.at) call stands (in_method (fault_at refusals.UnknownMethod call.at) call None unknown (contains_head (fault_at refusals.UnknownMethod call.at) [])))
+      (in_call (fault_at refusals.UnknownMethod call.name_at) call stands (in_method (fault_at refusals.UnknownMethod call.name_at) call None unknown (contains_head (fault_at refusals.UnknownMethod call.name_at) [])))
   in_faults refusals.WrongCount at (call, stands, (method, here, calls_it, other)) =
       subst (λ (n : ℕ). Listed (fault_at refusals.WrongCount n)) here
-      (in_call (fault_at refusals.WrongCount call.at) call stands (in_method (fault_at refusals.WrongCount call.at) call (Some method) calls_it (in_count call method other)))
+      (in_call (fault_at refusals.WrongCount call.name_at) call stands (in_method (fault_at refusals.WrongCount call.name_at) call (Some method) calls_it (in_count call method other)))
   in_faults refusals.WrongType at (call, stands, (method, kind, argument, calls_it, same, one, other, here)) =
       let fault = fault_at refusals.WrongType (argument_place argument) in
       subst (λ (n : ℕ). Listed (fault_at refusals.WrongType n)) here

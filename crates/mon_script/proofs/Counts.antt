@@ -1,5 +1,5 @@
 -- Counts up to one more than the limit, and pairs of inputs and arguments.
-use Rattle.std.proofs.Common.{◌≡◌, ℕ, zero, suc, ◌+◌, ◌*◌, ◌<◌, ◌≤◌, min, true, List, [], ◌∷◌, ◌++◌, length, get_or, take, replicate, refl, sym, ap, ◌∙◌, arith, inl, inr, Option}
+use Rattle.std.proofs.Common.{◌≡◌, ℕ, zero, suc, ◌+◌, ◌*◌, ◌<◌, ◌≤◌, min, Bool, true, List, [], ◌∷◌, ◌++◌, length, get_or, take, replicate, refl, sym, ap, ◌∙◌, arith, inl, inr, Option}
 use Rattle.std.specs.Prelude.{nat_lt, ◌==◌, sum_by, zip}
 use Rattle.std.specs.List.{flat_map}
 use Rattle.std.proofs.lemmas.Bool.{cases_Bool}
@@ -40,8 +40,8 @@ min_times (suc times) count limit = elim (cases_Bool (nat_lt count limit)) [
     at_limit : (limit a b : ℕ) → limit ≤ a → limit ≤ b → min a limit ≡ min b limit
     at_limit limit a b one other = omega (arith, one, other)
 
-pub one_call_counted : (at : ℕ) (name : List ℕ) (arguments : List Arg) → 1 ≡ min (call_count (items.Call at name arguments)) ABOVE
-one_call_counted at name arguments = ap (λ n. min n ABOVE) (sym (count-Call at name arguments))
+pub one_call_counted : (at : ℕ) (tries : Bool) (place : ℕ) (name : List ℕ) (arguments : List Arg) → 1 ≡ min (call_count (items.Call at tries place name arguments)) ABOVE
+one_call_counted at tries place name arguments = ap (λ n. min n ABOVE) (sym (count-Call at tries place name arguments))
 
 pub repeat_counted : (at times : ℕ) (inner : List Item) (count result : ℕ) → count ≡ min (sum_by call_count inner) ABOVE → result ≡ min (times * count) ABOVE → result ≡ min (call_count (items.Repeat at times inner)) ABOVE
 repeat_counted at times inner count result counted is =

@@ -1,5 +1,5 @@
 -- What is said of each form of an item, and induction over what stands in it.
-use Rattle.std.proofs.Common.{◌≡◌, ℕ, zero, suc, ◌+◌, ◌*◌, List, [], ◌∷◌, ◌++◌, length, map, replicate, refl, sym, ap, subst, ◌∙◌, arith}
+use Rattle.std.proofs.Common.{◌≡◌, ℕ, zero, suc, ◌+◌, ◌*◌, Bool, List, [], ◌∷◌, ◌++◌, length, map, replicate, refl, sym, ap, subst, ◌∙◌, arith}
 use native.Mathlib.Nat.{suc-mul}
 use Rattle.std.specs.Prelude.{All, sum_by}
 use Rattle.std.specs.List.{flat_map}
@@ -27,8 +27,8 @@ flat_map-flat_map f g (x ∷ xs) = flat_map-append f (g x) (flat_map g xs) ∙ a
 
 -- ---- each form
 
-pub calls-Call : (monitor : MonitorParts) (at : ℕ) (name : List ℕ) (arguments : List Arg) → calls_of_item monitor (items.Call at name arguments) ≡ call_of monitor name arguments ∷ []
-calls-Call monitor at name arguments = ap (calls_of_item monitor) (sym (items.rolls-Call at name arguments)) ∙ fold-roll-Item (List ScriptCall) (calls_step monitor) (layers.Call at name arguments)
+pub calls-Call : (monitor : MonitorParts) (at : ℕ) (tries : Bool) (place : ℕ) (name : List ℕ) (arguments : List Arg) → calls_of_item monitor (items.Call at tries place name arguments) ≡ call_of monitor tries name arguments ∷ []
+calls-Call monitor at tries place name arguments = ap (calls_of_item monitor) (sym (items.rolls-Call at tries place name arguments)) ∙ fold-roll-Item (List ScriptCall) (calls_step monitor) (layers.Call at tries place name arguments)
 
 pub calls-Repeat : (monitor : MonitorParts) (at times : ℕ) (inner : List Item) → calls_of_item monitor (items.Repeat at times inner) ≡ joined (replicate times (flat_map (calls_of_item monitor) inner))
 calls-Repeat monitor at times inner =
@@ -36,8 +36,8 @@ calls-Repeat monitor at times inner =
     ∙ fold-roll-Item (List ScriptCall) (calls_step monitor) (layers.Repeat at times inner)
     ∙ ap (λ calls. joined (replicate times calls)) (flat_map-map (λ calls. calls) (calls_of_item monitor) inner)
 
-pub placed-Call : (at : ℕ) (name : List ℕ) (arguments : List Arg) → placed_calls (items.Call at name arguments) ≡ record { at = at; name = name; arguments = arguments } ∷ []
-placed-Call at name arguments = ap placed_calls (sym (items.rolls-Call at name arguments)) ∙ fold-roll-Item (List PlacedCall) placed_step (layers.Call at name arguments)
+pub placed-Call : (at : ℕ) (tries : Bool) (place : ℕ) (name : List ℕ) (arguments : List Arg) → placed_calls (items.Call at tries place name arguments) ≡ record { name_at = place; name = name; arguments = arguments } ∷ []
+placed-Call at tries place name arguments = ap placed_calls (sym (items.rolls-Call at tries place name arguments)) ∙ fold-roll-Item (List PlacedCall) placed_step (layers.Call at tries place name arguments)
 
 pub placed-Repeat : (at times : ℕ) (inner : List Item) → placed_calls (items.Repeat at times inner) ≡ flat_map placed_calls inner
 placed-Repeat at times inner =
@@ -45,8 +45,8 @@ placed-Repeat at times inner =
     ∙ fold-roll-Item (List PlacedCall) placed_step (layers.Repeat at times inner)
     ∙ flat_map-map (λ calls. calls) placed_calls inner
 
-pub count-Call : (at : ℕ) (name : List ℕ) (arguments : List Arg) → call_count (items.Call at name arguments) ≡ 1
-count-Call at name arguments = ap call_count (sym (items.rolls-Call at name arguments)) ∙ fold-roll-Item ℕ count_step (layers.Call at name arguments)
+pub count-Call : (at : ℕ) (tries : Bool) (place : ℕ) (name : List ℕ) (arguments : List Arg) → call_count (items.Call at tries place name arguments) ≡ 1
+count-Call at tries place name arguments = ap call_count (sym (items.rolls-Call at tries place name arguments)) ∙ fold-roll-Item ℕ count_step (layers.Call at tries place name arguments)
 
 pub count-Repeat : (at times : ℕ) (inner : List Item) → call_count (items.Repeat at times inner) ≡ times * sum_by call_count inner
 count-Repeat at times inner =
@@ -54,8 +54,8 @@ count-Repeat at times inner =
     ∙ fold-roll-Item ℕ count_step (layers.Repeat at times inner)
     ∙ ap (λ calls. times * calls) (sum-map call_count inner)
 
-pub faults-Call : (monitor : MonitorParts) (at : ℕ) (name : List ℕ) (arguments : List Arg) → item_faults monitor (items.Call at name arguments) ≡ call_faults monitor (record { at = at; name = name; arguments = arguments }) ++ []
-faults-Call monitor at name arguments = ap (flat_map (call_faults monitor)) (placed-Call at name arguments)
+pub faults-Call : (monitor : MonitorParts) (at : ℕ) (tries : Bool) (place : ℕ) (name : List ℕ) (arguments : List Arg) → item_faults monitor (items.Call at tries place name arguments) ≡ call_faults monitor (record { name_at = place; name = name; arguments = arguments }) ++ []
+faults-Call monitor at tries place name arguments = ap (flat_map (call_faults monitor)) (placed-Call at tries place name arguments)
 
 pub faults-Repeat : (monitor : MonitorParts) (at times : ℕ) (inner : List Item) → item_faults monitor (items.Repeat at times inner) ≡ flat_map (item_faults monitor) inner
 faults-Repeat monitor at times inner = ap (flat_map (call_faults monitor)) (placed-Repeat at times inner) ∙ flat_map-flat_map (call_faults monitor) placed_calls inner
@@ -63,7 +63,7 @@ faults-Repeat monitor at times inner = ap (flat_map (call_faults monitor)) (plac
 -- ---- induction
 
 module _ (P : Item → Type 0)
-    (call : (at : ℕ) (name : List ℕ) (arguments : List Arg) → P (items.Call at name arguments))
+    (call : (at : ℕ) (tries : Bool) (place : ℕ) (name : List ℕ) (arguments : List Arg) → P (items.Call at tries place name arguments))
     (again : (at times : ℕ) (inner : List Item) → All P inner → P (items.Repeat at times inner)) where
   abbrev bare : Item-F ((item : Item) × P item) → Item-F Item
   bare = map-Item ((item : Item) × P item) Item (λ e. e.0)
@@ -73,7 +73,7 @@ module _ (P : Item → Type 0)
   each (e ∷ inner) = All-cons P e.0 (map (λ e. e.0) inner) e.1 (each inner)
 
   of_layer : (layer : Item-F ((item : Item) × P item)) → P (roll-Item (bare layer))
-  of_layer (layers.Call at name arguments) = subst P (sym (items.rolls-Call at name arguments)) (call at name arguments)
+  of_layer (layers.Call at tries place name arguments) = subst P (sym (items.rolls-Call at tries place name arguments)) (call at tries place name arguments)
   of_layer (layers.Repeat at times inner) = subst P (sym (items.rolls-Repeat at times (map (λ e. e.0) inner))) (again at times (map (λ e. e.0) inner) (each inner))
 
   -- what holds of each call, and of a `repeat` where it holds of what stands in it, holds of each item
@@ -99,7 +99,7 @@ length-copies (suc times) list = length-append list (joined (replicate times lis
 
 pub as_many_calls : (monitor : MonitorParts) (item : Item) → length (calls_of_item monitor item) ≡ call_count item
 as_many_calls monitor = by_items (λ item. length (calls_of_item monitor item) ≡ call_count item)
-    (λ at name arguments. ap length (calls-Call monitor at name arguments) ∙ sym (count-Call at name arguments))
+    (λ at tries place name arguments. ap length (calls-Call monitor at tries place name arguments) ∙ sym (count-Call at tries place name arguments))
     (λ at times inner same. ap length (calls-Repeat monitor at times inner)
     ∙ length-copies times (flat_map (calls_of_item monitor) inner)
     ∙ ap (λ k. times * k) (length-flat_map (calls_of_item monitor) call_count inner same)

@@ -27,21 +27,22 @@ abbrev pub items_in : List ClientTree → List Item
 items_in clients = flat_map (λ client. client.items) clients
 
 abbrev pub place_step : Item-F Item → ℕ
-place_step (Call at name arguments) = at
+place_step (Call at tries place name arguments) = at
 place_step (Repeat at times inner) = at
 
 -- the offset of an item's first token
 abbrev pub place_of : Item → ℕ
 place_of item = place_step (out-Item item)
 
--- a call as it stands in the file
+-- a call as it stands in the file, with the offset of its name
 pub record PlacedCall : Type 0 where
-  pub at : ℕ
+  pub name_at : ℕ
   pub name : List ℕ
   pub arguments : List Arg
 
 abbrev pub placed_step : Item-F (List PlacedCall) → List PlacedCall
-placed_step (Call here called given) = record { at = here; name = called; arguments = given } ∷ []
+placed_step (Call at tries place called given) =
+    record { name_at = place; name = called; arguments = given } ∷ []
 placed_step (Repeat here times inner) = joined inner
 
 -- the calls that stand in an item, those in a `repeat` too, each once
@@ -89,7 +90,7 @@ method_faults monitor at given (Some method) = argument_faults (inputs_of monito
 
 abbrev pub call_faults : MonitorParts → PlacedCall → List SourceFault
 call_faults monitor call =
-    method_faults monitor call.at call.arguments (method_named monitor call.name)
+    method_faults monitor call.name_at call.arguments (method_named monitor call.name)
     ++ flat_map number_faults call.arguments
 
 abbrev pub item_faults : MonitorParts → Item → List SourceFault

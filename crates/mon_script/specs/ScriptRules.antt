@@ -27,15 +27,15 @@ OfCall tree P =
 abbrev pub CallsMethod : MonitorParts → PlacedCall → ℕ → Type 0
 CallsMethod monitor call method = method_named monitor call.name ≡ Some method
 
--- the called name is no method
+-- the called name is no method; the place is the name's
 abbrev pub BreaksUnknownMethod : MonitorParts → ClientsTree → ℕ → Type 0
 BreaksUnknownMethod monitor tree place =
-    OfCall tree (λ call. (call.at ≡ place) × (method_named monitor call.name ≡ None))
+    OfCall tree (λ call. (call.name_at ≡ place) × (method_named monitor call.name ≡ None))
 
--- the call has more or fewer arguments than the method has inputs
+-- the call has more or fewer arguments than the method has inputs; the place is the name's
 abbrev pub BreaksWrongCount : MonitorParts → ClientsTree → ℕ → Type 0
 BreaksWrongCount monitor tree place = OfCall tree (λ call.
-    (method : ℕ) × (call.at ≡ place) × CallsMethod monitor call method
+    (method : ℕ) × (call.name_at ≡ place) × CallsMethod monitor call method
     × (length call.arguments ≢ length (inputs_of monitor method)))
 
 -- an argument is a number for a bool or a truth value for an int; asked where the count agrees

@@ -1,5 +1,5 @@
 -- The scripts that the tree of a client file stands for: its calls, with each `repeat` written out.
-use Rattle.std.specs.Prelude.{◌≡◌, ℕ, ◌*◌, ℤ, pos, neg_ℤ, if◌then◌else◌, List, [], ◌∷◌, map}
+use Rattle.std.specs.Prelude.{◌≡◌, ℕ, ◌*◌, ℤ, pos, neg_ℤ, Bool, if◌then◌else◌, List, [], ◌∷◌, map}
 use Rattle.std.specs.Prelude.{replicate, sum, Option, position, unwrap_or}
 use Rattle.std.specs.List.{flat_map}
 use Rattle.std.specs.Str.{bytes_eq}
@@ -28,11 +28,12 @@ value_of (args.Bool at value) = values.Bool value
 abbrev pub method_named : MonitorParts → List ℕ → Option ℕ
 method_named monitor name = position (λ method. bytes_eq method.name name) monitor.methods
 
--- the call of the method of this name with these arguments
-abbrev pub call_of : MonitorParts → List ℕ → List Arg → ScriptCall
-call_of monitor name arguments = record {
+-- the call of the method of this name with these arguments, and whether it tries
+abbrev pub call_of : MonitorParts → Bool → List ℕ → List Arg → ScriptCall
+call_of monitor tries name arguments = record {
   method = unwrap_or (method_named monitor name) 0;
   inputs = map value_of arguments;
+  tries = tries;
 }
 
 -- one list after the other
@@ -41,7 +42,7 @@ joined lists = flat_map (λ list. list) lists
 
 -- a `repeat` is so many copies of what stands in it
 abbrev pub calls_step : MonitorParts → Item-F (List ScriptCall) → List ScriptCall
-calls_step monitor (Call at name arguments) = call_of monitor name arguments ∷ []
+calls_step monitor (Call at tries place name arguments) = call_of monitor tries name arguments ∷ []
 calls_step monitor (Repeat at times inner) = joined (replicate times (joined inner))
 
 abbrev pub calls_of_item : MonitorParts → Item → List ScriptCall
@@ -63,7 +64,7 @@ IsScripted tree monitor clients = clients ≡ clients_of monitor tree
 -- ---- how many calls an item is with each `repeat` written out: a whole number without a bound
 
 abbrev pub count_step : Item-F ℕ → ℕ
-count_step (Call at name arguments) = 1
+count_step (Call at tries place name arguments) = 1
 count_step (Repeat at times inner) = times * sum inner
 
 abbrev pub call_count : Item → ℕ

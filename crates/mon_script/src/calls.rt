@@ -40,18 +40,28 @@ fn fault_in_item(monitor: &Monitor, item: &Item) -> Option<SourceFault>
     ensures { result ≡ least (item_faults monitor.now item.now) }
 {
     match item {
-        Item::Call { at, name, args } => fault_in_call(monitor, *at, name, args.items()),
+        Item::Call {
+            name_at,
+            name,
+            args,
+            ..
+        } => fault_in_call(monitor, *name_at, name, args.items()),
         Item::Repeat { items, .. } => fault_in_items(monitor, items.items()),
     }
 }
 
-fn fault_in_call(monitor: &Monitor, at: u32, name: &Name, arguments: &[Arg]) -> Option<SourceFault>
+fn fault_in_call(
+    monitor: &Monitor,
+    name_at: u32,
+    name: &Name,
+    arguments: &[Arg],
+) -> Option<SourceFault>
     ensures { result ≡ least (call_faults monitor.now
-        (record { at = at; name = name.now; arguments = arguments.now })) }
+        (record { name_at = name_at; name = name.now; arguments = arguments.now })) }
 {
     let method = method_named(monitor, name);
     earlier_of(
-        method_fault(monitor, at, arguments, method),
+        method_fault(monitor, name_at, arguments, method),
         large_number(arguments),
     )
 }

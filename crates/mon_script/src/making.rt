@@ -53,7 +53,12 @@ fn calls_of_item(alloc: Global, monitor: &Monitor, item: &Item) -> Result<Vec<Ca
     ensures { IfOk result (λ made. made.items ≡ calls_of_item monitor.now item.now) }
 {
     match item {
-        Item::Call { name, args, .. } => one_call(alloc, monitor, name, args.items()),
+        Item::Call {
+            tries,
+            name,
+            args,
+            ..
+        } => one_call(alloc, monitor, *tries, name, args.items()),
         Item::Repeat { times, items, .. } => {
             if *times == 0 {
                 return Ok(Vec::new(alloc));
@@ -67,16 +72,19 @@ fn calls_of_item(alloc: Global, monitor: &Monitor, item: &Item) -> Result<Vec<Ca
 fn one_call(
     alloc: Global,
     monitor: &Monitor,
+    tries: bool,
     name: &Name,
     arguments: &[Arg],
 ) -> Result<Vec<Call>, AllocError>
     requires { All IsSmallArgument arguments.now }
-    ensures { IfOk result (λ made. made.items ≡ call_of monitor.now name.now arguments.now ∷ []) }
+    ensures { IfOk result (λ made.
+        made.items ≡ call_of monitor.now tries name.now arguments.now ∷ []) }
 {
     let mut made = Vec::new(alloc);
     made.push(Call {
         method: method_named(monitor, name).unwrap_or(0),
         inputs: Seq::of(values_of(alloc, arguments)?),
+        tries,
     })?;
     Ok(made)
 }
@@ -114,6 +122,7 @@ fn push_copy(alloc: Global, made: &mut Vec<Call>, calls: &[Call]) -> Result<(), 
         made.push(Call {
             method: call.method,
             inputs: Seq::of(Vec::from_slice(alloc, call.inputs.items())?),
+            tries: call.tries,
         })?;
     }
     Ok(())

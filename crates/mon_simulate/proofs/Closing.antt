@@ -6,6 +6,7 @@ use Rattle.std.proofs.lemmas.Bool.{cases_lt, true≢false}
 use Rattle.std.proofs.lemmas.Bool.Decides.{nat_tests}
 use Rattle.std.proofs.lemmas.Option.{slice_get_within}
 use Rattle.mon_implicit.specs.Scripted.{calls_of}
+use Rattle.mon_implicit.specs.declared.place.Place.{Place}
 use Rattle.mon_events.specs.Configurations.{System, Phase, Standing}
 use Rattle.mon_events.specs.Configurations.Phase.{Idle, Entering, Waiting, Woken, Inside, Notifying}
 use Rattle.mon_events.specs.Logs.{IsClosed, rests}
@@ -14,7 +15,8 @@ use Rattle.mon_simulate.specs.Schedules.{ready}
 use Rattle.mon_simulate.specs.inner.Turns.{NoneReady}
 use Rattle.mon_simulate.proofs.Choosing.{none_of_none}
 
-one_each : (machine : FreeMachine) → HoldsAlways machine → length machine.now.standings ≡ length machine.system.clients
+one_each : (machine : FreeMachine) → HoldsAlways machine
+    → length machine.now.standings ≡ length machine.system.clients
 one_each machine always = always.sound.one_each
 
 -- ---- between sections a client rests exactly where it can't make one
@@ -25,42 +27,49 @@ none_left past count is = grind (arith, nat_tests, is)
 not_left : (past count : ℕ) → nat_le count past ≡ true → nat_lt past count ≡ false
 not_left past count is = grind (arith, nat_tests, is)
 
-rests_between : (system : System) (client past : ℕ) (phase : Phase) → is_between phase ≡ true → can_start system client past phase ≡ false → rests system client past phase ≡ true
-rests_between system client past Idle between starts = none_left past (length (calls_of system.clients client)) starts
-rests_between system client past Entering between starts = absurd (true≢false (sym between))
-rests_between system client past (Waiting condition) between starts = refl
-rests_between system client past (Woken condition) between starts = absurd (true≢false starts)
-rests_between system client past Inside between starts = absurd (true≢false (sym between))
-rests_between system client past (Notifying notes) between starts = absurd (true≢false (sym between))
+rests_between : (system : System) (client : ℕ) (place : Place) (phase : Phase)
+    → is_between phase ≡ true → can_start system client place phase ≡ false
+    → rests system client place phase ≡ true
+rests_between system client place Idle between starts = none_left place.past (length (calls_of system.clients client)) starts
+rests_between system client place Entering between starts = absurd (true≢false (sym between))
+rests_between system client place (Waiting condition) between starts = refl
+rests_between system client place (Woken condition) between starts = absurd (true≢false starts)
+rests_between system client place Inside between starts = absurd (true≢false (sym between))
+rests_between system client place (Notifying notes) between starts = absurd (true≢false (sym between))
 
-starts_not : (system : System) (client past : ℕ) (phase : Phase) → rests system client past phase ≡ true → can_start system client past phase ≡ false
-starts_not system client past Idle resting = not_left past (length (calls_of system.clients client)) resting
-starts_not system client past Entering resting = refl
-starts_not system client past (Waiting condition) resting = refl
-starts_not system client past (Woken condition) resting = absurd (true≢false (sym resting))
-starts_not system client past Inside resting = refl
-starts_not system client past (Notifying notes) resting = refl
+starts_not : (system : System) (client : ℕ) (place : Place) (phase : Phase)
+    → rests system client place phase ≡ true → can_start system client place phase ≡ false
+starts_not system client place Idle resting = not_left place.past (length (calls_of system.clients client)) resting
+starts_not system client place Entering resting = refl
+starts_not system client place (Waiting condition) resting = refl
+starts_not system client place (Woken condition) resting = absurd (true≢false (sym resting))
+starts_not system client place Inside resting = refl
+starts_not system client place (Notifying notes) resting = refl
 
 -- ---- closed
 
-pub closed_where_none_ready : (machine : FreeMachine) → HoldsAlways machine → NoneReady machine 0 (length machine.system.clients) → IsClosed machine.system machine.now
+pub closed_where_none_ready : (machine : FreeMachine) → HoldsAlways machine
+    → NoneReady machine 0 (length machine.system.clients) → IsClosed machine.system machine.now
 closed_where_none_ready machine always none = record {
   free = always.rule.free;
-  each = λ client past phase at.
-      let within : client < length machine.system.clients = omega (arith, one_each machine always, slice_get_within machine.now.standings client (record { past = past; phase = phase }) at) in
-      rests_between machine.system client past phase (always.between client past phase at)
-      (sym (ap (λ (one : Option Standing). option_map_or (λ standing. can_start machine.system client standing.past standing.phase) one false) at) ∙ none client (omega arith) within);
+  each = λ client place phase at.
+      let within : client < length machine.system.clients = omega (arith, one_each machine always, slice_get_within machine.now.standings client (record { place = place; phase = phase }) at) in
+      rests_between machine.system client place phase (always.between client place phase at)
+      (sym (ap (λ (one : Option Standing). option_map_or (λ standing. can_start machine.system client standing.place standing.phase) one false) at) ∙ none client (omega arith) within);
 }
 
-starts_there : (machine : FreeMachine) (client : ℕ) → IsClosed machine.system machine.now → (found : Option Standing) → slice_get machine.now.standings client ≡ found
-    → option_map_or (λ standing. can_start machine.system client standing.past standing.phase) found false ≡ false
+starts_there : (machine : FreeMachine) (client : ℕ) → IsClosed machine.system machine.now
+    → (found : Option Standing) → slice_get machine.now.standings client ≡ found
+    → option_map_or (λ standing. can_start machine.system client standing.place standing.phase) found false ≡ false
 starts_there machine client closed None is = refl
-starts_there machine client closed (Some standing) is = starts_not machine.system client standing.past standing.phase (closed.each client standing.past standing.phase is)
+starts_there machine client closed (Some standing) is = starts_not machine.system client standing.place standing.phase (closed.each client standing.place standing.phase is)
 
-pub none_ready_where_closed : (machine : FreeMachine) → IsClosed machine.system machine.now → (client : ℕ) → is_ready machine client ≡ false
+pub none_ready_where_closed : (machine : FreeMachine) → IsClosed machine.system machine.now
+    → (client : ℕ) → is_ready machine client ≡ false
 none_ready_where_closed machine closed client = starts_there machine client closed (slice_get machine.now.standings client) refl
 
-pub some_ready_where_open : (machine : FreeMachine) → HoldsAlways machine → (IsClosed machine.system machine.now → ⊥) → 0 < length (ready machine)
+pub some_ready_where_open : (machine : FreeMachine) → HoldsAlways machine
+    → (IsClosed machine.system machine.now → ⊥) → 0 < length (ready machine)
 some_ready_where_open machine always is_open =
     elim (cases_lt 0 (length (ready machine))) [
       | inl some ↦ some
@@ -68,7 +77,8 @@ some_ready_where_open machine always is_open =
           (λ client above below. none_of_none (is_ready machine) 0 (length machine.system.clients) (omega arith) client above (omega arith))))
     ]
 
-pub none_of_both : (machine : FreeMachine) (asked count : ℕ) → NoneReady machine asked count → NoneReady machine 0 asked → NoneReady machine 0 count
+pub none_of_both : (machine : FreeMachine) (asked count : ℕ) → NoneReady machine asked count
+    → NoneReady machine 0 asked → NoneReady machine 0 count
 none_of_both machine asked count later earlier client above below =
     elim (cases_lt client asked) [
       | inl before ↦ earlier client above before

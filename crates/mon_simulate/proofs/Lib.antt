@@ -4,3 +4,5 @@ pub mod OneLog
 pub mod OneSection
 pub mod Rounding
 pub mod Turning
+pub mod OneStep
+pub mod Waking

@@ -7,10 +7,11 @@ use Rattle.rand_pcg.specs.Lcg.{Lcg}
 use Rattle.rand_pcg.specs.Pcg.{pcg32}
 use Rattle.mon_implicit.specs.Rounds.{asked_before}
 use Rattle.mon_implicit.proofs.OneRun.{asked_once, which}
+use Rattle.mon_implicit.specs.declared.place.Place.{Place}
 use Rattle.mon_events.specs.declared.log.Entry.{Entry}
 use Rattle.mon_events.specs.Configurations.{System, Phase, Configuration, put}
 use Rattle.mon_events.specs.Configurations.Phase.{Waiting, Woken}
-use Rattle.mon_events.proofs.Standings.{one_past, one_phase}
+use Rattle.mon_events.proofs.Standings.{one_place, one_phase}
 use Rattle.mon_explicit.specs.Sections.{FreeMachine, AddsEntry, WokenByNothing, spurious_entry}
 use Rattle.mon_simulate.specs.Schedules.{Acts, Drawing, IsAt, IsByRounds, IsDrawn, IsDrawnFrom, IsNextReady, IsTurn, ready, waiting, wakes_at}
 use Rattle.mon_simulate.specs.Schedules.IsByRounds.{ended, acted}
@@ -45,12 +46,12 @@ wakes_once : (client : ℕ) (before one other : FreeMachine) → WokenByNothing 
 wakes_once client before one other wakes also =
     let at = wakes.wakes.waits in
     let there = also.wakes.waits in
-    let pasts = one_past before.now.standings client wakes.past also.past (Waiting wakes.condition) (Waiting also.condition) at there in
+    let places = one_place before.now.standings client wakes.place also.place (Waiting wakes.condition) (Waiting also.condition) at there in
     let conditions =
-    same_condition wakes.condition also.condition (one_phase before.now.standings client wakes.past also.past (Waiting wakes.condition) (Waiting also.condition) at there) in
-    let becomes = λ (past condition : ℕ). record before.now { standings = put before.now.standings client past (Woken condition) } in
-    same_after before one other (spurious_entry client wakes.past) (spurious_entry client also.past) wakes.appends also.appends
-    (ap (spurious_entry client) pasts) (wakes.wakes.becomes ∙ ap₂ becomes pasts conditions ∙ sym also.wakes.becomes)
+    same_condition wakes.condition also.condition (one_phase before.now.standings client wakes.place also.place (Waiting wakes.condition) (Waiting also.condition) at there) in
+    let becomes = λ (place : Place) (condition : ℕ). record before.now { standings = put before.now.standings client place (Woken condition) } in
+    same_after before one other (spurious_entry client wakes.place) (spurious_entry client also.place) wakes.appends also.appends
+    (ap (spurious_entry client) places) (wakes.wakes.becomes ∙ ap₂ becomes places conditions ∙ sym also.wakes.becomes)
 
 -- ---- by rounds
 

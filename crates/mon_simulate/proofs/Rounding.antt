@@ -1,10 +1,11 @@
 -- A schedule by rounds, one section longer.
 use Rattle.std.proofs.Common.{◌≡◌, ℕ, ◌+◌, ◌-◌, ◌*◌, ◌<◌, Bool, false, cond, List, [], ◌∷◌, ◌++◌, length, refl, ap, ap₂, ◌∙◌, append_assoc, length-append, arith}
 use Rattle.std.proofs.lemmas.Grind.{common_steps}
+use Rattle.mon_implicit.specs.Scripted.{all_blocks}
 use Rattle.mon_events.specs.declared.log.Entry.{Entry}
 use Rattle.mon_events.specs.Configurations.{System, Configuration}
-use Rattle.mon_events.specs.Logs.{IsSection, IsClosed, is_spurious_entry, all_calls}
-use Rattle.mon_events.specs.Logs.IsSection.{waited, replied}
+use Rattle.mon_events.specs.Logs.{IsSection, IsClosed, is_spurious_entry}
+use Rattle.mon_events.specs.Logs.IsSection.{waited, refused, replied}
 use Rattle.mon_explicit.specs.Sections.{FreeMachine, AddsEntry, HoldsAlways, spurious_in, room_of}
 use Rattle.mon_simulate.specs.Schedules.{Acts, Extends, IsNextReady, IsByRounds}
 use Rattle.mon_simulate.specs.Schedules.IsByRounds.{ended, acted}
@@ -24,8 +25,9 @@ extends_more before now next entry so_far more = record {
 }
 
 pub section_not_spurious : (system : System) (log : List Entry) (before : Configuration) (entry : Entry) (next : Configuration) → IsSection system log before entry next → is_spurious_entry entry ≡ false
-section_not_spurious system log before entry next (waited client past begun locked last free begins locks waits) = refl
-section_not_spurious system log before entry next (replied client past bits reply state begun locked ran notified last free begins locks runs notes unlocks are) = refl
+section_not_spurious system log before entry next (waited client place begun locked last free begins locks waits) = refl
+section_not_spurious system log before entry next (refused client place goes reply state begun locked ran last free begins locks refuses unlocks) = refl
+section_not_spurious system log before entry next (replied client place goes bits reply state begun locked ran notified last free begins locks runs notes unlocks are) = refl
 
 pub spurious_more : (log : List Entry) (entry : Entry) → spurious_in (log ++ entry ∷ []) ≡ spurious_in log + cond (is_spurious_entry entry) 1 0
 spurious_more log entry = grind (arith, common_steps)
@@ -41,7 +43,7 @@ section_spurious client now next (section, made) =
     omega (arith, ap (λ (log : List Entry). spurious_in log) made.appends.log, more, none)
 
 pub same_room : (before next : FreeMachine) (entry : Entry) → AddsEntry before entry next → room_of next ≡ room_of before
-same_room before next entry more = ap₂ (λ (system : System) (extra : ℕ). all_calls system * length system.clients + 2 * extra) more.system more.extra
+same_room before next entry more = ap₂ (λ (system : System) (extra : ℕ). all_blocks system.monitor system.clients * length system.clients + 2 * extra) more.system more.extra
 
 -- the room that is left falls
 pub room_falls : (now next : FreeMachine) (entry : Entry) → AddsEntry now entry next → HoldsAlways next → room_of next - length next.log < room_of now - length now.log

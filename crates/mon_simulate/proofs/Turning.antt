@@ -29,10 +29,10 @@ turn_acts now next draws x client last first wakes at acts = acted (drawing now 
 -- ---- what it leaves
 
 wake_spurious : (client : ℕ) (now next : FreeMachine) → WokenByNothing client now next → spurious_in next.log ≡ spurious_in now.log + 1
-wake_spurious client now next wakes = ap (λ (log : List Entry). spurious_in log) wakes.appends.log ∙ spurious_more now.log (spurious_entry client wakes.past)
+wake_spurious client now next wakes = ap (λ (log : List Entry). spurious_in log) wakes.appends.log ∙ spurious_more now.log (spurious_entry client wakes.place)
 
 turn_appends : (now next : Drawing) → IsTurn now next → (entry : Entry) × AddsEntry now.machine entry next.machine
-turn_appends now next (woken own end x y client drawn first wakes second at wake left) = (spurious_entry client wake.past, wake.appends)
+turn_appends now next (woken own end x y client drawn first wakes second at wake left) = (spurious_entry client wake.place, wake.appends)
 turn_appends now next (acted own end x client first wakes at acts left) = (acts.0.entry, acts.1.appends)
 
 turn_spurious : (now next : Drawing) → IsTurn now next → spurious_in next.machine.log + next.left ≡ spurious_in now.machine.log + now.left

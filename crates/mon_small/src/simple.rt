@@ -1,5 +1,5 @@
-//! Blocks of simple statements: all rows are difference rows, and an int field is assigned a constant, or one variable
-//! and a constant.
+//! Blocks of simple statements: all rows are difference rows, and an int is assigned a constant, or
+//! a field, parameter or local plus a constant.
 
 ghost use Rattle.std.specs.Prelude.{◌≡◌, ◌&&◌};
 ghost use Rattle.std.specs.List.{list_all};

@@ -23,7 +23,8 @@ fn is_plain_formula(formula: &Formula) -> bool
     cubes(formula) <= MOST_CUBES && has_difference_rows(formula)
 }
 
-/// Whether the query of the claim is negated within the limits, to a formula of difference rows alone.
+/// Whether the query of the claim is negated within the limits, to a formula of difference rows
+/// alone.
 fn is_plain(
     alloc: Global,
     monitor: &Monitor,
@@ -135,10 +136,11 @@ fn are_plain_blocks(alloc: Global, monitor: &Monitor, all: &[Candidate]) -> Resu
     Ok(true)
 }
 
-/// Whether the monitor is told to be small, so that its plan is exact. It is exactly where all blocks are simple, and the
-/// query of each claim that is asked of it is negated, with all candidates kept, within the limits to a formula of few
-/// cubes and of difference rows alone. So some small monitors are not told: a query with another row need not be hard.
-/// It fails only for want of memory.
+/// Whether the monitor is told to be small, so that its plan is exact. It is exactly where all
+/// blocks are simple, and the query of each claim that is asked of it is negated, with all
+/// candidates kept, within the limits to a formula of few cubes and of difference rows alone. So
+/// some small monitors are not told: a query with another row need not be hard. It fails only for
+/// want of memory.
 pub fn is_small(alloc: Global, monitor: &Monitor) -> Result<bool, AllocError>
     ensures plain { IfOk result (λ answer. IsTrue answer ↔ IsPlain monitor.now) }
     ensures small { IfOk result (λ answer. IsTrue answer → IsSmall monitor.now) }

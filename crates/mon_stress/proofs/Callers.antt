@@ -1,10 +1,10 @@
 -- The calls of the producers and of the consumers, by their numbers.
 use Rattle.std.proofs.Common.{◌≡◌, ℕ, zero, suc, ◌+◌, ◌-◌, ◌<◌, ◌≤◌, List, [], ◌∷◌, ◌++◌, length, map, replicate, refl, sym, ap, ◌∙◌, arith, length-append}
-use Rattle.std.specs.Prelude.{slice_get, IsSomeAnd, codes}
+use Rattle.std.specs.Prelude.{slice_get, Some, codes}
 use Rattle.std.specs.List.{range_with_len}
 use Rattle.std.proofs.lemmas.List.FromFn.{length-map-range_with_len, map-range_with_len_more}
 use Rattle.std.proofs.lemmas.List.{append_assoc}
-use Rattle.std.proofs.lemmas.Option.{slice_get_past}
+use Rattle.std.proofs.lemmas.Option.{none-some, same_Some, slice_get_past}
 use Rattle.mon_implicit.specs.declared.script.Call.{Call}
 use Rattle.mon_implicit.specs.declared.script.Client.{Client}
 use Rattle.mon_implicit.specs.Scripted.{calls_in, calls_of}
@@ -12,6 +12,7 @@ use Rattle.mon_stress.specs.LargeInput.{caller, callers, clients_of, plain_call}
 
 -- so many clients with so many calls of one method, and then as many of the other
 pub record AreHalves (clients : List Client) (count calls : ℕ) : Type 0 where
+  pub long : length clients ≡ count + count
   pub puts : (client : ℕ) → client < count → calls_of clients client ≡ replicate calls (plain_call 0)
   pub gets : (client : ℕ) → count ≤ client → client < count + count → calls_of clients client ≡ replicate calls (plain_call 1)
   pub none : (client : ℕ) → count + count ≤ client → calls_of clients client ≡ []
@@ -39,6 +40,7 @@ are_halves count calls =
     let long : length first ≡ count = length-map-range_with_len (caller (codes "P") 0 calls) 1 count in
     let wide : length second ≡ count = length-map-range_with_len (caller (codes "G") 1 calls) 1 count in
     record {
+      long = omega (arith, long, wide, length-append first second);
       puts = λ client within. ap calls_in (got_left first second client (omega (arith, long))) ∙ calls_from (codes "P") 0 calls 1 count client within;
       gets = λ client past within.
           let place : client ≡ length first + (client - count) = omega (arith, long) in
@@ -49,15 +51,15 @@ are_halves count calls =
 
 -- ---- the next one of equal calls
 
-pub called : (P : Call → Type 0) (calls past : ℕ) (call : Call) → IsSomeAnd (slice_get (replicate calls call) past) P → (past < calls) × P call
-called P zero past call next = absurd next
-called P (suc calls) zero call next = (omega arith, next)
-called P (suc calls) (suc past) call next = let rest = called P calls past call next in (omega (arith, rest.0), rest.1)
+pub called : (calls past : ℕ) (call next : Call) → slice_get (replicate calls call) past ≡ Some next → (past < calls) × (call ≡ next)
+called zero past call next is = absurd (none-some next is)
+called (suc calls) zero call next is = (omega arith, same_Some call next is)
+called (suc calls) (suc past) call next is = let rest = called calls past call next is in (omega (arith, rest.0), rest.1)
 
-pub calls_next : (P : Call → Type 0) (calls past : ℕ) (call : Call) → past < calls → P call → IsSomeAnd (slice_get (replicate calls call) past) P
-calls_next P zero past call within holds = absurd (omega arith)
-calls_next P (suc calls) zero call within holds = holds
-calls_next P (suc calls) (suc past) call within holds = calls_next P calls past call (omega arith) holds
+pub calls_next : (calls past : ℕ) (call : Call) → past < calls → slice_get (replicate calls call) past ≡ Some call
+calls_next zero past call within = absurd (omega arith)
+calls_next (suc calls) zero call within = refl
+calls_next (suc calls) (suc past) call within = calls_next calls past call (omega arith)
 
 -- ---- one client more
 

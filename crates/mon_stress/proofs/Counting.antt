@@ -4,7 +4,10 @@ use Rattle.std.specs.Prelude.{count_by, nat_lt}
 use Rattle.std.proofs.lemmas.Bool.Decides.{nat_tests}
 use Rattle.std.proofs.lemmas.List.Sums.{sum_by-cons, sum_by_push}
 use Rattle.mon_implicit.specs.declared.commit.Commit.{Commit}
-use Rattle.mon_implicit.specs.Runs.{done}
+
+-- how many commits are the client's
+abbrev pub done : List Commit → ℕ → ℕ
+done history client = count_by (λ commit. commit.client == client) history
 
 -- how many commits are of clients below this number
 abbrev pub below : ℕ → List Commit → ℕ

@@ -3,4 +3,5 @@ pub mod Buffers
 pub mod BufferRules
 pub mod Callers
 pub mod ClientRules
+pub mod Moves
 pub mod LargeRuns

@@ -90,9 +90,10 @@ some_shown =
 abbrev pub count_field : Field
 count_field = record { name = codes "count"; kind = kinds.Int; start = values.Int (pos 0) }
 
--- a method of no inputs, and its block, which waits on the condition of its guard
+-- a method of no inputs and no locals, and its block, which waits on the condition of its guard
 abbrev pub plain_method : List ℕ → ℕ → Method
-plain_method name number = record { name = name; inputs = []; first = number; count = 1 }
+plain_method name number =
+    record { name = name; inputs = []; locals = []; first = number; count = 1 }
 
 abbrev pub counting_block : ℕ → Formula → Linear → Block
 counting_block number guard form = record {
@@ -122,9 +123,9 @@ buffer_of capacity = record {
 -- ---- the clients: those that put, each `client P.. { repeat 512 { put(); } }` with its number
 -- from 1 on, and then those that get, `client G.. { repeat 512 { get(); } }`
 
--- a call of a method of no inputs
+-- a call of a method of no inputs, which does not try
 abbrev pub plain_call : ℕ → Call
-plain_call method = record { method = method; inputs = [] }
+plain_call method = record { method = method; inputs = []; tries = false }
 
 -- a letter and a number for its name, and so many calls of the method
 abbrev pub caller : List ℕ → ℕ → ℕ → ℕ → Client

@@ -1,20 +1,19 @@
 -- What the law says: each run of the large input that ends is done.
 use Rattle.std.specs.Prelude.{◌≡◌, ℕ, pos, List, [], ◌∷◌, length}
-use Rattle.mon_base.specs.declared.value.Value.{Value}
 use Rattle.mon_base.specs.declared.value.Value.TheVariants as values
 use Rattle.mon_implicit.specs.declared.commit.Commit.{Commit}
-use Rattle.mon_implicit.specs.Runs.{IsRun, Ends, IsFinished}
+use Rattle.mon_implicit.specs.Runs.{Situation, IsRun, Ends, IsFinished}
 use Rattle.mon_stress.specs.LargeInput.{ALL_CALLS, buffer_of, capacity_of, producers_and_consumers}
 
 -- every call of every client is done, each by one commit, and the buffer is empty
-pub record IsDone (history : List Commit) (state : List Value) : Type 0 where
-  pub finished : IsFinished producers_and_consumers history
+pub record IsDone (history : List Commit) (now : Situation) : Type 0 where
+  pub finished : IsFinished producers_and_consumers now
   pub calls : length history ≡ ALL_CALLS
-  pub empty : state ≡ values.Int (pos 0) ∷ []
+  pub empty : now.state ≡ values.Int (pos 0) ∷ []
 
 -- whatever the number and whoever acts when
 abbrev pub EveryLargeRunEndsDone : Type 0
-EveryLargeRunEndsDone = (number : ℕ) (history : List Commit) (state : List Value)
-    → IsRun (buffer_of (capacity_of number)) producers_and_consumers history state
-    → Ends (buffer_of (capacity_of number)) producers_and_consumers history state
-    → IsDone history state
+EveryLargeRunEndsDone = (number : ℕ) (history : List Commit) (now : Situation)
+    → IsRun (buffer_of (capacity_of number)) producers_and_consumers history now
+    → Ends (buffer_of (capacity_of number)) producers_and_consumers now
+    → IsDone history now

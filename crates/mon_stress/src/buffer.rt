@@ -1,8 +1,11 @@
 //! The buffer, as it is checked from its text.
 
-ghost use Rattle.std.specs.Prelude.{◌≡◌, ◌≢◌, ◌^◌, ◌<◌, ◌≤◌, ◌∷◌, [], IfOk, codes, neg_ℤ, pos, true};
+ghost use Rattle.std.specs.Prelude.{◌≡◌, ◌≢◌, ◌^◌, ◌<◌, ◌≤◌, ◌∷◌, [], IfOk, codes, neg_ℤ, pos};
+ghost use Rattle.std.specs.Prelude.{true};
 ghost use Rattle.mon_base.specs.Numbers.{is_within};
-ghost use Rattle.mon_stress.specs.LargeInput.{buffer_of, count_and, count_field, counting_block, has_room, has_some, plain_method, room_shown, shown_condition, some_shown};
+ghost use Rattle.mon_stress.specs.LargeInput.{buffer_of, count_and, count_field, counting_block};
+ghost use Rattle.mon_stress.specs.LargeInput.{has_room, has_some, plain_method, room_shown};
+ghost use Rattle.mon_stress.specs.LargeInput.{shown_condition, some_shown};
 ghost use Rattle.mon_stress.specs.LargeInput.{MOST_ROOM};
 
 use mon_base::{Kind, Name, Value};
@@ -60,13 +63,14 @@ fn methods(alloc: Global) -> Result<Vec<Method>, AllocError>
     Ok(vec![in alloc; put, get]?)
 }
 
-/// A method of no inputs.
+/// A method of no inputs and no locals.
 fn plain_method(alloc: Global, name: &[u8], number: u32) -> Result<Method, AllocError>
     ensures { IfOk result (λ method. method ≡ plain_method name.now number) }
 {
     Ok(Method {
         name: name_of(alloc, name)?,
         inputs: Seq::of(Vec::new(alloc)),
+        locals: Seq::of(Vec::new(alloc)),
         first: number,
         count: 1,
     })

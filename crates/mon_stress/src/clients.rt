@@ -2,7 +2,8 @@
 
 ghost use Rattle.std.specs.Prelude.{◌≡◌, ◌≤◌, ◌++◌, IfOk, OnOk, replicate};
 ghost use Rattle.mon_base.specs.Limits.{CLIENTS};
-ghost use Rattle.mon_stress.specs.LargeInput.{caller, callers, clients_of, plain_call, producers_and_consumers};
+ghost use Rattle.mon_stress.specs.LargeInput.{caller, callers, clients_of, plain_call};
+ghost use Rattle.mon_stress.specs.LargeInput.{producers_and_consumers};
 
 use crate::buffer::{GET, PUT};
 use mon_base::Name;
@@ -89,6 +90,7 @@ fn plain_calls(alloc: Global, method: u32, count: usize) -> Result<Vec<Call>, Al
         calls.push(Call {
             method,
             inputs: Seq::of(Vec::new(alloc)),
+            tries: false,
         })?;
     }
     Ok(calls)

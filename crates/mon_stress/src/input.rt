@@ -20,8 +20,9 @@ pub struct LargeInput {
     pub scripts: Scripts,
 }
 
-/// The large input that a number names: a buffer with room for `1 + number % 7`, 16 clients that each put 512 times,
-/// named `P` with a number from 1, and then 16 that each get 512 times, named `G` so. It fails only for want of memory.
+/// The large input that a number names: a buffer with room for `1 + number % 7`, 16 clients that
+/// each put 512 times, named `P` with a number from 1, and then 16 that each get 512 times, named
+/// `G` so. It fails only for want of memory.
 pub fn large_input(alloc: Global, number: u64) -> Result<LargeInput, AllocError>
     ensures monitor { IfOk result (λ input. input.monitor ≡ buffer_of (capacity_of number)) }
     ensures scripts { IfOk result (λ input. input.scripts ≡ producers_and_consumers) }

@@ -1,7 +1,9 @@
-//! The large input that a number names: a buffer whose room the number gives, and 32 clients that make 16,384 calls.
+//! The large input that a number names: a buffer whose room the number gives, and 32 clients that
+//! make 16,384 calls.
 //!
-//! [`large_input`] makes the monitor and the scripts. Definitions: `specs/LargeInput` (the monitor, as it is checked
-//! from its text, and the clients), `specs/Laws` (each run that ends is done). The law is a function of `laws`.
+//! [`large_input`] makes the monitor and the scripts. Definitions: `specs/LargeInput` (the monitor,
+//! as it is checked from its text, and the clients), `specs/Laws` (each run that ends is done). The
+//! law is a function of `laws`.
 #![tactic(auto)]
 
 mod buffer;

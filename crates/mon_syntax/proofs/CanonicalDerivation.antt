@@ -10,13 +10,14 @@ use Rattle.mon_tree.specs.declared.tree.Decl.TheVariants as decls
 use Rattle.mon_tree.specs.declared.tree.InputTree.{InputTree}
 use Rattle.mon_tree.specs.declared.tree.Expr.{Expr}
 use Rattle.mon_tree.specs.declared.tree.StmtTree.{StmtTree}
+use Rattle.mon_tree.specs.declared.tree.BlockTree.{BlockTree}
 use Rattle.mon_tree.specs.declared.tree.MethodTree.{MethodTree}
 use Rattle.mon_tree.specs.declared.tree.MonitorTree.{MonitorTree}
 use Rattle.mon_tokens.specs.Words.{Word, ident, numeral, mark}
-use Rattle.mon_syntax.specs.Grammar.{Rule, ◌⌢◌, truth_word, kind_word, IsMark, IsIdent, IsNumeral, IsExpression, IsBlock, IsStatement, after_minus, IsLiteral, IsDeclaration, IsInput, AreInputs, IsMethod, IsMonitorFile}
-use Rattle.mon_tree.specs.Offsets.{unplaced_expression, unplaced_statement, unplaced_literal, unplaced_declaration, unplaced_input, unplaced_method, unplaced}
-use Rattle.mon_syntax.proofs.CanonicalWords.{bare, expression_words, statement_words, minus_words, literal_words, declaration_words, input_words, inputs_words, method_words, tree_words}
-use Rattle.mon_syntax.proofs.PrintedWords.{Again, each_again, no_words, alone, cut_mark, cut_ident, cut_numeral, cut_tree, last_mark}
+use Rattle.mon_syntax.specs.Grammar.{Rule, ◌⌢◌, Each, OneOrMore, truth_word, kind_word, IsMarkAt, IsMark, IsIdent, IsNumeral, IsExpression, IsBlock, IsStatement, after_minus, IsLiteral, IsDeclaration, IsInput, AreInputs, IsLocal, IsGuarded, IsMethod, IsMonitorFile}
+use Rattle.mon_tree.specs.Offsets.{unplaced_expression, unplaced_statement, unplaced_literal, unplaced_declaration, unplaced_input, unplaced_block, unplaced_method, unplaced}
+use Rattle.mon_syntax.proofs.CanonicalWords.{bare, expression_words, statement_words, minus_words, literal_words, declaration_words, input_words, inputs_words, local_words, guarded_words, method_words, tree_words}
+use Rattle.mon_syntax.proofs.PrintedWords.{Again, each_again, more_again, no_words, alone, cut_mark, cut_mark_at, cut_ident, cut_numeral, cut_tree, last_mark}
 use Rattle.mon_syntax.proofs.CanonicalExpressions.{expression_again}
 use Rattle.mon_syntax.proofs.CanonicalStatements.{block_words, block_again, statement_again}
 
@@ -60,6 +61,16 @@ valued_again kind name value printed h =
       same = v.same;
     }
 
+flag_again : (name : List ℕ) (value : Bool) (printed : List Word) → map bare printed ≡ mark kinds.KeyBool 0 ∷ ident name 0 ∷ mark kinds.Assign 0 ∷ mark (truth_word value) 0 ∷ mark kinds.Semicolon 0 ∷ []
+    → (at : ℕ) × IsDeclaration (decls.Flag at name value) printed
+flag_again name value printed h =
+    let key = cut_mark kinds.KeyBool (ident name 0 ∷ mark kinds.Assign 0 ∷ mark (truth_word value) 0 ∷ mark kinds.Semicolon 0 ∷ []) printed h in
+    let named = cut_ident name (mark kinds.Assign 0 ∷ mark (truth_word value) 0 ∷ mark kinds.Semicolon 0 ∷ []) key.rest key.bare_rest in
+    let assign = cut_mark kinds.Assign (mark (truth_word value) 0 ∷ mark kinds.Semicolon 0 ∷ []) named.1.rest named.1.bare_rest in
+    let truth = cut_mark (truth_word value) (mark kinds.Semicolon 0 ∷ []) assign.rest assign.bare_rest in
+    let semicolon = last_mark kinds.Semicolon truth.rest truth.bare_rest in
+    (named.0, (key.front, key.rest, key.first, (named.1.front, named.1.rest, named.1.first, (assign.front, assign.rest, assign.first, (truth.front, truth.rest, truth.first, semicolon, truth.is), assign.is), named.1.is), key.is))
+
 declaration_again : (declaration : Decl) (ws : List Word) → IsDeclaration declaration ws → Again IsDeclaration unplaced_declaration (unplaced_declaration declaration) (declaration_words declaration)
 declaration_again (decls.Const at name value) ws is = λ printed h.
     let v = valued_again kinds.KeyConst name value printed h in
@@ -68,12 +79,19 @@ declaration_again (decls.Int at name value) ws is = λ printed h.
     let v = valued_again kinds.KeyInt name value printed h in
     (decls.Int v.at name v.again, v.derived, ap (decls.Int 0 name) v.same)
 declaration_again (decls.Flag at name value) ws is = λ printed h.
-    let key = cut_mark kinds.KeyBool (ident name 0 ∷ mark kinds.Assign 0 ∷ mark (truth_word value) 0 ∷ mark kinds.Semicolon 0 ∷ []) printed h in
-    let named = cut_ident name (mark kinds.Assign 0 ∷ mark (truth_word value) 0 ∷ mark kinds.Semicolon 0 ∷ []) key.rest key.bare_rest in
-    let assign = cut_mark kinds.Assign (mark (truth_word value) 0 ∷ mark kinds.Semicolon 0 ∷ []) named.1.rest named.1.bare_rest in
-    let truth = cut_mark (truth_word value) (mark kinds.Semicolon 0 ∷ []) assign.rest assign.bare_rest in
-    let semicolon = last_mark kinds.Semicolon truth.rest truth.bare_rest in
-    (decls.Flag named.0 name value, (key.front, key.rest, key.first, (named.1.front, named.1.rest, named.1.first, (assign.front, assign.rest, assign.first, (truth.front, truth.rest, truth.first, semicolon, truth.is), assign.is), named.1.is), key.is), refl)
+    let f = flag_again name value printed h in
+    (decls.Flag f.0 name value, f.1, refl)
+
+local_again : (local : Decl) (ws : List Word) → IsLocal local ws → Again IsLocal unplaced_declaration (unplaced_declaration local) (local_words local)
+local_again (decls.Const at name value) ws is = absurd is
+local_again (decls.Int at name value) ws is = λ printed h.
+    let key = cut_mark kinds.KeyLocal (mark kinds.KeyInt 0 ∷ valued_words name value) printed h in
+    let v = valued_again kinds.KeyInt name value key.rest key.bare_rest in
+    (decls.Int v.at name v.again, (key.front, key.rest, key.first, v.derived, key.is), ap (decls.Int 0 name) v.same)
+local_again (decls.Flag at name value) ws is = λ printed h.
+    let key = cut_mark kinds.KeyLocal (mark kinds.KeyBool 0 ∷ ident name 0 ∷ mark kinds.Assign 0 ∷ mark (truth_word value) 0 ∷ mark kinds.Semicolon 0 ∷ []) printed h in
+    let f = flag_again name value key.rest key.bare_rest in
+    (decls.Flag f.0 name value, (key.front, key.rest, key.first, f.1, key.is), refl)
 
 -- ---- inputs
 
@@ -101,61 +119,92 @@ inputs_again (first ∷ rest) ws is = λ printed h.
 
 -- ---- methods
 
--- a method by the rules of its guard and its statements
-abbrev IsMethodBy : Rule Expr → Rule StmtTree → Rule MethodTree
-IsMethodBy IsGuard IsStatement method =
-    IsMark kinds.KeyMethod ⌢ IsIdent method.name method.at ⌢ IsMark kinds.OpenParen ⌢ AreInputs method.inputs ⌢ IsMark kinds.CloseParen
-    ⌢ IsMark kinds.KeyWaituntil ⌢ IsMark kinds.OpenParen ⌢ IsGuard method.guard ⌢ IsMark kinds.CloseParen ⌢ IsBlock IsStatement method.body
+-- a block by the rules of its guard and its statements
+abbrev IsGuardedBy : Rule Expr → Rule StmtTree → Rule BlockTree
+IsGuardedBy IsGuard IsStatement block =
+    IsMarkAt kinds.KeyWaituntil block.at ⌢ IsMark kinds.OpenParen ⌢ IsGuard block.guard ⌢ IsMark kinds.CloseParen ⌢ IsBlock IsStatement block.body
 
--- a method's words from its guard on, from its `waituntil` on, and from its name on, grouped from the right
-abbrev from_guard : MethodTree → List Word
-from_guard method = expression_words method.guard ++ (mark kinds.CloseParen 0 ∷ block_words method.body)
+-- a block's words from its guard on, grouped from the right
+abbrev from_guard : BlockTree → List Word
+from_guard block = expression_words block.guard ++ (mark kinds.CloseParen 0 ∷ block_words block.body)
 
-abbrev from_wait : MethodTree → List Word
-from_wait method = mark kinds.KeyWaituntil 0 ∷ (mark kinds.OpenParen 0 ∷ from_guard method)
+regroup_block : (guard body : List Word)
+    → mark kinds.KeyWaituntil 0 ∷ mark kinds.OpenParen 0 ∷ guard ++ mark kinds.CloseParen 0 ∷ mark kinds.OpenBrace 0 ∷ body ++ mark kinds.CloseBrace 0 ∷ []
+    ≡ mark kinds.KeyWaituntil 0 ∷ (mark kinds.OpenParen 0 ∷ (guard ++ (mark kinds.CloseParen 0 ∷ (mark kinds.OpenBrace 0 ∷ (body ++ (mark kinds.CloseBrace 0 ∷ []))))))
+regroup_block guard body = simp append_assoc
 
-abbrev from_inputs : MethodTree → List Word
-from_inputs method = inputs_words method.inputs ++ (mark kinds.CloseParen 0 ∷ from_wait method)
+same_block : (at : ℕ) (guard other_guard : Expr) (body other_body : List StmtTree)
+    → unplaced_expression guard ≡ unplaced_expression other_guard → map unplaced_statement body ≡ map unplaced_statement other_body
+    → (let one : BlockTree = record { at = at; guard = guard; body = body } in
+    let other : BlockTree = record { at = at; guard = other_guard; body = other_body } in
+    unplaced_block one ≡ unplaced_block other)
+same_block at guard other_guard body other_body g b = cc
 
-regroup_method : (name : List ℕ) (inputs guard body : List Word)
-    → mark kinds.KeyMethod 0 ∷ ident name 0 ∷ mark kinds.OpenParen 0 ∷ inputs ++ mark kinds.CloseParen 0
-    ∷ mark kinds.KeyWaituntil 0 ∷ mark kinds.OpenParen 0 ∷ guard ++ mark kinds.CloseParen 0
-    ∷ mark kinds.OpenBrace 0 ∷ body ++ mark kinds.CloseBrace 0 ∷ []
-    ≡ mark kinds.KeyMethod 0 ∷ (ident name 0 ∷ (mark kinds.OpenParen 0 ∷ (inputs ++ (mark kinds.CloseParen 0
-    ∷ (mark kinds.KeyWaituntil 0 ∷ (mark kinds.OpenParen 0 ∷ (guard ++ (mark kinds.CloseParen 0 ∷ (mark kinds.OpenBrace 0 ∷ (body ++ (mark kinds.CloseBrace 0 ∷ [])))))))))))
-regroup_method name inputs guard body = simp append_assoc
-
-same_method : (at : ℕ) (name : List ℕ) (inputs other_inputs : List InputTree) (guard other_guard : Expr) (body other_body : List StmtTree)
-    → map unplaced_input inputs ≡ map unplaced_input other_inputs → unplaced_expression guard ≡ unplaced_expression other_guard → map unplaced_statement body ≡ map unplaced_statement other_body
-    → (let one : MethodTree = record { at = at; name = name; inputs = inputs; guard = guard; body = body } in
-    let other : MethodTree = record { at = at; name = name; inputs = other_inputs; guard = other_guard; body = other_body } in
-    unplaced_method one ≡ unplaced_method other)
-same_method at name inputs other_inputs guard other_guard body other_body i g b = cc
-
-method_again : (IsGuard : Rule Expr) (IsStatement : Rule StmtTree)
+guarded_again_by : (IsGuard : Rule Expr) (IsStatement : Rule StmtTree)
     → ((guard : Expr) (ws : List Word) → IsGuard guard ws → Again IsGuard unplaced_expression (unplaced_expression guard) (expression_words guard))
     → ((statement : StmtTree) (ws : List Word) → IsStatement statement ws → Again IsStatement unplaced_statement (unplaced_statement statement) (statement_words statement))
-    → (method : MethodTree) (ws : List Word) → IsMethodBy IsGuard IsStatement method ws → Again (IsMethodBy IsGuard IsStatement) unplaced_method (unplaced_method method) (method_words method)
-method_again IsGuard IsStatement guards inner method ws is = λ printed h.
+    → (block : BlockTree) (ws : List Word) → IsGuardedBy IsGuard IsStatement block ws → Again (IsGuardedBy IsGuard IsStatement) unplaced_block (unplaced_block block) (guarded_words block)
+guarded_again_by IsGuard IsStatement guards inner block ws is = λ printed h.
+    let at_guard = is.3.3 in
+    let wait = cut_mark_at kinds.KeyWaituntil (mark kinds.OpenParen 0 ∷ from_guard block) printed (h ∙ regroup_block (expression_words block.guard) (flat_map statement_words block.body)) in
+    let opening = cut_mark kinds.OpenParen (from_guard block) wait.1.rest wait.1.bare_rest in
+    let g = cut_tree (guards block.guard at_guard.0 at_guard.2) (mark kinds.CloseParen 0 ∷ block_words block.body) opening.rest opening.bare_rest in
+    let closing = cut_mark kinds.CloseParen (block_words block.body) g.cut.rest g.cut.bare_rest in
+    let b = block_again IsStatement inner block.body at_guard.3.1 at_guard.3.3 closing.rest closing.bare_rest in
+    let made : BlockTree = record { at = wait.0; guard = g.again; body = b.0 } in
+    let whole : IsGuardedBy IsGuard IsStatement made printed =
+    (wait.1.front, wait.1.rest, wait.1.first, (opening.front, opening.rest, opening.first, (g.cut.front, g.cut.rest, g.cut.first, (closing.front, closing.rest, closing.first, b.1, closing.is), g.cut.is), opening.is), wait.1.is) in
+    (made, whole, same_block wait.0 g.again block.guard b.0 block.body g.same b.2)
+
+guarded_again : (block : BlockTree) (ws : List Word) → IsGuarded block ws → Again IsGuarded unplaced_block (unplaced_block block) (guarded_words block)
+guarded_again block ws is = guarded_again_by (IsExpression LEVELS) (IsStatement LEVELS) (expression_again LEVELS) (statement_again LEVELS) block ws is
+
+-- a method by the rule of its blocks
+abbrev IsMethodBy : Rule BlockTree → Rule MethodTree
+IsMethodBy IsItem method =
+    IsMark kinds.KeyMethod ⌢ IsIdent method.name method.at ⌢ IsMark kinds.OpenParen ⌢ AreInputs method.inputs ⌢ IsMark kinds.CloseParen
+    ⌢ Each IsLocal method.locals ⌢ OneOrMore IsItem method.blocks
+
+-- a method's words from its locals on, and from its inputs on, grouped from the right
+abbrev from_locals : MethodTree → List Word
+from_locals method = flat_map local_words method.locals ++ flat_map guarded_words method.blocks
+
+abbrev from_inputs : MethodTree → List Word
+from_inputs method = inputs_words method.inputs ++ (mark kinds.CloseParen 0 ∷ from_locals method)
+
+regroup_method : (name : List ℕ) (inputs locals blocks : List Word)
+    → mark kinds.KeyMethod 0 ∷ ident name 0 ∷ mark kinds.OpenParen 0 ∷ inputs ++ mark kinds.CloseParen 0 ∷ locals ++ blocks
+    ≡ mark kinds.KeyMethod 0 ∷ (ident name 0 ∷ (mark kinds.OpenParen 0 ∷ (inputs ++ (mark kinds.CloseParen 0 ∷ (locals ++ blocks)))))
+regroup_method name inputs locals blocks = simp append_assoc
+
+same_method : (at : ℕ) (name : List ℕ) (inputs other_inputs : List InputTree) (locals other_locals : List Decl) (blocks other_blocks : List BlockTree)
+    → map unplaced_input inputs ≡ map unplaced_input other_inputs → map unplaced_declaration locals ≡ map unplaced_declaration other_locals → map unplaced_block blocks ≡ map unplaced_block other_blocks
+    → (let one : MethodTree = record { at = at; name = name; inputs = inputs; locals = locals; blocks = blocks } in
+    let other : MethodTree = record { at = at; name = name; inputs = other_inputs; locals = other_locals; blocks = other_blocks } in
+    unplaced_method one ≡ unplaced_method other)
+same_method at name inputs other_inputs locals other_locals blocks other_blocks i l b = cc
+
+method_again_by : (IsItem : Rule BlockTree)
+    → ((block : BlockTree) (ws : List Word) → IsItem block ws → Again IsItem unplaced_block (unplaced_block block) (guarded_words block))
+    → (method : MethodTree) (ws : List Word) → IsMethodBy IsItem method ws → Again (IsMethodBy IsItem) unplaced_method (unplaced_method method) (method_words method)
+method_again_by IsItem again method ws is = λ printed h.
     let at_inputs = is.3.3.3 in
-    let at_guard = at_inputs.3.3.3.3 in
-    let key = cut_mark kinds.KeyMethod (ident method.name 0 ∷ (mark kinds.OpenParen 0 ∷ from_inputs method)) printed (h ∙ regroup_method method.name (inputs_words method.inputs) (expression_words method.guard) (flat_map statement_words method.body)) in
+    let at_locals = at_inputs.3.3 in
+    let key = cut_mark kinds.KeyMethod (ident method.name 0 ∷ (mark kinds.OpenParen 0 ∷ from_inputs method)) printed (h ∙ regroup_method method.name (inputs_words method.inputs) (flat_map local_words method.locals) (flat_map guarded_words method.blocks)) in
     let named = cut_ident method.name (mark kinds.OpenParen 0 ∷ from_inputs method) key.rest key.bare_rest in
     let opening = cut_mark kinds.OpenParen (from_inputs method) named.1.rest named.1.bare_rest in
-    let i = cut_tree (inputs_again method.inputs at_inputs.0 at_inputs.2) (mark kinds.CloseParen 0 ∷ from_wait method) opening.rest opening.bare_rest in
-    let closing = cut_mark kinds.CloseParen (from_wait method) i.cut.rest i.cut.bare_rest in
-    let wait = cut_mark kinds.KeyWaituntil (mark kinds.OpenParen 0 ∷ from_guard method) closing.rest closing.bare_rest in
-    let guard_opening = cut_mark kinds.OpenParen (from_guard method) wait.rest wait.bare_rest in
-    let g = cut_tree (guards method.guard at_guard.0 at_guard.2) (mark kinds.CloseParen 0 ∷ block_words method.body) guard_opening.rest guard_opening.bare_rest in
-    let guard_closing = cut_mark kinds.CloseParen (block_words method.body) g.cut.rest g.cut.bare_rest in
-    let b = block_again IsStatement inner method.body at_guard.3.1 at_guard.3.3 guard_closing.rest guard_closing.bare_rest in
-    let made : MethodTree = record { at = named.0; name = method.name; inputs = i.again; guard = g.again; body = b.0 } in
-    let guard_on : (IsGuard g.again ⌢ IsMark kinds.CloseParen ⌢ IsBlock IsStatement b.0) guard_opening.rest = (g.cut.front, g.cut.rest, g.cut.first, (guard_closing.front, guard_closing.rest, guard_closing.first, b.1, guard_closing.is), g.cut.is) in
-    let wait_on : (IsMark kinds.KeyWaituntil ⌢ IsMark kinds.OpenParen ⌢ IsGuard g.again ⌢ IsMark kinds.CloseParen ⌢ IsBlock IsStatement b.0) closing.rest =
-    (wait.front, wait.rest, wait.first, (guard_opening.front, guard_opening.rest, guard_opening.first, guard_on, guard_opening.is), wait.is) in
-    let whole : IsMethodBy IsGuard IsStatement made printed =
-    (key.front, key.rest, key.first, (named.1.front, named.1.rest, named.1.first, (opening.front, opening.rest, opening.first, (i.cut.front, i.cut.rest, i.cut.first, (closing.front, closing.rest, closing.first, wait_on, closing.is), i.cut.is), opening.is), named.1.is), key.is) in
-    (made, whole, same_method named.0 method.name i.again method.inputs g.again method.guard b.0 method.body i.same g.same b.2)
+    let i = cut_tree (inputs_again method.inputs at_inputs.0 at_inputs.2) (mark kinds.CloseParen 0 ∷ from_locals method) opening.rest opening.bare_rest in
+    let closing = cut_mark kinds.CloseParen (from_locals method) i.cut.rest i.cut.bare_rest in
+    let l = cut_tree (each_again IsLocal IsLocal unplaced_declaration local_words local_again method.locals at_locals.0 at_locals.2) (flat_map guarded_words method.blocks) closing.rest closing.bare_rest in
+    let b = more_again IsItem IsItem unplaced_block guarded_words again method.blocks at_locals.1 at_locals.3 l.cut.rest l.cut.bare_rest in
+    let made : MethodTree = record { at = named.0; name = method.name; inputs = i.again; locals = l.again; blocks = b.0 } in
+    let locals_on : (Each IsLocal l.again ⌢ OneOrMore IsItem b.0) closing.rest = (l.cut.front, l.cut.rest, l.cut.first, b.1, l.cut.is) in
+    let whole : IsMethodBy IsItem made printed =
+    (key.front, key.rest, key.first, (named.1.front, named.1.rest, named.1.first, (opening.front, opening.rest, opening.first, (i.cut.front, i.cut.rest, i.cut.first, (closing.front, closing.rest, closing.first, locals_on, closing.is), i.cut.is), opening.is), named.1.is), key.is) in
+    (made, whole, same_method named.0 method.name i.again method.inputs l.again method.locals b.0 method.blocks i.same l.same b.2)
+
+method_again : (method : MethodTree) (ws : List Word) → IsMethod method ws → Again IsMethod unplaced_method (unplaced_method method) (method_words method)
+method_again method ws is = method_again_by IsGuarded guarded_again method ws is
 
 -- ---- files
 
@@ -183,7 +232,7 @@ canonical_derives ws tree is printed h =
     let named = cut_ident tree.name (mark kinds.OpenBrace 0 ∷ from_decls) key.rest key.bare_rest in
     let opening = cut_mark kinds.OpenBrace from_decls named.1.rest named.1.bare_rest in
     let d = cut_tree (each_again IsDeclaration IsDeclaration unplaced_declaration declaration_words declaration_again tree.decls at_decls.0 at_decls.2) from_methods opening.rest opening.bare_rest in
-    let methods = each_again IsMethod IsMethod unplaced_method method_words (method_again (IsExpression LEVELS) (IsStatement LEVELS) (expression_again LEVELS) (statement_again LEVELS)) tree.methods at_decls.3.0 at_decls.3.2 in
+    let methods = each_again IsMethod IsMethod unplaced_method method_words method_again tree.methods at_decls.3.0 at_decls.3.2 in
     let m = cut_tree methods end d.cut.rest d.cut.bare_rest in
     let closing = last_mark kinds.CloseBrace m.cut.rest m.cut.bare_rest in
     let made : MonitorTree = record { name = tree.name; decls = d.again; methods = m.again } in

@@ -13,14 +13,15 @@ use Rattle.mon_tree.specs.declared.tree.InputTree.{InputTree}
 use Rattle.mon_tree.specs.declared.tree.StmtTree.{StmtTree, roll-StmtTree}
 use Rattle.mon_tree.specs.declared.tree.StmtTree.TheOpen.{StmtTree-F, Set, If, Return}
 use Rattle.mon_tree.specs.declared.tree.StmtTree.TheFolds.{fold-roll-StmtTree, map-StmtTree, ind-StmtTree}
+use Rattle.mon_tree.specs.declared.tree.BlockTree.{BlockTree}
 use Rattle.mon_tree.specs.declared.tree.MethodTree.{MethodTree}
 use Rattle.mon_tree.specs.declared.tree.MonitorTree.{MonitorTree}
 use Rattle.mon_tokens.specs.Spelling.{Spells}
 use Rattle.mon_tokens.specs.inner.Pieces.{longest_at, other_at}
 use Rattle.mon_tokens.specs.Words.{Word, ident, mark, words}
 use Rattle.mon_syntax.specs.Grammar.{kind_word}
-use Rattle.mon_printer.specs.Canonical.{otherwise, statement_step, statement_text, literal_text, declaration_text, kind_text, input_text, input_texts, joined, method_text, tree_text}
-use Rattle.mon_syntax.proofs.CanonicalWords.{bare, expression_words, else_words, statement_words_step, statement_words, literal_words, declaration_words, input_words, inputs_words, method_words, tree_words}
+use Rattle.mon_printer.specs.Canonical.{otherwise, statement_step, statement_text, literal_text, declared_text, declaration_text, local_text, guarded_text, lines_text, blocks_text, kind_text, input_text, input_texts, joined, method_text, tree_text}
+use Rattle.mon_syntax.proofs.CanonicalWords.{bare, expression_words, else_words, statement_words_step, statement_words, literal_words, declaration_words, input_words, inputs_words, local_words, guarded_words, method_words, tree_words}
 use Rattle.mon_syntax.proofs.CanonicalPieces.{Reads, reads_nothing, spells_words, Says, ◌▷◌, ◌▶◌, less, says_nothing, says_same, space, line_feed, begin_brace, end_brace, begin_paren, end_paren, semicolon, comma, minus, between_blanks, keyword, name, number}
 use Rattle.mon_syntax.proofs.SpelledExpressions.{expression, truth}
 use Rattle.mon_syntax.proofs.Printable.{ArePrintable, IsPrintable, printable_front, printable_back, statement_layer}
@@ -122,16 +123,21 @@ literal_of false at digits ok = number digits ok.0
 pub literal : (l : Lit) → ArePrintable (literal_words l) → Says true false (literal_text l) (literal_words l)
 literal l ok = literal_of l.minus l.at l.digits ok
 
-declaration : (d : Decl) → ArePrintable (declaration_words d) → Says false true (declaration_text d) (declaration_words d)
-declaration (decls.Const at target value) ok =
-    let head : Says false true (codes "  const ") (mark kinds.KeyConst 0 ∷ []) = space ▷ space ▷ keyword 99 (codes "onst") refl refl (omega arith) ▶ space in
+declared : (d : Decl) → ArePrintable (declaration_words d) → Says false false (declared_text d) (declaration_words d)
+declared (decls.Const at target value) ok =
+    let head : Says false false (codes "const ") (mark kinds.KeyConst 0 ∷ []) = keyword 99 (codes "onst") refl refl (omega arith) ▶ space in
     head ▷ name target ok.1.0 ▶ assign ▷ literal value (printable_front (literal_words value) (mark kinds.Semicolon 0 ∷ []) ok.1.1.1) ▶ line_end
-declaration (decls.Int at target value) ok =
-    let head : Says false true (codes "  int ") (mark kinds.KeyInt 0 ∷ []) = space ▷ space ▷ keyword 105 (codes "nt") refl refl (omega arith) ▶ space in
+declared (decls.Int at target value) ok =
+    let head : Says false false (codes "int ") (mark kinds.KeyInt 0 ∷ []) = keyword 105 (codes "nt") refl refl (omega arith) ▶ space in
     head ▷ name target ok.1.0 ▶ assign ▷ literal value (printable_front (literal_words value) (mark kinds.Semicolon 0 ∷ []) ok.1.1.1) ▶ line_end
-declaration (decls.Flag at target value) ok =
-    let head : Says false true (codes "  bool ") (mark kinds.KeyBool 0 ∷ []) = space ▷ space ▷ keyword 98 (codes "ool") refl refl (omega arith) ▶ space in
+declared (decls.Flag at target value) ok =
+    let head : Says false false (codes "bool ") (mark kinds.KeyBool 0 ∷ []) = keyword 98 (codes "ool") refl refl (omega arith) ▶ space in
     head ▷ name target ok.1.0 ▶ assign ▷ truth value ▶ line_end
+
+declaration : (d : Decl) → ArePrintable (declaration_words d) → Says false true (declaration_text d) (declaration_words d)
+declaration d ok =
+    let lead : Says false true (codes "  ") [] = space ▷ space in
+    lead ▷ declared d ok
 
 declarations : (ds : List Decl) → ArePrintable (flat_map declaration_words ds) → Says false false (flat_map declaration_text ds) (flat_map declaration_words ds)
 declarations [] ok = says_nothing false
@@ -160,27 +166,62 @@ all_inputs : (is : List InputTree) → ArePrintable (inputs_words is) → Says t
 all_inputs [] ok = less (says_nothing true)
 all_inputs (i ∷ is) ok = input i (printable_front (input_words i) (later_inputs is) ok) ▶ more_inputs is (printable_back (input_words i) (later_inputs is) ok)
 
-method_group : (k i c g d b e : List Word) → (((((k ++ i) ++ c) ++ g) ++ d) ++ b) ++ e ≡ (((k ++ i) ++ (c ++ g)) ++ (d ++ b)) ++ e
-method_group k i c g d b e = simp append_assoc
+local : (d : Decl) → ArePrintable (local_words d) → Says false true (local_text d) (local_words d)
+local d ok =
+    let lead : Says false true (codes "    local ") (mark kinds.KeyLocal 0 ∷ []) = space ▷ space ▷ space ▷ space ▷ keyword 108 (codes "ocal") refl refl (omega arith) ▶ space in
+    lead ▷ declared d ok.1
+
+locals : (ds : List Decl) → ArePrintable (flat_map local_words ds) → Says false false (flat_map local_text ds) (flat_map local_words ds)
+locals [] ok = says_nothing false
+locals (d ∷ ds) ok = less (local d (printable_front (local_words d) (flat_map local_words ds) ok) ▷ locals ds (printable_back (local_words d) (flat_map local_words ds) ok))
+
+guarded_group : (w g d b e : List Word) → ((((w ++ g) ++ d) ++ b) ++ []) ++ e ≡ ((w ++ g) ++ (d ++ b)) ++ e
+guarded_group w g d b e = simp (append_assoc, append-nil)
+
+guarded : (depth : ℕ) (b : BlockTree) → ArePrintable (guarded_words b) → Says false false (guarded_text depth b) (guarded_words b)
+guarded depth b ok =
+    let w = mark kinds.KeyWaituntil 0 ∷ mark kinds.OpenParen 0 ∷ [] in
+    let g = expression_words b.guard in
+    let d = mark kinds.CloseParen 0 ∷ mark kinds.OpenBrace 0 ∷ [] in
+    let lines = flat_map statement_words b.body in
+    let e = mark kinds.CloseBrace 0 ∷ [] in
+    let front = printable_front ((w ++ g) ++ (d ++ lines)) e ok in
+    let head : Says false false (codes "waituntil (") w = keyword 119 (codes "aituntil") refl refl (omega arith) ▶ space ▷ begin_paren in
+    let last : Says false true (codes "}\n") e = end_brace ▷ line_feed in
+    let guard = expression b.guard (printable_front (w ++ g) (d ++ lines) front).1.1 in
+    let body = statements (depth + 1) b.body (printable_back (w ++ g) (d ++ lines) front).1.1 in
+    says_same refl (guarded_group w g d lines e) (head ▷ guard ▶ block_begin ▷ body ▷ blanks (2 * depth) ▷ last)
+
+block_lines : (bs : List BlockTree) → ArePrintable (flat_map guarded_words bs) → Says false false (flat_map (λ b. codes "    " ++ guarded_text 2 b) bs) (flat_map guarded_words bs)
+block_lines [] ok = says_nothing false
+block_lines (b ∷ bs) ok =
+    let lead : Says false true (codes "    ") [] = space ▷ space ▷ space ▷ space in
+    less (lead ▷ guarded 2 b (printable_front (guarded_words b) (flat_map guarded_words bs) ok) ▷ block_lines bs (printable_back (guarded_words b) (flat_map guarded_words bs) ok))
+
+lines : (ls : List Decl) (bs : List BlockTree) → ArePrintable (flat_map local_words ls) → ArePrintable (flat_map guarded_words bs) → Says false true (lines_text ls bs) (flat_map local_words ls ++ flat_map guarded_words bs)
+lines ls bs kept ok = line_feed ▷ locals ls kept ▷ block_lines bs ok
+
+all_blocks : (ls : List Decl) (bs : List BlockTree) → ArePrintable (flat_map local_words ls) → ArePrintable (flat_map guarded_words bs) → Says false true (blocks_text ls bs) (flat_map local_words ls ++ flat_map guarded_words bs)
+all_blocks [] [] kept ok = lines [] [] kept ok
+all_blocks [] (b ∷ []) kept ok = says_same refl (sym (append-nil (guarded_words b))) (space ▷ guarded 1 b (printable_front (guarded_words b) [] ok))
+all_blocks [] (b ∷ (c ∷ more)) kept ok = lines [] (b ∷ (c ∷ more)) kept ok
+all_blocks (l ∷ ls) bs kept ok = lines (l ∷ ls) bs kept ok
+
+method_group : (k i c l b : List Word) → ((k ++ i) ++ c) ++ (l ++ b) ≡ ((k ++ i) ++ (c ++ l)) ++ b
+method_group k i c l b = simp append_assoc
 
 method : (m : MethodTree) → ArePrintable (method_words m) → Says false true (method_text m) (method_words m)
 method m ok =
     let k = mark kinds.KeyMethod 0 ∷ ident m.name 0 ∷ mark kinds.OpenParen 0 ∷ [] in
     let i = inputs_words m.inputs in
-    let c = mark kinds.CloseParen 0 ∷ mark kinds.KeyWaituntil 0 ∷ mark kinds.OpenParen 0 ∷ [] in
-    let g = expression_words m.guard in
-    let d = mark kinds.CloseParen 0 ∷ mark kinds.OpenBrace 0 ∷ [] in
-    let b = flat_map statement_words m.body in
-    let e = mark kinds.CloseBrace 0 ∷ [] in
-    let front = printable_front (((k ++ i) ++ (c ++ g)) ++ (d ++ b)) e ok in
-    let first = printable_front ((k ++ i) ++ (c ++ g)) (d ++ b) front in
-    let before = printable_front (k ++ i) (c ++ g) first in
+    let c = mark kinds.CloseParen 0 ∷ [] in
+    let l = flat_map local_words m.locals in
+    let b = flat_map guarded_words m.blocks in
+    let front = printable_front ((k ++ i) ++ (c ++ l)) b ok in
+    let before = printable_front (k ++ i) (c ++ l) front in
     let head : Says false true (codes "  method ") (mark kinds.KeyMethod 0 ∷ []) = space ▷ space ▷ keyword 109 (codes "ethod") refl refl (omega arith) ▶ space in
-    let wait : Says false true (codes ") waituntil (") c = end_paren ▷ space ▷ keyword 119 (codes "aituntil") refl refl (omega arith) ▶ space ▷ begin_paren in
-    let last : Says false true (codes "  }\n") e = space ▷ space ▷ end_brace ▷ line_feed in
-    let guard = expression m.guard (printable_back (k ++ i) (c ++ g) first).1.1.1 in
-    let body = statements 2 m.body (printable_back ((k ++ i) ++ (c ++ g)) (d ++ b) front).1.1 in
-    says_same refl (method_group k i c g d b e) (head ▷ name m.name before.1.0 ▶ begin_paren ▷ all_inputs m.inputs before.1.1.1 ▶ wait ▷ guard ▶ block_begin ▷ body ▷ last)
+    let rest = all_blocks m.locals m.blocks (printable_back (k ++ i) (c ++ l) front).1 (printable_back ((k ++ i) ++ (c ++ l)) b ok) in
+    says_same refl (method_group k i c l b) (head ▷ name m.name before.1.0 ▶ begin_paren ▷ all_inputs m.inputs before.1.1.1 ▶ end_paren ▷ rest)
 
 methods : (ms : List MethodTree) → ArePrintable (flat_map method_words ms) → Says false false (flat_map method_text ms) (flat_map method_words ms)
 methods [] ok = says_nothing false

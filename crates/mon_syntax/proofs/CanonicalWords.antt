@@ -13,6 +13,7 @@ use Rattle.mon_tree.specs.declared.tree.Expr.TheFolds.{fold-Expr}
 use Rattle.mon_tree.specs.declared.tree.StmtTree.{StmtTree}
 use Rattle.mon_tree.specs.declared.tree.StmtTree.TheOpen.{StmtTree-F, Set, If, Return}
 use Rattle.mon_tree.specs.declared.tree.StmtTree.TheFolds.{fold-StmtTree}
+use Rattle.mon_tree.specs.declared.tree.BlockTree.{BlockTree}
 use Rattle.mon_tree.specs.declared.tree.MethodTree.{MethodTree}
 use Rattle.mon_tree.specs.declared.tree.MonitorTree.{MonitorTree}
 use Rattle.mon_tokens.specs.Words.{Word, ident, numeral, mark}
@@ -101,11 +102,18 @@ abbrev pub inputs_words : List InputTree → List Word
 inputs_words [] = []
 inputs_words (first ∷ rest) = input_words first ++ flat_map (λ input. mark kinds.Comma 0 ∷ input_words input) rest
 
+abbrev pub local_words : Decl → List Word
+local_words local = mark kinds.KeyLocal 0 ∷ declaration_words local
+
+abbrev pub guarded_words : BlockTree → List Word
+guarded_words block =
+    mark kinds.KeyWaituntil 0 ∷ mark kinds.OpenParen 0 ∷ expression_words block.guard ++ mark kinds.CloseParen 0
+    ∷ mark kinds.OpenBrace 0 ∷ flat_map statement_words block.body ++ mark kinds.CloseBrace 0 ∷ []
+
 abbrev pub method_words : MethodTree → List Word
 method_words method =
     mark kinds.KeyMethod 0 ∷ ident method.name 0 ∷ mark kinds.OpenParen 0 ∷ inputs_words method.inputs ++ mark kinds.CloseParen 0
-    ∷ mark kinds.KeyWaituntil 0 ∷ mark kinds.OpenParen 0 ∷ expression_words method.guard ++ mark kinds.CloseParen 0
-    ∷ mark kinds.OpenBrace 0 ∷ flat_map statement_words method.body ++ mark kinds.CloseBrace 0 ∷ []
+    ∷ flat_map local_words method.locals ++ flat_map guarded_words method.blocks
 
 abbrev pub tree_words : MonitorTree → List Word
 tree_words tree =

@@ -1,5 +1,5 @@
 -- The canonical words of a client file, whatever their offsets, derive the same tree but for offsets.
-use Rattle.std.proofs.Common.{◌≡◌, ℕ, zero, suc, List, [], ◌∷◌, ◌++◌, map, refl, sym, ap, ◌∙◌, inl, inr}
+use Rattle.std.proofs.Common.{◌≡◌, ℕ, zero, suc, Bool, true, false, List, [], ◌∷◌, ◌++◌, map, refl, sym, ap, ◌∙◌, inl, inr, append_assoc}
 use Rattle.std.specs.List.{flat_map}
 use Rattle.mon_base.specs.Limits.{LEVELS}
 use Rattle.mon_tokens.specs.declared.token.TokenKind.TheVariants as kinds
@@ -14,10 +14,10 @@ use Rattle.mon_tree.specs.declared.tree.ClientsTree.{ClientsTree}
 use Rattle.mon_tree.specs.Offsets.{unplaced_argument, item_step, unplaced_item, unplaced_client, unplaced_clients}
 use Rattle.mon_tokens.specs.Words.{Word, ident, numeral, mark}
 use Rattle.mon_syntax.specs.Grammar.{Rule, ◌⌢◌, IsBlock, IsIdent, IsNumeral, IsMarkAt, IsMark, truth_word}
-use Rattle.mon_syntax.specs.ClientGrammar.{negative, plain, IsArgument, AreArguments, IsCall, IsRepeat, IsItem, IsClient, IsClientFile}
+use Rattle.mon_syntax.specs.ClientGrammar.{negative, plain, IsArgument, AreArguments, IsCalled, IsCall, IsRepeat, IsItem, IsClient, IsClientFile}
 use Rattle.mon_syntax.proofs.CanonicalWords.{bare}
-use Rattle.mon_syntax.proofs.ClientWords.{argument_words, arguments_words, item_words, item_block_words, client_words, clients_words, words_Call, words_Repeat}
-use Rattle.mon_syntax.proofs.PrintedWords.{Again, each_again, no_words, alone, cut_mark, cut_mark_at, cut_ident, cut_numeral, cut_tree, last_mark}
+use Rattle.mon_syntax.proofs.ClientWords.{argument_words, arguments_words, try_words, item_words, item_block_words, client_words, clients_words, words_Call, words_Repeat}
+use Rattle.mon_syntax.proofs.PrintedWords.{Cut, Again, each_again, no_words, alone, cut_mark, cut_mark_at, cut_ident, cut_numeral, cut_tree, last_mark}
 
 -- ---- arguments
 
@@ -55,8 +55,8 @@ arguments_again (first ∷ rest) ws is = λ printed h.
 
 -- ---- items
 
-unplaced_Call : (at : ℕ) (name : List ℕ) (given : List Arg) → unplaced_item (items.Call at name given) ≡ items.Call 0 name (map unplaced_argument given)
-unplaced_Call at name given = ap unplaced_item (sym (items.rolls-Call at name given)) ∙ fold-roll-Item Item item_step (Call at name given)
+unplaced_Call : (at : ℕ) (tries : Bool) (place : ℕ) (name : List ℕ) (given : List Arg) → unplaced_item (items.Call at tries place name given) ≡ items.Call 0 tries 0 name (map unplaced_argument given)
+unplaced_Call at tries place name given = ap unplaced_item (sym (items.rolls-Call at tries place name given)) ∙ fold-roll-Item Item item_step (Call at tries place name given)
 
 unplaced_Repeat : (at times : ℕ) (body : List Item) → unplaced_item (items.Repeat at times body) ≡ items.Repeat 0 times (map unplaced_item body)
 unplaced_Repeat at times body = ap unplaced_item (sym (items.rolls-Repeat at times body)) ∙ fold-roll-Item Item item_step (Repeat at times body)
@@ -64,19 +64,37 @@ unplaced_Repeat at times body = ap unplaced_item (sym (items.rolls-Repeat at tim
 abbrev AllAgain : Rule Item → Type 0
 AllAgain IsItem = (item : Item) (ws : List Word) → IsItem item ws → Again IsItem unplaced_item (unplaced_item item) (item_words item)
 
+called_again : (tries : Bool) (name : List ℕ) (us printed : List Word) → map bare printed ≡ try_words tries ++ (ident name 0 ∷ us) → (at : ℕ) × (place : ℕ) × Cut (IsCalled at tries place name) us printed
+called_again true name us printed h =
+    let word = cut_mark_at kinds.KeyTry (ident name 0 ∷ us) printed h in
+    let named = cut_ident name us word.1.rest word.1.bare_rest in (
+      word.0,
+      named.0,
+      record {
+        front = word.1.front ++ named.1.front;
+        rest = named.1.rest;
+        first = (word.1.front, named.1.front, word.1.first, named.1.first, refl);
+        is = word.1.is ∙ ap (λ (rest : List Word). word.1.front ++ rest) named.1.is ∙ sym (append_assoc word.1.front named.1.front named.1.rest);
+        bare_rest = named.1.bare_rest;
+      },
+    )
+called_again false name us printed h =
+    let named = cut_ident name us printed h in
+    (named.0, named.0, record { front = named.1.front; rest = named.1.rest; first = (refl, named.1.first); is = named.1.is; bare_rest = named.1.bare_rest })
+
 call_again : AllAgain IsCall
 call_again item ws is = λ printed h.
     let end : List Word = mark kinds.CloseParen 0 ∷ (mark kinds.Semicolon 0 ∷ []) in
-    let name = cut_ident is.1 (mark kinds.OpenParen 0 ∷ (arguments_words is.2 ++ end)) printed (h ∙ ap item_words is.3 ∙ words_Call is.0 is.1 is.2) in
-    let opening = cut_mark kinds.OpenParen (arguments_words is.2 ++ end) name.1.rest name.1.bare_rest in
-    let given = cut_tree (arguments_again is.2 is.4.3.3.0 is.4.3.3.2) end opening.rest opening.bare_rest in
+    let name = called_again is.1 is.3 (mark kinds.OpenParen 0 ∷ (arguments_words is.4 ++ end)) printed (h ∙ ap item_words is.5 ∙ words_Call is.0 is.1 is.2 is.3 is.4) in
+    let opening = cut_mark kinds.OpenParen (arguments_words is.4 ++ end) name.2.rest name.2.bare_rest in
+    let given = cut_tree (arguments_again is.4 is.6.3.3.0 is.6.3.3.2) end opening.rest opening.bare_rest in
     let closing = cut_mark kinds.CloseParen (mark kinds.Semicolon 0 ∷ []) given.cut.rest given.cut.bare_rest in
     let semicolon = last_mark kinds.Semicolon closing.rest closing.bare_rest in
-    let made = items.Call name.0 is.1 given.again in
-    let parts : (IsIdent is.1 name.0 ⌢ IsMark kinds.OpenParen ⌢ AreArguments given.again ⌢ IsMark kinds.CloseParen ⌢ IsMark kinds.Semicolon) printed =
-    (name.1.front, name.1.rest, name.1.first, (opening.front, opening.rest, opening.first, (given.cut.front, given.cut.rest, given.cut.first, (closing.front, closing.rest, closing.first, semicolon, closing.is), given.cut.is), opening.is), name.1.is) in
-    let whole : IsCall made printed = (name.0, is.1, given.again, refl, parts) in
-    (made, whole, unplaced_Call name.0 is.1 given.again ∙ ap (items.Call 0 is.1) given.same ∙ sym (ap unplaced_item is.3 ∙ unplaced_Call is.0 is.1 is.2))
+    let made = items.Call name.0 is.1 name.1 is.3 given.again in
+    let parts : (IsCalled name.0 is.1 name.1 is.3 ⌢ IsMark kinds.OpenParen ⌢ AreArguments given.again ⌢ IsMark kinds.CloseParen ⌢ IsMark kinds.Semicolon) printed =
+    (name.2.front, name.2.rest, name.2.first, (opening.front, opening.rest, opening.first, (given.cut.front, given.cut.rest, given.cut.first, (closing.front, closing.rest, closing.first, semicolon, closing.is), given.cut.is), opening.is), name.2.is) in
+    let whole : IsCall made printed = (name.0, is.1, name.1, is.3, given.again, refl, parts) in
+    (made, whole, unplaced_Call name.0 is.1 name.1 is.3 given.again ∙ ap (items.Call 0 is.1 0 is.3) given.same ∙ sym (ap unplaced_item is.5 ∙ unplaced_Call is.0 is.1 is.2 is.3 is.4))
 
 item_block_again : (IsInner : Rule Item) → AllAgain IsInner → (body : List Item) (ws : List Word) → IsBlock IsInner body ws
     → Again (IsBlock IsInner) (map unplaced_item) (map unplaced_item body) (item_block_words body)

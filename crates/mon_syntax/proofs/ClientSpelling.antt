@@ -1,5 +1,5 @@
 -- The canonical text of a client file is spelled by tokens that say its canonical words.
-use Rattle.std.proofs.Common.{◌≡◌, ℕ, ◌+◌, ◌*◌, true, false, List, [], ◌∷◌, ◌++◌, map, refl, sym, subst, append-nil, arith}
+use Rattle.std.proofs.Common.{◌≡◌, ℕ, ◌+◌, ◌*◌, Bool, true, false, List, [], ◌∷◌, ◌++◌, map, refl, sym, subst, append_assoc, append-nil, arith}
 use Rattle.std.specs.Prelude.{codes}
 use Rattle.std.specs.List.{flat_map}
 use Rattle.mon_tokens.specs.declared.token.TokenKind.TheVariants as kinds
@@ -13,9 +13,9 @@ use Rattle.mon_tree.specs.declared.tree.ClientTree.{ClientTree}
 use Rattle.mon_tree.specs.declared.tree.ClientsTree.{ClientsTree}
 use Rattle.mon_tokens.specs.Spelling.{Spells}
 use Rattle.mon_tokens.specs.Words.{Word, ident, numeral, mark, words}
-use Rattle.mon_printer.specs.CanonicalClients.{argument_text, arguments_text, item_step, item_text, client_text, clients_text}
+use Rattle.mon_printer.specs.CanonicalClients.{argument_text, arguments_text, try_text, item_step, item_text, client_text, clients_text}
 use Rattle.mon_syntax.proofs.CanonicalWords.{bare}
-use Rattle.mon_syntax.proofs.ClientWords.{argument_words, arguments_words, item_words_step, item_words, client_words, clients_words}
+use Rattle.mon_syntax.proofs.ClientWords.{argument_words, arguments_words, try_words, item_words_step, item_words, client_words, clients_words}
 use Rattle.mon_syntax.proofs.CanonicalPieces.{Reads, reads_nothing, spells_words, Says, ◌▷◌, ◌▶◌, less, says_nothing, says_same, space, line_feed, begin_brace, end_brace, begin_paren, end_paren, semicolon, comma, keyword, name, number}
 use Rattle.mon_syntax.proofs.CanonicalSpelling.{blanks, literal}
 use Rattle.mon_syntax.proofs.SpelledExpressions.{truth}
@@ -70,6 +70,13 @@ body_says : (depth : ℕ) (body : Body) → ArePrintable (body_words body) → S
 body_says depth [] ok = says_nothing false
 body_says depth (x ∷ xs) ok = x.1 depth (printable_front (item_words x.0) (body_words xs) ok) ▷ body_says depth xs (printable_back (item_words x.0) (body_words xs) ok)
 
+tried : (tries : Bool) → Says false false (try_text tries) (try_words tries)
+tried true = keyword 116 (codes "ry") refl refl (omega arith) ▶ space
+tried false = says_nothing false
+
+call_group : (t n p a e : List Word) → (((t ++ n) ++ p) ++ a) ++ e ≡ (t ++ (n ++ (p ++ a))) ++ e
+call_group t n p a e = simp append_assoc
+
 repeat_group : (k b c : List Word) → ((k ++ b) ++ []) ++ c ≡ (k ++ b) ++ c
 repeat_group k b c = simp append-nil
 
@@ -86,9 +93,14 @@ abbrev words_layer : Item-F Item → List Word
 words_layer x = item_words_step (map-Item Item (List Word) item_words x)
 
 layer_says : (y : Layer) (depth : ℕ) → ArePrintable (words_layer (bare_layer y)) → Says false false (printed_layer (bare_layer y) depth) (words_layer (bare_layer y))
-layer_says (Call at target given) depth ok =
-    let front = printable_front (ident target 0 ∷ mark kinds.OpenParen 0 ∷ arguments_words given) (mark kinds.CloseParen 0 ∷ mark kinds.Semicolon 0 ∷ []) ok in
-    blanks (2 * depth) ▷ name target front.0 ▶ begin_paren ▷ all_arguments given front.1.1 ▶ call_end
+layer_says (Call at tries place target given) depth ok =
+    let t = try_words tries in
+    let n = ident target 0 ∷ [] in
+    let p = mark kinds.OpenParen 0 ∷ [] in
+    let a = arguments_words given in
+    let e = mark kinds.CloseParen 0 ∷ mark kinds.Semicolon 0 ∷ [] in
+    let named = printable_back t (n ++ (p ++ a)) (printable_front (t ++ (n ++ (p ++ a))) e ok) in
+    says_same refl (call_group t n p a e) (blanks (2 * depth) ▷ tried tries ▷ name target named.0 ▶ begin_paren ▷ all_arguments given named.1.1 ▶ call_end)
 layer_says (Repeat at times body) depth ok =
     let k = mark kinds.KeyRepeat 0 ∷ numeral times 0 ∷ mark kinds.OpenBrace 0 ∷ [] in
     let b = body_words body in

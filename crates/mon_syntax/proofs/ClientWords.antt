@@ -1,5 +1,5 @@
 -- The canonical words of client files, each at offset 0. The words of a derived tree are these but for offsets.
-use Rattle.std.proofs.Common.{◌≡◌, ℕ, zero, suc, List, [], ◌∷◌, ◌++◌, map, sym, ap, subst, ◌∙◌, inl, inr}
+use Rattle.std.proofs.Common.{◌≡◌, ℕ, zero, suc, Bool, true, false, List, [], ◌∷◌, ◌++◌, map, sym, ap, subst, ◌∙◌, inl, inr, append_assoc}
 use Rattle.std.specs.List.{flat_map}
 use Rattle.std.proofs.lemmas.List.{map-append}
 use Rattle.std.proofs.lemmas.List.Folds.{flat_map-map}
@@ -18,7 +18,7 @@ use Rattle.mon_tree.specs.declared.tree.ClientsTree.{ClientsTree}
 use Rattle.mon_tokens.specs.Spelling.{Spells}
 use Rattle.mon_tokens.specs.Words.{Word, ident, numeral, mark, words}
 use Rattle.mon_syntax.specs.Grammar.{Rule, ◌⌢◌, Each, IsBlock, IsIdent, IsNumeral, IsMarkAt, IsMark, truth_word}
-use Rattle.mon_syntax.specs.ClientGrammar.{IsArgument, AreArguments, IsCall, IsRepeat, IsItem, IsClient, IsClientFile, DerivesClients}
+use Rattle.mon_syntax.specs.ClientGrammar.{IsArgument, AreArguments, IsCalled, IsCall, IsRepeat, IsItem, IsClient, IsClientFile, DerivesClients}
 use Rattle.mon_syntax.proofs.CanonicalWords.{bare, literal_words}
 use Rattle.mon_syntax.proofs.Printable.{ArePrintable}
 use Rattle.mon_syntax.proofs.DerivedPrintable.{words_printable}
@@ -34,8 +34,12 @@ abbrev pub arguments_words : List Arg → List Word
 arguments_words [] = []
 arguments_words (first ∷ rest) = argument_words first ++ flat_map (λ argument. mark kinds.Comma 0 ∷ argument_words argument) rest
 
+abbrev pub try_words : Bool → List Word
+try_words true = mark kinds.KeyTry 0 ∷ []
+try_words false = []
+
 abbrev pub item_words_step : Item-F (List Word) → List Word
-item_words_step (Call at name given) = ident name 0 ∷ mark kinds.OpenParen 0 ∷ arguments_words given ++ mark kinds.CloseParen 0 ∷ mark kinds.Semicolon 0 ∷ []
+item_words_step (Call at tries place name given) = try_words tries ++ ident name 0 ∷ mark kinds.OpenParen 0 ∷ arguments_words given ++ mark kinds.CloseParen 0 ∷ mark kinds.Semicolon 0 ∷ []
 item_words_step (Repeat at times body) =
     mark kinds.KeyRepeat 0 ∷ numeral times 0 ∷ mark kinds.OpenBrace 0 ∷ flat_map (λ words. words) body ++ mark kinds.CloseBrace 0 ∷ []
 
@@ -51,9 +55,16 @@ client_words client = mark kinds.KeyClient 0 ∷ (ident client.name 0 ∷ item_b
 abbrev pub clients_words : ClientsTree → List Word
 clients_words tree = flat_map client_words tree.clients
 
-pub words_Call : (at : ℕ) (name : List ℕ) (given : List Arg)
-    → item_words (items.Call at name given) ≡ ident name 0 ∷ (mark kinds.OpenParen 0 ∷ (arguments_words given ++ (mark kinds.CloseParen 0 ∷ (mark kinds.Semicolon 0 ∷ []))))
-words_Call at name given = ap item_words (sym (items.rolls-Call at name given)) ∙ fold-roll-Item (List Word) item_words_step (Call at name given)
+call_group : (t n p a e : List Word) → (t ++ (n ++ (p ++ a))) ++ e ≡ t ++ (n ++ (p ++ (a ++ e)))
+call_group t n p a e = simp append_assoc
+
+pub words_Call : (at : ℕ) (tries : Bool) (place : ℕ) (name : List ℕ) (given : List Arg)
+    → item_words (items.Call at tries place name given)
+    ≡ try_words tries ++ (ident name 0 ∷ (mark kinds.OpenParen 0 ∷ (arguments_words given ++ (mark kinds.CloseParen 0 ∷ (mark kinds.Semicolon 0 ∷ [])))))
+words_Call at tries place name given =
+    ap item_words (sym (items.rolls-Call at tries place name given))
+    ∙ fold-roll-Item (List Word) item_words_step (Call at tries place name given)
+    ∙ call_group (try_words tries) (ident name 0 ∷ []) (mark kinds.OpenParen 0 ∷ []) (arguments_words given) (mark kinds.CloseParen 0 ∷ (mark kinds.Semicolon 0 ∷ []))
 
 pub words_Repeat : (at times : ℕ) (body : List Item) → item_words (items.Repeat at times body) ≡ mark kinds.KeyRepeat 0 ∷ (numeral times 0 ∷ item_block_words body)
 words_Repeat at times body =
@@ -100,10 +111,15 @@ arguments_are [] ws p = ap (map bare) p
 arguments_are (first ∷ rest) ws p =
     (argument_is first & each_are (λ argument. IsMark kinds.Comma ⌢ IsArgument argument) (λ argument. mark kinds.Comma 0 ∷ argument_words argument) later_is rest) ws p
 
+called_is : (at : ℕ) (tries : Bool) (place : ℕ) (name : List ℕ) → Are (IsCalled at tries place name) (try_words tries ++ (ident name 0 ∷ []))
+called_is at true place name ws p = (mark_at_is kinds.KeyTry at & ident_is name place) ws p
+called_is at false place name ws p = ident_is name place ws p.1
+
 call_is : (item : Item) → Are (IsCall item) (item_words item)
 call_is item ws p =
-    (ident_is p.1 p.0 & mark_is kinds.OpenParen & arguments_are p.2 & mark_is kinds.CloseParen & mark_is kinds.Semicolon) ws p.4
-    ∙ sym (ap item_words p.3 ∙ words_Call p.0 p.1 p.2)
+    (called_is p.0 p.1 p.2 p.3 & mark_is kinds.OpenParen & arguments_are p.4 & mark_is kinds.CloseParen & mark_is kinds.Semicolon) ws p.6
+    ∙ append_assoc (try_words p.1) (ident p.3 0 ∷ []) (mark kinds.OpenParen 0 ∷ (arguments_words p.4 ++ (mark kinds.CloseParen 0 ∷ (mark kinds.Semicolon 0 ∷ []))))
+    ∙ sym (ap item_words p.5 ∙ words_Call p.0 p.1 p.2 p.3 p.4)
 
 block_is : (IsInner : Rule Item) → ((item : Item) → Are (IsInner item) (item_words item)) → (body : List Item) → Are (IsBlock IsInner body) (item_block_words body)
 block_is IsInner inner body = mark_is kinds.OpenBrace & each_are IsInner item_words inner body & mark_is kinds.CloseBrace

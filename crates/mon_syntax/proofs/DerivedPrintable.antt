@@ -24,12 +24,13 @@ use Rattle.mon_tree.specs.declared.tree.StmtTree.{StmtTree, roll-StmtTree}
 use Rattle.mon_tree.specs.declared.tree.StmtTree.TheOpen.{StmtTree-F, Set, If, Return}
 use Rattle.mon_tree.specs.declared.tree.StmtTree.TheVariants as statements
 use Rattle.mon_tree.specs.declared.tree.StmtTree.TheFolds.{fold-roll-StmtTree}
+use Rattle.mon_tree.specs.declared.tree.BlockTree.{BlockTree}
 use Rattle.mon_tree.specs.declared.tree.MethodTree.{MethodTree}
 use Rattle.mon_tree.specs.declared.tree.MonitorTree.{MonitorTree}
 use Rattle.mon_tokens.specs.Spelling.{is_digit, IsToken, IsDecimal, IsIdentifier, Spells, text_of}
 use Rattle.mon_tokens.specs.Words.{Word, mark, word_of, words, decimal_value}
-use Rattle.mon_syntax.specs.Grammar.{Rule, ◌⌢◌, Each, IsIdent, IsNumeral, IsMarkAt, IsMark, chain, IsFactor, IsProduct, IsAddend, IsSum, comparison, IsCompared, IsComparison, both, IsConjunction, either, IsDisjunction, Maybe, IsAtom, IsOpened, IsUnary, IsExpression, IsBlock, IsElse, IsSimple, IsIf, IsStatement, after_minus, IsLiteral, IsDeclaration, IsInput, AreInputs, IsMethod, IsMonitorFile, Derives, truth_word, op_sign, sum_sign, kind_word}
-use Rattle.mon_syntax.proofs.CanonicalWords.{Spelled, spelled, spelled_step, words_at, in_parentheses, addend_words, factor_words, expression_words, else_words, statement_words, statement_words_step, literal_words, declaration_words, input_words, inputs_words, method_words}
+use Rattle.mon_syntax.specs.Grammar.{Rule, ◌⌢◌, Each, OneOrMore, IsIdent, IsNumeral, IsMarkAt, IsMark, chain, IsFactor, IsProduct, IsAddend, IsSum, comparison, IsCompared, IsComparison, both, IsConjunction, either, IsDisjunction, Maybe, IsAtom, IsOpened, IsUnary, IsExpression, IsBlock, IsElse, IsSimple, IsIf, IsStatement, after_minus, IsLiteral, IsDeclaration, IsInput, AreInputs, IsLocal, IsGuarded, IsMethod, IsMonitorFile, Derives, truth_word, op_sign, sum_sign, kind_word}
+use Rattle.mon_syntax.proofs.CanonicalWords.{Spelled, spelled, spelled_step, words_at, in_parentheses, addend_words, factor_words, expression_words, else_words, statement_words, statement_words_step, literal_words, declaration_words, input_words, inputs_words, local_words, guarded_words, method_words}
 use Rattle.mon_tokens.proofs.Digits.{digit_is}
 use Rattle.mon_tokens.proofs.Numerals.{tokens_are}
 use Rattle.mon_syntax.proofs.Printable.{IsPrintableWord, ArePrintable, IsPrintable, printable_front, printable_back, printable_both, addend_tail, factor_tail, expression_layer, statement_layer}
@@ -324,19 +325,42 @@ all_inputs (i ∷ is) = record {
       printable_both (input_words i) (flat_map (λ i. mark kinds.Comma 0 ∷ input_words i) is) got.0 got.1;
 }
 
+local_rule : (d : Decl) (ws : List Word) → IsLocal d ws → ArePrintable ws → ArePrintable (local_words d)
+local_rule (decls.Const at name value) ws r ok = absurd r
+local_rule (decls.Int at name value) ws r ok = (tt, (IsMark kinds.KeyLocal &> declaration (decls.Int at name value)).gives ws r ok)
+local_rule (decls.Flag at name value) ws r ok = (tt, (IsMark kinds.KeyLocal &> declaration (decls.Flag at name value)).gives ws r ok)
+
+local : (d : Decl) → Gives (IsLocal d) (ArePrintable (local_words d))
+local d = record { gives = local_rule d }
+
+guarded : (b : BlockTree) → Gives (IsGuarded b) (ArePrintable (guarded_words b))
+guarded b = record {
+  gives = λ ws r ok.
+      let got =
+      (IsMarkAt kinds.KeyWaituntil b.at &> IsMark kinds.OpenParen &> (expression LEVELS b.guard & (IsMark kinds.CloseParen
+      &> block (IsStatement LEVELS) (statement LEVELS) b.body))).gives ws r ok in
+      let g = expression_words b.guard in
+      let lines = mark kinds.CloseParen 0 ∷ mark kinds.OpenBrace 0 ∷ flat_map statement_words b.body in
+      (tt, (tt, printable_both (g ++ lines) (mark kinds.CloseBrace 0 ∷ []) (printable_both g lines got.0 (tt, (tt, got.1))) (tt, tt)));
+}
+
+all_guarded : (bs : List BlockTree) → Gives (OneOrMore IsGuarded bs) (ArePrintable (flat_map guarded_words bs))
+all_guarded [] = record { gives = λ ws r ok. absurd r }
+all_guarded (b ∷ bs) = record {
+  gives = λ ws r ok.
+      let got = (guarded b & each IsGuarded guarded_words guarded bs).gives ws r ok in
+      printable_both (guarded_words b) (flat_map guarded_words bs) got.0 got.1;
+}
+
 method : (m : MethodTree) → Gives (IsMethod m) (ArePrintable (method_words m))
 method m = record {
   gives = λ ws r ok.
       let got =
       (IsMark kinds.KeyMethod &> (is_name m.name m.at & (IsMark kinds.OpenParen &> (all_inputs m.inputs & (IsMark kinds.CloseParen
-      &> IsMark kinds.KeyWaituntil &> IsMark kinds.OpenParen &> (expression LEVELS m.guard & (IsMark kinds.CloseParen
-      &> block (IsStatement LEVELS) (statement LEVELS) m.body))))))).gives ws r ok in
+      &> (each IsLocal local_words local m.locals & all_guarded m.blocks)))))).gives ws r ok in
       let i = inputs_words m.inputs in
-      let g = mark kinds.CloseParen 0 ∷ mark kinds.KeyWaituntil 0 ∷ mark kinds.OpenParen 0 ∷ expression_words m.guard in
-      let b = mark kinds.CloseParen 0 ∷ mark kinds.OpenBrace 0 ∷ flat_map statement_words m.body in
-      let guarded = printable_both i g got.1.0 (tt, (tt, (tt, got.1.1.0))) in
-      let filled = printable_both (i ++ g) b guarded (tt, (tt, got.1.1.1)) in
-      (tt, (got.0, (tt, printable_both ((i ++ g) ++ b) (mark kinds.CloseBrace 0 ∷ []) filled (tt, tt))));
+      let l = mark kinds.CloseParen 0 ∷ flat_map local_words m.locals in
+      (tt, (got.0, (tt, printable_both (i ++ l) (flat_map guarded_words m.blocks) (printable_both i l got.1.0 (tt, got.1.1.0)) got.1.1.1)));
 }
 
 file : (tree : MonitorTree) (ws : List Word) → IsMonitorFile tree ws → ArePrintable ws → IsPrintable tree

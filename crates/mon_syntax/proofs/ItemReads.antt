@@ -4,15 +4,16 @@ use Rattle.std.specs.Prelude.{◌⊎◌}
 use Rattle.mon_tokens.specs.declared.token.TokenKind.TheVariants as kinds
 use Rattle.mon_tree.specs.declared.tree.Arg.{Arg}
 use Rattle.mon_tree.specs.declared.tree.Item.{Item}
+use Rattle.mon_syntax.specs.declared.item_parser.CallHead.{CallHead}
 use Rattle.mon_syntax.specs.declared.word.PlacedNumber.{PlacedNumber}
 use Rattle.mon_tokens.specs.Words.{Word, ident, numeral}
 use Rattle.mon_syntax.specs.Grammar.{Rule, ◌⌢◌, Each, IsBlock, IsIdent, IsNumeral, IsMarkAt, IsMark, truth_word}
-use Rattle.mon_syntax.specs.ClientGrammar.{IsArgument, AreArguments, IsCall, IsRepeat, IsItem}
-use Rattle.mon_syntax.specs.inner.Reading.{Read, ◌⊗◌, choice_at, pure_at, each_at, placed_at, mark_at, ident_at, numeral_at, begins, begins_ident, begins_item, negative_argument_of, negative_argument_at, plain_argument_at, argument_at, later_argument_of, later_argument_at, later_arguments_at, arguments_of, some_arguments_at, arguments_at, call_of, call_at, items_at, repeat_of, repeat_at, item_at}
+use Rattle.mon_syntax.specs.ClientGrammar.{IsArgument, AreArguments, IsCalled, IsCall, IsRepeat, IsItem}
+use Rattle.mon_syntax.specs.inner.Reading.{Read, ◌⊗◌, made_at, choice_at, pure_at, each_at, placed_at, mark_at, ident_at, numeral_at, begins, begins_ident, begins_item, negative_argument_of, negative_argument_at, plain_argument_at, argument_at, later_argument_of, later_argument_at, later_arguments_at, arguments_of, some_arguments_at, arguments_at, tried_of, tried_at, untried_of, called_at, call_of, call_at, items_at, repeat_of, repeat_at, item_at}
 use Rattle.mon_syntax.proofs.Readers.{Reads, Anything, Both, pair_reads, made_reads, pure_reads, choice_reads, each_reads, before}
-use Rattle.mon_syntax.proofs.WordReads.{IsPlacedName, IsPlacedNumber, IsPlainArgument, mark_reads, numeral_reads, plain_argument_reads, begins_heads, item_heads}
+use Rattle.mon_syntax.proofs.WordReads.{IsPlacedName, IsPlacedNumber, IsPlainArgument, mark_reads, ident_reads, numeral_reads, plain_argument_reads, begins_heads, item_heads}
 use Rattle.mon_syntax.proofs.Openings.{Opens, At, mark_opens, placed_opens, ident_opens, numeral_opens, then_opens, begins_none, begins_at}
-use Rattle.mon_syntax.proofs.Sequences.{Made, same_reads, mark_then, placed_then, ident_then, numeral_then, image_reads, braces_reads}
+use Rattle.mon_syntax.proofs.Sequences.{Made, same_reads, mark_then, placed_then, numeral_then, image_reads, braces_reads}
 
 -- ---- arguments
 
@@ -141,17 +142,61 @@ paren_closes : At kinds.CloseParen Closes
 unfolding begins
 paren_closes at rest = (refl, refl)
 
+-- what a call begins with
+abbrev IsCalledSo : Rule CallHead
+IsCalledSo called = IsCalled called.at called.tries called.name_at called.name
+
+abbrev untried_from : ℕ → ℕ → List ℕ → CallHead
+untried_from at place name = record { at = at; tries = false; name_at = place; name = name }
+
+abbrev IsTried : Rule CallHead
+IsTried = Made tried_of (Both (λ (at : ℕ). IsMarkAt kinds.KeyTry at) IsPlacedName)
+
+abbrev IsUntried : Rule CallHead
+IsUntried = Made untried_of IsPlacedName
+
+tried_reads : Reads IsTried tried_at Anything
+unfolding tried_at
+tried_reads =
+    image_reads (Both (λ (at : ℕ). IsMarkAt kinds.KeyTry at) IsPlacedName) (placed_at kinds.KeyTry ⊗ ident_at) Anything tried_of
+    (placed_then kinds.KeyTry IsPlacedName ident_at Anything ident_reads)
+
+name_no_try : (name : List ℕ) (at : ℕ) (rest : List Word) → begins kinds.KeyTry (ident name at ∷ rest) ≡ false
+unfolding begins
+name_no_try name at rest = refl
+
+called_reads : Reads IsCalledSo called_at Anything
+unfolding called_at
+called_reads =
+    same_reads (λ x ws. IsTried x ws ⊎ IsUntried x ws) IsCalledSo called_at Anything
+    (choice_reads (begins kinds.KeyTry) IsTried tried_at Anything IsUntried (made_at untried_of ident_at) Anything Anything (begins_heads kinds.KeyTry) tried_reads
+    (image_reads IsPlacedName ident_at Anything untried_of ident_reads)
+    (λ x taken rest p after. (then_opens (IsMarkAt kinds.KeyTry p.0.0) (IsPlacedName p.0.1) (λ ws. begins kinds.KeyTry ws ≡ true) (placed_opens kinds.KeyTry p.0.0 (λ ws. begins kinds.KeyTry ws ≡ true) (begins_at kinds.KeyTry)) taken rest p.2, tt))
+    (λ x taken rest p after. (ident_opens p.0.name p.0.at (λ ws. begins kinds.KeyTry ws ≡ false) (name_no_try p.0.name p.0.at) taken rest p.2, tt)))
+    to (λ x ws p. from x.at x.tries x.name_at x.name ws p)
+  where
+    to : (x : CallHead) (ws : List Word) → IsTried x ws ⊎ IsUntried x ws → IsCalledSo x ws
+    to x ws (inl p) = subst (λ (y : CallHead). IsCalledSo y ws) (sym p.1) p.2
+    to x ws (inr p) = subst (λ (y : CallHead). IsCalledSo y ws) (sym p.1) (refl, p.2)
+
+    from : (at : ℕ) (tries : Bool) (place : ℕ) (name : List ℕ) (ws : List Word) → IsCalled at tries place name ws
+        → (let x : CallHead = record { at = at; tries = tries; name_at = place; name = name } in IsTried x ws ⊎ IsUntried x ws)
+    from at true place name ws p = inl ((at, record { at = place; name = name }), refl, p)
+    from at false place name ws p =
+        inr (record { at = place; name = name }, ap (λ (n : ℕ). untried_from n place name) p.0, p.1)
+
 pub call_reads : Reads IsCall call_at Anything
 unfolding call_at
 call_reads =
-    made_reads (Both IsPlacedName IsOpened) (ident_at ⊗ mark_at kinds.OpenParen ⊗ arguments_at ⊗ mark_at kinds.CloseParen ⊗ mark_at kinds.Semicolon) Anything call_of IsCall
-    (ident_then IsOpened (mark_at kinds.OpenParen ⊗ arguments_at ⊗ mark_at kinds.CloseParen ⊗ mark_at kinds.Semicolon) Anything
+    made_reads (Both IsCalledSo IsOpened) (called_at ⊗ mark_at kinds.OpenParen ⊗ arguments_at ⊗ mark_at kinds.CloseParen ⊗ mark_at kinds.Semicolon) Anything call_of IsCall
+    (pair_reads IsCalledSo called_at Anything IsOpened (mark_at kinds.OpenParen ⊗ arguments_at ⊗ mark_at kinds.CloseParen ⊗ mark_at kinds.Semicolon) Anything called_reads
     (mark_then kinds.OpenParen IsGiven (arguments_at ⊗ mark_at kinds.CloseParen ⊗ mark_at kinds.Semicolon) Anything
     (pair_reads AreArguments arguments_at Closes IsEnded (mark_at kinds.CloseParen ⊗ mark_at kinds.Semicolon) Anything arguments_read
     (mark_then kinds.CloseParen (λ (unit : Unit {0}). IsMark kinds.Semicolon) (mark_at kinds.Semicolon) Anything (mark_reads kinds.Semicolon))
-    (λ y taken rest is after. then_opens (IsMark kinds.CloseParen) (IsMark kinds.Semicolon) Closes (mark_opens kinds.CloseParen Closes paren_closes) taken rest is))))
-    (λ x ws p. (x.0.at, x.0.name, x.1.1.0, refl, p))
-    (λ y ws p. ((record { at = p.0; name = p.1 }, (tt, (p.2, (tt, tt)))), p.3, p.4))
+    (λ y taken rest is after. then_opens (IsMark kinds.CloseParen) (IsMark kinds.Semicolon) Closes (mark_opens kinds.CloseParen Closes paren_closes) taken rest is)))
+    (λ y taken rest is after. tt))
+    (λ x ws p. (x.0.at, x.0.tries, x.0.name_at, x.0.name, x.1.1.0, refl, p))
+    (λ y ws p. ((record { at = p.0; tries = p.1; name_at = p.2; name = p.3 }, (tt, (p.4, (tt, tt)))), p.5, p.6))
   where
     IsEnded : Rule (Unit {0} × Unit {0})
     IsEnded = Both (λ (unit : Unit {0}). IsMark kinds.CloseParen) (λ (unit : Unit {0}). IsMark kinds.Semicolon)
@@ -162,9 +207,15 @@ call_reads =
     IsOpened : Rule (Unit {0} × (List Arg × (Unit {0} × Unit {0})))
     IsOpened = Both (λ (unit : Unit {0}). IsMark kinds.OpenParen) IsGiven
 
-call_opens : (Fact : List Word → Type 0) → ((name : List ℕ) (at : ℕ) (rest : List Word) → Fact (ident name at ∷ rest)) → (x : Item) → Opens (IsCall x) Fact
-call_opens Fact so x ws rest p =
-    then_opens (IsIdent p.1 p.0) (IsMark kinds.OpenParen ⌢ AreArguments p.2 ⌢ IsMark kinds.CloseParen ⌢ IsMark kinds.Semicolon) Fact (ident_opens p.1 p.0 Fact (so p.1 p.0)) ws rest p.4
+-- the fact holds of a call's words, where it holds of each word that one begins with
+called_opens : (Fact : List Word → Type 0) → At kinds.KeyTry Fact → ((name : List ℕ) (at : ℕ) (rest : List Word) → Fact (ident name at ∷ rest))
+    → (at : ℕ) (tries : Bool) (place : ℕ) (name : List ℕ) → Opens (IsCalled at tries place name) Fact
+called_opens Fact of_try of_name at true place name ws rest p = then_opens (IsMarkAt kinds.KeyTry at) (IsIdent name place) Fact (placed_opens kinds.KeyTry at Fact of_try) ws rest p
+called_opens Fact of_try of_name at false place name ws rest p = ident_opens name place Fact (of_name name place) ws rest p.1
+
+call_opens : (Fact : List Word → Type 0) → At kinds.KeyTry Fact → ((name : List ℕ) (at : ℕ) (rest : List Word) → Fact (ident name at ∷ rest)) → (x : Item) → Opens (IsCall x) Fact
+call_opens Fact of_try of_name x ws rest p =
+    then_opens (IsCalled p.0 p.1 p.2 p.3) (IsMark kinds.OpenParen ⌢ AreArguments p.4 ⌢ IsMark kinds.CloseParen ⌢ IsMark kinds.Semicolon) Fact (called_opens Fact of_try of_name p.0 p.1 p.2 p.3) ws rest p.6
 
 -- ---- repeats
 
@@ -202,6 +253,10 @@ name_begins : (name : List ℕ) (at : ℕ) (rest : List Word) → begins_item (i
 unfolding begins_item begins begins_ident
 name_begins name at rest = refl
 
+try_begins : At kinds.KeyTry (λ ws. begins_item ws ≡ true)
+unfolding begins_item begins begins_ident
+try_begins at rest = refl
+
 repeat_begins : At kinds.KeyRepeat (λ ws. begins_item ws ≡ true)
 unfolding begins_item begins begins_ident
 repeat_begins at rest = refl
@@ -210,9 +265,13 @@ name_no_repeat : (name : List ℕ) (at : ℕ) (rest : List Word) → begins kind
 unfolding begins
 name_no_repeat name at rest = refl
 
+try_no_repeat : At kinds.KeyTry (λ ws. begins kinds.KeyRepeat ws ≡ false)
+unfolding begins
+try_no_repeat at rest = refl
+
 pub item_begins : (levels : ℕ) (x : Item) → Opens (IsItem levels x) (λ ws. begins_item ws ≡ true)
-item_begins zero x ws rest p = call_opens (λ ws. begins_item ws ≡ true) name_begins x ws rest p
-item_begins (suc levels) x ws rest (inl p) = call_opens (λ ws. begins_item ws ≡ true) name_begins x ws rest p
+item_begins zero x ws rest p = call_opens (λ ws. begins_item ws ≡ true) try_begins name_begins x ws rest p
+item_begins (suc levels) x ws rest (inl p) = call_opens (λ ws. begins_item ws ≡ true) try_begins name_begins x ws rest p
 item_begins (suc levels) x ws rest (inr p) = repeat_opens (IsItem levels) (λ ws. begins_item ws ≡ true) repeat_begins x ws rest p
 
 outer_reads : (IsInner : Rule Item) (inner : List Word → Read Item) → Reads (IsBlock IsInner) (items_at inner) Anything
@@ -221,7 +280,7 @@ outer_reads IsInner inner r =
     same_reads (λ x ws. IsRepeat IsInner x ws ⊎ IsCall x ws) (λ x ws. IsCall x ws ⊎ IsRepeat IsInner x ws) (choice_at (begins kinds.KeyRepeat) (repeat_at inner) call_at) Anything
     (choice_reads (begins kinds.KeyRepeat) (IsRepeat IsInner) (repeat_at inner) Anything IsCall call_at Anything Anything (begins_heads kinds.KeyRepeat) (repeat_reads IsInner inner r) call_reads
     (λ x taken rest p after. (repeat_opens IsInner (λ ws. begins kinds.KeyRepeat ws ≡ true) (begins_at kinds.KeyRepeat) x taken rest p, tt))
-    (λ x taken rest p after. (call_opens (λ ws. begins kinds.KeyRepeat ws ≡ false) name_no_repeat x taken rest p, tt)))
+    (λ x taken rest p after. (call_opens (λ ws. begins kinds.KeyRepeat ws ≡ false) try_no_repeat name_no_repeat x taken rest p, tt)))
     to from
   where
     to : (x : Item) (ws : List Word) → IsRepeat IsInner x ws ⊎ IsCall x ws → IsCall x ws ⊎ IsRepeat IsInner x ws

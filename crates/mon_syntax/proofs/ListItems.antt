@@ -3,15 +3,15 @@ use Rattle.std.proofs.Common.{◌≡◌, ℕ, ◌<◌, Bool, true, false, List, 
 use Rattle.mon_tokens.specs.declared.token.TokenKind.TheVariants as kinds
 use Rattle.mon_syntax.specs.declared.expression_parser.Join.{Join}
 use Rattle.mon_tokens.specs.Words.{Word}
-use Rattle.mon_syntax.specs.Grammar.{Rule, IsFactor, IsAddend, IsUnary, IsStatement, IsDeclaration, IsMethod}
+use Rattle.mon_syntax.specs.Grammar.{Rule, IsFactor, IsAddend, IsUnary, IsStatement, IsDeclaration, IsLocal, IsGuarded, IsMethod}
 use Rattle.mon_syntax.specs.ClientGrammar.{IsItem, IsClient}
-use Rattle.mon_syntax.specs.inner.Reading.{Read, begins, begins_listed, begins_statement, begins_declaration, minus_of, sign_of, inner_at, part_at, factor_at, addend_at, unary_at, statement_at, declaration_at, later_input_at, method_at, begins_item, later_argument_at, item_at, client_at}
+use Rattle.mon_syntax.specs.inner.Reading.{Read, begins, begins_listed, begins_statement, begins_declaration, minus_of, sign_of, inner_at, part_at, factor_at, addend_at, unary_at, statement_at, declaration_at, later_input_at, local_at, guarded_at, method_at, begins_item, later_argument_at, item_at, client_at}
 use Rattle.mon_syntax.specs.inner.Calls.{AreItems}
 use Rattle.mon_syntax.proofs.Readers.{Reads, Anything, shorter}
 use Rattle.mon_syntax.proofs.Openings.{begins_none, listed_none}
 use Rattle.mon_syntax.proofs.ExpressionReads.{NoStar, IsPart, IsInner, AfterInner, factor_reads, factor_begins, addend_reads, addend_begins, part_reads, part_begins, inner_reads, unary_reads}
 use Rattle.mon_syntax.proofs.StatementReads.{NoElse, no_statement, statement_reads, statement_begins}
-use Rattle.mon_syntax.proofs.MonitorReads.{no_declaration, declaration_reads, declaration_begins, IsLaterInput, later_input_reads, later_input_begins, method_reads, method_begins}
+use Rattle.mon_syntax.proofs.MonitorReads.{no_declaration, declaration_reads, declaration_begins, IsLaterInput, later_input_reads, later_input_begins, local_reads, local_begins, guarded_reads, guarded_begins, NoBlock, method_reads, method_begins}
 use Rattle.mon_syntax.proofs.ItemReads.{IsLaterArgument, later_argument_reads, later_argument_begins, no_item, item_reads, item_begins}
 use Rattle.mon_syntax.proofs.ClientReads.{client_reads, client_begins}
 
@@ -44,8 +44,14 @@ declaration_items = are_items begins_declaration IsDeclaration declaration_at An
 pub later_input_items : AreItems (begins kinds.Comma) later_input_at
 later_input_items = are_items (begins kinds.Comma) IsLaterInput later_input_at Anything (begins_none kinds.Comma) later_input_begins later_input_reads
 
+pub local_items : AreItems (begins kinds.KeyLocal) local_at
+local_items = are_items (begins kinds.KeyLocal) IsLocal local_at Anything (begins_none kinds.KeyLocal) local_begins local_reads
+
+pub guarded_items : AreItems (begins kinds.KeyWaituntil) guarded_at
+guarded_items = are_items (begins kinds.KeyWaituntil) IsGuarded guarded_at Anything (begins_none kinds.KeyWaituntil) guarded_begins guarded_reads
+
 pub method_items : AreItems (begins kinds.KeyMethod) method_at
-method_items = are_items (begins kinds.KeyMethod) IsMethod method_at Anything (begins_none kinds.KeyMethod) method_begins method_reads
+method_items = are_items (begins kinds.KeyMethod) IsMethod method_at NoBlock (begins_none kinds.KeyMethod) method_begins method_reads
 
 pub later_argument_items : AreItems (begins kinds.Comma) later_argument_at
 later_argument_items = are_items (begins kinds.Comma) IsLaterArgument later_argument_at Anything (begins_none kinds.Comma) later_argument_begins later_argument_reads

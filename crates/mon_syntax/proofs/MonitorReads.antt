@@ -13,17 +13,18 @@ use Rattle.mon_base.specs.declared.kind.Kind.TheVariants as inputs
 use Rattle.mon_tree.specs.declared.tree.InputTree.{InputTree}
 use Rattle.mon_tree.specs.declared.tree.Expr.{Expr}
 use Rattle.mon_tree.specs.declared.tree.StmtTree.{StmtTree}
+use Rattle.mon_tree.specs.declared.tree.BlockTree.{BlockTree}
 use Rattle.mon_tree.specs.declared.tree.MethodTree.{MethodTree}
 use Rattle.mon_tree.specs.declared.tree.MonitorTree.{MonitorTree}
 use Rattle.mon_syntax.specs.declared.word.PlacedName.{PlacedName}
 use Rattle.mon_tokens.specs.Words.{Word, numeral, words}
-use Rattle.mon_syntax.specs.Grammar.{Rule, ◌⌢◌, Each, IsIdent, IsNumeral, IsMark, truth_word, kind_word, IsExpression, IsBlock, IsStatement, after_minus, IsLiteral, IsDeclaration, IsInput, AreInputs, IsMethod, IsMonitorFile}
+use Rattle.mon_syntax.specs.Grammar.{Rule, ◌⌢◌, Each, OneOrMore, IsIdent, IsNumeral, IsMarkAt, IsMark, truth_word, kind_word, IsExpression, IsBlock, IsStatement, after_minus, IsLiteral, IsDeclaration, IsInput, AreInputs, IsLocal, IsGuarded, IsMethod, IsMonitorFile}
 use Rattle.mon_syntax.specs.Fault.{IsFaultAt}
-use Rattle.mon_syntax.specs.inner.Reading.{first_offset, Read, ◌⊗◌, made_at, choice_at, pure_at, each_at, mark_at, ident_at, numeral_at, listed_at, truth_of, kind_of, begins, begins_listed, begins_declaration, condition_at, block_at, statement_at, literal_of, negative_of, literal_at, Declared, constant_of, int_of, flag_of, declared_at, constant_at, int_at, flag_at, declaration_at, declarations_at, input_of, input_at, later_input_of, later_input_at, later_inputs_at, inputs_of, some_inputs_at, inputs_at, head_of, head_at, method_of, method_at, methods_at, monitor_of, monitor_at, monitor_file}
+use Rattle.mon_syntax.specs.inner.Reading.{first_offset, Read, ◌⊗◌, made_at, pure_at, each_at, placed_at, mark_at, ident_at, numeral_at, listed_at, truth_of, kind_of, begins, begins_listed, begins_declaration, condition_at, block_at, statement_at, literal_of, negative_of, literal_at, Declared, constant_of, int_of, flag_of, declared_at, constant_at, int_at, flag_at, variable_at, declaration_at, declarations_at, input_of, input_at, later_input_of, later_input_at, later_inputs_at, inputs_of, some_inputs_at, inputs_at, head_of, head_at, local_of, local_at, locals_at, guarded_of, guarded_at, later_blocks_at, blocks_of, blocks_at, method_of, method_at, methods_at, monitor_of, monitor_at, monitor_file}
 use Rattle.mon_syntax.proofs.Readers.{Reads, Anything, Both, pair_reads, made_reads, pure_reads, choice_reads, each_reads, before, whole_found, whole_again, whole_fault}
 use Rattle.mon_syntax.proofs.WordReads.{IsPlacedName, IsPlacedNumber, ident_reads, numeral_reads, truth_reads, kind_reads, begins_heads, listed_heads, declaration_heads}
-use Rattle.mon_syntax.proofs.Openings.{Opens, At, mark_opens, numeral_opens, then_opens, items_open, begins_none, begins_at}
-use Rattle.mon_syntax.proofs.Sequences.{five_right, five_left, three_right, three_left, within_second, Made, same_reads, mark_then, ident_then, then_mark, image_reads}
+use Rattle.mon_syntax.proofs.Openings.{Opens, At, mark_opens, placed_opens, numeral_opens, then_opens, items_open, begins_none, begins_at, begun}
+use Rattle.mon_syntax.proofs.Sequences.{five_right, five_left, three_right, three_left, within_second, Made, same_reads, mark_then, placed_then, ident_then, then_mark, image_reads}
 use Rattle.mon_syntax.proofs.ExpressionReads.{IsParenthesized}
 use Rattle.mon_syntax.proofs.StatementReads.{condition_reads, body_reads}
 use Rattle.mon_syntax.proofs.FileFaults.{file_fault}
@@ -124,21 +125,25 @@ bool_no_int : At kinds.KeyBool (λ ws. begins kinds.KeyInt ws ≡ false)
 unfolding begins
 bool_no_int at rest = refl
 
+abbrev IsVariable : Rule Decl
+IsVariable x ws = IsInt x ws ⊎ IsFlag x ws
+
+variable_reads : Reads IsVariable variable_at Anything
+unfolding variable_at
+variable_reads =
+    choice_reads (begins kinds.KeyInt) IsInt int_at Anything IsFlag flag_at Anything Anything (begins_heads kinds.KeyInt) int_reads flag_reads
+    (λ x taken rest p after. (declared_opens int_of kinds.KeyInt IsLiteral (λ ws. begins kinds.KeyInt ws ≡ true) (begins_at kinds.KeyInt) x taken rest p, tt))
+    (λ x taken rest p after. (declared_opens flag_of kinds.KeyBool IsTruth (λ ws. begins kinds.KeyInt ws ≡ false) bool_no_int x taken rest p, tt))
+
 pub declaration_reads : Reads IsDeclaration declaration_at Anything
 unfolding declaration_at
 declaration_reads =
     same_reads (λ x ws. IsConst x ws ⊎ IsVariable x ws) IsDeclaration declaration_at Anything
-    (choice_reads (begins kinds.KeyConst) IsConst constant_at Anything IsVariable (choice_at (begins kinds.KeyInt) int_at flag_at) Anything Anything (begins_heads kinds.KeyConst) constant_reads
-    (choice_reads (begins kinds.KeyInt) IsInt int_at Anything IsFlag flag_at Anything Anything (begins_heads kinds.KeyInt) int_reads flag_reads
-    (λ x taken rest p after. (declared_opens int_of kinds.KeyInt IsLiteral (λ ws. begins kinds.KeyInt ws ≡ true) (begins_at kinds.KeyInt) x taken rest p, tt))
-    (λ x taken rest p after. (declared_opens flag_of kinds.KeyBool IsTruth (λ ws. begins kinds.KeyInt ws ≡ false) bool_no_int x taken rest p, tt)))
+    (choice_reads (begins kinds.KeyConst) IsConst constant_at Anything IsVariable variable_at Anything Anything (begins_heads kinds.KeyConst) constant_reads variable_reads
     (λ x taken rest p after. (declared_opens constant_of kinds.KeyConst IsLiteral (λ ws. begins kinds.KeyConst ws ≡ true) (begins_at kinds.KeyConst) x taken rest p, tt))
     no_const)
     to from
   where
-    IsVariable : Rule Decl
-    IsVariable x ws = IsInt x ws ⊎ IsFlag x ws
-
     no_const : (x : Decl) (taken rest : List Word) → IsVariable x taken → Anything rest → (begins kinds.KeyConst (taken ++ rest) ≡ false) × Anything rest
     no_const x taken rest (inl p) after = (declared_opens int_of kinds.KeyInt IsLiteral (λ ws. begins kinds.KeyConst ws ≡ false) int_no_const x taken rest p, tt)
     no_const x taken rest (inr p) after = (declared_opens flag_of kinds.KeyBool IsTruth (λ ws. begins kinds.KeyConst ws ≡ false) bool_no_const x taken rest p, tt)
@@ -279,60 +284,152 @@ head_reads =
     IsNamed : Rule (PlacedName × (Unit {0} × (List InputTree × Unit {0})))
     IsNamed = Both IsPlacedName IsOpened
 
--- a method, over the rules of its condition's expression and of its body
-abbrev IsMethodOf : Rule Expr → Rule (List StmtTree) → Rule MethodTree
-IsMethodOf IsGuard IsBody method =
-    IsMark kinds.KeyMethod ⌢ IsIdent method.name method.at ⌢ IsMark kinds.OpenParen ⌢ AreInputs method.inputs ⌢ IsMark kinds.CloseParen
-    ⌢ IsMark kinds.KeyWaituntil ⌢ IsMark kinds.OpenParen ⌢ IsGuard method.guard ⌢ IsMark kinds.CloseParen
-    ⌢ IsBody method.body
+abbrev NoLocal : List Word → Type 0
+NoLocal ws = begins kinds.KeyLocal ws ≡ false
 
-method_reads_of : (IsGuard : Rule Expr) (guard : List Word → Read Expr) (IsBody : Rule (List StmtTree)) (body : List Word → Read (List StmtTree)) → Reads (IsParenthesized IsGuard) guard Anything → Reads IsBody body Anything
-    → Reads (IsMethodOf IsGuard IsBody) (made_at method_of (head_at ⊗ mark_at kinds.KeyWaituntil ⊗ guard ⊗ body)) Anything
-method_reads_of IsGuard guard IsBody body r s =
-    made_reads (Both IsHead IsGuarded) (head_at ⊗ mark_at kinds.KeyWaituntil ⊗ guard ⊗ body) Anything method_of (IsMethodOf IsGuard IsBody)
-    (pair_reads IsHead head_at Anything IsGuarded (mark_at kinds.KeyWaituntil ⊗ guard ⊗ body) Anything head_reads
-    (mark_then kinds.KeyWaituntil (Both (IsParenthesized IsGuard) IsBody) (guard ⊗ body) Anything (pair_reads (IsParenthesized IsGuard) guard Anything IsBody body Anything r s (λ y taken rest is after. tt)))
+pub local_reads : Reads IsLocal local_at Anything
+unfolding local_at
+local_reads =
+    made_reads (Both (λ (unit : Unit {0}). IsMark kinds.KeyLocal) IsVariable) (mark_at kinds.KeyLocal ⊗ variable_at) Anything local_of IsLocal
+    (mark_then kinds.KeyLocal IsVariable variable_at Anything variable_reads)
+    (λ x ws p. of_kind x.1 ws p.0 p.1 p.2 p.3 p.4)
+    from
+  where
+    of_kind : (x : Decl) (ws front rest : List Word) → IsMark kinds.KeyLocal front → IsVariable x rest → ws ≡ front ++ rest → IsLocal x ws
+    of_kind x ws front rest word (inl p) is = subst (λ (y : Decl). IsLocal y ws) (sym p.1) (front, rest, word, p.2, is)
+    of_kind x ws front rest word (inr p) is = subst (λ (y : Decl). IsLocal y ws) (sym p.1) (front, rest, word, p.2, is)
+
+    from : (y : Decl) (ws : List Word) → IsLocal y ws → (x : Unit {0} × Decl) × (y ≡ local_of x) × Both (λ (unit : Unit {0}). IsMark kinds.KeyLocal) IsVariable x ws
+    from (decls.Const at name value) ws p = absurd p
+    from (decls.Int at name value) ws p = ((tt, decls.Int at name value), refl, (p.0, p.1, p.2, inl ((tt, (record { at = at; name = name }, (tt, (value, tt)))), refl, p.3), p.4))
+    from (decls.Flag at name value) ws p = ((tt, decls.Flag at name value), refl, (p.0, p.1, p.2, inr ((tt, (record { at = at; name = name }, (tt, (value, tt)))), refl, p.3), p.4))
+
+pub local_begins : (x : Decl) → Opens (IsLocal x) (λ ws. begins kinds.KeyLocal ws ≡ true)
+local_begins (decls.Const at name value) ws rest p = absurd p
+local_begins (decls.Int at name value) ws rest p =
+    then_opens (IsMark kinds.KeyLocal) (IsDeclaration (decls.Int at name value)) (λ ws. begins kinds.KeyLocal ws ≡ true) (mark_opens kinds.KeyLocal (λ ws. begins kinds.KeyLocal ws ≡ true) (begins_at kinds.KeyLocal)) ws rest p
+local_begins (decls.Flag at name value) ws rest p =
+    then_opens (IsMark kinds.KeyLocal) (IsDeclaration (decls.Flag at name value)) (λ ws. begins kinds.KeyLocal ws ≡ true) (mark_opens kinds.KeyLocal (λ ws. begins kinds.KeyLocal ws ≡ true) (begins_at kinds.KeyLocal)) ws rest p
+
+locals_read : Reads (Each IsLocal) locals_at NoLocal
+unfolding locals_at
+locals_read = before (Each IsLocal) locals_at (λ ws. NoLocal ws × Anything ws) NoLocal (λ ws none. (none, tt))
+    (each_reads (begins kinds.KeyLocal) IsLocal local_at Anything (begins_heads kinds.KeyLocal) (begins_none kinds.KeyLocal) local_reads local_begins (λ ws h. tt))
+
+-- a block, over the rules of its guard and of its body
+abbrev IsGuardedOf : Rule Expr → Rule (List StmtTree) → Rule BlockTree
+IsGuardedOf IsGuard IsBody block =
+    IsMarkAt kinds.KeyWaituntil block.at ⌢ IsMark kinds.OpenParen ⌢ IsGuard block.guard ⌢ IsMark kinds.CloseParen ⌢ IsBody block.body
+
+guarded_reads_of : (IsGuard : Rule Expr) (guard : List Word → Read Expr) (IsBody : Rule (List StmtTree)) (body : List Word → Read (List StmtTree)) → Reads (IsParenthesized IsGuard) guard Anything → Reads IsBody body Anything
+    → Reads (IsGuardedOf IsGuard IsBody) (made_at guarded_of (placed_at kinds.KeyWaituntil ⊗ guard ⊗ body)) Anything
+guarded_reads_of IsGuard guard IsBody body r s =
+    made_reads (Both (λ (at : ℕ). IsMarkAt kinds.KeyWaituntil at) IsRest) (placed_at kinds.KeyWaituntil ⊗ guard ⊗ body) Anything guarded_of (IsGuardedOf IsGuard IsBody)
+    (placed_then kinds.KeyWaituntil IsRest (guard ⊗ body) Anything (pair_reads (IsParenthesized IsGuard) guard Anything IsBody body Anything r s (λ y taken rest is after. tt)))
+    (λ x ws p. flat x.0 x.1.0 x.1.1 ws p)
+    (λ y ws p. ((y.at, (y.guard, y.body)), refl, grouped y.at y.guard y.body ws p))
+  where
+    IsRest : Rule (Expr × List StmtTree)
+    IsRest = Both (IsParenthesized IsGuard) IsBody
+
+    flat : (at : ℕ) (guard : Expr) (body : List StmtTree) (ws : List Word) → (IsMarkAt kinds.KeyWaituntil at ⌢ IsRest (guard, body)) ws
+        → (IsMarkAt kinds.KeyWaituntil at ⌢ IsMark kinds.OpenParen ⌢ IsGuard guard ⌢ IsMark kinds.CloseParen ⌢ IsBody body) ws
+    flat at guard body = within_second (IsMarkAt kinds.KeyWaituntil at) (IsParenthesized IsGuard guard ⌢ IsBody body) (IsMark kinds.OpenParen ⌢ IsGuard guard ⌢ IsMark kinds.CloseParen ⌢ IsBody body)
+        (three_right (IsMark kinds.OpenParen) (IsGuard guard) (IsMark kinds.CloseParen) (IsBody body))
+
+    grouped : (at : ℕ) (guard : Expr) (body : List StmtTree) (ws : List Word) → (IsMarkAt kinds.KeyWaituntil at ⌢ IsMark kinds.OpenParen ⌢ IsGuard guard ⌢ IsMark kinds.CloseParen ⌢ IsBody body) ws
+        → (IsMarkAt kinds.KeyWaituntil at ⌢ IsRest (guard, body)) ws
+    grouped at guard body = within_second (IsMarkAt kinds.KeyWaituntil at) (IsMark kinds.OpenParen ⌢ IsGuard guard ⌢ IsMark kinds.CloseParen ⌢ IsBody body) (IsParenthesized IsGuard guard ⌢ IsBody body)
+        (three_left (IsMark kinds.OpenParen) (IsGuard guard) (IsMark kinds.CloseParen) (IsBody body))
+
+pub guarded_reads : Reads IsGuarded guarded_at Anything
+unfolding guarded_at
+guarded_reads = guarded_reads_of (IsExpression LEVELS) (condition_at LEVELS) (IsBlock (IsStatement LEVELS)) (block_at (statement_at LEVELS)) (condition_reads LEVELS) (body_reads LEVELS)
+
+guarded_opens_of : (IsGuard : Rule Expr) (IsBody : Rule (List StmtTree)) (Fact : List Word → Type 0) → At kinds.KeyWaituntil Fact → (x : BlockTree) → Opens (IsGuardedOf IsGuard IsBody x) Fact
+guarded_opens_of IsGuard IsBody Fact so x =
+    then_opens (IsMarkAt kinds.KeyWaituntil x.at) (IsMark kinds.OpenParen ⌢ IsGuard x.guard ⌢ IsMark kinds.CloseParen ⌢ IsBody x.body) Fact (placed_opens kinds.KeyWaituntil x.at Fact so)
+
+guarded_opens : (Fact : List Word → Type 0) → At kinds.KeyWaituntil Fact → (x : BlockTree) → Opens (IsGuarded x) Fact
+guarded_opens Fact so x = guarded_opens_of (IsExpression LEVELS) (IsBlock (IsStatement LEVELS)) Fact so x
+
+pub guarded_begins : (x : BlockTree) → Opens (IsGuarded x) (λ ws. begins kinds.KeyWaituntil ws ≡ true)
+guarded_begins x = guarded_opens (λ ws. begins kinds.KeyWaituntil ws ≡ true) (begins_at kinds.KeyWaituntil) x
+
+-- what follows a method: no block of it
+abbrev pub NoBlock : List Word → Type 0
+NoBlock ws = begins kinds.KeyWaituntil ws ≡ false
+
+blocks_read_of : (IsItem : Rule BlockTree) (item : List Word → Read BlockTree) → Reads IsItem item Anything → ((x : BlockTree) → Opens (IsItem x) (λ ws. begins kinds.KeyWaituntil ws ≡ true))
+    → Reads (OneOrMore IsItem) (made_at blocks_of (item ⊗ each_at (begins kinds.KeyWaituntil) item)) NoBlock
+blocks_read_of IsItem item r begin =
+    made_reads (Both IsItem (Each IsItem)) (item ⊗ later) NoBlock blocks_of (OneOrMore IsItem)
+    (pair_reads IsItem item Anything (Each IsItem) later NoBlock r
+    (before (Each IsItem) later (λ ws. NoBlock ws × Anything ws) NoBlock (λ ws none. (none, tt))
+    (each_reads (begins kinds.KeyWaituntil) IsItem item Anything (begins_heads kinds.KeyWaituntil) (begins_none kinds.KeyWaituntil) r begin (λ ws h. tt)))
+    (λ y taken rest is after. tt))
+    (λ x ws p. p)
+    from
+  where
+    later : List Word → Read (List BlockTree)
+    later = each_at (begins kinds.KeyWaituntil) item
+
+    from : (y : List BlockTree) (ws : List Word) → OneOrMore IsItem y ws → (x : BlockTree × List BlockTree) × (y ≡ blocks_of x) × Both IsItem (Each IsItem) x ws
+    from [] ws p = absurd p
+    from (first ∷ rest) ws p = ((first, rest), refl, p)
+
+blocks_read : Reads (OneOrMore IsGuarded) blocks_at NoBlock
+unfolding blocks_at later_blocks_at
+blocks_read = blocks_read_of IsGuarded guarded_at guarded_reads guarded_begins
+
+block_no_local : At kinds.KeyWaituntil NoLocal
+unfolding begins
+block_no_local at rest = refl
+
+-- a method, over the rule of its blocks
+abbrev IsMethodOf : Rule BlockTree → Rule MethodTree
+IsMethodOf IsItem method =
+    IsMark kinds.KeyMethod ⌢ IsIdent method.name method.at ⌢ IsMark kinds.OpenParen ⌢ AreInputs method.inputs ⌢ IsMark kinds.CloseParen
+    ⌢ Each IsLocal method.locals ⌢ OneOrMore IsItem method.blocks
+
+method_reads_of : (IsItem : Rule BlockTree) (blocks : List Word → Read (List BlockTree)) → Reads (OneOrMore IsItem) blocks NoBlock → ((x : BlockTree) → Opens (IsItem x) NoLocal)
+    → Reads (IsMethodOf IsItem) (made_at method_of (head_at ⊗ locals_at ⊗ blocks)) NoBlock
+method_reads_of IsItem blocks r no_local =
+    made_reads (Both IsHead IsRest) (head_at ⊗ locals_at ⊗ blocks) NoBlock method_of (IsMethodOf IsItem)
+    (pair_reads IsHead head_at Anything IsRest (locals_at ⊗ blocks) NoBlock head_reads
+    (pair_reads (Each IsLocal) locals_at NoLocal (OneOrMore IsItem) blocks NoBlock locals_read r meets)
     (λ y taken rest is after. tt))
     to from
   where
-    IsGuarded : Rule (Unit {0} × (Expr × List StmtTree))
-    IsGuarded = Both (λ (unit : Unit {0}). IsMark kinds.KeyWaituntil) (Both (IsParenthesized IsGuard) IsBody)
+    IsRest : Rule (List Decl × List BlockTree)
+    IsRest = Both (Each IsLocal) (OneOrMore IsItem)
 
-    IsFlat : Expr → List StmtTree → List Word → Type 0
-    IsFlat guard body = IsMark kinds.KeyWaituntil ⌢ IsMark kinds.OpenParen ⌢ IsGuard guard ⌢ IsMark kinds.CloseParen ⌢ IsBody body
+    meets : (y : List BlockTree) (taken rest : List Word) → OneOrMore IsItem y taken → NoBlock rest → NoLocal (taken ++ rest)
+    meets [] taken rest p after = absurd p
+    meets (first ∷ more) taken rest p after = then_opens (IsItem first) (Each IsItem more) NoLocal (no_local first) taken rest p
 
-    flat : (guard : Expr) (body : List StmtTree) (ws : List Word) → IsGuarded (tt, (guard, body)) ws → IsFlat guard body ws
-    flat guard body = within_second (IsMark kinds.KeyWaituntil) (IsParenthesized IsGuard guard ⌢ IsBody body) (IsMark kinds.OpenParen ⌢ IsGuard guard ⌢ IsMark kinds.CloseParen ⌢ IsBody body)
-        (three_right (IsMark kinds.OpenParen) (IsGuard guard) (IsMark kinds.CloseParen) (IsBody body))
+    to : (x : (PlacedName × List InputTree) × (List Decl × List BlockTree)) (ws : List Word) → Both IsHead IsRest x ws → IsMethodOf IsItem (method_of x) ws
+    to x ws p = five_right (IsMark kinds.KeyMethod) (IsPlacedName x.0.0) (IsMark kinds.OpenParen) (AreInputs x.0.1) (IsMark kinds.CloseParen) (Each IsLocal x.1.0 ⌢ OneOrMore IsItem x.1.1) ws p
 
-    grouped : (guard : Expr) (body : List StmtTree) (ws : List Word) → IsFlat guard body ws → IsGuarded (tt, (guard, body)) ws
-    grouped guard body = within_second (IsMark kinds.KeyWaituntil) (IsMark kinds.OpenParen ⌢ IsGuard guard ⌢ IsMark kinds.CloseParen ⌢ IsBody body) (IsParenthesized IsGuard guard ⌢ IsBody body)
-        (three_left (IsMark kinds.OpenParen) (IsGuard guard) (IsMark kinds.CloseParen) (IsBody body))
-
-    to : (x : (PlacedName × List InputTree) × (Unit {0} × (Expr × List StmtTree))) (ws : List Word) → Both IsHead IsGuarded x ws → IsMethodOf IsGuard IsBody (method_of x) ws
-    to x ws p = five_right (IsMark kinds.KeyMethod) (IsPlacedName x.0.0) (IsMark kinds.OpenParen) (AreInputs x.0.1) (IsMark kinds.CloseParen) (IsFlat x.1.1.0 x.1.1.1) ws
-        (within_second (IsHead x.0) (IsGuarded x.1) (IsFlat x.1.1.0 x.1.1.1) (flat x.1.1.0 x.1.1.1) ws p)
-
-    from : (y : MethodTree) (ws : List Word) → IsMethodOf IsGuard IsBody y ws → (x : (PlacedName × List InputTree) × (Unit {0} × (Expr × List StmtTree))) × (y ≡ method_of x) × Both IsHead IsGuarded x ws
+    from : (y : MethodTree) (ws : List Word) → IsMethodOf IsItem y ws → (x : (PlacedName × List InputTree) × (List Decl × List BlockTree)) × (y ≡ method_of x) × Both IsHead IsRest x ws
     from y ws p = (
-      (((record { at = y.at; name = y.name }), y.inputs), (tt, (y.guard, y.body))),
+      (((record { at = y.at; name = y.name }), y.inputs), (y.locals, y.blocks)),
       refl,
-      within_second (IsHead ((record { at = y.at; name = y.name }), y.inputs)) (IsFlat y.guard y.body) (IsGuarded (tt, (y.guard, y.body))) (grouped y.guard y.body) ws
-          (five_left (IsMark kinds.KeyMethod) (IsIdent y.name y.at) (IsMark kinds.OpenParen) (AreInputs y.inputs) (IsMark kinds.CloseParen) (IsFlat y.guard y.body) ws p),
+      five_left (IsMark kinds.KeyMethod) (IsIdent y.name y.at) (IsMark kinds.OpenParen) (AreInputs y.inputs) (IsMark kinds.CloseParen) (Each IsLocal y.locals ⌢ OneOrMore IsItem y.blocks) ws p,
     )
 
-pub method_reads : Reads IsMethod method_at Anything
+pub method_reads : Reads IsMethod method_at NoBlock
 unfolding method_at
-method_reads = method_reads_of (IsExpression LEVELS) (condition_at LEVELS) (IsBlock (IsStatement LEVELS)) (block_at (statement_at LEVELS)) (condition_reads LEVELS) (body_reads LEVELS)
+method_reads = method_reads_of IsGuarded blocks_at blocks_read (guarded_opens NoLocal block_no_local)
 
-method_opens_of : (IsGuard : Rule Expr) (IsBody : Rule (List StmtTree)) (Fact : List Word → Type 0) → At kinds.KeyMethod Fact → (x : MethodTree) → Opens (IsMethodOf IsGuard IsBody x) Fact
-method_opens_of IsGuard IsBody Fact so x =
+method_opens_of : (IsItem : Rule BlockTree) (Fact : List Word → Type 0) → At kinds.KeyMethod Fact → (x : MethodTree) → Opens (IsMethodOf IsItem x) Fact
+method_opens_of IsItem Fact so x =
     then_opens (IsMark kinds.KeyMethod)
-    (IsIdent x.name x.at ⌢ IsMark kinds.OpenParen ⌢ AreInputs x.inputs ⌢ IsMark kinds.CloseParen ⌢ IsMark kinds.KeyWaituntil ⌢ IsMark kinds.OpenParen ⌢ IsGuard x.guard ⌢ IsMark kinds.CloseParen ⌢ IsBody x.body)
+    (IsIdent x.name x.at ⌢ IsMark kinds.OpenParen ⌢ AreInputs x.inputs ⌢ IsMark kinds.CloseParen ⌢ Each IsLocal x.locals ⌢ OneOrMore IsItem x.blocks)
     Fact (mark_opens kinds.KeyMethod Fact so)
 
 method_opens : (Fact : List Word → Type 0) → At kinds.KeyMethod Fact → (x : MethodTree) → Opens (IsMethod x) Fact
-method_opens Fact so x = method_opens_of (IsExpression LEVELS) (IsBlock (IsStatement LEVELS)) Fact so x
+method_opens Fact so x = method_opens_of IsGuarded Fact so x
 
 pub method_begins : (x : MethodTree) → Opens (IsMethod x) (λ ws. begins kinds.KeyMethod ws ≡ true)
 method_begins x = method_opens (λ ws. begins kinds.KeyMethod ws ≡ true) (begins_at kinds.KeyMethod) x
@@ -351,13 +448,21 @@ brace_no_method : At kinds.CloseBrace (λ ws. begins kinds.KeyMethod ws ≡ fals
 unfolding begins
 brace_no_method at rest = refl
 
+method_no_block : At kinds.KeyMethod NoBlock
+unfolding begins
+method_no_block at rest = refl
+
+brace_no_block : At kinds.CloseBrace NoBlock
+unfolding begins
+brace_no_block at rest = refl
+
 -- a monitor, over the rule of its methods
 abbrev IsFileOf : Rule MethodTree → Rule MonitorTree
 IsFileOf IsItem tree ws =
     (at : ℕ) × (IsMark kinds.KeyMonitor ⌢ IsIdent tree.name at ⌢ IsMark kinds.OpenBrace
     ⌢ Each IsDeclaration tree.decls ⌢ Each IsItem tree.methods ⌢ IsMark kinds.CloseBrace) ws
 
-file_reads_of : (IsItem : Rule MethodTree) (item : List Word → Read MethodTree) → Reads IsItem item Anything
+file_reads_of : (IsItem : Rule MethodTree) (item : List Word → Read MethodTree) → Reads IsItem item NoBlock
     → ((x : MethodTree) → Opens (IsItem x) (λ ws. begins kinds.KeyMethod ws ≡ true)) → ((x : MethodTree) → Opens (IsItem x) NoDeclaration)
     → Reads (IsFileOf IsItem) (made_at monitor_of (mark_at kinds.KeyMonitor ⊗ ident_at ⊗ mark_at kinds.OpenBrace ⊗ declarations_at ⊗ each_at (begins kinds.KeyMethod) item ⊗ mark_at kinds.CloseBrace)) Anything
 file_reads_of IsItem item r begin no_declaration =
@@ -366,7 +471,7 @@ file_reads_of IsItem item r begin no_declaration =
     (ident_then IsOpened (mark_at kinds.OpenBrace ⊗ declarations_at ⊗ methods ⊗ mark_at kinds.CloseBrace) Anything
     (mark_then kinds.OpenBrace IsInside (declarations_at ⊗ methods ⊗ mark_at kinds.CloseBrace) Anything
     (pair_reads (Each IsDeclaration) declarations_at NoDeclaration AreMethods (methods ⊗ mark_at kinds.CloseBrace) Anything declarations_read
-    (then_mark kinds.CloseBrace (Each IsItem) methods (λ ws. (begins kinds.KeyMethod ws ≡ false) × Anything ws) methods_read (λ at rest. (brace_no_method at rest, tt)))
+    (then_mark kinds.CloseBrace (Each IsItem) methods (λ ws. (begins kinds.KeyMethod ws ≡ false) × NoBlock ws) methods_read (λ at rest. (brace_no_method at rest, brace_no_block at rest)))
     meets))))
     (λ x ws p. (x.1.0.at, p))
     (λ y ws p. ((tt, (record { at = p.0; name = y.name }, (tt, (y.decls, (y.methods, tt))))), refl, p.1))
@@ -374,8 +479,8 @@ file_reads_of IsItem item r begin no_declaration =
     methods : List Word → Read (List MethodTree)
     methods = each_at (begins kinds.KeyMethod) item
 
-    methods_read : Reads (Each IsItem) methods (λ ws. (begins kinds.KeyMethod ws ≡ false) × Anything ws)
-    methods_read = each_reads (begins kinds.KeyMethod) IsItem item Anything (begins_heads kinds.KeyMethod) (begins_none kinds.KeyMethod) r begin (λ ws h. tt)
+    methods_read : Reads (Each IsItem) methods (λ ws. (begins kinds.KeyMethod ws ≡ false) × NoBlock ws)
+    methods_read = each_reads (begins kinds.KeyMethod) IsItem item NoBlock (begins_heads kinds.KeyMethod) (begins_none kinds.KeyMethod) r begin (begun kinds.KeyMethod NoBlock method_no_block)
 
     AreMethods : Rule (List MethodTree × Unit {0})
     AreMethods = Both (Each IsItem) (λ (unit : Unit {0}). IsMark kinds.CloseBrace)

@@ -20,6 +20,7 @@ use Rattle.mon_tree.specs.declared.tree.Factor.{Factor, roll-Factor}
 use Rattle.mon_tree.specs.declared.tree.StmtTree.{StmtTree, roll-StmtTree}
 use Rattle.mon_tree.specs.declared.tree.StmtTree.TheOpen.{StmtTree-F, Set, If, Return}
 use Rattle.mon_tree.specs.declared.tree.StmtTree.TheFolds.{fold-roll-StmtTree, map-StmtTree, ind-StmtTree}
+use Rattle.mon_tree.specs.declared.tree.BlockTree.{BlockTree}
 use Rattle.mon_tree.specs.declared.tree.MethodTree.{MethodTree}
 use Rattle.mon_tree.specs.declared.tree.MonitorTree.{MonitorTree}
 use Rattle.mon_tree.specs.declared.tree.Arg.{Arg}
@@ -29,12 +30,12 @@ use Rattle.mon_tree.specs.declared.tree.Item.TheVariants as items
 use Rattle.mon_tree.specs.declared.tree.Item.TheFolds.{fold-roll-Item}
 use Rattle.mon_tree.specs.declared.tree.ClientTree.{ClientTree}
 use Rattle.mon_tree.specs.declared.tree.ClientsTree.{ClientsTree}
-use Rattle.mon_tree.specs.Names.{Names, all_names, expression_names, expression_names_step, addend_names_step, factor_names_step, statement_names, statement_names_step, declared_name, method_names, names_in, item_names, item_names_step, client_names, names_in_clients}
+use Rattle.mon_tree.specs.Names.{Names, all_names, expression_names, expression_names_step, addend_names_step, factor_names_step, statement_names, statement_names_step, declared_name, block_names, method_names, names_in, item_names, item_names_step, client_names, names_in_clients}
 use Rattle.mon_tokens.specs.Spelling.{IsIdentifier, Spells}
 use Rattle.mon_tokens.specs.Words.{Word, ident, numeral, mark, words}
 use Rattle.mon_syntax.specs.Grammar.{◌⌢◌, Each, IsBlock, IsIdent, IsNumeral, IsMarkAt, IsMark, truth_word, Derives}
-use Rattle.mon_syntax.specs.ClientGrammar.{IsArgument, AreArguments, IsCall, IsRepeat, IsItem, IsClient, DerivesClients}
-use Rattle.mon_syntax.proofs.CanonicalWords.{Spelled, in_parentheses, words_at, joined_words, spelled, spelled_step, addend_words, factor_words, expression_words, else_words, statement_words, statement_words_step, minus_words, literal_words, declaration_words, input_words, inputs_words, method_words, tree_words}
+use Rattle.mon_syntax.specs.ClientGrammar.{IsArgument, AreArguments, IsCalled, IsCall, IsRepeat, IsItem, IsClient, DerivesClients}
+use Rattle.mon_syntax.proofs.CanonicalWords.{Spelled, in_parentheses, words_at, joined_words, spelled, spelled_step, addend_words, factor_words, expression_words, else_words, statement_words, statement_words_step, minus_words, literal_words, declaration_words, input_words, inputs_words, local_words, guarded_words, method_words, tree_words}
 use Rattle.mon_syntax.proofs.Printable.{ArePrintable, addend_tail, factor_tail, expression_layer, statement_layer}
 use Rattle.mon_syntax.proofs.DerivedPrintable.{derived_printable, words_printable}
 use Rattle.mon_tokens.proofs.Numerals.{tokens_are}
@@ -222,18 +223,28 @@ inputs_say : (inputs : List InputTree) → names_said (inputs_words inputs) ≡ 
 inputs_say [] = refl
 inputs_say (first ∷ rest) = ap (λ n. first.name ∷ n) (one_name (λ input. mark kinds.Comma 0 ∷ input_words input) (λ (input : InputTree). input.name) (λ input. refl) rest)
 
+local_says : (d : Decl) → names_said (local_words d) ≡ declared_name d ∷ []
+local_says d = declaration_says d
+
+guarded_says : (block : BlockTree) → names_said (guarded_words block) ≡ block_names block
+guarded_says block =
+    let guard = mark kinds.KeyWaituntil 0 ∷ mark kinds.OpenParen 0 ∷ expression_words block.guard in
+    let body = mark kinds.CloseParen 0 ∷ mark kinds.OpenBrace 0 ∷ flat_map statement_words block.body in
+    let g = expression_names block.guard in
+    let b = flat_map statement_names block.body in
+    before_mark kinds.CloseBrace (guard ++ body) (g ++ b) (both_said guard body g b (expression_says block.guard) (each_said statement_words statement_names statement_says block.body))
+
 method_says : (m : MethodTree) → names_said (method_words m) ≡ method_names m
 method_says m =
     let head = mark kinds.KeyMethod 0 ∷ ident m.name 0 ∷ mark kinds.OpenParen 0 ∷ inputs_words m.inputs in
-    let guard = mark kinds.CloseParen 0 ∷ mark kinds.KeyWaituntil 0 ∷ mark kinds.OpenParen 0 ∷ expression_words m.guard in
-    let body = mark kinds.CloseParen 0 ∷ mark kinds.OpenBrace 0 ∷ flat_map statement_words m.body in
+    let locals = mark kinds.CloseParen 0 ∷ flat_map local_words m.locals in
+    let blocks = flat_map guarded_words m.blocks in
     let i = m.name ∷ map (λ (input : InputTree). input.name) m.inputs in
-    let g = expression_names m.guard in
-    let b = flat_map statement_names m.body in
-    let first = both_said head guard i g (ap (λ n. m.name ∷ n) (inputs_say m.inputs)) (expression_says m.guard) in
-    before_mark kinds.CloseBrace ((head ++ guard) ++ body) ((i ++ g) ++ b)
-    (both_said (head ++ guard) body (i ++ g) b first (each_said statement_words statement_names statement_says m.body))
-    ∙ append_assoc i g b
+    let l = map declared_name m.locals in
+    let b = flat_map block_names m.blocks in
+    let first = both_said head locals i l (ap (λ n. m.name ∷ n) (inputs_say m.inputs)) (one_name local_words declared_name local_says m.locals) in
+    both_said (head ++ locals) blocks (i ++ l) b first (each_said guarded_words block_names guarded_says m.blocks)
+    ∙ append_assoc i l b
 
 tree_says : (tree : MonitorTree) → names_said (tree_words tree) ≡ names_in tree
 tree_says tree =
@@ -291,13 +302,17 @@ arguments_say : (given : List Arg) → Says (AreArguments given) []
 arguments_say [] ws p = ap names_said p
 arguments_say (first ∷ rest) ws p = (argument_says first & later_say rest) ws p
 
-call_named : (at : ℕ) (name : List ℕ) (given : List Arg) → item_names (items.Call at name given) ≡ name ∷ []
-call_named at name given = ap item_names (sym (items.rolls-Call at name given)) ∙ fold-roll-Item Names item_names_step (Call at name given)
+call_named : (at : ℕ) (tries : Bool) (place : ℕ) (name : List ℕ) (given : List Arg) → item_names (items.Call at tries place name given) ≡ name ∷ []
+call_named at tries place name given = ap item_names (sym (items.rolls-Call at tries place name given)) ∙ fold-roll-Item Names item_names_step (Call at tries place name given)
+
+called_says : (at : ℕ) (tries : Bool) (place : ℕ) (name : List ℕ) → Says (IsCalled at tries place name) (name ∷ [])
+called_says at true place name ws p = (mark_at_says kinds.KeyTry at & ident_says name place) ws p
+called_says at false place name ws p = ident_says name place ws p.1
 
 call_says : (item : Item) → Says (IsCall item) (item_names item)
 call_says item ws p =
-    (ident_says p.1 p.0 & mark_says kinds.OpenParen & arguments_say p.2 & mark_says kinds.CloseParen & mark_says kinds.Semicolon) ws p.4
-    ∙ sym (ap item_names p.3 ∙ call_named p.0 p.1 p.2)
+    (called_says p.0 p.1 p.2 p.3 & mark_says kinds.OpenParen & arguments_say p.4 & mark_says kinds.CloseParen & mark_says kinds.Semicolon) ws p.6
+    ∙ sym (ap item_names p.5 ∙ call_named p.0 p.1 p.2 p.3 p.4)
 
 block_says : (IsInner : Item → List Word → Type 0) → ((item : Item) → Says (IsInner item) (item_names item)) → (body : List Item) → Says (IsBlock IsInner body) (flat_map item_names body)
 block_says IsInner inner body ws p =

@@ -3,7 +3,7 @@ use Rattle.std.proofs.Common.{◌≡◌, ℕ, List, [], ◌∷◌, ◌++◌, map
 use Rattle.std.specs.List.{flat_map}
 use Rattle.mon_tokens.specs.declared.token.TokenKind.{TokenKind}
 use Rattle.mon_tokens.specs.Words.{Word, ident, numeral, mark}
-use Rattle.mon_syntax.specs.Grammar.{Rule, Each, IsIdent, IsNumeral, IsMarkAt, IsMark}
+use Rattle.mon_syntax.specs.Grammar.{Rule, Each, OneOrMore, IsIdent, IsNumeral, IsMarkAt, IsMark}
 use Rattle.mon_syntax.proofs.CanonicalWords.{bare}
 
 -- the words of a first rule, and what the rest is but for offsets
@@ -85,6 +85,15 @@ each_again IsTree IsNew view words one [] ws each = λ printed h. ([], no_words 
 each_again IsTree IsNew view words one (tree ∷ trees) ws each = λ printed h.
     let first = cut_tree (one tree each.0 each.2) (flat_map words trees) printed h in
     let others = each_again IsTree IsNew view words one trees each.1 each.3 first.cut.rest first.cut.bare_rest in
+    (first.again ∷ others.0, (first.cut.front, first.cut.rest, first.cut.first, others.1, first.cut.is), ap (λ seen. seen ∷ map view others.0) first.same ∙ ap (λ seen. view tree ∷ seen) others.2)
+
+pub more_again : {Tree View : Type 0} (IsTree IsNew : Rule Tree) (view : Tree → View) (words : Tree → List Word)
+    → ((tree : Tree) (ws : List Word) → IsTree tree ws → Again IsNew view (view tree) (words tree))
+    → (trees : List Tree) (ws : List Word) → OneOrMore IsTree trees ws → Again (OneOrMore IsNew) (map view) (map view trees) (flat_map words trees)
+more_again IsTree IsNew view words one [] ws more = absurd more
+more_again IsTree IsNew view words one (tree ∷ trees) ws more = λ printed h.
+    let first = cut_tree (one tree more.0 more.2) (flat_map words trees) printed h in
+    let others = each_again IsTree IsNew view words one trees more.1 more.3 first.cut.rest first.cut.bare_rest in
     (first.again ∷ others.0, (first.cut.front, first.cut.rest, first.cut.first, others.1, first.cut.is), ap (λ seen. seen ∷ map view others.0) first.same ∙ ap (λ seen. view tree ∷ seen) others.2)
 
 -- a rule within another

@@ -10,7 +10,7 @@ use Rattle.mon_tree.specs.declared.tree.Item.TheVariants as items
 use Rattle.mon_tree.specs.declared.tree.ClientTree.{ClientTree}
 use Rattle.mon_tree.specs.declared.tree.ClientsTree.{ClientsTree}
 use Rattle.mon_tokens.specs.Spelling.{Spells}
-use Rattle.mon_tokens.specs.Words.{words}
+use Rattle.mon_tokens.specs.Words.{Word, words}
 use Rattle.mon_syntax.specs.Grammar.{Rule, ◌⌢◌, Each, IsBlock, IsIdent, IsNumeral, IsMarkAt, IsMark}
 use Rattle.mon_syntax.specs.Grammar.{truth_word}
 
@@ -40,12 +40,18 @@ AreArguments (first ∷ rest) ws =
 
 -- ---- items
 
--- ID "(" [argument ("," argument)*] ")" ";"
+-- ["try"] ID, from `at` on, with the name at `place`
+abbrev pub IsCalled : ℕ → Bool → ℕ → List ℕ → List Word → Type 0
+IsCalled at true place name ws = (IsMarkAt kinds.KeyTry at ⌢ IsIdent name place) ws
+IsCalled at false place name ws = (at ≡ place) × IsIdent name place ws
+
+-- ["try"] ID "(" [argument ("," argument)*] ")" ";"
 abbrev pub IsCall : Rule Item
 IsCall item ws =
-    (at : ℕ) × (name : List ℕ) × (given : List Arg) × (item ≡ items.Call at name given)
-    × (IsIdent name at ⌢ IsMark kinds.OpenParen ⌢ AreArguments given ⌢ IsMark kinds.CloseParen
-    ⌢ IsMark kinds.Semicolon) ws
+    (at : ℕ) × (tries : Bool) × (place : ℕ) × (name : List ℕ) × (given : List Arg)
+    × (item ≡ items.Call at tries place name given)
+    × (IsCalled at tries place name ⌢ IsMark kinds.OpenParen ⌢ AreArguments given
+    ⌢ IsMark kinds.CloseParen ⌢ IsMark kinds.Semicolon) ws
 
 -- "repeat" NUM "{" item* "}"
 abbrev pub IsRepeat : Rule Item → Rule Item

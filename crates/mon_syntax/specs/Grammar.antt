@@ -19,6 +19,7 @@ use Rattle.mon_tree.specs.declared.tree.Addend.{Addend, out-Addend}
 use Rattle.mon_tree.specs.declared.tree.Factor.{Factor, out-Factor}
 use Rattle.mon_tree.specs.declared.tree.StmtTree.{StmtTree}
 use Rattle.mon_tree.specs.declared.tree.StmtTree.TheVariants as statements
+use Rattle.mon_tree.specs.declared.tree.BlockTree.{BlockTree}
 use Rattle.mon_tree.specs.declared.tree.MethodTree.{MethodTree}
 use Rattle.mon_tree.specs.declared.tree.MonitorTree.{MonitorTree}
 use Rattle.mon_tokens.specs.Spelling.{Spells}
@@ -40,6 +41,11 @@ abbrev pub ◌⌢◌ : (List Word → Type 0) → (List Word → Type 0) → Lis
 abbrev pub Each : {Tree : Type 0} → Rule Tree → Rule (List Tree)
 Each IsTree [] ws = ws ≡ []
 Each IsTree (tree ∷ trees) ws = (IsTree tree ⌢ Each IsTree trees) ws
+
+-- x x*: one tree at least
+abbrev pub OneOrMore : {Tree : Type 0} → Rule Tree → Rule (List Tree)
+OneOrMore IsTree [] ws = ⊥
+OneOrMore IsTree (tree ∷ trees) ws = (IsTree tree ⌢ Each IsTree trees) ws
 
 -- [x]
 abbrev pub Maybe : {Tree : Type 0} → Rule Tree → Rule (Option Tree)
@@ -231,15 +237,28 @@ AreInputs [] ws = ws ≡ []
 AreInputs (first ∷ rest) ws =
     (IsInput first ⌢ Each (λ input. IsMark kinds.Comma ⌢ IsInput input) rest) ws
 
--- method = "method" ID "(" [input ("," input)*] ")"
---     "waituntil" "(" expression ")" "{" statement* "}"
+-- local = "local" "int" ID "=" literal ";"
+--     | "local" "bool" ID "=" ("true" | "false") ";"
+abbrev pub IsLocal : Rule Decl
+IsLocal (decls.Const at name value) ws = ⊥
+IsLocal (decls.Int at name value) ws =
+    (IsMark kinds.KeyLocal ⌢ IsDeclaration (decls.Int at name value)) ws
+IsLocal (decls.Flag at name value) ws =
+    (IsMark kinds.KeyLocal ⌢ IsDeclaration (decls.Flag at name value)) ws
+
+-- guarded = "waituntil" "(" expression ")" "{" statement* "}"
+abbrev pub IsGuarded : Rule BlockTree
+IsGuarded block =
+    IsMarkAt kinds.KeyWaituntil block.at ⌢ IsMark kinds.OpenParen
+    ⌢ IsExpression LEVELS block.guard ⌢ IsMark kinds.CloseParen
+    ⌢ IsBlock (IsStatement LEVELS) block.body
+
+-- method = "method" ID "(" [input ("," input)*] ")" local* guarded guarded*
 abbrev pub IsMethod : Rule MethodTree
 IsMethod method =
     IsMark kinds.KeyMethod ⌢ IsIdent method.name method.at ⌢ IsMark kinds.OpenParen
     ⌢ AreInputs method.inputs ⌢ IsMark kinds.CloseParen
-    ⌢ IsMark kinds.KeyWaituntil ⌢ IsMark kinds.OpenParen ⌢ IsExpression LEVELS method.guard
-    ⌢ IsMark kinds.CloseParen
-    ⌢ IsBlock (IsStatement LEVELS) method.body
+    ⌢ Each IsLocal method.locals ⌢ OneOrMore IsGuarded method.blocks
 
 -- monitor_file = "monitor" ID "{" declaration* method* "}"
 abbrev pub IsMonitorFile : Rule MonitorTree

@@ -1,13 +1,14 @@
 //! The parser of a client's items. The recursion is as deep as the levels that are left.
 
 ghost use Rattle.std.specs.Prelude.{◌≡◌, ◌<◌, ◌-◌, ℕ, List};
-ghost use Rattle.mon_syntax.specs.inner.Reading.{argument_at, arguments_at, begins_item, call_at, each_at, item_at, items_at, later_argument_at, later_arguments_at, negative_argument_at, repeat_at, some_arguments_at};
+ghost use Rattle.mon_syntax.specs.inner.Reading.{argument_at, arguments_at, begins_item, call_at, called_at, each_at, item_at, items_at, later_argument_at, later_arguments_at, negative_argument_at, repeat_at, some_arguments_at, tried_at};
 ghost use Rattle.mon_syntax.specs.inner.Takes.{Takes};
 
 use super::cursor::Cursor;
 use super::fault::Stop;
 use super::many::{many, with_first};
 use super::word::{PlacedName, PlacedNumber};
+use mon_base::Name;
 use mon_list::Seq;
 use mon_tokens::TokenKind;
 use mon_tree::{Arg, Item, Lit};
@@ -83,17 +84,69 @@ fn arguments(alloc: Global, input: &mut Cursor<'_>) -> Result<Seq<Arg>, Stop>
     some_arguments(alloc, input)
 }
 
-/// ID "(" arguments ")" ";"
+/// What a call begins with, and where: with the name, or with `try` and then the name.
+#[derive(Debug, Drop)]
+pub struct CallHead {
+    pub at: u32,
+    pub tries: bool,
+    pub name_at: u32,
+    pub name: Name,
+}
+
+/// "try" ID
+#[tactic(auto, unfolding(crate::specs::inner::Reading::tried_at))]
+fn tried(alloc: Global, input: &mut Cursor<'_>) -> Result<CallHead, Stop>
+    ensures { Takes result input.new (tried_at input.old) }
+{
+    let at = input.placed(TokenKind::KeyTry)?;
+    let PlacedName { at: name_at, name } = input.ident(alloc)?;
+    Ok(CallHead {
+        at,
+        tries: true,
+        name_at,
+        name,
+    })
+}
+
+/// ["try"] ID
+#[tactic(auto, unfolding(crate::specs::inner::Reading::called_at))]
+fn called(alloc: Global, input: &mut Cursor<'_>) -> Result<CallHead, Stop>
+    ensures { Takes result input.new (called_at input.old) }
+{
+    if input.begins(TokenKind::KeyTry) {
+        return tried(alloc, input);
+    }
+    let PlacedName { at, name } = input.ident(alloc)?;
+    Ok(CallHead {
+        at,
+        tries: false,
+        name_at: at,
+        name,
+    })
+}
+
+/// ["try"] ID "(" arguments ")" ";"
 #[tactic(auto, unfolding(crate::specs::inner::Reading::call_at))]
 fn call(alloc: Global, input: &mut Cursor<'_>) -> Result<Item, Stop>
     ensures { Takes result input.new (call_at input.old) }
 {
-    let PlacedName { at, name } = input.ident(alloc)?;
+    let CallHead {
+        at,
+        tries,
+        name_at,
+        name,
+    } = called(alloc, input)?;
     input.mark(TokenKind::OpenParen)?;
     let args = arguments(alloc, input)?;
     input.mark(TokenKind::CloseParen)?;
     input.mark(TokenKind::Semicolon)?;
-    Ok(Item::Call { at, name, args })
+    Ok(Item::Call {
+        at,
+        tries,
+        name_at,
+        name,
+        args,
+    })
 }
 
 // ---- items
@@ -102,7 +155,7 @@ fn call(alloc: Global, input: &mut Cursor<'_>) -> Result<Item, Stop>
 fn begins_item(input: &Cursor<'_>) -> bool
     ensures { result ≡ begins_item input.now }
 {
-    input.begins_ident() || input.begins(TokenKind::KeyRepeat)
+    input.begins_ident() || input.begins(TokenKind::KeyRepeat) || input.begins(TokenKind::KeyTry)
 }
 
 /// item*

@@ -26,7 +26,7 @@ pub use mon_tokens::{
     one_spelling, tokens,
 };
 pub use mon_tree::{
-    Addend, Arg, ClientTree, ClientsTree, Decl, Expr, Factor, InputTree, Item, Lit, MethodTree,
-    MonitorTree, Op, StmtTree, copy_expression, copy_statement,
+    Addend, Arg, BlockTree, ClientTree, ClientsTree, Decl, Expr, Factor, InputTree, Item, Lit,
+    MethodTree, MonitorTree, Op, StmtTree, copy_expression, copy_statement,
 };
 pub use monitor_parser::parse_monitor;

@@ -6,7 +6,7 @@ ghost use Rattle.mon_tokens.specs.Spelling.{Spells};
 ghost use Rattle.mon_tokens.specs.Words.{words};
 ghost use Rattle.mon_syntax.specs.Grammar.{IsMonitorFile, Derives};
 ghost use Rattle.mon_syntax.specs.Fault.{AnswersEach, IsFault};
-ghost use Rattle.mon_syntax.specs.inner.Reading.{AreTokens, Gives, begins_declaration, constant_at, declaration_at, declarations_at, flag_at, head_at, input_at, inputs_at, int_at, later_input_at, later_inputs_at, literal_at, method_at, methods_at, monitor_at, monitor_file, some_inputs_at};
+ghost use Rattle.mon_syntax.specs.inner.Reading.{AreTokens, Gives, begins_declaration, blocks_at, constant_at, declaration_at, declarations_at, flag_at, guarded_at, head_at, input_at, inputs_at, int_at, later_blocks_at, later_input_at, later_inputs_at, literal_at, local_at, locals_at, method_at, methods_at, monitor_at, monitor_file, some_inputs_at, variable_at};
 ghost use Rattle.mon_syntax.specs.inner.Takes.{Takes};
 
 use super::cursor::Cursor;
@@ -18,7 +18,7 @@ use mon_base::SourceError;
 use mon_base::limits::LEVELS;
 use mon_list::Seq;
 use mon_tokens::{Token, TokenKind};
-use mon_tree::{Decl, InputTree, Lit, MethodTree, MonitorTree};
+use mon_tree::{BlockTree, Decl, InputTree, Lit, MethodTree, MonitorTree};
 use std::alloc::Global;
 
 // ---- declarations
@@ -93,7 +93,18 @@ fn begins_declaration(input: &Cursor<'_>) -> bool
         || input.begins(TokenKind::KeyBool)
 }
 
-/// declaration = constant | int | flag
+/// variable = int | flag
+#[tactic(auto, unfolding(crate::specs::inner::Reading::variable_at))]
+fn variable(alloc: Global, input: &mut Cursor<'_>) -> Result<Decl, Stop>
+    ensures { Takes result input.new (variable_at input.old) }
+{
+    if input.begins(TokenKind::KeyInt) {
+        return int(alloc, input);
+    }
+    flag(alloc, input)
+}
+
+/// declaration = constant | variable
 #[tactic(auto, unfolding(crate::specs::inner::Reading::declaration_at))]
 fn declaration(alloc: Global, input: &mut Cursor<'_>) -> Result<Decl, Stop>
     ensures { Takes result input.new (declaration_at input.old) }
@@ -101,10 +112,7 @@ fn declaration(alloc: Global, input: &mut Cursor<'_>) -> Result<Decl, Stop>
     if input.begins(TokenKind::KeyConst) {
         return constant(alloc, input);
     }
-    if input.begins(TokenKind::KeyInt) {
-        return int(alloc, input);
-    }
-    flag(alloc, input)
+    variable(alloc, input)
 }
 
 /// declaration*
@@ -183,21 +191,74 @@ fn head(alloc: Global, input: &mut Cursor<'_>) -> Result<(PlacedName, Seq<InputT
     Ok((name, inputs))
 }
 
-/// method = head "waituntil" condition block
+/// local = "local" variable
+#[tactic(auto, unfolding(crate::specs::inner::Reading::local_at))]
+fn local(alloc: Global, input: &mut Cursor<'_>) -> Result<Decl, Stop>
+    ensures { Takes result input.new (local_at input.old) }
+{
+    input.mark(TokenKind::KeyLocal)?;
+    variable(alloc, input)
+}
+
+/// local*
+fn locals(alloc: Global, input: &mut Cursor<'_>) -> Result<Seq<Decl>, Stop>
+    ensures { Takes result input.new (locals_at input.old) }
+{
+    many(
+        alloc,
+        input,
+        |input| input.begins(TokenKind::KeyLocal),
+        |input| local(alloc, input),
+    )
+}
+
+/// guarded = "waituntil" condition block
+#[tactic(auto, unfolding(crate::specs::inner::Reading::guarded_at))]
+fn guarded(alloc: Global, input: &mut Cursor<'_>) -> Result<BlockTree, Stop>
+    ensures { Takes result input.new (guarded_at input.old) }
+{
+    let at = input.placed(TokenKind::KeyWaituntil)?;
+    let guard = condition(alloc, LEVELS, input)?;
+    let body = block(alloc, LEVELS, input)?;
+    Ok(BlockTree { at, guard, body })
+}
+
+/// guarded*
+fn later_blocks(alloc: Global, input: &mut Cursor<'_>) -> Result<Seq<BlockTree>, Stop>
+    ensures { Takes result input.new (later_blocks_at input.old) }
+{
+    many(
+        alloc,
+        input,
+        |input| input.begins(TokenKind::KeyWaituntil),
+        |input| guarded(alloc, input),
+    )
+}
+
+/// guarded guarded*
+#[tactic(auto, unfolding(crate::specs::inner::Reading::blocks_at))]
+fn blocks(alloc: Global, input: &mut Cursor<'_>) -> Result<Seq<BlockTree>, Stop>
+    ensures { Takes result input.new (blocks_at input.old) }
+{
+    let first = guarded(alloc, input)?;
+    let later = later_blocks(alloc, input)?;
+    Ok(with_first(first, later)?)
+}
+
+/// method = head local* guarded guarded*
 #[tactic(auto, unfolding(crate::specs::inner::Reading::method_at))]
 fn method(alloc: Global, input: &mut Cursor<'_>) -> Result<MethodTree, Stop>
     ensures { Takes result input.new (method_at input.old) }
 {
     let (PlacedName { at, name }, inputs) = head(alloc, input)?;
-    input.mark(TokenKind::KeyWaituntil)?;
-    let guard = condition(alloc, LEVELS, input)?;
-    let body = block(alloc, LEVELS, input)?;
+    let locals = locals(alloc, input)?;
+    let blocks = blocks(alloc, input)?;
     Ok(MethodTree {
         at,
         name,
         inputs,
-        guard,
-        body,
+        locals,
+        blocks,
     })
 }
 

@@ -27,11 +27,13 @@ abbrev pub stops : (ℕ → Bool) → List ℕ → Bool
 stops kind [] = true
 stops kind (byte ∷ text) = not (kind byte)
 
-starts_again : (kind : ℕ → Bool) (byte : ℕ) (text rest : List ℕ) → kind byte ≡ true → stops kind rest ≡ true → rest ≡ byte ∷ text → ⊥
+starts_again : (kind : ℕ → Bool) (byte : ℕ) (text rest : List ℕ) → kind byte ≡ true
+    → stops kind rest ≡ true → rest ≡ byte ∷ text → ⊥
 starts_again kind byte text rest is end same = both_ways (kind byte) (not-true (kind byte) (sym (ap (stops kind) same) ∙ end)) is
 
 -- bytes of a kind, and what follows where they end
-pub cut : (kind : ℕ → Bool) (front other rest others : List ℕ) → list_all kind front ≡ true → list_all kind other ≡ true → stops kind rest ≡ true → stops kind others ≡ true
+pub cut : (kind : ℕ → Bool) (front other rest others : List ℕ) → list_all kind front ≡ true
+    → list_all kind other ≡ true → stops kind rest ≡ true → stops kind others ≡ true
     → front ++ rest ≡ other ++ others → (front ≡ other) × (rest ≡ others)
 cut kind [] [] rest others all each end ends same = (refl, same)
 cut kind [] (byte ∷ other) rest others all each end ends same =
@@ -45,10 +47,12 @@ cut kind (byte ∷ front) (also ∷ other) rest others all each end ends same =
 
 -- ---- bytes of a kind
 
-pub all_append : (kind : ℕ → Bool) (front rest : List ℕ) → list_all kind front ≡ true → list_all kind rest ≡ true → list_all kind (front ++ rest) ≡ true
+pub all_append : (kind : ℕ → Bool) (front rest : List ℕ) → list_all kind front ≡ true
+    → list_all kind rest ≡ true → list_all kind (front ++ rest) ≡ true
 all_append kind front rest all each = list_all-append kind front rest ∙ and_from (list_all kind front) (list_all kind rest) all each
 
-pub all_weaker : (kind wider : ℕ → Bool) → ((byte : ℕ) → kind byte ≡ true → wider byte ≡ true) → (text : List ℕ) → list_all kind text ≡ true → list_all wider text ≡ true
+pub all_weaker : (kind wider : ℕ → Bool) → ((byte : ℕ) → kind byte ≡ true → wider byte ≡ true) →
+    (text : List ℕ) → list_all kind text ≡ true → list_all wider text ≡ true
 all_weaker kind wider weaker [] all = refl
 all_weaker kind wider weaker (byte ∷ text) all =
     let parts = and_parts (kind byte) (list_all kind text) all in

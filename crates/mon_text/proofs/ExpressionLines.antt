@@ -51,7 +51,8 @@ truth_in_line false = refl
 part : (asked : ℕ) (one : Printed) → HasNoLineFeed one.text → HasNoLineFeed (at_level asked one)
 part asked one plain = by_test (nat_lt one.level asked)
   where
-    by_test : (wrapped : Bool) → HasNoLineFeed (if wrapped then codes "(" ++ one.text ++ codes ")" else one.text)
+    by_test : (wrapped : Bool)
+        → HasNoLineFeed (if wrapped then codes "(" ++ one.text ++ codes ")" else one.text)
     by_test true = both_in_line one.text (codes ")") plain refl
     by_test false = plain
 
@@ -78,15 +79,19 @@ Part = (e : Expr) × ExprInLine e
 abbrev exprs_of : List Part → List Expr
 exprs_of = map (λ e. e.0)
 
-tails : {X : Type 0} (text : X → List ℕ) (names : X → Names) (xs : List ((x : X) × (AreInLine (names x) → HasNoLineFeed (text x))))
-    → AreInLine (all_names (map names (map (λ e. e.0) xs))) → HasNoLineFeed (all_texts (map text (map (λ e. e.0) xs)))
+tails : {X : Type 0} (text : X → List ℕ) (names : X → Names)
+    (xs : List ((x : X) × (AreInLine (names x) → HasNoLineFeed (text x))))
+    → AreInLine (all_names (map names (map (λ e. e.0) xs)))
+    → HasNoLineFeed (all_texts (map text (map (λ e. e.0) xs)))
 tails text names [] are = refl
 tails text names (x ∷ xs) are =
     let rest : Names = all_names (map names (map (λ e. e.0) xs)) in
     both_in_line (text x.0) (all_texts (map text (map (λ e. e.0) xs))) (x.1 (front_names (names x.0) rest are)) (tails text names xs (rest_names (names x.0) rest are))
 
-later_parts : (separator : List ℕ) (asked : ℕ) → HasNoLineFeed separator → (xs : List Part) → AreInLine (all_names (map expression_names (exprs_of xs)))
-    → HasNoLineFeed (flat_map (λ text. separator ++ text) (parts_at asked (map printed (exprs_of xs))))
+later_parts : (separator : List ℕ) (asked : ℕ) → HasNoLineFeed separator → (xs : List Part)
+    → AreInLine (all_names (map expression_names (exprs_of xs)))
+    → HasNoLineFeed
+    (flat_map (λ text. separator ++ text) (parts_at asked (map printed (exprs_of xs))))
 later_parts separator asked plain [] are = refl
 later_parts separator asked plain (x ∷ xs) are =
     let rest : Names = all_names (map expression_names (exprs_of xs)) in
@@ -94,7 +99,8 @@ later_parts separator asked plain (x ∷ xs) are =
     (both_in_line separator (at_level asked (printed x.0)) plain (part asked (printed x.0) (x.1 (front_names (expression_names x.0) rest are))))
     (later_parts separator asked plain xs (rest_names (expression_names x.0) rest are))
 
-all_parts : (separator : List ℕ) (asked : ℕ) → HasNoLineFeed separator → (xs : List Part) → AreInLine (all_names (map expression_names (exprs_of xs)))
+all_parts : (separator : List ℕ) (asked : ℕ) → HasNoLineFeed separator → (xs : List Part)
+    → AreInLine (all_names (map expression_names (exprs_of xs)))
     → HasNoLineFeed (joined separator (parts_at asked (map printed (exprs_of xs))))
 all_parts separator asked plain [] are = refl
 all_parts separator asked plain (x ∷ xs) are =
@@ -177,5 +183,6 @@ identifiers_in_line (name ∷ names) are =
     both_true : list_all is_in_line name ≡ true → AreInLine names → AreInLine (name ∷ names)
     both_true one more = ap (λ test. test && list_all (list_all is_in_line) names) one ∙ more
 
-pub expression_in_line : (e : Expr) → All IsIdentifier (expression_names e) → HasNoLineFeed (expression_text e)
+pub expression_in_line : (e : Expr) → All IsIdentifier (expression_names e)
+    → HasNoLineFeed (expression_text e)
 expression_in_line e names = in_line e (identifiers_in_line (expression_names e) names)

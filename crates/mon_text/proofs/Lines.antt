@@ -1,9 +1,10 @@
 -- Lines: texts that end in their only line feed, which is byte 10.
-use Rattle.std.proofs.Common.{◌≡◌, ◌==◌, ℕ, Bool, true, not, List, [], ◌∷◌, ◌++◌, map, codes, ap, sym, refl, ◌∙◌, append_assoc, arith, decimal, ℤ}
+use Rattle.std.proofs.Common.{◌≡◌, ◌==◌, ℕ, Bool, true, false, not, cond, nat_le, List, [], ◌∷◌, ◌++◌, map, codes, ap, sym, refl, ◌∙◌, append_assoc, arith, decimal, ℤ}
 use Rattle.std.specs.List.{list_all, flat_map}
 use Rattle.std.specs.Fmt.{signed_decimal}
 use Rattle.mon_base.specs.Identifiers.{is_digit, is_word_byte}
 use Rattle.mon_printer.specs.Canonical.{joined}
+use Rattle.mon_events.specs.PlanText.{block_mark}
 use Rattle.mon_text.proofs.Cuts.{same_rest, cut, all_append, all_weaker}
 use Rattle.mon_text.proofs.Numerals.{is_figure, decimal_digits, signed_figures}
 
@@ -20,7 +21,8 @@ pub record IsLine (text : List ℕ) : Type 0 where
   pub is : text ≡ body ++ codes "\n"
 
 -- a text that begins with two lines begins with one
-pub same_line : (text other rest others : List ℕ) → IsLine text → IsLine other → text ++ rest ≡ other ++ others → (text ≡ other) × (rest ≡ others)
+pub same_line : (text other rest others : List ℕ) → IsLine text → IsLine other
+    → text ++ rest ≡ other ++ others → (text ≡ other) × (rest ≡ others)
 same_line text other rest others line also same =
     let begun : line.body ++ (codes "\n" ++ rest) ≡ text ++ rest = sym (append_assoc line.body (codes "\n") rest) ∙ ap (λ one. one ++ rest) (sym line.is) in
     let ends : other ++ others ≡ also.body ++ (codes "\n" ++ others) = ap (λ one. one ++ others) also.is ∙ append_assoc also.body (codes "\n") others in
@@ -47,18 +49,30 @@ decimal_in_line number = all_weaker is_digit is_in_line digit_in_line (decimal n
 pub signed_in_line : (number : ℤ) → HasNoLineFeed (signed_decimal number)
 signed_in_line number = all_weaker is_figure is_in_line figure_in_line (signed_decimal number) (signed_figures number)
 
-pub both_in_line : (front rest : List ℕ) → HasNoLineFeed front → HasNoLineFeed rest → HasNoLineFeed (front ++ rest)
+pub both_in_line : (front rest : List ℕ) → HasNoLineFeed front → HasNoLineFeed rest
+    → HasNoLineFeed (front ++ rest)
 both_in_line = all_append is_in_line
 
-pub each_in_line : {X : Type 0} (text : X → List ℕ) → ((x : X) → HasNoLineFeed (text x)) → (xs : List X) → HasNoLineFeed (flat_map text xs)
+pub each_in_line : {X : Type 0} (text : X → List ℕ) → ((x : X) → HasNoLineFeed (text x)) →
+    (xs : List X) → HasNoLineFeed (flat_map text xs)
 each_in_line text each [] = refl
 each_in_line text each (x ∷ xs) = both_in_line (text x) (flat_map text xs) (each x) (each_in_line text each xs)
 
 -- texts with a separator between them
-pub joined_in_line : {X : Type 0} (separator : List ℕ) (text : X → List ℕ) → HasNoLineFeed separator → ((x : X) → HasNoLineFeed (text x)) → (xs : List X) → HasNoLineFeed (joined separator (map text xs))
+pub joined_in_line : {X : Type 0} (separator : List ℕ) (text : X → List ℕ) → HasNoLineFeed separator
+    → ((x : X) → HasNoLineFeed (text x)) → (xs : List X)
+    → HasNoLineFeed (joined separator (map text xs))
 joined_in_line {X} separator text plain each [] = refl
 joined_in_line {X} separator text plain each (x ∷ xs) = both_in_line (text x) _ (each x) (later xs)
   where
     later : (xs : List X) → HasNoLineFeed (flat_map (λ one. separator ++ one) (map text xs))
     later [] = refl
     later (y ∷ ys) = both_in_line (separator ++ text y) _ (both_in_line separator (text y) plain (each y)) (later ys)
+
+-- the number of a block, where it has one
+pub block_mark_in_line : (count number : ℕ) → HasNoLineFeed (block_mark count number)
+block_mark_in_line count number = by_test (nat_le count 1)
+  where
+    by_test : (test : Bool) → HasNoLineFeed (cond test [] (codes "." ++ decimal number))
+    by_test true = refl
+    by_test false = both_in_line (codes ".") (decimal number) refl (decimal_in_line number)

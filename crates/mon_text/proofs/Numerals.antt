@@ -21,7 +21,8 @@ glyph_is_digit digit small =
     ap is_digit (cond-true (nat_lt digit 10) (48 + digit) (87 + digit) (lt-ltb digit 10 small))
     ∙ and_from (nat_le 48 (48 + digit)) (nat_le (48 + digit) 57) (le-leb 48 (48 + digit) (omega arith)) (le-leb (48 + digit) 57 (omega (arith, small)))
 
-onto_digits : (room number : ℕ) (after : List ℕ) → list_all is_digit after ≡ true → list_all is_digit (digits_onto room 10 false number after) ≡ true
+onto_digits : (room number : ℕ) (after : List ℕ) → list_all is_digit after ≡ true
+    → list_all is_digit (digits_onto room 10 false number after) ≡ true
 onto_digits zero number after all = all
 onto_digits (suc room) number after all =
     let digit : ℕ = digit_glyph false (number % 10) in
@@ -33,7 +34,8 @@ pub decimal_digits : (number : ℕ) → list_all is_digit (decimal number) ≡ t
 unfolding digits
 decimal_digits number = onto_digits 64 number [] refl
 
-onto_keeps : (room number : ℕ) (after : List ℕ) → length after ≤ length (digits_onto room 10 false number after)
+onto_keeps : (room number : ℕ) (after : List ℕ)
+    → length after ≤ length (digits_onto room 10 false number after)
 onto_keeps zero number after = omega arith
 onto_keeps (suc room) number after =
     let digit : ℕ = digit_glyph false (number % 10) in
@@ -53,7 +55,8 @@ decimal_some number =
 abbrev pub IsShort : ℕ → Type 0
 IsShort number = number < 10 ^ 64
 
-pub same_number : (number other : ℕ) → IsShort number → IsShort other → decimal number ≡ decimal other → number ≡ other
+pub same_number : (number other : ℕ) → IsShort number → IsShort other
+    → decimal number ≡ decimal other → number ≡ other
 same_number number other short also same =
     sym (decimal_is_IsNumeral_wide number short).1 ∙ ap (digits_value 10) same ∙ (decimal_is_IsNumeral_wide other also).1
 
@@ -77,7 +80,8 @@ signed_figures (negsuc number) = all_weaker is_digit is_figure digit_is_figure (
 pub no_minus : (number : ℕ) (rest : List ℕ) → decimal number ≡ 45 ∷ rest → ⊥
 no_minus number rest same = false≢true (ap (list_all is_digit) (sym same) ∙ decimal_digits number)
 
-pub same_signed : (number other : ℤ) → IsShortInt number → IsShortInt other → signed_decimal number ≡ signed_decimal other → number ≡ other
+pub same_signed : (number other : ℤ) → IsShortInt number → IsShortInt other
+    → signed_decimal number ≡ signed_decimal other → number ≡ other
 same_signed (pos number) (pos other) short also same = ap pos (same_number number other short also same)
 same_signed (pos number) (negsuc other) short also same = absurd (no_minus number (decimal (suc other)) same)
 same_signed (negsuc number) (pos other) short also same = absurd (no_minus other (decimal (suc number)) (sym same))
@@ -91,7 +95,8 @@ some_tens : (places : ℕ) → 0 < 10 ^ places
 some_tens zero = omega arith
 some_tens (suc places) = omega (arith, pow-suc 10 places, some_tens places)
 
-onto_long : (places room number : ℕ) (after : List ℕ) → places < room → 10 ^ places ≤ number → places + 1 + length after ≤ length (digits_onto room 10 false number after)
+onto_long : (places room number : ℕ) (after : List ℕ) → places < room → 10 ^ places ≤ number
+    → places + 1 + length after ≤ length (digits_onto room 10 false number after)
 onto_long places zero number after fits long = absurd (omega (arith, fits))
 onto_long zero (suc room) number after fits long =
     let digit : ℕ = digit_glyph false (number % 10) in
@@ -142,14 +147,16 @@ short_or_long : (number : ℤ) → IsShortInt number ⊎ (22 ≤ length (signed_
 short_or_long (pos number) = elim (cases_lt number (10 ^ 64)) [ inl short ↦ inl short | inr long ↦ inr (long_text number long) ]
 short_or_long (negsuc number) = elim (cases_lt (suc number) (10 ^ 64)) [ inl short ↦ inl short | inr long ↦ inr (omega (arith, long_text (suc number) long)) ]
 
-start_or_small : (start number : ℤ) → is_within SMALL number ≡ true → signed_decimal start ≡ signed_decimal number → start ≡ number
+start_or_small : (start number : ℤ) → is_within SMALL number ≡ true
+    → signed_decimal start ≡ signed_decimal number → start ≡ number
 start_or_small start number small same = elim (short_or_long start) [
   | inl short ↦ same_signed start number short (small_short number small) same
   | inr long ↦ absurd (omega (arith, long, small_text number small, ap {B = ℕ} length same))
 ]
 
 -- two numbers near the same one are told apart by their texts
-pub same_near : (start number other : ℤ) → IsNear start number → IsNear start other → signed_decimal number ≡ signed_decimal other → number ≡ other
+pub same_near : (start number other : ℤ) → IsNear start number → IsNear start other
+    → signed_decimal number ≡ signed_decimal other → number ≡ other
 same_near start number other (inl is) (inl also) same = is ∙ sym also
 same_near start number other (inl is) (inr small) same = is ∙ start_or_small start other small (ap signed_decimal (sym is) ∙ same)
 same_near start number other (inr small) (inl is) same = sym (start_or_small start number small (ap signed_decimal (sym is) ∙ sym same)) ∙ sym is

@@ -23,6 +23,8 @@ counted_text counted.Constants = codes "too many constants"
 counted_text counted.Fields = codes "too many fields"
 counted_text counted.Methods = codes "too many methods"
 counted_text counted.Parameters = codes "too many parameters"
+counted_text counted.Locals = codes "too many locals"
+counted_text counted.Blocks = codes "too many blocks"
 counted_text counted.Statements = codes "too many statements"
 
 -- what is wrong

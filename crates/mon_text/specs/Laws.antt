@@ -2,6 +2,7 @@
 use Rattle.std.specs.Prelude.{◌≡◌, ℕ, List, ◌++◌}
 use Rattle.mon_monitor.specs.MonitorParts.{MonitorParts, IsMonitor}
 use Rattle.mon_implicit.specs.declared.script.Client.{Client}
+use Rattle.mon_implicit.specs.Scripted.{AreClients}
 use Rattle.mon_events.specs.declared.log.Entry.{Entry}
 use Rattle.mon_events.specs.declared.plan.Plan.{Plan}
 use Rattle.mon_events.specs.Plans.{FitsPlan}
@@ -18,9 +19,11 @@ PlanTextNamesPlan =
     → FitsPlan monitor other
     → plan_text monitor plan ≡ plan_text monitor other → plan ≡ other
 
--- the clients' calls and the plan fit the monitor, and the log is legal
+-- the clients' calls and the plan fit the monitor, the clients have names of their own, and the log
+-- is legal
 pub record HasLegalLog (system : System) (log : List Entry) (last : Configuration) : Type 0 where
   pub is : IsSystem system
+  pub clients : AreClients system.clients
   pub legal : IsLegal system log last
 
 -- the text of the plan, then that of the log, which ended in a configuration

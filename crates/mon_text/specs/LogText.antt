@@ -1,19 +1,17 @@
 -- The text of a log.
-use Rattle.std.specs.Prelude.{ℕ, ◌^◌, ◌==◌, Bool, not, nat_le, List, [], ◌++◌, length, slice_get}
+use Rattle.std.specs.Prelude.{ℕ, ◌^◌, ◌==◌, Bool, not, List, [], ◌++◌, slice_get}
 use Rattle.std.specs.Prelude.{codes, if◌then◌else◌, bit_and}
 use Rattle.std.specs.List.{flat_map, list_all, enumerate_from}
-use Rattle.mon_base.specs.declared.value.Value.{Value}
 use Rattle.mon_monitor.specs.MonitorParts.{MonitorParts}
-use Rattle.mon_implicit.specs.declared.commit.Commit.{Commit}
 use Rattle.mon_implicit.specs.declared.commit.Reply.{Reply}
 use Rattle.mon_implicit.specs.declared.script.Client.{Client}
-use Rattle.mon_implicit.specs.Runs.{done}
+use Rattle.mon_implicit.specs.declared.place.Place.{Place}
+use Rattle.mon_implicit.specs.Runs.{Situation}
 use Rattle.mon_events.specs.declared.log.Outcome.{Outcome}
 use Rattle.mon_events.specs.declared.log.Outcome.TheVariants as outcomes
 use Rattle.mon_events.specs.declared.log.Entry.{Entry}
-use Rattle.mon_events.specs.Configurations.{System, Configuration}
-use Rattle.mon_events.specs.Logs.{commits_of}
-use Rattle.mon_text.specs.TurnsText.{client_name, call_text, reply_text, end_text, state_text}
+use Rattle.mon_events.specs.Configurations.{System, Configuration, situation_of}
+use Rattle.mon_text.specs.TurnsText.{client_name, call_text, reply_text, has_done, ended_text}
 
 -- ---- who was woken
 
@@ -41,37 +39,33 @@ abbrev pub replied_text : List Client → Reply → ℕ → List ℕ
 replied_text clients reply woken =
     codes " = " ++ reply_text reply ++ wakes_text clients woken ++ codes "\n"
 
--- the line of a client at its call, by what came of it: `A.1 put(3) waits`, `A.1 put(3) = - wakes
--- B`, or `spurious A`
-abbrev pub outcome_text : MonitorParts → List Client → ℕ → ℕ → Outcome → List ℕ
-outcome_text monitor clients client call outcomes.Waits =
-    call_text monitor clients client call ++ codes " waits\n"
-outcome_text monitor clients client call (outcomes.Replies reply woken) =
-    call_text monitor clients client call ++ replied_text clients reply woken
-outcome_text monitor clients client call outcomes.Spurious =
+-- the line of a client at a block of its call, by what came of it: `A.1 put(3) waits`,
+-- `A.1 put(3) = - wakes B`, or `spurious A`
+abbrev pub outcome_text : MonitorParts → List Client → ℕ → ℕ → ℕ → Outcome → List ℕ
+outcome_text monitor clients client call block outcomes.Waits =
+    call_text monitor clients client call block ++ codes " waits\n"
+outcome_text monitor clients client call block (outcomes.Replies reply woken) =
+    call_text monitor clients client call block ++ replied_text clients reply woken
+outcome_text monitor clients client call block outcomes.Spurious =
     codes "spurious " ++ client_name (slice_get clients client) ++ codes "\n"
 
 abbrev pub entry_text : MonitorParts → List Client → Entry → List ℕ
 entry_text monitor clients entry =
-    outcome_text monitor clients entry.client entry.call entry.outcome
+    outcome_text monitor clients entry.client entry.call entry.block entry.outcome
 
 -- ---- the whole
 
--- the calls of the client of this number are done
-abbrev pub has_done : List Commit → ℕ → Client → Bool
-has_done history number client = nat_le (length client.calls) (done history number)
+-- no client has a call left at its place
+abbrev pub are_done : List Client → List Place → Bool
+are_done clients places = list_all (λ one. has_done clients one.0 one.1) (enumerate_from 0 places)
 
--- each client's calls are done
-abbrev pub are_done : List Client → List Commit → Bool
-are_done clients history = list_all (λ one. has_done history one.0 one.1) (enumerate_from 0 clients)
+-- how a log ended in a situation, as a run ends there, then the state
+abbrev pub closing_text : MonitorParts → List Client → Situation → List ℕ
+closing_text monitor clients now = ended_text monitor clients now (are_done clients now.places)
 
--- a line for each entry, then how the log ended, as a run by its commits ends, then this state
-abbrev pub ended_log_text : MonitorParts → List Client → List Entry → List Value → List ℕ
-ended_log_text monitor clients log state =
-    flat_map (entry_text monitor clients) log
-    ++ end_text monitor clients (commits_of log) (are_done clients (commits_of log))
-    ++ state_text monitor state
-
--- the text of a system's log that ended in a configuration
+-- the text of a system's log that ended in a configuration: a line for each entry, then how it
+-- ended
 abbrev pub log_text : System → List Entry → Configuration → List ℕ
-log_text system log last = ended_log_text system.monitor system.clients log last.state
+log_text system log last =
+    flat_map (entry_text system.monitor system.clients) log
+    ++ closing_text system.monitor system.clients (situation_of last)

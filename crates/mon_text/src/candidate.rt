@@ -8,7 +8,8 @@ use itoa::Buffer;
 use mon_io::{Sink, SinkFailed, write_pieces};
 use mon_monitor::{Candidate, Field};
 
-/// Writes a candidate about these fields: `x <= 4`, `x >= -1`, `b`, `!b` or `x <= y`. It takes no memory.
+/// Writes a candidate about these fields: `x <= 4`, `x >= -1`, `b`, `!b` or `x <= y`. It takes no
+/// memory.
 ///
 /// After `SinkFailed` the first bytes of the text were taken, fewer than all and maybe none.
 pub fn write_candidate<S: Sink>(

@@ -117,6 +117,8 @@ fn counted_bytes(counted: Counted) -> &'static [u8]
         Counted::Fields => b"too many fields",
         Counted::Methods => b"too many methods",
         Counted::Parameters => b"too many parameters",
+        Counted::Locals => b"too many locals",
+        Counted::Blocks => b"too many blocks",
         Counted::Statements => b"too many statements",
     }
 }

@@ -1,60 +1,63 @@
 //! The text of a log.
 
-ghost use Rattle.std.specs.Prelude.{◌≡◌, ◌<◌, ◌≤◌, IsSomeAnd, length, slice_get};
+ghost use Rattle.std.specs.Prelude.{◌≡◌, ◌<◌, ◌≤◌, length};
 ghost use Rattle.std.specs.List.{flat_map};
 ghost use Rattle.mon_base.specs.Limits.{CLIENTS};
 ghost use Rattle.mon_io.specs.Writing.{Wrote};
-ghost use Rattle.mon_events.specs.Logs.{IsClosed, commits_of};
-ghost use Rattle.mon_text.specs.LogText.{are_done, ended_log_text, entry_text, has_done, is_woken};
-ghost use Rattle.mon_text.specs.LogText.{log_text};
+ghost use Rattle.mon_events.specs.Configurations.{situation_of};
+ghost use Rattle.mon_text.specs.LogText.{are_done, closing_text, entry_text, is_woken, log_text};
 ghost use Rattle.mon_text.specs.LogText.{replied_text, wakes_text, woken_name, woken_names};
 
-use crate::ending::{Commits, write_end};
+use crate::ending::{Left, has_done, write_end};
 use crate::turns::{name_of, write_call, write_state};
 use crate::values::reply_bytes;
 use itoa::Buffer;
 use mon_events::{Entry, Outcome};
 use mon_explicit::FreeMonitor;
-use mon_implicit::{Client, Reply, Scripts, State};
+use mon_implicit::{Client, Reply};
 use mon_io::{Sink, SinkFailed, write_piece, write_pieces};
 use mon_monitor::Monitor;
 
-/// Writes the log of a monitor that ran by sections and is closed: a line for each entry, then how the log ended,
+/// Writes the log of a monitor that ran by sections: a line for each entry, then how the log ended,
 /// then the state. It takes no memory.
 ///
 /// After `SinkFailed` the first bytes of the text were taken, fewer than all and maybe none.
 pub fn write_log<S: Sink>(free: &FreeMonitor, out: &mut S) -> Result<(), SinkFailed>
-    requires { IsClosed free.now.system free.now.now }
     ensures { Wrote (S.seen out.old) (S.seen out.new) result
         (log_text free.now.system free.now.log free.now.now) }
 {
-    write_ended_log(
-        free.monitor(),
-        free.scripts(),
-        free.log(),
-        are_done(free),
-        free.state(),
-        out,
-    )
+    write_entries(free.monitor(), free.scripts().clients(), free.log(), out)?;
+    write_closing(free, out)
 }
 
-// A line for each entry of a log, then how it ended, then this state.
-fn write_ended_log<S: Sink>(
-    monitor: &Monitor,
-    scripts: &Scripts,
-    log: &[Entry],
-    finished: bool,
-    state: &State,
-    out: &mut S,
-) -> Result<(), SinkFailed>
-    requires { finished ≡ are_done scripts.now (commits_of log.now) }
+/// How a log ended, then the state.
+pub(crate) fn write_closing<S: Sink>(free: &FreeMonitor, out: &mut S) -> Result<(), SinkFailed>
     ensures { Wrote (S.seen out.old) (S.seen out.new) result
-        (ended_log_text monitor.now scripts.now log.now state.now) }
+        (closing_text free.now.system.monitor free.now.system.clients (situation_of free.now.now)) }
 {
-    let clients = scripts.clients();
-    write_entries(monitor, clients, log, out)?;
-    write_end(monitor, clients, &Commits::Log(log), finished, out)?;
-    write_state(monitor, state, out)
+    let clients = free.scripts().clients();
+    write_end(
+        free.monitor(),
+        clients,
+        &Left::Free(free),
+        are_done(free),
+        out,
+    )?;
+    write_state(free.monitor(), free.state(), out)
+}
+
+/// Whether no client has a call left: whether the log ends by `done`.
+pub fn are_done(free: &FreeMonitor) -> bool
+    ensures { result ≡ are_done free.now.system.clients (situation_of free.now.now).places }
+{
+    let clients = free.scripts().clients();
+    let left = Left::Free(free);
+    for client in 0..left.count() {
+        if !has_done(clients, client, left.place(client)) {
+            return false;
+        }
+    }
+    true
 }
 
 // ---- entries
@@ -88,13 +91,14 @@ fn write_entry<S: Sink>(
         (entry_text monitor.now clients.now entry) }
 {
     let (client, call) = (entry.client as usize, entry.call as usize);
+    let block = entry.block as usize;
     match entry.outcome {
         Outcome::Waits => {
-            write_call(monitor, clients, client, call, out)?;
+            write_call(monitor, clients, client, call, block, out)?;
             write_piece(b" waits\n", out)
         }
         Outcome::Replies { reply, woken } => {
-            write_call(monitor, clients, client, call, out)?;
+            write_call(monitor, clients, client, call, block, out)?;
             write_reply(clients, reply, woken, out)
         }
         Outcome::Spurious => write_pieces(&[b"spurious ", name_of(clients, client), b"\n"], out),
@@ -166,29 +170,4 @@ fn is_woken(woken: u32, client: u32) -> bool
     ensures { result ≡ is_woken woken client }
 {
     woken & (1 << client) != 0
-}
-
-// ---- whether all calls are done
-
-/// Whether each client's calls are done in a monitor that is closed: whether its log ends by `done`.
-pub fn are_done(free: &FreeMonitor) -> bool
-    requires { IsClosed free.now.system free.now.now }
-    ensures { result ≡ are_done free.now.system.clients (commits_of free.now.log) }
-{
-    for client in 0..free.scripts().clients().len() {
-        if !has_done(free, client as u32) {
-            return false;
-        }
-    }
-    true
-}
-
-// Whether a client's calls are done in a monitor that is closed. Else it waits: so the log needs no count.
-fn has_done(free: &FreeMonitor, client: u32) -> bool
-    requires closed { IsClosed free.now.system free.now.now }
-    requires within { client < length free.now.system.clients }
-    ensures { IsSomeAnd (slice_get free.now.system.clients client)
-        (λ one. result ≡ has_done (commits_of free.now.log) client one) }
-{
-    !free.stage(client).is_waiting()
 }

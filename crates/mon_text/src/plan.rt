@@ -4,19 +4,20 @@ ghost use Rattle.std.specs.Prelude.{◌≡◌, ◌≤◌, ◌++◌, codes, lengt
 ghost use Rattle.std.specs.List.{flat_map};
 ghost use Rattle.mon_base.specs.Limits.{CONDITIONS};
 ghost use Rattle.mon_io.specs.Writing.{Wrote};
-ghost use Rattle.mon_events.specs.PlanText.{block_text, blocks_text, condition_text, conditions_text};
-ghost use Rattle.mon_events.specs.PlanText.{kept_text, kind_text, note_kind};
+ghost use Rattle.mon_events.specs.PlanText.{block_text, blocks_text, condition_text};
+ghost use Rattle.mon_events.specs.PlanText.{conditions_text, kept_text, kind_text, note_kind};
 ghost use Rattle.mon_events.specs.PlanText.{note_text, notes_text, plan_text, tested_text};
 
 use crate::candidate::write_candidate;
-use crate::turns::method_bytes;
+use crate::naming::write_block_name;
 use itoa::Buffer;
 use mon_events::{CondKind, Note, NoteList, Plan};
 use mon_io::{Sink, SinkFailed, write_piece, write_pieces};
-use mon_monitor::{Block, Candidate, Condition, Field, Monitor};
+use mon_monitor::{Candidate, Condition, Field, Monitor};
 use mon_printer::write_around;
 
-/// Writes a plan of a monitor: its name, then a line for each kept candidate, condition and block. It takes no memory.
+/// Writes a plan of a monitor: its name, then a line for each kept candidate, condition and block.
+/// It takes no memory.
 ///
 /// After `SinkFailed` the first bytes of the text were taken, fewer than all and maybe none.
 pub fn write_plan<S: Sink>(monitor: &Monitor, plan: &Plan, out: &mut S) -> Result<(), SinkFailed>
@@ -109,24 +110,25 @@ fn write_blocks<S: Sink>(
 ) -> Result<(), SinkFailed>
     ensures { Wrote (S.seen out.old) (S.seen out.new) result (blocks_text monitor.now lists.now) }
 {
-    for (block, list) in monitor.blocks().iter().zip(lists) {
+    for (block, list) in lists.iter().enumerate() {
         write_block(monitor, block, list.notes(), out)?;
     }
     Ok(())
 }
 
-// `block put: 2 signal` and a line feed.
+// `block put: 2 signal` and a line feed: a block, by its number, and its notes.
 fn write_block<S: Sink>(
     monitor: &Monitor,
-    block: &Block,
+    block: usize,
     notes: &[Note],
     out: &mut S,
 ) -> Result<(), SinkFailed>
     ensures { Wrote (S.seen out.old) (S.seen out.new) result
-        (block_text monitor.now block.now notes.now) }
+        (block_text monitor.now block notes.now) }
 {
-    let method = method_bytes(monitor, block.method);
-    write_pieces(&[b"block ", method, b": "], out)?;
+    write_piece(b"block ", out)?;
+    write_block_name(monitor, block, out)?;
+    write_piece(b": ", out)?;
     write_notes(notes, out)?;
     write_piece(b"\n", out)
 }

@@ -2,21 +2,26 @@
 
 ghost use Rattle.std.specs.Prelude.{◌≡◌, ◌-◌, ◌++◌, codes, map, slice_get};
 ghost use Rattle.std.specs.List.{flat_map};
-ghost use Rattle.std.specs.Option.{option_copied};
+ghost use Rattle.std.specs.Option.{option_copied, option_map_or};
 ghost use Rattle.mon_io.specs.Writing.{Wrote};
 ghost use Rattle.mon_printer.specs.Canonical.{joined};
-ghost use Rattle.mon_implicit.specs.Scripted.{calls_of};
-ghost use Rattle.mon_text.specs.TurnsText.{value_text, client_name, method_name, called_text, call_text, commit_text, fields_text, state_text, turns_text};
+ghost use Rattle.mon_implicit.specs.Scripted.{blocks_in, calls_of};
+ghost use Rattle.mon_text.specs.TurnsText.{value_text, client_name, called_text};
+ghost use Rattle.mon_text.specs.TurnsText.{numbers_text, call_text, commit_text, fields_text};
+ghost use Rattle.mon_text.specs.TurnsText.{state_text, ended_text, last_of, turns_text};
 
-use crate::ending::{Commits, write_end};
+use crate::ending::{Left, write_end};
+use crate::naming::{method_bytes, write_mark};
 use crate::values::{reply_bytes, value_bytes};
 use itoa::Buffer;
 use mon_base::Value;
 use mon_implicit::{Call, Client, Commit, Scripts, State, Turns};
 use mon_io::{Sink, SinkFailed, write_piece, write_pieces};
 use mon_monitor::{Field, Monitor};
+use mon_printer::try_bytes;
 
-/// Writes a run: a line for each commit, then how it ended, then the last state. It takes no memory.
+/// Writes a run: a line for each commit, then how it ended, then the last state. It takes no
+/// memory.
 ///
 /// After `SinkFailed` the first bytes of the text were taken, fewer than all and maybe none.
 pub fn write_turns<S: Sink>(
@@ -29,15 +34,22 @@ pub fn write_turns<S: Sink>(
         (turns_text monitor.now scripts.now turns.now) }
 {
     let clients = scripts.clients();
-    let history = turns.history.items();
-    write_commits(monitor, clients, history, out)?;
-    write_end(
-        monitor,
-        clients,
-        &Commits::History(history),
-        turns.finished,
-        out,
-    )?;
+    write_commits(monitor, clients, turns.history.items(), out)?;
+    write_ended(monitor, clients, turns, out)
+}
+
+// How a run ended, then the last state.
+fn write_ended<S: Sink>(
+    monitor: &Monitor,
+    clients: &[Client],
+    turns: &Turns,
+    out: &mut S,
+) -> Result<(), SinkFailed>
+    ensures { Wrote (S.seen out.old) (S.seen out.new) result
+        (ended_text monitor.now clients.now (last_of turns.now) turns.now.finished) }
+{
+    let left = Left::Run(turns.places.items());
+    write_end(monitor, clients, &left, turns.finished, out)?;
     write_state(monitor, &turns.state, out)
 }
 
@@ -67,13 +79,8 @@ fn write_commit<S: Sink>(
     ensures { Wrote (S.seen out.old) (S.seen out.new) result
         (commit_text monitor.now clients.now commit.now) }
 {
-    write_call(
-        monitor,
-        clients,
-        commit.client as usize,
-        commit.call as usize,
-        out,
-    )?;
+    let (client, call) = (commit.client as usize, commit.call as usize);
+    write_call(monitor, clients, client, call, commit.block as usize, out)?;
     let mut digits = Buffer::new();
     write_pieces(
         &[b" = ", reply_bytes(commit.reply, &mut digits), b"\n"],
@@ -81,25 +88,55 @@ fn write_commit<S: Sink>(
     )
 }
 
-// `A.1 put(3, true)`: a client and its call, by its number from 1.
+// `A.1 put(3, true)`, or `A.1.2 pair()`: a client, its call and the block of that call, by their
+// numbers from 1.
 pub(crate) fn write_call<S: Sink>(
     monitor: &Monitor,
     clients: &[Client],
     client: usize,
     number: usize,
+    block: usize,
     out: &mut S,
 ) -> Result<(), SinkFailed>
     ensures { Wrote (S.seen out.old) (S.seen out.new) result
-        (call_text monitor.now clients.now client number) }
+        (call_text monitor.now clients.now client number block) }
 {
-    let mut digits = Buffer::new();
-    let name = name_of(clients, client);
-    let place = digits.format(number).as_bytes();
-    write_pieces(&[name, b".", place, b" "], out)?;
-    write_called(monitor, called(clients, client, number), out)
+    let call = called(clients, client, number);
+    write_pieces(&[name_of(clients, client), b"."], out)?;
+    write_numbers(blocks_of(monitor, call), number, block, out)?;
+    write_piece(b" ", out)?;
+    write_called(monitor, call, out)
 }
 
-// `put(3, true)`: a method's name and the inputs of the call, or `()` where there is no call.
+// `1`, or `1.2` for a method of several blocks: a call and its block.
+fn write_numbers<S: Sink>(
+    count: u32,
+    number: usize,
+    block: usize,
+    out: &mut S,
+) -> Result<(), SinkFailed>
+    ensures { Wrote (S.seen out.old) (S.seen out.new) result (numbers_text count number block) }
+{
+    let mut digits = Buffer::new();
+    write_piece(digits.format(number).as_bytes(), out)?;
+    write_mark(count, block, out)
+}
+
+// How many blocks a call has, and none where there is no call.
+fn blocks_of(monitor: &Monitor, call: Option<&Call>) -> u32
+    ensures { result ≡ option_map_or (blocks_in monitor.now) (option_copied call.entry) 0 }
+{
+    let Some(call) = call else {
+        return 0;
+    };
+    match monitor.methods().get(call.method as usize) {
+        Some(method) => method.count,
+        None => 0,
+    }
+}
+
+// `put(3, true)` or `try put(3, true)`: a method's name and the inputs of the call, or `()` where
+// there is no call.
 fn write_called<S: Sink>(
     monitor: &Monitor,
     call: Option<&Call>,
@@ -110,12 +147,21 @@ fn write_called<S: Sink>(
 {
     match call {
         Some(call) => {
-            write_pieces(&[method_bytes(monitor, call.method), b"("], out)?;
+            let name = method_bytes(monitor, call.method);
+            write_begun(try_bytes(call.tries), name, out)?;
             write_inputs(call.inputs.items(), out)?;
             write_piece(b")", out)
         }
         None => write_piece(b"()", out),
     }
+}
+
+// `put(` or `try put(`.
+fn write_begun<'a, S: Sink>(tries: &'a [u8], name: &'a [u8], out: &mut S) -> Result<(), SinkFailed>
+    ensures { Wrote (S.seen out.old) (S.seen out.new) result
+        (tries.now ++ (name.now ++ codes "(")) }
+{
+    write_pieces(&[tries, name, b"("], out)
 }
 
 // `3, true`: inputs with `, ` between them.
@@ -168,16 +214,6 @@ fn called(clients: &[Client], client: usize, number: usize) -> Option<&Call>
     ensures { option_copied result ≡ slice_get (calls_of clients.now client) (number - 1) }
 {
     calls(clients, client).get(number.saturating_sub(1))
-}
-
-// The name of a method, or nothing where there is none.
-pub(crate) fn method_bytes(monitor: &Monitor, method: u32) -> &[u8]
-    ensures { result.now ≡ method_name (slice_get monitor.now.methods method) }
-{
-    match monitor.methods().get(method as usize) {
-        Some(method) => method.name.bytes(),
-        None => b"",
-    }
 }
 
 // `state x=1 b=true` and a line feed.

@@ -27,5 +27,6 @@ pub(crate) fn reply_bytes<'a>(reply: Reply, digits: &'a mut Buffer) -> &'a [u8]
         Reply::Int(number) => digits.format(number).as_bytes(),
         Reply::Bool(truth) => truth_bytes(truth),
         Reply::Overflow => b"overflow",
+        Reply::Refused => b"refused",
     }
 }

@@ -1,4 +1,6 @@
 pub mod Small
+pub mod FineTrees
+pub mod PlacedBlocks
 pub mod Causes
 pub mod KeptMeanings
 pub mod ScopePlaces

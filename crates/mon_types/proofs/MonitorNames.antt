@@ -1,5 +1,5 @@
 -- The names of a monitor that is typed from a tree: identifiers as the tree's are, and distinct where none is repeated.
-use Rattle.std.proofs.Common.{◌≡◌, ◌≢◌, ℕ, zero, suc, ◌+◌, Bool, true, false, ◌||◌, List, [], ◌∷◌, ◌++◌, get_or, map, refl, sym, ap, subst, ◌∙◌, arith}
+use Rattle.std.proofs.Common.{◌≡◌, ◌≢◌, ℕ, zero, suc, ◌+◌, Bool, true, false, ◌||◌, List, [], ◌∷◌, ◌++◌, get_or, length, map, refl, sym, ap, subst, ◌∙◌, arith}
 use Rattle.std.specs.List.{All, AllPairs, flat_map, list_any}
 use Rattle.std.specs.Str.{bytes_eq}
 use Rattle.std.proofs.lemmas.List.{map-append}
@@ -9,12 +9,13 @@ use Rattle.std.proofs.lemmas.Slice.Eq.{bytes_eq-Decides}
 use Rattle.mon_base.specs.Identifiers.{IsIdentifier}
 use Rattle.mon_tree.specs.declared.tree.Decl.{Decl}
 use Rattle.mon_tree.specs.declared.tree.Decl.TheVariants as decls
+use Rattle.mon_tree.specs.declared.tree.BlockTree.{BlockTree}
 use Rattle.mon_tree.specs.declared.tree.MethodTree.{MethodTree}
 use Rattle.mon_tree.specs.declared.tree.MonitorTree.{MonitorTree}
-use Rattle.mon_tree.specs.Names.{Names, declared_name, expression_names, method_names, names_in, statement_names}
+use Rattle.mon_tree.specs.Names.{Names, block_names, declared_name, expression_names, method_names, names_in, statement_names}
 use Rattle.mon_rules.specs.Rules.{PlacedName, method_name, repeated, declared_name as placed_name}
-use Rattle.mon_types.specs.Typed.{field_of, methods_from}
-use Rattle.mon_types.proofs.StatementsFit.{append_none, no_fault}
+use Rattle.mon_types.specs.Typed.{blocks_from, field_of, methods_from, placed_in}
+use Rattle.mon_types.proofs.FineTrees.{append_none, no_fault}
 use Rattle.mon_types.proofs.ConditionClasses.{ShowsNames}
 
 -- ---- parts of lists
@@ -99,7 +100,7 @@ fields_apart R (decls.Flag at name value ∷ declared) more pairs = AllPairs-con
 
 methods_named : (number : ℕ) (methods : List MethodTree) → map (λ method. method.name) (methods_from number methods) ≡ names_of_methods methods
 methods_named number [] = refl
-methods_named number (method ∷ methods) = ap (λ (names : Names). method.name ∷ names) (methods_named (number + 1) methods)
+methods_named number (method ∷ methods) = ap (λ (names : Names). method.name ∷ names) (methods_named (number + length method.blocks) methods)
 
 declared_bare : (declared : List Decl) → bare_names (map placed_name declared) ≡ map declared_name declared
 declared_bare [] = refl
@@ -129,21 +130,33 @@ methods_identified (method ∷ methods) each =
     let here = front IsIdentifier (method_names method) rest each in
     All-cons IsIdentifier method.name (names_of_methods methods) (All-head IsIdentifier method.name _ here) (methods_identified methods (back IsIdentifier (method_names method) rest each))
 
-pub guards_identified : (methods : List MethodTree) → All IsIdentifier (flat_map method_names methods) → All ShowsNames methods
-guards_identified [] each = All-nil ShowsNames
-guards_identified (method ∷ methods) each =
+blocks_identified : (number : ℕ) (method : MethodTree) (blocks : List BlockTree) → All IsIdentifier (flat_map block_names blocks) → All ShowsNames (placed_in number method blocks)
+blocks_identified number method [] each = All-nil ShowsNames
+blocks_identified number method (block ∷ blocks) each =
+    let rest = flat_map block_names blocks in
+    let here = front IsIdentifier (block_names block) rest each in
+    let guard = front IsIdentifier (expression_names block.guard) (flat_map statement_names block.body) here in
+    All-cons ShowsNames (record { number = number; method = method; block = block }) (placed_in number method blocks) guard
+    (blocks_identified number method blocks (back IsIdentifier (block_names block) rest each))
+
+guards_identified : (number : ℕ) (methods : List MethodTree) → All IsIdentifier (flat_map method_names methods) → All ShowsNames (blocks_from number methods)
+guards_identified number [] each = All-nil ShowsNames
+guards_identified number (method ∷ methods) each =
     let rest = flat_map method_names methods in
     let here = front IsIdentifier (method_names method) rest each in
     let inputs = map (λ input. input.name) method.inputs in
-    let body = flat_map statement_names method.body in
-    let guard = front IsIdentifier (expression_names method.guard) body (back IsIdentifier inputs (expression_names method.guard ++ body) (All-tail IsIdentifier method.name _ here)) in
-    All-cons ShowsNames method methods guard (guards_identified methods (back IsIdentifier (method_names method) rest each))
+    let locals = map declared_name method.locals in
+    let blocks = flat_map block_names method.blocks in
+    let own = back IsIdentifier locals blocks (back IsIdentifier inputs (locals ++ blocks) (All-tail IsIdentifier method.name _ here)) in
+    All-append ShowsNames (placed_in number method method.blocks) (blocks_from (number + 1) methods)
+    (blocks_identified number method method.blocks own)
+    (guards_identified (number + 1) methods (back IsIdentifier (method_names method) rest each))
 
 -- what a tree's names give a monitor
 pub record AreIdentified (tree : MonitorTree) : Type 0 where
   pub name : IsIdentifier tree.name
   pub names : All IsIdentifier (field_names tree.decls ++ map (λ method. method.name) (methods_from 0 tree.methods))
-  pub guards : All ShowsNames tree.methods
+  pub guards : All ShowsNames (blocks_from 0 tree.methods)
 
 pub identified : (tree : MonitorTree) → All IsIdentifier (names_in tree) → AreIdentified tree
 identified tree each =
@@ -156,5 +169,5 @@ identified tree each =
     record {
       name = All-head IsIdentifier tree.name (declared ++ methods) each;
       names = rw methods_named (fields_keep IsIdentifier tree.decls (names_of_methods tree.methods) whole);
-      guards = guards_identified tree.methods back_names;
+      guards = guards_identified 0 tree.methods back_names;
     }

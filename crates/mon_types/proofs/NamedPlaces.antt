@@ -1,15 +1,17 @@
 -- What a name finds in a scope, and that other names have other places.
-use Rattle.std.proofs.Common.{◌≡◌, ◌≢◌, ℕ, ◌+◌, ◌<◌, ◌≤◌, Bool, true, false, cond, List, [], ◌∷◌, ◌++◌, length, drop, Option, Some, None, refl, sym, ap, subst, ◌∙◌, arith, true≢false}
+use Rattle.std.proofs.Common.{◌≡◌, ◌≢◌, ℕ, ◌+◌, ◌<◌, ◌≤◌, ◌⊎◌, Bool, true, false, cond, List, [], ◌∷◌, ◌++◌, length, drop, Option, Some, None, refl, sym, ap, subst, ◌∙◌, arith, inl, inr, true≢false}
 use Rattle.std.specs.Prelude.{nat_lt, slice_get}
 use Rattle.std.specs.List.{find, flat_map, position_or_len}
 use Rattle.std.specs.Str.{bytes_eq}
 use Rattle.std.proofs.lemmas.Bool.Decides.{nat_tests}
+use Rattle.std.proofs.lemmas.List.{append-nil}
 use Rattle.std.proofs.lemmas.List.Folds.{find_at}
 use Rattle.std.proofs.lemmas.Option.{slice_get_past}
 use Rattle.std.proofs.lemmas.Slice.Eq.{bytes_eq-Decides}
 use Rattle.mon_tree.specs.declared.tree.Decl.{Decl}
 use Rattle.mon_tree.specs.declared.tree.Decl.TheVariants as decls
 use Rattle.mon_tree.specs.declared.tree.InputTree.{InputTree}
+use Rattle.mon_tree.specs.declared.tree.MethodTree.{MethodTree}
 use Rattle.mon_base.specs.declared.kind.Kind.{Kind}
 use Rattle.mon_base.specs.declared.kind.Kind.TheVariants as kinds
 use Rattle.mon_forms.specs.declared.scope.Meaning.{Meaning}
@@ -152,18 +154,22 @@ input_above : (place : ℕ) (kind : Kind) → IsAbove place (input_meaning kind 
 input_above place kinds.Int = omega arith
 input_above place kinds.Bool = omega arith
 
-inputs_above : (place : ℕ) (taken : List InputTree) → AreAbove place (inputs_from place taken)
-inputs_above place [] = tt
-inputs_above place (input ∷ more) = (input_above place input.kind, each_lower place (place + 1) (inputs_from (place + 1) more) (omega arith) (inputs_above (place + 1) more))
+inputs_above : (place : ℕ) (taken : List InputTree) (later : List Entry) → AreAbove (place + length taken) later → AreAbove place (inputs_from place taken ++ later)
+inputs_above place [] later above = each_lower place (place + 0) later (omega arith) above
+inputs_above place (input ∷ more) later above =
+    let next = each_lower (place + 1 + length more) (place + length (input ∷ more)) later (omega arith) above in
+    (input_above place input.kind, each_lower place (place + 1) (inputs_from (place + 1) more ++ later) (omega arith) (inputs_above (place + 1) more later next))
 
 input_apart : (place : ℕ) (kind : Kind) (scope : List Entry) → AllMiss place scope → IsApart (input_meaning kind place) scope
 input_apart place kinds.Int scope miss = miss
 input_apart place kinds.Bool scope miss = miss
 
-inputs_apart : (place : ℕ) (taken : List InputTree) → AreApart (inputs_from place taken)
-inputs_apart place [] = tt
-inputs_apart place (input ∷ more) =
-    (input_apart place input.kind (inputs_from (place + 1) more) (each_misses place (inputs_from (place + 1) more) (inputs_above (place + 1) more)), inputs_apart (place + 1) more)
+inputs_apart : (place : ℕ) (taken : List InputTree) (later : List Entry) → AreAbove (place + length taken) later → AreApart later → AreApart (inputs_from place taken ++ later)
+inputs_apart place [] later above apart = apart
+inputs_apart place (input ∷ more) later above apart =
+    let next = each_lower (place + 1 + length more) (place + length (input ∷ more)) later (omega arith) above in
+    let rest = inputs_from (place + 1) more ++ later in
+    (input_apart place input.kind rest (each_misses place rest (inputs_above (place + 1) more later next)), inputs_apart (place + 1) more later next apart)
 
 declared_above : (place : ℕ) (declared : List Decl) (later : List Entry) → AreAbove (place + field_count declared) later → AreAbove place (declared_from place declared ++ later)
 declared_above place [] later above = each_lower place (place + 0) later (omega arith) above
@@ -191,53 +197,102 @@ counted (decls.Const at name value ∷ more) = counted more
 counted (decls.Int at name value ∷ more) = let rest = counted more in omega arith
 counted (decls.Flag at name value ∷ more) = let rest = counted more in omega arith
 
-pub scope_apart : (declared : List Decl) (taken : List InputTree) → length (kinds_of (flat_map field_of declared)) ≤ 16 → AreApart (scope_of declared taken)
-scope_apart declared taken few =
+locals_above : (locals : List Decl) → AreAbove 22 (declared_from 22 locals)
+locals_above locals = subst (AreAbove 22) (append-nil (declared_from 22 locals)) (declared_above 22 locals [] tt)
+
+locals_apart : (locals : List Decl) → AreApart (declared_from 22 locals)
+locals_apart locals = subst AreApart (append-nil (declared_from 22 locals)) (declared_apart 22 locals [] tt tt)
+
+pub scope_apart : (declared : List Decl) (method : MethodTree) → length (kinds_of (flat_map field_of declared)) ≤ 16 → length method.inputs ≤ 6 → AreApart (scope_of declared method)
+scope_apart declared method few few_inputs =
     let count = counted declared in
-    declared_apart 0 declared (inputs_from 16 taken) (each_lower (0 + field_count declared) 16 (inputs_from 16 taken) (omega arith) (inputs_above 16 taken)) (inputs_apart 16 taken)
+    let locals = declared_from 22 method.locals in
+    let later = inputs_from 16 method.inputs ++ locals in
+    let high = each_lower (16 + length method.inputs) 22 locals (omega arith) (locals_above method.locals) in
+    declared_apart 0 declared later (each_lower (0 + field_count declared) 16 later (omega arith) (inputs_above 16 method.inputs locals high))
+    (inputs_apart 16 method.inputs locals high (locals_apart method.locals))
 
--- ---- targets: fields have places of their kinds
+-- ---- targets: fields and locals have places of their kinds
 
-abbrev pub TargetPlace : List Kind → Meaning → Type 0
-TargetPlace fields (meanings.Number number) = ⊥
-TargetPlace fields (meanings.Int place) = (slice_get fields place ≡ Some kinds.Int) × (place < 16)
-TargetPlace fields (meanings.Flag place) = (slice_get fields place ≡ Some kinds.Bool) × (place < 16)
+-- the kinds of the fields and of a method's locals
+pub record Variables : Type 0 where
+  pub fields : List Kind
+  pub locals : List Kind
 
-abbrev IsTarget : List Kind → Entry → Type 0
-IsTarget fields entry = entry.is_field ≡ true → TargetPlace fields entry.meaning
+pub record OfField (fields : List Kind) (place : ℕ) (kind : Kind) : Type 0 where
+  pub low : place < 16
+  pub is : slice_get fields place ≡ Some kind
 
-abbrev pub AreTargets : List Kind → List Entry → Type 0
-AreTargets fields [] = Unit {0}
-AreTargets fields (entry ∷ scope) = IsTarget fields entry × AreTargets fields scope
+pub record OfLocal (locals : List Kind) (place : ℕ) (kind : Kind) : Type 0 where
+  pub own : ℕ
+  pub at : place ≡ 22 + own
+  pub is : slice_get locals own ≡ Some kind
 
-abbrev pub FoundTarget : List Kind → Option Entry → Type 0
-FoundTarget fields None = Unit {0}
-FoundTarget fields (Some entry) = IsTarget fields entry
+-- the place is a field's or a local's of this kind
+abbrev pub IsStored : Variables → ℕ → Kind → Type 0
+IsStored variables place kind = OfField variables.fields place kind ⊎ OfLocal variables.locals place kind
 
-pub found_target : (fields : List Kind) (scope : List Entry) (name : List ℕ) → AreTargets fields scope → FoundTarget fields (found scope name)
-found_target fields [] name targets = tt
-found_target fields (entry ∷ scope) name targets =
-    either_found (bytes_eq entry.name name) (FoundTarget fields) (Some entry) (found scope name) targets.0 (found_target fields scope name targets.1)
+abbrev pub TargetPlace : Variables → Meaning → Type 0
+TargetPlace variables (meanings.Number number) = ⊥
+TargetPlace variables (meanings.Int place) = IsStored variables place kinds.Int
+TargetPlace variables (meanings.Flag place) = IsStored variables place kinds.Bool
 
-inputs_targets : (fields : List Kind) (place : ℕ) (taken : List InputTree) → AreTargets fields (inputs_from place taken)
-inputs_targets fields place [] = tt
-inputs_targets fields place (input ∷ more) = (λ is. absurd (true≢false (sym is)), inputs_targets fields (place + 1) more)
+abbrev IsTarget : Variables → Entry → Type 0
+IsTarget variables entry = entry.is_variable ≡ true → TargetPlace variables entry.meaning
 
-declared_targets : (fields : List Kind) (place : ℕ) (declared : List Decl) (later : List Entry) → length fields ≤ 16
-    → drop place fields ≡ kinds_of (flat_map field_of declared) → AreTargets fields later → AreTargets fields (declared_from place declared ++ later)
-declared_targets fields place [] later few rest targets = targets
-declared_targets fields place (decls.Const at name value ∷ more) later few rest targets = (λ is. absurd (true≢false (sym is)), declared_targets fields place more later few rest targets)
-declared_targets fields place (decls.Int at name value ∷ more) later few rest targets =
-    let here = first_of_rest fields place kinds.Int (kinds_of (flat_map field_of more)) rest in
-    let low = within_rest fields place kinds.Int (kinds_of (flat_map field_of more)) rest in
-    let next = after_rest fields place kinds.Int (kinds_of (flat_map field_of more)) rest in
-    (λ is. (here, omega arith), declared_targets fields (place + 1) more later few next targets)
-declared_targets fields place (decls.Flag at name value ∷ more) later few rest targets =
-    let here = first_of_rest fields place kinds.Bool (kinds_of (flat_map field_of more)) rest in
-    let low = within_rest fields place kinds.Bool (kinds_of (flat_map field_of more)) rest in
-    let next = after_rest fields place kinds.Bool (kinds_of (flat_map field_of more)) rest in
-    (λ is. (here, omega arith), declared_targets fields (place + 1) more later few next targets)
+abbrev pub AreTargets : Variables → List Entry → Type 0
+AreTargets variables [] = Unit {0}
+AreTargets variables (entry ∷ scope) = IsTarget variables entry × AreTargets variables scope
 
-pub scope_targets : (declared : List Decl) (taken : List InputTree) → length (kinds_of (flat_map field_of declared)) ≤ 16 → AreTargets (kinds_of (flat_map field_of declared)) (scope_of declared taken)
-scope_targets declared taken few =
-    declared_targets (kinds_of (flat_map field_of declared)) 0 declared (inputs_from 16 taken) few refl (inputs_targets (kinds_of (flat_map field_of declared)) 16 taken)
+abbrev pub FoundTarget : Variables → Option Entry → Type 0
+FoundTarget variables None = Unit {0}
+FoundTarget variables (Some entry) = IsTarget variables entry
+
+pub found_target : (variables : Variables) (scope : List Entry) (name : List ℕ) → AreTargets variables scope → FoundTarget variables (found scope name)
+found_target variables [] name targets = tt
+found_target variables (entry ∷ scope) name targets =
+    either_found (bytes_eq entry.name name) (FoundTarget variables) (Some entry) (found scope name) targets.0 (found_target variables scope name targets.1)
+
+inputs_targets : (variables : Variables) (place : ℕ) (taken : List InputTree) (later : List Entry) → AreTargets variables later → AreTargets variables (inputs_from place taken ++ later)
+inputs_targets variables place [] later targets = targets
+inputs_targets variables place (input ∷ more) later targets = (λ is. absurd (true≢false (sym is)), inputs_targets variables (place + 1) more later targets)
+
+-- the kinds of a list are stored at the places from the first one on
+record Store (variables : Variables) (first : ℕ) (list : List Kind) : Type 0 where
+  at : (place k : ℕ) (kind : Kind) (rest : List Kind) → place ≡ first + k → drop k list ≡ kind ∷ rest → IsStored variables place kind
+
+fields_stored : (variables : Variables) → length variables.fields ≤ 16 → Store variables 0 variables.fields
+fields_stored variables few = record {
+  at = λ place k kind rest at is.
+      let within = within_rest variables.fields k kind rest is in
+      let same : k ≡ place = omega arith in
+      inl (record { low = omega arith; is = ap (slice_get variables.fields) (sym same) ∙ first_of_rest variables.fields k kind rest is });
+}
+
+locals_stored : (variables : Variables) → Store variables 22 variables.locals
+locals_stored variables = record { at = λ place k kind rest at is. inr (record { own = k; at = at; is = first_of_rest variables.locals k kind rest is }) }
+
+declared_targets : (variables : Variables) (first : ℕ) (list : List Kind) → Store variables first list → (place k : ℕ) (declared : List Decl) (later : List Entry) → place ≡ first + k
+    → drop k list ≡ kinds_of (flat_map field_of declared) → AreTargets variables later → AreTargets variables (declared_from place declared ++ later)
+declared_targets variables first list store place k [] later at rest targets = targets
+declared_targets variables first list store place k (decls.Const from name value ∷ more) later at rest targets =
+    (λ is. absurd (true≢false (sym is)), declared_targets variables first list store place k more later at rest targets)
+declared_targets variables first list store place k (decls.Int from name value ∷ more) later at rest targets =
+    let here = store.at place k kinds.Int (kinds_of (flat_map field_of more)) at rest in
+    let next = after_rest list k kinds.Int (kinds_of (flat_map field_of more)) rest in
+    (λ is. here, declared_targets variables first list store (place + 1) (k + 1) more later (omega arith) next targets)
+declared_targets variables first list store place k (decls.Flag from name value ∷ more) later at rest targets =
+    let here = store.at place k kinds.Bool (kinds_of (flat_map field_of more)) at rest in
+    let next = after_rest list k kinds.Bool (kinds_of (flat_map field_of more)) rest in
+    (λ is. here, declared_targets variables first list store (place + 1) (k + 1) more later (omega arith) next targets)
+
+abbrev pub variables_of : List Decl → MethodTree → Variables
+variables_of declared method = record { fields = kinds_of (flat_map field_of declared); locals = kinds_of (flat_map field_of method.locals) }
+
+pub scope_targets : (declared : List Decl) (method : MethodTree) → length (kinds_of (flat_map field_of declared)) ≤ 16 → AreTargets (variables_of declared method) (scope_of declared method)
+scope_targets declared method few =
+    let variables = variables_of declared method in
+    let locals = declared_from 22 method.locals in
+    let own = subst (AreTargets variables) (append-nil locals) (declared_targets variables 22 variables.locals (locals_stored variables) 22 0 method.locals [] refl refl tt) in
+    declared_targets variables 0 variables.fields (fields_stored variables few) 0 0 declared (inputs_from 16 method.inputs ++ locals) refl refl
+    (inputs_targets variables 16 method.inputs locals own)

@@ -1,5 +1,5 @@
--- Each entry of a method's scope has the place of a field or an input of its kind.
-use Rattle.std.proofs.Common.{◌≡◌, ℕ, zero, suc, ◌+◌, ◌-◌, ◌<◌, ◌≤◌, Bool, true, false, List, [], ◌∷◌, length, map, drop, Option, Some, None, refl, ap, ◌∙◌, arith, add-one}
+-- Each entry of a method's scope has the place of a field, an input or a local of its kind.
+use Rattle.std.proofs.Common.{◌≡◌, ℕ, zero, suc, ◌+◌, ◌-◌, ◌<◌, ◌≤◌, Bool, true, false, List, [], ◌∷◌, ◌++◌, length, map, drop, Option, Some, None, refl, ap, ◌∙◌, arith, add-one}
 use Rattle.std.specs.Prelude.{◌&&◌, nat_lt, slice_get, if◌then◌else◌}
 use Rattle.std.specs.List.{flat_map, list_all}
 use Rattle.std.proofs.lemmas.Bool.Decides.{nat_tests}
@@ -7,6 +7,7 @@ use Rattle.std.proofs.lemmas.List.Folds.{list_all-append}
 use Rattle.mon_tree.specs.declared.tree.Decl.{Decl}
 use Rattle.mon_tree.specs.declared.tree.Decl.TheVariants as decls
 use Rattle.mon_tree.specs.declared.tree.InputTree.{InputTree}
+use Rattle.mon_tree.specs.declared.tree.MethodTree.{MethodTree}
 use Rattle.mon_base.specs.declared.kind.Kind.{Kind}
 use Rattle.mon_base.specs.declared.kind.Kind.TheVariants as kinds
 use Rattle.mon_forms.specs.declared.scope.Meaning.{Meaning}
@@ -14,7 +15,7 @@ use Rattle.mon_forms.specs.declared.scope.Meaning.TheVariants as meanings
 use Rattle.mon_forms.specs.declared.scope.Entry.{Entry}
 use Rattle.mon_forms.specs.Scope.{declared_from, entry_at, entry_named, index_of, input_meaning, inputs_from, scope_of}
 use Rattle.mon_forms.proofs.LimitedForms.{both_true}
-use Rattle.mon_monitor.specs.MonitorParts.{Places, is_kind, kind_at, kinds_of}
+use Rattle.mon_monitor.specs.MonitorParts.{Places, is_kind, kind_at, kinds_of, target_at}
 use Rattle.mon_types.specs.Typed.{field_of}
 
 -- ---- what fits
@@ -25,14 +26,14 @@ fits_meaning places (meanings.Number number) = true
 fits_meaning places (meanings.Int place) = is_kind kinds.Int (kind_at places place)
 fits_meaning places (meanings.Flag place) = is_kind kinds.Bool (kind_at places place)
 
--- the place of a field has the field's kind
-abbrev pub fits_field : List Kind → Meaning → Bool
-fits_field fields (meanings.Number number) = true
-fits_field fields (meanings.Int place) = is_kind kinds.Int (slice_get fields place)
-fits_field fields (meanings.Flag place) = is_kind kinds.Bool (slice_get fields place)
+-- the place of a field or a local has its kind, and may be assigned to
+abbrev pub fits_variable : Places → Meaning → Bool
+fits_variable places (meanings.Number number) = true
+fits_variable places (meanings.Int place) = is_kind kinds.Int (target_at places place)
+fits_variable places (meanings.Flag place) = is_kind kinds.Bool (target_at places place)
 
 abbrev pub fits_target : Places → Entry → Bool
-fits_target places entry = if entry.is_field then fits_field places.fields entry.meaning else true
+fits_target places entry = if entry.is_variable then fits_variable places entry.meaning else true
 
 abbrev pub fits_entry : Places → Entry → Bool
 fits_entry places entry = fits_meaning places entry.meaning && fits_target places entry
@@ -72,58 +73,95 @@ after_rest xs i x rest is = rw (add-one i) (after_suc xs i x rest is)
 
 -- ---- places
 
-pub at_field : (places : Places) (place : ℕ) → place < 16 → kind_at places place ≡ slice_get places.fields place
-at_field places place low = let test : nat_lt place 16 ≡ true = grind (arith, nat_tests) in rw test refl
+-- the kind stands at the place, which may be assigned to
+record IsVariable (places : Places) (place : ℕ) (kind : Kind) : Type 0 where
+  here : kind_at places place ≡ Some kind
+  target : target_at places place ≡ Some kind
 
-pub at_input : (places : Places) (place k : ℕ) → place ≡ 16 + k → kind_at places place ≡ slice_get places.inputs k
-at_input places place k is =
-    let test : nat_lt place 16 ≡ false = grind (arith, nat_tests) in
+field_at : (places : Places) (place : ℕ) (kind : Kind) → place < 16 → slice_get places.fields place ≡ Some kind → IsVariable places place kind
+field_at places place kind low is =
+    let test : nat_lt place 16 ≡ true = grind (arith, nat_tests) in
+    record { here = rw test is; target = rw test is }
+
+local_at : (places : Places) (place k : ℕ) (kind : Kind) → place ≡ 22 + k → slice_get places.locals k ≡ Some kind → IsVariable places place kind
+local_at places place k kind at is =
+    let low : nat_lt place 16 ≡ false = grind (arith, nat_tests) in
+    let high : nat_lt place 22 ≡ false = grind (arith, nat_tests) in
+    let index : place - 22 ≡ k = omega arith in
+    record { here = rw (low, high, index) is; target = rw (low, high, index) is }
+
+input_at : (places : Places) (place k : ℕ) → place ≡ 16 + k → k < 6 → kind_at places place ≡ slice_get places.inputs k
+input_at places place k is less =
+    let low : nat_lt place 16 ≡ false = grind (arith, nat_tests) in
+    let high : nat_lt place 22 ≡ true = grind (arith, nat_tests) in
     let index : place - 16 ≡ k = omega arith in
-    rw (test, index) refl
+    rw (low, high, index) refl
 
-int_field : (places : Places) (place : ℕ) → place < 16 → slice_get places.fields place ≡ Some kinds.Int → (is_kind kinds.Int (kind_at places place) && is_kind kinds.Int (slice_get places.fields place)) ≡ true
-int_field places place low is = rw (at_field places place low, is) refl
+int_variable : (places : Places) (place : ℕ) → IsVariable places place kinds.Int → (is_kind kinds.Int (kind_at places place) && is_kind kinds.Int (target_at places place)) ≡ true
+int_variable places place is = ap (λ kind. is_kind kinds.Int kind && is_kind kinds.Int (target_at places place)) is.here ∙ ap (is_kind kinds.Int) is.target
 
-bool_field : (places : Places) (place : ℕ) → place < 16 → slice_get places.fields place ≡ Some kinds.Bool → (is_kind kinds.Bool (kind_at places place) && is_kind kinds.Bool (slice_get places.fields place)) ≡ true
-bool_field places place low is = rw (at_field places place low, is) refl
+bool_variable : (places : Places) (place : ℕ) → IsVariable places place kinds.Bool → (is_kind kinds.Bool (kind_at places place) && is_kind kinds.Bool (target_at places place)) ≡ true
+bool_variable places place is = ap (λ kind. is_kind kinds.Bool kind && is_kind kinds.Bool (target_at places place)) is.here ∙ ap (is_kind kinds.Bool) is.target
 
 -- an input of either kind
-input_fits : (places : Places) (kind : Kind) (place k : ℕ) → place ≡ 16 + k → slice_get places.inputs k ≡ Some kind → fits_meaning places (input_meaning kind place) ≡ true
-input_fits places kinds.Int place k at is = rw (at_input places place k at, is) refl
-input_fits places kinds.Bool place k at is = rw (at_input places place k at, is) refl
+input_fits : (places : Places) (kind : Kind) (place k : ℕ) → place ≡ 16 + k → k < 6 → slice_get places.inputs k ≡ Some kind → fits_meaning places (input_meaning kind place) ≡ true
+input_fits places kinds.Int place k at less is = ap (is_kind kinds.Int) (input_at places place k at less ∙ is)
+input_fits places kinds.Bool place k at less is = ap (is_kind kinds.Bool) (input_at places place k at less ∙ is)
 
 -- ---- scopes
 
-inputs_fit : (places : Places) (place k : ℕ) (taken : List InputTree) → place ≡ 16 + k → drop k places.inputs ≡ map (λ input. input.kind) taken → fits_scope places (inputs_from place taken) ≡ true
-inputs_fit places place k [] at rest = refl
-inputs_fit places place k (input ∷ more) at rest =
+inputs_fit : (places : Places) (place k : ℕ) (taken : List InputTree) → length places.inputs ≤ 6 → place ≡ 16 + k → drop k places.inputs ≡ map (λ input. input.kind) taken → fits_scope places (inputs_from place taken) ≡ true
+inputs_fit places place k [] few at rest = refl
+inputs_fit places place k (input ∷ more) few at rest =
     let here = first_of_rest places.inputs k input.kind (map (λ input. input.kind) more) rest in
+    let low = within_rest places.inputs k input.kind (map (λ input. input.kind) more) rest in
     let next = after_rest places.inputs k input.kind (map (λ input. input.kind) more) rest in
-    rw (input_fits places input.kind place k at here, inputs_fit places (place + 1) (k + 1) more (omega arith) next) refl
+    rw (input_fits places input.kind place k at (omega arith) here, inputs_fit places (place + 1) (k + 1) more few (omega arith) next) refl
 
-declared_fit : (places : Places) (place : ℕ) (declared : List Decl) → length places.fields ≤ 16 → drop place places.fields ≡ kinds_of (flat_map field_of declared) → fits_scope places (declared_from place declared) ≡ true
-declared_fit places place [] few rest = refl
-declared_fit places place (decls.Const at name value ∷ more) few rest = declared_fit places place more few rest
-declared_fit places place (decls.Int at name value ∷ more) few rest =
-    let here = first_of_rest places.fields place kinds.Int (kinds_of (flat_map field_of more)) rest in
-    let low = within_rest places.fields place kinds.Int (kinds_of (flat_map field_of more)) rest in
-    let next = after_rest places.fields place kinds.Int (kinds_of (flat_map field_of more)) rest in
-    rw (int_field places place (omega arith) here, declared_fit places (place + 1) more few next) refl
-declared_fit places place (decls.Flag at name value ∷ more) few rest =
-    let here = first_of_rest places.fields place kinds.Bool (kinds_of (flat_map field_of more)) rest in
-    let low = within_rest places.fields place kinds.Bool (kinds_of (flat_map field_of more)) rest in
-    let next = after_rest places.fields place kinds.Bool (kinds_of (flat_map field_of more)) rest in
-    rw (bool_field places place (omega arith) here, declared_fit places (place + 1) more few next) refl
+-- the kinds of a list stand at the places from the first one on, which may be assigned to
+record Hold (places : Places) (first : ℕ) (list : List Kind) : Type 0 where
+  at : (place k : ℕ) (kind : Kind) (rest : List Kind) → place ≡ first + k → drop k list ≡ kind ∷ rest → IsVariable places place kind
 
--- the kinds of a method's fields and inputs
-abbrev pub scope_places : List Decl → List InputTree → Places
-scope_places declared taken = record { fields = kinds_of (flat_map field_of declared); inputs = map (λ input. input.kind) taken }
+fields_hold : (places : Places) → length places.fields ≤ 16 → Hold places 0 places.fields
+fields_hold places few = record {
+  at = λ place k kind rest at is.
+      let within = within_rest places.fields k kind rest is in
+      let same : place ≡ k = omega arith in
+      field_at places place kind (omega arith) (rw same (first_of_rest places.fields k kind rest is));
+}
 
--- With at most 16 fields each entry of a scope has a place of its kind.
-pub scope_fits : (declared : List Decl) (taken : List InputTree) → length (kinds_of (flat_map field_of declared)) ≤ 16 → fits_scope (scope_places declared taken) (scope_of declared taken) ≡ true
-scope_fits declared taken few =
-    list_all-append (fits_entry (scope_places declared taken)) (declared_from 0 declared) (inputs_from 16 taken)
-    ∙ rw (declared_fit (scope_places declared taken) 0 declared few refl, inputs_fit (scope_places declared taken) 16 0 taken refl refl) refl
+locals_hold : (places : Places) → Hold places 22 places.locals
+locals_hold places = record { at = λ place k kind rest at is. local_at places place k kind at (first_of_rest places.locals k kind rest is) }
+
+declared_fit : (places : Places) (first : ℕ) (list : List Kind) → Hold places first list → (place k : ℕ) (declared : List Decl) → place ≡ first + k → drop k list ≡ kinds_of (flat_map field_of declared) → fits_scope places (declared_from place declared) ≡ true
+declared_fit places first list hold place k [] at rest = refl
+declared_fit places first list hold place k (decls.Const from name value ∷ more) at rest = declared_fit places first list hold place k more at rest
+declared_fit places first list hold place k (decls.Int from name value ∷ more) at rest =
+    let here = hold.at place k kinds.Int (kinds_of (flat_map field_of more)) at rest in
+    let next = after_rest list k kinds.Int (kinds_of (flat_map field_of more)) rest in
+    rw (int_variable places place here, declared_fit places first list hold (place + 1) (k + 1) more (omega arith) next) refl
+declared_fit places first list hold place k (decls.Flag from name value ∷ more) at rest =
+    let here = hold.at place k kinds.Bool (kinds_of (flat_map field_of more)) at rest in
+    let next = after_rest list k kinds.Bool (kinds_of (flat_map field_of more)) rest in
+    rw (bool_variable places place here, declared_fit places first list hold (place + 1) (k + 1) more (omega arith) next) refl
+
+-- the kinds of the fields, and of a method's inputs and locals
+abbrev pub scope_places : List Decl → MethodTree → Places
+scope_places declared method = record {
+  fields = kinds_of (flat_map field_of declared);
+  inputs = map (λ input. input.kind) method.inputs;
+  locals = kinds_of (flat_map field_of method.locals);
+}
+
+-- With at most 16 fields and 6 inputs each entry of a scope has a place of its kind.
+pub scope_fits : (declared : List Decl) (method : MethodTree) → length (kinds_of (flat_map field_of declared)) ≤ 16 → length (map (λ input. input.kind) method.inputs) ≤ 6 → fits_scope (scope_places declared method) (scope_of declared method) ≡ true
+scope_fits declared method few few_inputs =
+    let places = scope_places declared method in
+    let fields = declared_fit places 0 places.fields (fields_hold places few) 0 0 declared refl refl in
+    let inputs = inputs_fit places 16 0 method.inputs few_inputs refl refl in
+    let locals = declared_fit places 22 places.locals (locals_hold places) 22 0 method.locals refl refl in
+    list_all-append (fits_entry places) (declared_from 0 declared) (inputs_from 16 method.inputs ++ declared_from 22 method.locals)
+    ∙ rw (fields, list_all-append (fits_entry places) (inputs_from 16 method.inputs) (declared_from 22 method.locals), inputs, locals) refl
 
 -- ---- looked up
 

@@ -1,4 +1,5 @@
--- A tree that is parsed from a short file has few declarations and inputs.
+-- A tree that is parsed from a short file has few declarations, inputs and locals, and each of its
+-- methods has a block.
 use Rattle.std.proofs.Common.{ℕ, ◌+◌, ◌≤◌, List, [], ◌∷◌, length, All, sym, ap, subst, ◌∙◌, arith, length-append}
 use Rattle.std.proofs.lemmas.List.{length-map}
 use Rattle.std.proofs.lemmas.List.Elements.{All-nil, All-cons}
@@ -15,8 +16,9 @@ use Rattle.mon_tree.specs.declared.tree.MonitorTree.{MonitorTree}
 use Rattle.mon_tokens.specs.Words.{Word, word, words}
 use Rattle.mon_tokens.specs.Spelling.{IsShape, Piece, AreCut, token, tokens_from, Spells}
 use Rattle.mon_tokens.proofs.Signs.{sign_begins}
-use Rattle.mon_syntax.specs.Grammar.{Rule, ◌⌢◌, Each, IsIdent, IsMark, IsLiteral, IsExpression, IsBlock, IsStatement, IsDeclaration, IsInput, AreInputs, IsMethod, IsMonitorFile, IsParsed, truth_word, kind_word}
+use Rattle.mon_syntax.specs.Grammar.{Rule, ◌⌢◌, Each, OneOrMore, IsIdent, IsMark, IsLiteral, IsDeclaration, IsLocal, IsGuarded, IsInput, AreInputs, IsMethod, IsMonitorFile, IsParsed, truth_word, kind_word}
 use Rattle.mon_rules.specs.Rules.{HasFewNames}
+use Rattle.mon_types.specs.inner.Making.{HasBlock}
 
 -- ---- tokens and bytes
 
@@ -104,29 +106,70 @@ takes_inputs (first ∷ rest) = record {
     later : Takes (Each (λ input. IsMark kinds.Comma ⌢ IsInput input) rest) (length rest)
     later = takes_each (λ input. IsMark kinds.Comma ⌢ IsInput input) (λ input. in_first (IsMark kinds.Comma) (IsInput input) 1 (takes_mark kinds.Comma)) rest
 
+takes_local : (local : Decl) → Takes (IsLocal local) 1
+takes_local (decls.Const at name value) = record { takes = λ ws is. absurd is }
+takes_local (decls.Int at name value) = in_first (IsMark kinds.KeyLocal) (IsDeclaration (decls.Int at name value)) 1 (takes_mark kinds.KeyLocal)
+takes_local (decls.Flag at name value) = in_first (IsMark kinds.KeyLocal) (IsDeclaration (decls.Flag at name value)) 1 (takes_mark kinds.KeyLocal)
+
 -- ---- methods
 
 -- what comes after a method's inputs
-abbrev After : MethodTree → List Word → Type 0
-After method = IsMark kinds.CloseParen ⌢ IsMark kinds.KeyWaituntil ⌢ IsMark kinds.OpenParen ⌢ IsExpression 64 method.guard ⌢ IsMark kinds.CloseParen ⌢ IsBlock (IsStatement 64) method.body
+abbrev AfterInputs : MethodTree → List Word → Type 0
+AfterInputs method = IsMark kinds.CloseParen ⌢ Each IsLocal method.locals ⌢ OneOrMore IsGuarded method.blocks
 
-method_takes : (method : MethodTree) → Takes (IsMethod method) (length method.inputs)
-method_takes method =
-    in_second (IsMark kinds.KeyMethod) (IsIdent method.name method.at ⌢ IsMark kinds.OpenParen ⌢ AreInputs method.inputs ⌢ After method) (length method.inputs)
-    (in_second (IsIdent method.name method.at) (IsMark kinds.OpenParen ⌢ AreInputs method.inputs ⌢ After method) (length method.inputs)
-    (in_second (IsMark kinds.OpenParen) (AreInputs method.inputs ⌢ After method) (length method.inputs)
-    (in_first (AreInputs method.inputs) (After method) (length method.inputs) (takes_inputs method.inputs))))
+-- what takes so many words after the name of a method makes the method take as many
+method_takes : (method : MethodTree) (count : ℕ) → Takes (AreInputs method.inputs ⌢ AfterInputs method) count → Takes (IsMethod method) count
+method_takes method count takes =
+    in_second (IsMark kinds.KeyMethod) (IsIdent method.name method.at ⌢ IsMark kinds.OpenParen ⌢ AreInputs method.inputs ⌢ AfterInputs method) count
+    (in_second (IsIdent method.name method.at) (IsMark kinds.OpenParen ⌢ AreInputs method.inputs ⌢ AfterInputs method) count
+    (in_second (IsMark kinds.OpenParen) (AreInputs method.inputs ⌢ AfterInputs method) count takes))
 
-methods_take : (limit : ℕ) (methods : List MethodTree) (ws : List Word) → Each IsMethod methods ws → length ws ≤ limit → All (λ method. length method.inputs ≤ limit) methods
-methods_take limit [] ws each short = All-nil (λ method. length method.inputs ≤ limit)
-methods_take limit (method ∷ methods) ws each short =
+takes_as_many_inputs : (method : MethodTree) → Takes (IsMethod method) (length method.inputs)
+takes_as_many_inputs method = method_takes method (length method.inputs) (in_first (AreInputs method.inputs) (AfterInputs method) (length method.inputs) (takes_inputs method.inputs))
+
+takes_as_many_locals : (method : MethodTree) → Takes (IsMethod method) (length method.locals)
+takes_as_many_locals method =
+    method_takes method (length method.locals) (in_second (AreInputs method.inputs) (AfterInputs method) (length method.locals)
+    (in_second (IsMark kinds.CloseParen) (Each IsLocal method.locals ⌢ OneOrMore IsGuarded method.blocks) (length method.locals)
+    (in_first (Each IsLocal method.locals) (OneOrMore IsGuarded method.blocks) (length method.locals) (takes_each IsLocal takes_local method.locals))))
+
+methods_take : (count : MethodTree → ℕ) → ((method : MethodTree) → Takes (IsMethod method) (count method)) → (limit : ℕ) (methods : List MethodTree) (ws : List Word) → Each IsMethod methods ws → length ws ≤ limit
+    → All (λ method. count method ≤ limit) methods
+methods_take count takes limit [] ws each short = All-nil (λ method. count method ≤ limit)
+methods_take count takes limit (method ∷ methods) ws each short =
     let whole = ap (λ (w : List Word). length w) each.4 ∙ length-append each.0 each.1 in
-    let here = (method_takes method).takes each.0 each.2 in
-    All-cons (λ one. length one.inputs ≤ limit) method methods (omega arith) (methods_take limit methods each.1 each.3 (omega arith))
+    let here = (takes method).takes each.0 each.2 in
+    All-cons (λ one. count one ≤ limit) method methods (omega arith) (methods_take count takes limit methods each.1 each.3 (omega arith))
+
+-- ---- blocks
+
+one_at_least : {Tree : Type 0} (IsTree : Rule Tree) (trees : List Tree) (ws : List Word) → OneOrMore IsTree trees ws → 1 ≤ length trees
+one_at_least IsTree [] ws is = absurd is
+one_at_least IsTree (tree ∷ trees) ws is = omega arith
+
+method_has : (method : MethodTree) (ws : List Word) → IsMethod method ws → HasBlock method
+method_has method ws is =
+    let named = is.3 in
+    let opened = named.3 in
+    let taken = opened.3 in
+    let closed = taken.3 in
+    let locals = closed.3 in
+    one_at_least IsGuarded method.blocks locals.1 locals.3
+
+methods_have : (methods : List MethodTree) (ws : List Word) → Each IsMethod methods ws → All HasBlock methods
+methods_have [] ws each = All-nil HasBlock
+methods_have (method ∷ methods) ws each = All-cons HasBlock method methods (method_has method each.0 each.2) (methods_have methods each.1 each.3)
 
 -- ---- files
 
-file_small : (tree : MonitorTree) (ws : List Word) (limit : ℕ) → IsMonitorFile tree ws → length ws ≤ limit → (length tree.decls ≤ limit) × All (λ method. length method.inputs ≤ limit) tree.methods
+-- the parts of a file of so many words at most
+record IsSmall (tree : MonitorTree) (limit : ℕ) : Type 0 where
+  declared : length tree.decls ≤ limit
+  taken : All (λ method. length method.inputs ≤ limit) tree.methods
+  locals : All (λ method. length method.locals ≤ limit) tree.methods
+  blocks : All HasBlock tree.methods
+
+file_small : (tree : MonitorTree) (ws : List Word) (limit : ℕ) → IsMonitorFile tree ws → length ws ≤ limit → IsSmall tree limit
 file_small tree ws limit file short =
     let opened = file.1 in
     let named = opened.3 in
@@ -139,11 +182,25 @@ file_small tree ws limit file short =
     let four = ap (λ (w : List Word). length w) declared.4 ∙ length-append declared.0 declared.1 in
     let five = ap (λ (w : List Word). length w) methods.4 ∙ length-append methods.0 methods.1 in
     let few = (takes_each IsDeclaration takes_declaration tree.decls).takes declared.0 declared.2 in
-    (omega arith, methods_take limit tree.methods methods.0 methods.2 (omega arith))
+    let short_rest : length methods.0 ≤ limit = omega arith in
+    record {
+      declared = omega arith;
+      taken = methods_take (λ method. length method.inputs) takes_as_many_inputs limit tree.methods methods.0 methods.2 short_rest;
+      locals = methods_take (λ method. length method.locals) takes_as_many_locals limit tree.methods methods.0 methods.2 short_rest;
+      blocks = methods_have tree.methods methods.0 methods.2;
+    }
+
+parsed_small : (tree : MonitorTree) → IsParsed tree → IsSmall tree 65536
+parsed_small tree parsed =
+    let few = words_few parsed.bytes parsed.tokens parsed.spelled in
+    let short = parsed.short in
+    file_small tree (words parsed.bytes parsed.tokens) 65536 parsed.derived (omega arith)
 
 pub parsed_is_small : (tree : MonitorTree) → IsParsed tree → HasFewNames tree
 parsed_is_small tree parsed =
-    let few = words_few parsed.bytes parsed.tokens parsed.spelled in
-    let short = parsed.short in
-    let small = file_small tree (words parsed.bytes parsed.tokens) 65536 parsed.derived (omega arith) in
-    record { declared = small.0; taken = small.1 }
+    let small = parsed_small tree parsed in
+    record { declared = small.declared; taken = small.taken; locals = small.locals }
+
+-- each method of a parsed tree has a block
+pub parsed_has_blocks : (tree : MonitorTree) → IsParsed tree → All HasBlock tree.methods
+parsed_has_blocks tree parsed = (parsed_small tree parsed).blocks

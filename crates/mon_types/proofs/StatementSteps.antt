@@ -20,7 +20,7 @@ use Rattle.mon_monitor.specs.declared.monitor.Stmt.TheVariants as statements
 use Rattle.mon_monitor.specs.declared.monitor.Ret.{Ret}
 use Rattle.mon_types.specs.inner.Making.{AreFineStatements}
 use Rattle.mon_types.specs.Typed.{result_layer, result_of, statement_of, statement_of_step}
-use Rattle.mon_types.proofs.StatementsFit.{append_none}
+use Rattle.mon_types.proofs.FineTrees.{append_none}
 
 -- ---- what each form of a statement breaks
 

@@ -1,13 +1,12 @@
 -- Statements, results and blocks of what breaks no rule have places of the right kinds.
 use Rattle.std.proofs.Common.{◌≡◌, ℕ, Bool, true, false, List, [], ◌∷◌, ◌++◌, map, Option, Some, None, refl, sym, ap, subst, ◌∙◌}
-use Rattle.std.specs.Prelude.{◌&&◌, slice_get, if◌then◌else◌}
+use Rattle.std.specs.Prelude.{◌&&◌, if◌then◌else◌}
 use Rattle.std.specs.List.{flat_map, list_all}
 use Rattle.std.proofs.lemmas.List.Folds.{list_all-append, list_all-map}
 use Rattle.mon_linear.specs.Linear.{Linear}
 use Rattle.mon_linear.specs.declared.formula.Formula.{Formula}
 use Rattle.mon_tree.specs.declared.tree.Expr.{Expr}
-use Rattle.mon_tree.specs.declared.tree.Decl.{Decl}
-use Rattle.mon_tree.specs.declared.tree.MethodTree.{MethodTree}
+use Rattle.mon_tree.specs.declared.tree.BlockTree.{BlockTree}
 use Rattle.mon_tree.specs.declared.tree.StmtTree.{StmtTree, out-StmtTree, roll-StmtTree}
 use Rattle.mon_tree.specs.declared.tree.StmtTree.TheOpen.{StmtTree-F, Set, If, Return}
 use Rattle.mon_tree.specs.declared.tree.StmtTree.TheFolds.{fold-roll-StmtTree, fold_out-StmtTree, map-StmtTree, ind-StmtTree}
@@ -17,32 +16,26 @@ use Rattle.mon_base.specs.declared.source_fault.SourceFault.{SourceFault}
 use Rattle.mon_forms.specs.declared.scope.Meaning.{Meaning}
 use Rattle.mon_forms.specs.declared.scope.Meaning.TheVariants as meanings
 use Rattle.mon_forms.specs.declared.scope.Entry.{Entry}
-use Rattle.mon_forms.specs.Scope.{entry_named, scope_of}
+use Rattle.mon_forms.specs.Scope.{entry_named}
 use Rattle.mon_forms.specs.Forms.{linear_of}
 use Rattle.mon_forms.specs.Sense.{Sense, entry_kind, is_other, meaning_kind, sense, wrong_type}
 use Rattle.mon_forms.specs.Making.{has_small_numbers}
 use Rattle.mon_forms.proofs.LimitedForms.{both_true}
 use Rattle.mon_forms.proofs.SoundSenses.{or_else_none}
-use Rattle.mon_rules.specs.Rules.{Finding, expected, finding, finding_step, misplaced, target_faults}
+use Rattle.mon_rules.specs.Rules.{Finding, expected, finding, finding_step, misplaced, return_faults, target_faults}
 use Rattle.mon_monitor.specs.declared.monitor.Stmt.{Stmt}
 use Rattle.mon_monitor.specs.declared.monitor.Stmt.TheVariants as statements
 use Rattle.mon_monitor.specs.declared.monitor.Stmt.TheOpen as layers
 use Rattle.mon_monitor.specs.declared.monitor.Stmt.TheFolds.{fold-roll-Stmt}
 use Rattle.mon_monitor.specs.declared.monitor.Block.{Block}
-use Rattle.mon_monitor.specs.MonitorParts.{Places, fits_block, fits_form, fits_formula, fits_result, fits_statement, is_kind, fits_statement_step as fits_step}
+use Rattle.mon_monitor.specs.MonitorParts.{Places, fits_block, fits_form, fits_formula, fits_result, fits_statement, is_kind, target_at, fits_statement_step as fits_step}
+use Rattle.mon_monitor.specs.declared.monitor.Ret.TheVariants as rets
 use Rattle.mon_types.specs.Typed.{IsBlockOf, assignment, result_layer, result_of, result_of_kind, set_of, statement_of, statement_of_step as typed_step}
-use Rattle.mon_types.proofs.ScopePlaces.{fits_entry, fits_field, fits_found, fits_meaning, fits_scope, fits_target, found_named}
+use Rattle.mon_types.proofs.FineTrees.{append_none, no_fault, no_places}
+use Rattle.mon_types.proofs.ScopePlaces.{fits_entry, fits_found, fits_meaning, fits_scope, fits_target, fits_variable, found_named}
 use Rattle.mon_types.proofs.HeldPlaces.{bool_fits, int_fits}
 
 -- ---- faults
-
-pub append_none : (these those : List SourceFault) → (these ++ those) ≡ [] → (these ≡ []) × (those ≡ [])
-append_none [] those none = (refl, none)
-append_none (fault ∷ these) those none = absurd (cc)
-
-pub no_fault : (test : Bool) (fault : SourceFault) → (if test then fault ∷ [] else []) ≡ [] → test ≡ false
-no_fault true fault none = absurd (cc)
-no_fault false fault none = refl
 
 no_fault_unless : (test : Bool) (fault : SourceFault) → (if test then [] else fault ∷ []) ≡ [] → test ≡ true
 no_fault_unless true fault none = refl
@@ -61,10 +54,10 @@ pub record IsFit (places : Places) (scope : List Entry) : Type 0 where
 
 -- ---- each form of a statement
 
-fits-SetInt : (places : Places) (field : ℕ) (form : Linear) → fits_statement places (statements.SetInt field form) ≡ (is_kind kinds.Int (slice_get places.fields field) && fits_form places form)
+fits-SetInt : (places : Places) (field : ℕ) (form : Linear) → fits_statement places (statements.SetInt field form) ≡ (is_kind kinds.Int (target_at places field) && fits_form places form)
 fits-SetInt places field form = ap (fits_statement places) (sym (statements.rolls-SetInt field form)) ∙ fold-roll-Stmt Bool (fits_step places) (layers.SetInt field form)
 
-fits-SetBool : (places : Places) (field : ℕ) (is : Formula) → fits_statement places (statements.SetBool field is) ≡ (is_kind kinds.Bool (slice_get places.fields field) && fits_formula places is)
+fits-SetBool : (places : Places) (field : ℕ) (is : Formula) → fits_statement places (statements.SetBool field is) ≡ (is_kind kinds.Bool (target_at places field) && fits_formula places is)
 fits-SetBool places field is = ap (fits_statement places) (sym (statements.rolls-SetBool field is)) ∙ fold-roll-Stmt Bool (fits_step places) (layers.SetBool field is)
 
 fits-If : (places : Places) (when : Formula) (body other : List Stmt) → fits_statement places (statements.If when body other) ≡ (fits_formula places when && (list_all (fits_statement places) body && list_all (fits_statement places) other))
@@ -79,7 +72,7 @@ one_fits places statement fits = rw fits refl
 
 -- ---- assignments
 
-meaning_fits : (places : Places) (scope : List Entry) (meaning : Meaning) (value : Expr) → IsFit places scope → fits_field places.fields meaning ≡ true → expected (Some (meaning_kind meaning)) (sense scope value) ≡ [] → list_all (fits_statement places) (assignment scope meaning (sense scope value)) ≡ true
+meaning_fits : (places : Places) (scope : List Entry) (meaning : Meaning) (value : Expr) → IsFit places scope → fits_variable places meaning ≡ true → expected (Some (meaning_kind meaning)) (sense scope value) ≡ [] → list_all (fits_statement places) (assignment scope meaning (sense scope value)) ≡ true
 meaning_fits places scope (meanings.Number number) value fit fits none = refl
 meaning_fits places scope (meanings.Int place) value fit fits none =
     let fine = value_fine kinds.Int (sense scope value) none in
@@ -88,14 +81,14 @@ meaning_fits places scope (meanings.Flag place) value fit fits none =
     let fine = value_fine kinds.Bool (sense scope value) none in
     one_fits places (statements.SetBool place (sense scope value).formula) (fits-SetBool places place (sense scope value).formula ∙ rw (fits, bool_fits places scope value fit.fits fit.small fine.0 fine.1) refl)
 
-where_field : (field fits : Bool) → (if field then fits else true) ≡ true → field ≡ true → fits ≡ true
-where_field true fits is field_is = is
-where_field false fits is field_is = absurd (cc)
+where_variable : (variable fits : Bool) → (if variable then fits else true) ≡ true → variable ≡ true → fits ≡ true
+where_variable true fits is variable_is = is
+where_variable false fits is variable_is = absurd (cc)
 
-target_fits : (places : Places) (at : ℕ) (entry : Entry) → fits_entry places entry ≡ true → target_faults at (Some entry) ≡ [] → fits_field places.fields entry.meaning ≡ true
+target_fits : (places : Places) (at : ℕ) (entry : Entry) → fits_entry places entry ≡ true → target_faults at (Some entry) ≡ [] → fits_variable places entry.meaning ≡ true
 target_fits places at entry fits none =
     let both = both_true (fits_meaning places entry.meaning) (fits_target places entry) fits in
-    where_field entry.is_field (fits_field places.fields entry.meaning) both.1 (no_fault_unless entry.is_field _ none)
+    where_variable entry.is_variable (fits_variable places entry.meaning) both.1 (no_fault_unless entry.is_variable _ none)
 
 set_fits : (places : Places) (scope : List Entry) (at : ℕ) (target : Option Entry) (value : Expr) → IsFit places scope → fits_found places target ≡ true → (target_faults at target ++ expected (entry_kind target) (sense scope value)) ≡ [] → list_all (fits_statement places) (set_of scope target (sense scope value)) ≡ true
 set_fits places scope at None value fit fits none = refl
@@ -179,16 +172,37 @@ result_fits places scope fit (first ∷ next ∷ more) none = result_fits places
 
 -- ---- blocks
 
-pub record IsFineBlock (declared : List Decl) (method : MethodTree) : Type 0 where
-  pub guard : expected (Some kinds.Bool) (sense (scope_of declared method.inputs) method.guard) ≡ []
-  pub body : BreakNone (scope_of declared method.inputs) method.body
+pub record IsFineBlock (scope : List Entry) (tree : BlockTree) : Type 0 where
+  pub guard : expected (Some kinds.Bool) (sense scope tree.guard) ≡ []
+  pub body : BreakNone scope tree.body
 
--- A block of a method that breaks no rule has places of the right kinds.
-pub block_fits : (places : Places) (declared : List Decl) (number : ℕ) (method : MethodTree) (block : Block) → IsFit places (scope_of declared method.inputs) → IsFineBlock declared method → IsBlockOf declared number method block → fits_block places block ≡ true
-block_fits places declared number method block fit fine is =
-    let scope = scope_of declared method.inputs in
-    let guard = value_fine kinds.Bool (sense scope method.guard) fine.guard in
-    let guard_fits : fits_formula places block.guard ≡ true = ap (fits_formula places) is.guard ∙ bool_fits places scope method.guard fit.fits fit.small guard.0 guard.1 in
-    let body : list_all (fits_statement places) block.body ≡ true = ap (list_all (fits_statement places)) is.body ∙ body_fits places scope fit method.body fine.body in
-    let result : fits_result places block.result ≡ true = ap (fits_result places) is.result ∙ result_fits places scope fit method.body fine.body in
+-- A block of a tree that breaks no rule has places of the right kinds.
+pub block_fits : (places : Places) (scope : List Entry) (number : ℕ) (tree : BlockTree) (block : Block) → IsFit places scope → IsFineBlock scope tree → IsBlockOf scope number tree block → fits_block places block ≡ true
+block_fits places scope number tree block fit fine is =
+    let guard = value_fine kinds.Bool (sense scope tree.guard) fine.guard in
+    let guard_fits : fits_formula places block.guard ≡ true = ap (fits_formula places) is.guard ∙ bool_fits places scope tree.guard fit.fits fit.small guard.0 guard.1 in
+    let body : list_all (fits_statement places) block.body ≡ true = ap (list_all (fits_statement places)) is.body ∙ body_fits places scope fit tree.body fine.body in
+    let result : fits_result places block.result ≡ true = ap (fits_result places) is.result ∙ result_fits places scope fit tree.body fine.body in
     rw (guard_fits, body, result) refl
+
+-- ---- what a body without a `return` answers
+
+abbrev NoReturn : List Entry → List StmtTree → Type 0
+NoReturn scope body = flat_map (λ inner. (finding scope inner).returns) body ≡ []
+
+layer_silent : (scope : List Entry) (layer : StmtTree-F StmtTree) → (finding_step scope (map-StmtTree StmtTree Finding (finding scope) layer)).returns ≡ [] → result_layer scope layer ≡ rets.Nothing
+layer_silent scope (Set at name value) none = refl
+layer_silent scope (If at when body other) none = refl
+layer_silent scope (Return at value) none = absurd (cc)
+
+last_silent : (scope : List Entry) (statement : StmtTree) → (finding scope statement).returns ≡ [] → result_layer scope (out-StmtTree statement) ≡ rets.Nothing
+last_silent scope statement none = layer_silent scope (out-StmtTree statement) (sym (ap (λ (f : Finding). f.returns) (fold_out-StmtTree Finding (finding_step scope) statement)) ∙ none)
+
+answers_nothing : (scope : List Entry) (body : List StmtTree) → NoReturn scope body → result_of scope body ≡ rets.Nothing
+answers_nothing scope [] none = refl
+answers_nothing scope (last ∷ []) none = last_silent scope last (append_none (finding scope last).returns [] none).0
+answers_nothing scope (first ∷ next ∷ more) none = answers_nothing scope (next ∷ more) (append_none (finding scope first).returns (flat_map (λ inner. (finding scope inner).returns) (next ∷ more)) none).1
+
+-- A body of which each `return` is misplaced answers nothing.
+pub silent_body : (scope : List Entry) (body : List StmtTree) → return_faults scope body ≡ [] → result_of scope body ≡ rets.Nothing
+silent_body scope body none = answers_nothing scope body (no_places (flat_map (λ inner. (finding scope inner).returns) body) none)

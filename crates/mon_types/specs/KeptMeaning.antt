@@ -3,7 +3,6 @@ use Rattle.std.specs.Prelude.{◌≡◌, Bool, List, [], ◌∷◌, ◌++◌, Al
 use Rattle.std.specs.List.{flat_map}
 use Rattle.mon_tree.specs.declared.tree.Decl.{Decl}
 use Rattle.mon_tree.specs.declared.tree.Expr.{Expr}
-use Rattle.mon_tree.specs.declared.tree.MethodTree.{MethodTree}
 use Rattle.mon_tree.specs.declared.tree.StmtTree.{StmtTree}
 use Rattle.mon_tree.specs.declared.tree.StmtTree.TheOpen.{StmtTree-F, Set, If, Return}
 use Rattle.mon_tree.specs.declared.tree.StmtTree.TheFolds.{fold-StmtTree}
@@ -14,6 +13,7 @@ use Rattle.mon_forms.specs.Scope.{scope_of}
 use Rattle.mon_forms.specs.Forms.{linear_of}
 use Rattle.mon_forms.specs.Sense.{sense}
 use Rattle.mon_forms.specs.Plain.{number_in, truth_in, plain_value}
+use Rattle.mon_types.specs.Typed.{PlacedBlock}
 
 -- values that are assigned or returned, and conditions, with those of inner statements
 abbrev pub expressions_step : StmtTree-F (List Expr) → List Expr
@@ -29,8 +29,7 @@ abbrev pub expressions_in : List StmtTree → List Expr
 expressions_in statements = flat_map expressions_of statements
 
 -- The form of an int expression has the value that ordinary arithmetic gives the expression, and
--- the formula of
--- a bool one the truth that ordinary logic gives it.
+-- the formula of a bool one the truth that ordinary logic gives it.
 pub record KeepsMeaning (scope : List Entry) (expression : Expr) : Type 0 where
   pub value : (valuation : Valuation) → (sense scope expression).kind ≡ Some kinds.Int
       → value_of valuation (linear_of scope (sense scope expression).form)
@@ -39,11 +38,11 @@ pub record KeepsMeaning (scope : List Entry) (expression : Expr) : Type 0 where
       → truth_of valuation (sense scope expression).formula
       ≡ truth_in (plain_value scope valuation expression)
 
--- the truth that ordinary arithmetic and logic give a method's guard
-abbrev pub plain_guard : List Decl → MethodTree → Valuation → Bool
-plain_guard declared method valuation =
-    truth_in (plain_value (scope_of declared method.inputs) valuation method.guard)
+-- the truth that ordinary arithmetic and logic give a block's guard
+abbrev pub plain_guard : List Decl → PlacedBlock → Valuation → Bool
+plain_guard declared placed valuation =
+    truth_in (plain_value (scope_of declared placed.method) valuation placed.block.guard)
 
-abbrev pub BodyKeepsMeaning : List Decl → MethodTree → Type 0
-BodyKeepsMeaning declared method =
-    All (KeepsMeaning (scope_of declared method.inputs)) (expressions_in method.body)
+abbrev pub BodyKeepsMeaning : List Decl → PlacedBlock → Type 0
+BodyKeepsMeaning declared placed =
+    All (KeepsMeaning (scope_of declared placed.method)) (expressions_in placed.block.body)

@@ -1,6 +1,7 @@
 -- What the statements of a tree do, by ordinary arithmetic and logic, where each name has a value.
 use Rattle.std.specs.Prelude.{◌≡◌, ℕ, ℤ, pos, false, List, [], ◌∷◌, ◌++◌, map, Option, Some, None}
 use Rattle.std.specs.Prelude.{slice_get, if◌then◌else◌}
+use Rattle.std.specs.List.{flat_map}
 use Rattle.std.specs.Option.{option_map}
 use Rattle.std.specs.Str.{bytes_eq}
 use Rattle.mon_tree.specs.declared.tree.Decl.{Decl}
@@ -21,9 +22,10 @@ use Rattle.mon_base.specs.declared.value.Value.TheVariants as values
 use Rattle.mon_forms.specs.Plain.{Plain, number, truth, truth_in, plain_step, addend_value}
 use Rattle.mon_forms.specs.Plain.{factor_value}
 use Rattle.mon_monitor.specs.declared.monitor.Block.{Block}
+use Rattle.mon_monitor.specs.declared.monitor.Field.{Field}
 use Rattle.mon_monitor.specs.MonitorParts.{MonitorParts, AreOfKinds, kinds_of}
-use Rattle.mon_monitor.specs.Bodies.{after, result_value}
-use Rattle.mon_types.specs.Typed.{literal_value}
+use Rattle.mon_monitor.specs.Bodies.{Inputs, after, block_result}
+use Rattle.mon_types.specs.Typed.{PlacedBlock, blocks_from, field_of, literal_value}
 
 -- ---- what names stand for
 
@@ -46,8 +48,8 @@ abbrev pub plain_of : Value → Plain
 plain_of (values.Int value) = number value
 plain_of (values.Bool value) = truth value
 
--- a constant is its written number, and the fields have the values of a state, in the order of the
--- file
+-- a constant is its written number, and the fields or the locals have these values, in the order of
+-- the file
 abbrev pub declared_values : List Decl → List Value → List NamedValue
 declared_values (decls.Const at name value ∷ more) state =
     record { name = name; value = number (literal_value value) } ∷ declared_values more state
@@ -62,10 +64,12 @@ input_values (input ∷ more) (first ∷ rest) =
     record { name = input.name; value = plain_of first } ∷ input_values more rest
 input_values taken inputs = []
 
--- what the names of a method stand for when it begins
-abbrev pub method_environment : List Decl → MethodTree → List Value → List Value → Environment
+-- what the names of a method stand for when one of its blocks begins
+abbrev pub method_environment : List Decl → MethodTree → List Value → Inputs → Environment
 method_environment declared method state inputs =
-    environment_of (declared_values declared state ++ input_values method.inputs inputs)
+    environment_of (declared_values declared state
+    ++ (input_values method.inputs inputs.arguments
+    ++ declared_values method.locals inputs.locals))
 
 -- ---- expressions
 
@@ -121,36 +125,49 @@ abbrev pub plain_run : List StmtTree → Environment → PlainState
 plain_run body names =
     one_by_one (map statement_run body) (record { names = names; returned = None })
 
--- ---- a block and the statements of its method
+-- ---- a block and the statements of its tree
 
--- From a state and inputs the block's body reaches the state that a plain run ends in, read by the
--- names of the fields, and the block's result is what that run returned.
-pub record RunsAsWritten (monitor : MonitorParts) (block : Block) (state inputs : List Value)
-    (end : PlainState) : Type 0 where
-  pub reaches : map plain_of (after inputs block.body state)
-      ≡ map (λ field. end.names field.name) monitor.fields
-  pub answers : option_map plain_of
-      (result_value (after inputs block.body state) inputs block.result)
-      ≡ end.returned
+-- what these fields, or locals, stand for
+abbrev pub named_values : PlainState → List Field → List Plain
+named_values end fields = map (λ field. end.names field.name) fields
+
+-- From a state and inputs the block's body reaches the state and the locals that a plain run ends
+-- in, read by the names of the fields and of the method's locals, and the block's result is what
+-- that run returned.
+pub record RunsAsWritten (monitor : MonitorParts) (method : MethodTree) (block : Block)
+    (state : List Value) (inputs : Inputs) (end : PlainState) : Type 0 where
+  pub reaches : map plain_of (after inputs block.body state).state
+      ≡ named_values end monitor.fields
+  pub keeps : map plain_of (after inputs block.body state).locals
+      ≡ named_values end (flat_map field_of method.locals)
+  pub answers : option_map plain_of (block_result inputs block state) ≡ end.returned
 
 abbrev pub kinds_taken : MethodTree → List Kind
 kinds_taken method = map (λ input. input.kind) method.inputs
 
--- what a method's statements do to a state
-abbrev pub method_run : List Decl → MethodTree → List Value → List Value → PlainState
-method_run declared method state inputs =
-    plain_run method.body (method_environment declared method state inputs)
+-- the kinds of a method's locals
+abbrev pub kinds_kept : MethodTree → List Kind
+kinds_kept method = kinds_of (flat_map field_of method.locals)
 
--- from each state, with all inputs of the method's kinds
-abbrev pub BlockRunsAsWritten : MonitorTree → MonitorParts → MethodTree → Block → Type 0
-BlockRunsAsWritten tree monitor method block =
-    (state inputs : List Value)
-    → AreOfKinds (kinds_of monitor.fields) state → AreOfKinds (kinds_taken method) inputs
-    → RunsAsWritten monitor block state inputs (method_run tree.decls method state inputs)
+-- what the statements of a block do to a state and locals
+abbrev pub block_run : List Decl → PlacedBlock → List Value → Inputs → PlainState
+block_run declared placed state inputs =
+    plain_run placed.block.body (method_environment declared placed.method state inputs)
 
--- from each state and inputs that fit, each method's block ends as a plain run of its statements
+-- from each state, with all inputs and locals of the method's kinds
+abbrev pub BlockRunsAsWritten : MonitorTree → MonitorParts → PlacedBlock → Block → Type 0
+BlockRunsAsWritten tree monitor placed block =
+    (state : List Value) (inputs : Inputs)
+    → AreOfKinds (kinds_of monitor.fields) state
+    → AreOfKinds (kinds_taken placed.method) inputs.arguments
+    → AreOfKinds (kinds_kept placed.method) inputs.locals
+    → RunsAsWritten monitor placed.method block state inputs
+    (block_run tree.decls placed state inputs)
+
+-- from each state, inputs and locals that fit, each block ends as a plain run of its statements
 abbrev pub MonitorRunsAsWritten : MonitorTree → MonitorParts → Type 0
 MonitorRunsAsWritten tree monitor =
-    (index : ℕ) (method : MethodTree) (block : Block)
-    → slice_get tree.methods index ≡ Some method → slice_get monitor.blocks index ≡ Some block
-    → BlockRunsAsWritten tree monitor method block
+    (index : ℕ) (placed : PlacedBlock) (block : Block)
+    → slice_get (blocks_from 0 tree.methods) index ≡ Some placed
+    → slice_get monitor.blocks index ≡ Some block
+    → BlockRunsAsWritten tree monitor placed block

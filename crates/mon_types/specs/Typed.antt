@@ -8,6 +8,7 @@ use Rattle.mon_tree.specs.declared.tree.Decl.TheVariants as decls
 use Rattle.mon_tree.specs.declared.tree.StmtTree.{StmtTree, out-StmtTree}
 use Rattle.mon_tree.specs.declared.tree.StmtTree.TheOpen.{StmtTree-F, Set, If, Return}
 use Rattle.mon_tree.specs.declared.tree.StmtTree.TheFolds.{fold-StmtTree}
+use Rattle.mon_tree.specs.declared.tree.BlockTree.{BlockTree}
 use Rattle.mon_tree.specs.declared.tree.MethodTree.{MethodTree}
 use Rattle.mon_tree.specs.declared.tree.MonitorTree.{MonitorTree}
 use Rattle.mon_base.specs.declared.kind.Kind.{Kind}
@@ -18,6 +19,7 @@ use Rattle.mon_forms.specs.declared.scope.Entry.{Entry}
 use Rattle.mon_forms.specs.Scope.{signed, scope_of, entry_named}
 use Rattle.mon_forms.specs.Forms.{linear_of}
 use Rattle.mon_forms.specs.Sense.{Sense, sense}
+use Rattle.mon_base.specs.declared.value.Value.{Value}
 use Rattle.mon_base.specs.declared.value.Value.TheVariants as values
 use Rattle.mon_monitor.specs.declared.monitor.Field.{Field}
 use Rattle.mon_monitor.specs.declared.monitor.Method.{Method}
@@ -35,7 +37,7 @@ use Rattle.mon_monitor.specs.Inputs.{reads_inputs}
 abbrev pub literal_value : Lit → ℤ
 literal_value literal = signed literal.minus (pos literal.digits)
 
--- constants are no fields
+-- a declaration's field, or a local's name, kind and value at the start; a constant is neither
 abbrev pub field_of : Decl → List Field
 field_of (decls.Const at name value) = []
 field_of (decls.Int at name value) =
@@ -43,16 +45,25 @@ field_of (decls.Int at name value) =
 field_of (decls.Flag at name value) =
     record { name = name; kind = kinds.Bool; start = values.Bool value } ∷ []
 
--- each method has one block, in the order of the file
+-- the values that variables have at the start: fields once, and the locals of a method in each call
+abbrev pub starts_of : List Decl → List Value
+starts_of declared = map (λ field. field.start) (flat_map field_of declared)
+
+-- the method of a tree, whose first block has this number
+abbrev pub method_of : ℕ → MethodTree → Method
+method_of number method = record {
+  name = method.name;
+  inputs = map (λ input. input.kind) method.inputs;
+  locals = starts_of method.locals;
+  first = number;
+  count = length method.blocks;
+}
+
+-- the blocks of the methods follow one another, in the order of the file
 abbrev pub methods_from : ℕ → List MethodTree → List Method
 methods_from number [] = []
 methods_from number (method ∷ methods) =
-    record {
-      name = method.name;
-      inputs = map (λ input. input.kind) method.inputs;
-      first = number;
-      count = 1;
-    } ∷ methods_from (number + 1) methods
+    method_of number method ∷ methods_from (number + length method.blocks) methods
 
 -- ---- statements and results
 
@@ -96,42 +107,67 @@ result_of scope (first ∷ next ∷ more) = result_of scope (next ∷ more)
 
 -- ---- blocks
 
--- the block is its method's
-pub record IsBlockOf (declared : List Decl) (number : ℕ) (method : MethodTree) (block : Block) :
-    Type 0 where
-  pub method_number : block.method ≡ number
-  pub guard : block.guard ≡ (sense (scope_of declared method.inputs) method.guard).formula
-  pub body : block.body ≡ flat_map (statement_of (scope_of declared method.inputs)) method.body
-  pub result : block.result ≡ result_of (scope_of declared method.inputs) method.body
+-- a block with its method, and the method's number
+pub record PlacedBlock : Type 0 where
+  pub number : ℕ
+  pub method : MethodTree
+  pub block : BlockTree
 
-abbrev pub AreBlocksOf : List Decl → ℕ → List MethodTree → List Block → Type 0
-AreBlocksOf declared number [] [] = Unit {0}
-AreBlocksOf declared number (method ∷ methods) (block ∷ blocks) =
-    IsBlockOf declared number method block × AreBlocksOf declared (number + 1) methods blocks
-AreBlocksOf declared number methods blocks = ⊥
+-- some blocks of a method
+abbrev pub placed_in : ℕ → MethodTree → List BlockTree → List PlacedBlock
+placed_in number method blocks =
+    map (λ block. record { number = number; method = method; block = block }) blocks
+
+-- the blocks of all methods, in the order of the file; the first method has this number
+abbrev pub blocks_from : ℕ → List MethodTree → List PlacedBlock
+blocks_from number [] = []
+blocks_from number (method ∷ methods) =
+    placed_in number method method.blocks ++ blocks_from (number + 1) methods
+
+-- The block is the tree's, in the scope of its method, which has this number. By the rules only the
+-- last block of a method has a result.
+pub record IsBlockOf (scope : List Entry) (number : ℕ) (tree : BlockTree) (block : Block) : Type 0
+  where
+    pub method_number : block.method ≡ number
+    pub guard : block.guard ≡ (sense scope tree.guard).formula
+    pub body : block.body ≡ flat_map (statement_of scope) tree.body
+    pub result : block.result ≡ result_of scope tree.body
+
+-- the block is that of its place in the row of all blocks
+abbrev pub IsPlaced : List Decl → PlacedBlock → Block → Type 0
+IsPlaced declared placed block =
+    IsBlockOf (scope_of declared placed.method) placed.number placed.block block
+
+-- one block for each place, in order
+abbrev pub AreBlocksOf : List Decl → List PlacedBlock → List Block → Type 0
+AreBlocksOf declared [] [] = Unit {0}
+AreBlocksOf declared (placed ∷ more) (block ∷ blocks) =
+    IsPlaced declared placed block × AreBlocksOf declared more blocks
+AreBlocksOf declared some blocks = ⊥
 
 -- ---- conditions: classes of equal guards, numbered from 1 by their first block
 
-abbrev pub condition_of : Block → MethodTree → Condition
-condition_of block method =
-    record { guard = block.guard; reads_inputs = reads_inputs block.guard; shown = method.guard }
+abbrev pub condition_of : Block → BlockTree → Condition
+condition_of block tree =
+    record { guard = block.guard; reads_inputs = reads_inputs block.guard; shown = tree.guard }
 
 -- The block has a condition that was there, or the new one after them, where none of them has its
 -- guard.
-abbrev pub AreConditions : List Condition → List MethodTree → List Block → List Condition → Type 0
+abbrev pub AreConditions : List Condition → List PlacedBlock → List Block → List Condition → Type 0
 AreConditions before [] [] all = all ≡ before
-AreConditions before (method ∷ methods) (block ∷ blocks) all =
+AreConditions before (placed ∷ more) (block ∷ blocks) all =
     (IsSomeAnd (slice_get before (block.condition - 1)) (λ condition. condition.guard ≡ block.guard)
-    × (block.condition ≡ (block.condition - 1) + 1) × AreConditions before methods blocks all)
+    × (block.condition ≡ (block.condition - 1) + 1) × AreConditions before more blocks all)
     ⊎ (All (λ condition. condition.guard ≡ block.guard → ⊥) before
     × (block.condition ≡ length before + 1)
-    × AreConditions (before ++ condition_of block method ∷ []) methods blocks all)
-AreConditions before methods blocks all = ⊥
+    × AreConditions (before ++ condition_of block placed.block ∷ []) more blocks all)
+AreConditions before some blocks all = ⊥
 
 -- the monitor has the tree's name, fields, methods, blocks and conditions
 pub record IsTyped (tree : MonitorTree) (monitor : MonitorParts) : Type 0 where
   pub name : monitor.name ≡ tree.name
   pub fields : monitor.fields ≡ flat_map field_of tree.decls
   pub methods : monitor.methods ≡ methods_from 0 tree.methods
-  pub blocks : AreBlocksOf tree.decls 0 tree.methods monitor.blocks
-  pub conditions : AreConditions [] tree.methods monitor.blocks monitor.conditions
+  pub blocks : AreBlocksOf tree.decls (blocks_from 0 tree.methods) monitor.blocks
+  pub conditions :
+      AreConditions [] (blocks_from 0 tree.methods) monitor.blocks monitor.conditions

@@ -14,12 +14,13 @@ use mon_syntax::names_are_identifiers;
 use mon_tree::MonitorTree;
 use std::alloc::Global;
 
-/// The monitor that a tree stands for, where the tree keeps all the rules of `mon_rules/specs/Rules`.
+/// The monitor that a tree stands for, where the tree keeps all the rules of
+/// `mon_rules/specs/Rules`.
 ///
 /// # Errors
 ///
-/// The first rule that is broken: the one at the least place, and at one place the first in the order of
-/// [`Refusal`](mon_base::Refusal); or out of memory.
+/// The first rule that is broken: the one at the least place, and at one place the first in the
+/// order of [`Refusal`](mon_base::Refusal); or out of memory.
 pub fn check(alloc: Global, tree: &MonitorTree) -> Result<Monitor, SourceError>
     requires { IsParsed tree.now }
     // The monitor is the one that the tree stands for.

@@ -1,10 +1,11 @@
 //! The checker: from the tree of a monitor file to a monitor.
 //!
-//! [`check`] answers the monitor that a tree stands for, or the first rule that the tree breaks and where.
-//! [`forms_keep_meaning`] and [`bodies_keep_meaning`] are the laws that its expressions and its blocks mean what the
-//! tree says. Definitions: `specs/Typed` (the monitor of a tree), `specs/PlainRuns` (what a tree's statements do);
-//! monitors and what their bodies do are those of `mon_monitor`, the rules of trees are `mon_rules/specs/Rules`, and
-//! forms and formulas those of `mon_forms`.
+//! [`check`] answers the monitor that a tree stands for, or the first rule that the tree breaks and
+//! where. [`forms_keep_meaning`] and [`bodies_keep_meaning`] are the laws that its expressions and
+//! its blocks mean what the tree says. Definitions: `specs/Typed` (the monitor of a tree),
+//! `specs/PlainRuns` (what a tree's statements do); monitors and what their bodies do are those of
+//! `mon_monitor`, the rules of trees are `mon_rules/specs/Rules`, and forms and formulas those of
+//! `mon_forms`.
 #![tactic(auto)]
 
 mod checker;

@@ -5,6 +5,7 @@ ghost use Rattle.mon_base.specs.Identifiers.{IsIdentifier};
 ghost use Rattle.mon_tree.specs.Names.{names_in};
 ghost use Rattle.mon_rules.specs.Rules.{faults_of};
 ghost use Rattle.mon_types.specs.Typed.{IsTyped};
+ghost use Rattle.mon_types.specs.inner.Making.{HasBlock};
 
 mod blocks;
 mod conditions;
@@ -19,10 +20,12 @@ use mon_monitor::Monitor;
 use mon_tree::MonitorTree;
 use std::alloc::{AllocError, Global};
 
-/// The monitor that a tree of identifiers stands for, where the tree breaks no rule. It fails only for want of memory.
+/// The monitor that a tree of identifiers stands for, where the tree breaks no rule and each of its
+/// methods has a block. It fails only for want of memory.
 pub(crate) fn monitor_of(alloc: Global, tree: &MonitorTree) -> Result<Monitor, AllocError>
     requires fine { faults_of tree.now ≡ [] }
     requires names { All IsIdentifier (names_in tree.now) }
+    requires blocks { All HasBlock tree.now.methods }
     ensures { IfOk result (λ monitor. IsTyped tree.now monitor) }
 {
     let decls = tree.decls.items();

@@ -1,7 +1,8 @@
--- The limits within which queries are negated.
-use Rattle.std.specs.Prelude.{ℕ, Bool, ◌&&◌, nat_le, List, [], ◌∷◌, length, Option, Some, None}
+-- The places that queries have, and the limits within which they are negated.
+use Rattle.std.specs.Prelude.{ℕ, ◌+◌, Bool, ◌&&◌, nat_le, List, [], ◌∷◌, length, Option, Some, None}
 use Rattle.std.specs.Prelude.{if◌then◌else◌}
 use Rattle.std.specs.List.{list_all}
+use Rattle.mon_base.specs.Limits.{FIRST_INPUT, FIRST_LOCAL, LOCALS}
 use Rattle.mon_linear.specs.declared.formula.Formula.{Formula}
 use Rattle.mon_linear.specs.Measures.{nodes_of, MOST_NODES}
 use Rattle.mon_linear.specs.Substitution.{is_formula_within}
@@ -12,6 +13,11 @@ use Rattle.mon_monitor.specs.Paths.{block_body, MOST_PATHS}
 use Rattle.mon_wp.specs.declared.step.Step.{Step}
 use Rattle.mon_wp.specs.Paths.{body_paths, block_paths}
 use Rattle.mon_wp.specs.NegatedQueries.{path_part, negated_triple, negated_query}
+
+-- the places of a query are below: the last are those of the locals of a client that waits,
+-- `FIRST_INPUT` places further than those of the block that runs
+abbrev pub QUERY_PLACES : ℕ
+QUERY_PLACES = FIRST_INPUT + FIRST_LOCAL + LOCALS
 
 -- the formulas on the way from the end of a path to its beginning
 abbrev pub on_the_way : Formula → List Step → List Formula

@@ -39,7 +39,7 @@ is_plain monitor query =
 
 -- ---- simple blocks
 
--- a constant, or the variable of one place and a constant
+-- a constant, or a field, parameter or local plus a constant
 abbrev pub are_simple_terms : List Term → Bool
 are_simple_terms [] = true
 are_simple_terms (term ∷ []) = int_eq term.times (pos 1)

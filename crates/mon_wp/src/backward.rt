@@ -1,5 +1,5 @@
-//! The parts of the paths of a body, made from its end: a statement is put before all parts that come after it at
-//! once, so no path is listed.
+//! The parts of the paths of a body, made from its end: a statement is put before all parts that
+//! come after it at once, so no path is listed.
 
 ghost use Rattle.std.specs.Prelude.{◌≡◌, ◌++◌, IfOk, IsTrue, List, true, [], ◌∷◌};
 ghost use Rattle.mon_linear.specs.declared.formula.Formula.{Formula};
@@ -17,8 +17,8 @@ use mon_list::Seq;
 use mon_monitor::Stmt;
 use std::alloc::{AllocError, Global};
 
-/// What the step makes of each of the parts. It ends where a part leaves the limits, or all have too many nodes: no
-/// later step leaves fewer.
+/// What the step makes of each of the parts. It ends where a part leaves the limits, or all have
+/// too many nodes: no later step leaves fewer.
 fn before_step(
     alloc: Global,
     step: &Step,

@@ -20,8 +20,8 @@ ghost use Rattle.mon_wp.specs.PlainClaims.{is_plain, is_within_limits};
 ghost use Rattle.mon_wp.specs.NegatedQueries.{negated_query, query_fails};
 ghost use Rattle.mon_wp.specs.Paths.{body_paths};
 
-/// A negated query is true at a valuation exactly where the triple of the query fails there: each hypothesis is
-/// true, and the post formula is not after the body.
+/// A negated query is true at a valuation exactly where the triple of the query fails there: each
+/// hypothesis is true, and the post formula is not after the body.
 pub fn negated_query_is_exact()
     ensures { (monitor : MonitorParts) (query : Query) (v : Valuation)
         → IsMonitor monitor → query.block < length monitor.blocks
@@ -61,8 +61,8 @@ pub fn candidates_are_expressible()
         → list_all is_expressible (candidates_of monitor) ≡ true }
 {}
 
-/// Under fewer candidates no query is harder: where the query of a claim is within the limits, or plain, under some
-/// candidates, it is so under some of them.
+/// Under fewer candidates no query is harder: where the query of a claim is within the limits, or
+/// plain, under some candidates, it is so under some of them.
 pub fn fewer_kept_are_no_harder()
     ensures within { (monitor : MonitorParts) (claim : Claim) (kept all : List Candidate)
         → AreSomeOf kept all → is_within_limits monitor (query_of monitor all claim) ≡ true
@@ -72,8 +72,8 @@ pub fn fewer_kept_are_no_harder()
         → is_plain monitor (query_of monitor kept claim) ≡ true }
 {}
 
-/// Under more candidates no query is less valid: where the query of a claim is valid under some candidates, it is so
-/// under all lists that have these among them.
+/// Under more candidates no query is less valid: where the query of a claim is valid under some
+/// candidates, it is so under all lists that have these among them.
 pub fn more_kept_leave_valid()
     ensures contained { (monitor : MonitorParts) (claim : Claim) (kept all : List Candidate)
         → All (Contains all) kept → IsValidQuery monitor (query_of monitor kept claim)

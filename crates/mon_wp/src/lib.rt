@@ -1,11 +1,12 @@
 //! Paths of bodies, and negated queries.
 //!
-//! A query asks whether a formula is true after a block's body wherever some hypotheses are true before it.
-//! [`keeps`], [`none_needed`], [`one_enough`] and [`no_test`] make the query of each claim on which a plan rests, and
-//! [`claim_query`] that of any claim. [`paths_of`] lists the paths of a body (`specs/Paths`), and [`negated`] makes,
-//! within limits (`specs/Limits`), the formula that is true exactly where a query's triple fails
-//! (`specs/NegatedQueries`, `laws`). Which queries are within a prover's limits, and which claims a monitor has:
-//! `specs/PlainClaims`. Candidates that have a formula: `specs/Expressible`.
+//! A query asks whether a formula is true after a block's body wherever some hypotheses are true
+//! before it. [`keeps`], [`none_needed`], [`one_enough`] and [`no_test`] make the query of each
+//! claim on which a plan rests, and [`claim_query`] that of any claim. [`paths_of`] lists the paths
+//! of a body (`specs/Paths`), and [`negated`] makes, within limits (`specs/Limits`, which also says
+//! how many places queries have), the formula that is true exactly where a query's triple fails
+//! (`specs/NegatedQueries`, `laws`). Which queries are within a prover's limits, and which claims a
+//! monitor has: `specs/PlainClaims`. Candidates that have a formula: `specs/Expressible`.
 #![tactic(auto)]
 
 mod backward;

@@ -21,7 +21,8 @@ fn block_guard(alloc: Global, monitor: &Monitor, block: u32) -> Result<Formula, 
     copy_formula(alloc, &monitor.blocks()[block as usize].guard)
 }
 
-/// The hypotheses where the condition's guard, as a client that waits has it, is false before the block.
+/// The hypotheses where the condition's guard, as a client that waits has it, is false before the
+/// block.
 fn idle_hypotheses(
     alloc: Global,
     monitor: &Monitor,
@@ -41,8 +42,8 @@ fn idle_hypotheses(
     Ok(hyps)
 }
 
-/// The query whether the block keeps the candidate: the kept candidates and the block's guard are its hypotheses.
-/// The block is a number from 0. It fails only for want of memory.
+/// The query whether the block keeps the candidate: the kept candidates and the block's guard are
+/// its hypotheses. The block is a number from 0. It fails only for want of memory.
 pub fn keeps(
     alloc: Global,
     monitor: &Monitor,
@@ -65,9 +66,10 @@ pub fn keeps(
     })
 }
 
-/// The query whether no note is needed: where the condition's guard is false at the inputs of a client that waits,
-/// it is false after the block. The kept candidates, the block's guard and the condition's negated guard are its
-/// hypotheses. The block is a number from 0, the condition one from 1. It fails only for want of memory.
+/// The query whether no note is needed: where the condition's guard is false at the inputs of a
+/// client that waits, it is false after the block. The kept candidates, the block's guard and the
+/// condition's negated guard are its hypotheses. The block is a number from 0, the condition one
+/// from 1. It fails only for want of memory.
 pub fn none_needed(
     alloc: Global,
     monitor: &Monitor,
@@ -91,9 +93,9 @@ pub fn none_needed(
     })
 }
 
-/// The query whether one waiter is enough: where the condition's guard is true, it is false after the block. The
-/// kept candidates and the condition's guard are its hypotheses. The block is a number from 0, the condition one
-/// from 1. It fails only for want of memory.
+/// The query whether one waiter is enough: where the condition's guard is true, it is false after
+/// the block. The kept candidates and the condition's guard are its hypotheses. The block is a
+/// number from 0, the condition one from 1. It fails only for want of memory.
 pub fn one_enough(
     alloc: Global,
     monitor: &Monitor,
@@ -119,9 +121,10 @@ pub fn one_enough(
     })
 }
 
-/// The query whether no test is needed: where the condition's guard is false, it is true after the block. The kept
-/// candidates, the block's guard and the condition's negated guard are its hypotheses. The block is a number from
-/// 0, the condition one from 1. It fails only for want of memory.
+/// The query whether no test is needed: where the condition's guard is false, it is true after the
+/// block. The kept candidates, the block's guard and the condition's negated guard are its
+/// hypotheses. The block is a number from 0, the condition one from 1. It fails only for want of
+/// memory.
 pub fn no_test(
     alloc: Global,
     monitor: &Monitor,
@@ -145,7 +148,8 @@ pub fn no_test(
     })
 }
 
-/// The query of the claim under the kept candidates, as its maker gives it. It fails only for want of memory.
+/// The query of the claim under the kept candidates, as its maker gives it. It fails only for want
+/// of memory.
 pub fn claim_query(
     alloc: Global,
     monitor: &Monitor,

@@ -15,9 +15,10 @@ use mon_list::Seq;
 use mon_monitor::{MOST_PATHS, Monitor, Query, paths};
 use std::alloc::{AllocError, Global};
 
-/// The paths of the body of a block, which is a number from 0. The paths of a statement stand in order, each
-/// continued by those of the rest in order; at an `if` those that assume its condition come first. It is none
-/// exactly where there are more than [`MOST_PATHS`]. It fails only for want of memory.
+/// The paths of the body of a block, which is a number from 0. The paths of a statement stand in
+/// order, each continued by those of the rest in order; at an `if` those that assume its condition
+/// come first. It is none exactly where there are more than [`MOST_PATHS`]. It fails only for want
+/// of memory.
 pub fn paths_of(
     alloc: Global,
     monitor: &Monitor,
@@ -34,11 +35,12 @@ pub fn paths_of(
     Ok(Some(Seq::of(made)))
 }
 
-/// The negated query: the formula that is true exactly where each hypothesis is true and the post formula is not
-/// after the body of the block. It is the weakest precondition of the negated post formula along each path, as in
-/// Edsger W. Dijkstra, "A Discipline of Programming", chapter 4. It is none exactly where the body has more than
-/// [`MOST_PATHS`] paths, a formula on the way has a number outside 96 bits or more than [`MOST_NODES`] nodes, or
-/// the whole has more than those. It fails only for want of memory.
+/// The negated query: the formula that is true exactly where each hypothesis is true and the post
+/// formula is not after the body of the block. It is the weakest precondition of the negated post
+/// formula along each path, as in Edsger W. Dijkstra, "A Discipline of Programming", chapter 4. It
+/// is none exactly where the body has more than [`MOST_PATHS`] paths, a formula on the way has a
+/// number outside 96 bits or more than [`MOST_NODES`] nodes, or the whole has more than those. It
+/// fails only for want of memory.
 pub fn negated(
     alloc: Global,
     monitor: &Monitor,

@@ -45,7 +45,8 @@ pub(crate) fn has_few_nodes(formula: &Formula) -> bool
     nodes(formula) <= MOST_NODES
 }
 
-/// Whether a formula keeps within the limits: its numbers do by their types' rule, its nodes are counted.
+/// Whether a formula keeps within the limits: its numbers do by their types' rule, its nodes are
+/// counted.
 pub(crate) fn is_within(formula: &Formula) -> bool
     ensures { result ≡ is_formula_within formula.now }
 {

@@ -1,10 +1,10 @@
-//! Guards at the inputs of a client that waits.
+//! Guards at the inputs and locals of a client that waits.
 
-ghost use Rattle.std.specs.Prelude.{◌≡◌, ◌<◌, ◌≤◌, ◌-◌, IfOk, IsTrue, true, map, length};
+ghost use Rattle.std.specs.Prelude.{◌≡◌, ◌≤◌, ◌-◌, IfOk, IsTrue, true, map, length};
 ghost use Rattle.std.specs.List.{list_all};
 ghost use Rattle.mon_linear.specs.Negation.{can_negate, negation};
 ghost use Rattle.mon_monitor.specs.Queries.{for_waiting, waiting_form, waiting_guard, waiting_place, waiting_term};
-ghost use Rattle.mon_wp.specs.inner.Movable.{is_movable, is_movable_term};
+ghost use Rattle.mon_wp.specs.inner.Movable.{is_movable, is_movable_place, is_movable_term};
 
 use mon_base::limits::FIRST_INPUT;
 use mon_linear::{Formula, Lin, Term};
@@ -12,9 +12,10 @@ use mon_list::Seq;
 use mon_monitor::Monitor;
 use std::alloc::{AllocError, Global};
 
-/// The place of a waiting client's input, `FIRST_INPUT` places further than a block's. A field stays where it is.
+/// The place of a waiting client's input or local, `FIRST_INPUT` places further than a block's. A
+/// field stays where it is.
 fn waiting_place(place: u32) -> u32
-    requires { place < 64 }
+    requires { is_movable_place place ≡ true }
     ensures { result ≡ waiting_place place }
 {
     if place < FIRST_INPUT {
@@ -47,7 +48,7 @@ fn waiting_form(alloc: Global, form: &Lin) -> Result<Lin, AllocError>
     Ok(Lin::of(terms, constant))
 }
 
-/// A formula with a waiting client's inputs in the place of a block's.
+/// A formula with a waiting client's inputs and locals in the place of a block's.
 #[cycle(waiting)]
 fn for_waiting(alloc: Global, formula: &Formula) -> Result<Formula, AllocError>
     requires { is_movable formula.now ≡ true }
@@ -76,8 +77,8 @@ fn waiting_parts(alloc: Global, parts: &[Formula]) -> Result<Vec<Formula>, Alloc
     Ok(moved)
 }
 
-/// The guard of a condition, which is numbered from 1, at the inputs of a client that waits. It can be negated
-/// twice.
+/// The guard of a condition, which is numbered from 1, at the inputs and locals of a client that
+/// waits. It can be negated twice.
 pub(crate) fn waiting_guard(
     alloc: Global,
     monitor: &Monitor,

@@ -9,3 +9,6 @@ pub const TWO_LOCKS: &[u8] =
 
 /// Three clients of the gate: two wait at it, and the third opens it.
 pub const TWO_TAKE: &[u8] = b"client A { take(); } client B { take(); } client C { fire(); }";
+
+/// Two clients that pair.
+pub const TWO_PAIRS: &[u8] = b"client A { pair(); } client B { pair(); }";

@@ -107,3 +107,37 @@ pub const ACCUMULATOR: &[u8] = b"monitor Acc {
   }
 }
 ";
+
+/// A method of two blocks: the second waits until another client was at the first after it.
+pub const TWICE: &[u8] = b"monitor Twice {
+  int level = 0;
+  method pair()
+    local int seen = 0;
+    waituntil (true) {
+      seen = level;
+      level = level + 1;
+    }
+    waituntil (level > seen + 1) {
+      return seen;
+    }
+}
+";
+
+/// Two meet in each round: who comes first waits until its round is over.
+pub const MEETING: &[u8] = b"monitor Meeting {
+  int waiting = 0;
+  int round = 0;
+  method meet()
+    local int mine = 0;
+    waituntil (true) {
+      mine = round;
+      waiting = waiting + 1;
+      if (waiting == 2) {
+        waiting = 0;
+        round = round + 1;
+      }
+    }
+    waituntil (round > mine) {
+    }
+}
+";

@@ -6,6 +6,8 @@
 #[cfg(test)]
 mod asking;
 #[cfg(test)]
+mod blocks;
+#[cfg(test)]
 mod checks;
 #[cfg(test)]
 mod clients;
@@ -33,5 +35,7 @@ mod simulate;
 mod standard_output;
 #[cfg(test)]
 mod stress;
+#[cfg(test)]
+mod tries;
 #[cfg(test)]
 mod words;

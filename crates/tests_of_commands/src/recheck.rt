@@ -4,7 +4,9 @@ use super::asking::{answers, outcome_of, recheck, report};
 use super::report::LOCK_REPORT;
 use expresso::Status;
 use mon_pool::OpenGate;
-use samples::monitors::{ACCUMULATOR, BUFFER, GATE, LEVEL, LOCK, READERS_AND_WRITERS, UP};
+use samples::monitors::{
+    ACCUMULATOR, BUFFER, GATE, LEVEL, LOCK, MEETING, READERS_AND_WRITERS, TWICE, UP,
+};
 use std::alloc::AllocError;
 use std::process::Abort;
 use std::sync::Wait;
@@ -289,6 +291,8 @@ fn reports_that_are_printed_are_accepted(rt: HostRuntime) -> Result<(), Fail> {
         GATE,
         LEVEL,
         ACCUMULATOR,
+        TWICE,
+        MEETING,
     ] {
         is_accepted(&rt, monitor)?;
     }

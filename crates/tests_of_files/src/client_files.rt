@@ -76,6 +76,23 @@ fn a_repeat_has_its_count_and_items(rt: HostRuntime) -> Result<(), Fail> {
 }
 
 #[test]
+fn a_call_that_tries_has_the_place_of_its_name(rt: HostRuntime) -> Result<(), Fail> {
+    let items = items(rt.alloc(), b"client A { try f(); }")?;
+    match items.items() {
+        [
+            Item::Call {
+                at: 11,
+                tries: true,
+                name_at: 15,
+                ..
+            },
+        ] => {}
+        _ => assert!(rt; false, "the client tries once"),
+    }
+    Ok(())
+}
+
+#[test]
 fn an_empty_file_has_no_clients(rt: HostRuntime) -> Result<(), Fail> {
     let tree = clients_tree(rt.alloc(), b"")?;
     assert!(rt; tree.clients.items().is_empty());

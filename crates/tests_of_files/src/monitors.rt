@@ -1,6 +1,8 @@
 //! Monitors in canonical form.
 
-use samples::monitors::{ACCUMULATOR, BUFFER, GATE, LEVEL, LOCK, READERS_AND_WRITERS, SUM, UP};
+use samples::monitors::{
+    ACCUMULATOR, BUFFER, GATE, LEVEL, LOCK, MEETING, READERS_AND_WRITERS, SUM, TWICE, UP,
+};
 
 /// Groups that the canonical form keeps.
 const NESTED: &[u8] = b"monitor Nested {
@@ -19,7 +21,7 @@ const NESTED: &[u8] = b"monitor Nested {
 ";
 
 /// The monitors of `samples`, and this one.
-pub(crate) const ALL: [&[u8]; 9] = [
+pub(crate) const ALL: [&[u8]; 11] = [
     BUFFER,
     LOCK,
     READERS_AND_WRITERS,
@@ -28,5 +30,7 @@ pub(crate) const ALL: [&[u8]; 9] = [
     LEVEL,
     SUM,
     ACCUMULATOR,
+    TWICE,
+    MEETING,
     NESTED,
 ];

@@ -7,7 +7,7 @@ use std::alloc::Global;
 use std::test::Fail;
 
 /// Texts that are no monitors, and where each stops to be one.
-const MONITORS: [(&[u8], u32); 18] = [
+const MONITORS: [(&[u8], u32); 20] = [
     (b"", 0),
     (b"monitor M { int x 0; }", 18),
     (b"monitor M { int x = 0 }", 22),
@@ -26,6 +26,11 @@ const MONITORS: [(&[u8], u32); 18] = [
     (b"monitor M { method m() waituntil (a) { return; } }", 45),
     (b"monitor M { method m() waituntil (a) { } int x = 0; }", 41),
     (b"monitor M { int x = 0; method m() waituntil (true) {", 52),
+    (b"monitor M { method m() local int k = 0; }", 40),
+    (
+        b"monitor M { method m() waituntil (a) { } local int k = 0; }",
+        41,
+    ),
 ];
 
 #[test]
@@ -40,7 +45,7 @@ fn a_fault_stands_at_the_first_token_that_does_not_fit(rt: HostRuntime) {
 }
 
 /// Texts that are no client files, and where each stops to be one.
-const CLIENTS: [(&[u8], u32); 9] = [
+const CLIENTS: [(&[u8], u32); 10] = [
     (b"client A { put() }", 17),
     (b"client A { put(3 4); }", 17),
     (b"client A { put(3 + 4); }", 17),
@@ -50,6 +55,7 @@ const CLIENTS: [(&[u8], u32); 9] = [
     (b"client A { repeat { } }", 18),
     (b"client A { repeat 2 { put(); }", 30),
     (b"client A { } client", 19),
+    (b"client A { try try put(); }", 15),
 ];
 
 #[test]

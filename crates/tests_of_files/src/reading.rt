@@ -170,8 +170,13 @@ fn a_method_has_its_guard_and_body(rt: HostRuntime) -> Result<(), Fail> {
     let tree = monitor_tree(rt.alloc(), BUFFER)?;
     match tree.methods.items() {
         [_, get] => {
-            assert!(rt; is_guard(&get.guard), "the guard compares by more");
-            match only_assignment(get.body.items()) {
+            assert!(rt; get.locals.items().is_empty(), "there are no locals");
+            let [block] = get.blocks.items() else {
+                assert!(rt; false, "there is one block");
+                return Ok(());
+            };
+            assert!(rt; is_guard(&block.guard), "the guard compares by more");
+            match only_assignment(block.body.items()) {
                 Some((name, value)) => {
                     assert_eq!(rt; name, b"count".as_slice());
                     assert!(rt; is_difference(value), "one number is subtracted");
@@ -187,8 +192,21 @@ fn a_method_has_its_guard_and_body(rt: HostRuntime) -> Result<(), Fail> {
 /// Whether the items are two calls at these places, the first of which has this name and no arguments.
 fn are_calls(items: &[Item], first: u32, called: &[u8], second: u32) -> bool {
     match items {
-        [Item::Call { at, name, args }, Item::Call { at: next, .. }] => {
-            *at == first && *next == second && name.bytes() == called && args.items().is_empty()
+        [
+            Item::Call {
+                at,
+                tries: false,
+                name_at,
+                name,
+                args,
+            },
+            Item::Call { at: next, .. },
+        ] => {
+            *at == first
+                && *name_at == first
+                && *next == second
+                && name.bytes() == called
+                && args.items().is_empty()
         }
         _ => false,
     }
@@ -205,5 +223,42 @@ fn clients_have_their_calls(rt: HostRuntime) -> Result<(), Fail> {
         }
         _ => assert!(rt; false, "there are two clients"),
     }
+    Ok(())
+}
+
+/// The places of the only method's two locals and two blocks.
+fn two_of_each(methods: &[MethodTree]) -> Option<((u32, &[u8]), (u32, &[u8]), (u32, u32))> {
+    let [method] = methods else {
+        return None;
+    };
+    match (method.locals.items(), method.blocks.items()) {
+        (
+            [
+                Decl::Flag {
+                    at: flag_at,
+                    name: flag,
+                    value: true,
+                },
+                Decl::Int { at, name, .. },
+            ],
+            [first, second],
+        ) => Some((
+            (*flag_at, flag.bytes()),
+            (*at, name.bytes()),
+            (first.at, second.at),
+        )),
+        _ => None,
+    }
+}
+
+#[test]
+fn a_method_has_its_locals_and_blocks(rt: HostRuntime) -> Result<(), Fail> {
+    let text =
+        b"monitor M { method m() local bool b = true; local int k = -1; waituntil (b) { } waituntil (k < 0) { } }";
+    let tree = monitor_tree(rt.alloc(), text)?;
+    assert_eq!(rt;
+        two_of_each(tree.methods.items()),
+        Some(((34, b"b".as_slice()), (54, b"k".as_slice()), (62, 80)))
+    );
     Ok(())
 }

@@ -64,6 +64,8 @@ fn put(alloc: Global) -> Result<Item, Fail> {
     args.push(Arg::Bool { at: 9, value: true })?;
     Ok(Item::Call {
         at: 0,
+        tries: false,
+        name_at: 0,
         name: Name::of(Vec::from_slice(alloc, b"put")?),
         args: Seq::of(args),
     })

@@ -7,8 +7,8 @@ use mon_base::Value;
 use mon_events::{CondKind, Event, Note, NoteList, Plan, Stage};
 use mon_explicit::Config;
 use mon_implicit::{Commit, Reply};
-use samples::clients::{TWO_LOCKS, TWO_TAKE};
-use samples::monitors::{GATE, LOCK};
+use samples::clients::{TWO_LOCKS, TWO_PAIRS, TWO_TAKE};
+use samples::monitors::{GATE, LOCK, TWICE};
 use samples::plans::signal;
 use std::alloc::Global;
 use std::process::Abort;
@@ -284,16 +284,8 @@ fn an_overflow_wakes_the_next_waiter(rt: HostRuntime) -> Result<(), Fail> {
     ];
     let overflows = [Event::Lock { client: A }, Event::Run { client: A }];
     let commits = [
-        Commit {
-            client: C,
-            call: 1,
-            reply: Reply::Unit,
-        },
-        Commit {
-            client: A,
-            call: 1,
-            reply: Reply::Overflow,
-        },
+        first_call(C, 1, Reply::Unit),
+        first_call(A, 1, Reply::Overflow),
     ];
     let checks = [
         Check::Makes(&wait_of(A)),
@@ -384,4 +376,73 @@ fn a_note_names_no_client_that_it_does_not_wake(rt: HostRuntime) -> Result<(), F
     ];
     let tested = [None, Some(signal(2, true))];
     meets(&rt, signalled_lock(WAITS_TO_RELEASE, &tested), &waited)
+}
+
+const TRIES: &[u8] = b"client A { try release(); } client B { acquire(); }";
+
+#[test]
+fn a_call_that_tries_is_refused_inside(rt: HostRuntime) -> Result<(), Fail> {
+    let notes = mutual();
+    let start = signalled_lock(TRIES, &notes);
+    let commits = [first_call(A, 1, Reply::Refused)];
+    let checks = [
+        Check::Makes(&wait_of(A)),
+        Check::Owner(Some(A)),
+        Check::Allows(A, B, Some(Event::Unlock { client: A })),
+        Check::Stage(A, Stage::Notifying),
+        Check::MakesItsOwn(Stage::Notifying, Event::Unlock { client: A }),
+        Check::Stage(A, Stage::Idle),
+        Check::Refuses(Event::Begin { client: A }),
+        Check::Values(&[Value::Bool(false)]),
+        Check::Commits(&commits),
+    ];
+    meets(&rt, start, &checks)
+}
+
+/// The events of a block that runs, of a client that has not begun it, and whose plan has no note for it.
+fn runs(client: u32) -> [Event; 4] {
+    [
+        Event::Begin { client },
+        Event::Lock { client },
+        Event::Run { client },
+        Event::Unlock { client },
+    ]
+}
+
+/// The commit of a block of a client's first call.
+fn first_call(client: u32, block: u32, reply: Reply) -> Commit {
+    Commit {
+        client,
+        call: 1,
+        block,
+        reply,
+    }
+}
+
+#[test]
+fn a_client_goes_from_block_to_block(rt: HostRuntime) -> Result<(), Fail> {
+    let kinds = [CondKind::Broadcast, CondKind::Broadcast];
+    let notes = [None, None];
+    let start = Start {
+        monitor: TWICE,
+        clients: TWO_PAIRS,
+        kinds: &kinds,
+        notes: &notes,
+    };
+    let commits = [
+        first_call(A, 1, Reply::Unit),
+        first_call(B, 1, Reply::Unit),
+        first_call(A, 2, Reply::Int(0)),
+    ];
+    let checks = [
+        Check::Makes(&runs(A)),
+        Check::Makes(&runs(B)),
+        Check::Makes(&runs(A)),
+        Check::Refuses(Event::Begin { client: A }),
+        Check::Makes(&wait_of(B)),
+        Check::Stage(B, Stage::Waiting(2)),
+        Check::Values(&[Value::Int(2)]),
+        Check::Commits(&commits),
+    ];
+    meets(&rt, start, &checks)
 }

@@ -3,7 +3,9 @@
 ghost use Rattle.mon_implicit.specs.Steps.{FitsState};
 
 use mon_base::Value;
-use mon_implicit::{Call, Reply, State, call_fits, condition_holds, guard_holds, run_block, start};
+use mon_implicit::{
+    Call, Reply, State, call_fits, condition_holds, guard_holds, run_block, start, start_locals,
+};
 use mon_list::Seq;
 use mon_monitor::Monitor;
 use samples::checked;
@@ -19,22 +21,25 @@ fn call_of(alloc: Global, method: u32, input: Option<Value>) -> Result<Call, All
     Ok(Call {
         method,
         inputs: Seq::of(inputs),
+        tries: false,
     })
 }
 
-/// The reply of a call that fits the monitor and whose guard holds.
+/// The reply of the first block of a call that fits the monitor and whose guard holds there.
 fn reply_of(monitor: &Monitor, state: &mut State, call: &Call) -> Option<Reply>
     requires { FitsState monitor.now state.old }
     ensures { FitsState monitor.now state.new }
 {
+    if !call_fits(monitor, call) {
+        return None;
+    }
     let inputs = call.inputs.items();
-    if !call_fits(monitor, call) || call.method as usize >= monitor.blocks().len() {
+    let block = monitor.methods()[call.method as usize].first;
+    let mut locals = start_locals(monitor, call.method);
+    if !guard_holds(monitor, state, block, inputs, &locals) {
         return None;
     }
-    if !guard_holds(monitor, state, call.method, inputs) {
-        return None;
-    }
-    Some(run_block(monitor, state, call.method, inputs))
+    Some(run_block(monitor, state, block, inputs, &mut locals))
 }
 
 /// The truth in a state of the guard of a condition that reads no inputs, by its number from 0.

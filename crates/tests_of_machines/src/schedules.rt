@@ -49,6 +49,7 @@ fn entry(client: u32, call: u32, outcome: Outcome) -> Entry {
     Entry {
         client,
         call,
+        block: 1,
         outcome,
     }
 }

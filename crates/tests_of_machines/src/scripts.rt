@@ -15,6 +15,7 @@ fn calls_of(alloc: Global, count: usize) -> Result<Vec<Call>, AllocError> {
         calls.push(Call {
             method: 0,
             inputs: Seq::of(Vec::new(alloc)),
+            tries: false,
         })?;
     }
     Ok(calls)

@@ -145,6 +145,7 @@ fn waits_at(place: u64) -> Result<Section, NotReady> {
         entry: Entry {
             client: 0,
             call: 1,
+            block: 1,
             outcome: Outcome::Waits,
         },
     })

@@ -1,6 +1,7 @@
 //! The monitors that the checker makes of texts.
 
-use mon_monitor::Monitor;
+use mon_base::Value;
+use mon_monitor::{Method, Monitor};
 use mon_tree::Expr;
 use samples::checked;
 use samples::monitors::{ACCUMULATOR, BUFFER, GATE, LEVEL, LOCK, READERS_AND_WRITERS, SUM, UP};
@@ -64,6 +65,43 @@ fn equal_guards_share_a_condition(rt: HostRuntime) -> Result<(), Fail> {
         numbers.push(block.condition)?;
     }
     assert_eq!(rt; numbers.as_slice(), [1, 2, 1, 1].as_slice());
+    Ok(())
+}
+
+/// The number of a method's first block, how many it has, and how many locals.
+fn parts_of(method: &Method) -> (u32, u32, usize) {
+    (method.first, method.count, method.locals.items().len())
+}
+
+#[test]
+fn blocks_follow_one_another(rt: HostRuntime) -> Result<(), Fail> {
+    let text = b"monitor M { int x = 0; method one(int n) local int k = -3; local bool b = true;
+        waituntil (k < x) { k = n; } waituntil (b) { return k; } method two() waituntil (x > 0) { } }";
+    let monitor = checked(rt.alloc(), text).ok_or("a monitor")?;
+    assert_eq!(rt; sizes(&monitor), (1, 2, 3, 3));
+    let one = monitor.methods().first().ok_or("a method")?;
+    assert_eq!(rt; parts_of(one), (0, 2, 2));
+    assert_eq!(rt;
+        one.locals.items(),
+        [Value::Int(-3), Value::Bool(true)].as_slice()
+    );
+    let two = monitor.methods().get(1).ok_or("a second")?;
+    assert_eq!(rt; parts_of(two), (2, 1, 0));
+    Ok(())
+}
+
+#[test]
+fn equal_guards_over_locals_of_two_methods_share_a_condition(rt: HostRuntime) -> Result<(), Fail> {
+    let text = b"monitor M { method a() local int k = 0; waituntil (k < 1) { k = 1; }
+        method b() local int m = 5; waituntil (m <= 0) { } waituntil (m > 0) { } }";
+    let monitor = checked(rt.alloc(), text).ok_or("a monitor")?;
+    let mut numbers = Vec::new(rt.alloc());
+    for block in monitor.blocks() {
+        numbers.push(block.condition)?;
+    }
+    assert_eq!(rt; numbers.as_slice(), [1, 1, 2].as_slice());
+    let first = monitor.conditions().first().ok_or("a condition")?;
+    assert!(rt; first.reads_inputs);
     Ok(())
 }
 

@@ -1,7 +1,7 @@
 //! What is found of expressions, worked out by hand from the rules of the language.
 
 ghost use Rattle.std.specs.Prelude.{◌≤◌, IsTrue, length};
-ghost use Rattle.mon_base.specs.Limits.{FIELDS, FILE_BYTES};
+ghost use Rattle.mon_base.specs.Limits.{FIELDS, FILE_BYTES, INPUTS};
 ghost use Rattle.mon_forms.specs.Scope.{field_count};
 ghost use Rattle.mon_forms.specs.Forms.{IsOrdered};
 ghost use Rattle.mon_forms.specs.Making.{has_small_numbers};
@@ -14,17 +14,18 @@ use mon_forms::{
 use mon_linear::{Formula, Lin, Term, same_formula};
 use mon_syntax::parse_monitor;
 use mon_tokens::tokens;
-use mon_tree::{Decl, Expr, MonitorTree};
+use mon_tree::{BlockTree, Decl, Expr, MethodTree, MonitorTree};
 use std::alloc::{AllocError, Global};
 use std::test::*;
 
 /// The offset of the expression in the text of [`tree_of`].
-const START: u32 = 98;
+const START: u32 = 115;
 
-/// A monitor with this guard. The places are 0 for `x`, 1 for `y`, 2 for `b`, 16 for `k` and 17 for `f`.
+/// A monitor with this guard. The places are 0 for `x`, 1 for `y`, 2 for `b`, 16 for `k`, 17 for
+/// `f` and 22 for `l`.
 fn tree_of(alloc: Global, expression: &[u8]) -> Option<MonitorTree> {
     let before =
-        b"monitor M { const c = 5; int x = 0; int y = 0; bool b = false; method m(int k, bool f) waituntil (";
+        b"monitor M { const c = 5; int x = 0; int y = 0; bool b = false; method m(int k, bool f) local int l = 0; waituntil (";
     let mut text = Vec::from_slice(alloc, before).ok()?;
     text.extend_from_slice(expression).ok()?;
     text.extend_from_slice(b") { } }").ok()?;
@@ -50,6 +51,27 @@ fn are_declared(decls: &[Decl]) -> bool
     }
 }
 
+fn has_few_names(method: &MethodTree) -> bool
+    ensures taken { IsTrue result → length method.now.inputs ≤ INPUTS }
+    ensures locals { IsTrue result → length method.now.locals ≤ FILE_BYTES }
+{
+    method.inputs.items().len() <= 6 && method.locals.items().len() <= 65_536
+}
+
+fn only_method(tree: &MonitorTree) -> Option<&MethodTree> {
+    match tree.methods.items() {
+        [method] => Some(method),
+        _ => None,
+    }
+}
+
+fn only_block(method: &MethodTree) -> Option<&BlockTree> {
+    match method.blocks.items() {
+        [block] => Some(block),
+        _ => None,
+    }
+}
+
 /// What is found of an expression.
 #[derive(Drop)]
 enum Outcome {
@@ -61,19 +83,14 @@ enum Outcome {
 fn outcome_of(alloc: Global, expression: &[u8]) -> Option<Outcome> {
     let tree = tree_of(alloc, expression)?;
     let decls = tree.decls.items();
-    match tree.methods.items() {
-        [method] => {
-            let inputs = method.inputs.items();
-            if !are_declared(decls) || inputs.len() > 65_536 {
-                return None;
-            }
-            scope_is_ordered();
-            scope_numbers_are_small();
-            let scope = scope_of(alloc, decls, inputs).ok()?;
-            outcome_in(alloc, scope.items(), &method.guard).ok()?
-        }
-        _ => None,
+    let method = only_method(&tree)?;
+    if !are_declared(decls) || !has_few_names(method) {
+        return None;
     }
+    scope_is_ordered();
+    scope_numbers_are_small();
+    let scope = scope_of(alloc, decls, method).ok()?;
+    outcome_in(alloc, scope.items(), &only_block(method)?.guard).ok()?
 }
 
 fn outcome_in(
@@ -187,18 +204,14 @@ fn breaks(alloc: Global, expression: &[u8], what: Refusal, at: u32) -> bool {
 /// The first offset and the kind of an expression.
 fn start_and_kind(alloc: Global, expression: &[u8]) -> Option<(u32, Option<Kind>)> {
     let tree = tree_of(alloc, expression)?;
-    match tree.methods.items() {
-        [method] => {
-            let (decls, inputs) = (tree.decls.items(), method.inputs.items());
-            if decls.len() > 65_536 || inputs.len() > 65_536 {
-                return None;
-            }
-            let scope = scope_of(alloc, decls, inputs).ok()?;
-            let kind = kind_of(scope.items(), &method.guard);
-            Some((first_place(&method.guard), kind))
-        }
-        _ => None,
+    let decls = tree.decls.items();
+    let method = only_method(&tree)?;
+    if !are_declared(decls) || !has_few_names(method) {
+        return None;
     }
+    let scope = scope_of(alloc, decls, method).ok()?;
+    let guard = &only_block(method)?.guard;
+    Some((first_place(guard), kind_of(scope.items(), guard)))
 }
 
 #[test]
@@ -251,10 +264,15 @@ fn forms_are_flattened(rt: HostRuntime) {
         place: 16,
         times: 5,
     };
+    let l = Term {
+        place: 22,
+        times: 3,
+    };
     assert!(rt; has_form(alloc, b"2 * (x - y) + 3", &[x, y], 3));
     assert!(rt; has_form(alloc, b"-(y - x - 4) * 2", &[x, y], 8));
     assert!(rt; has_form(alloc, b"x - x + k * c", &[k], 0));
     assert!(rt; has_form(alloc, b"c - 7", &[], -2));
+    assert!(rt; has_form(alloc, b"3 * l + 2 * x", &[x, l], 0));
 }
 
 /// Expressions, the offset of the first token of each, and its kind.
@@ -277,21 +295,21 @@ fn expressions_begin_at_their_first_token_and_names_have_kinds(rt: HostRuntime) 
 
 /// Expressions, and the first fault of each.
 const FAULTS: [(&[u8], Refusal, u32); 15] = [
-    (b"x * y", Refusal::NotLinear, 100),
-    (b"x * 2 * y", Refusal::NotLinear, 104),
-    (b"2147483649 * x", Refusal::TooLarge, 98),
-    (b"-(2147483649 * x)", Refusal::TooLarge, 100),
-    (b"9223372036854775808", Refusal::TooLarge, 98),
-    (b"x < 9223372036854775807 + 2", Refusal::TooLarge, 102),
-    (b"!x", Refusal::WrongType, 99),
-    (b"1 + b", Refusal::WrongType, 102),
-    (b"!(z + 1)", Refusal::Unknown, 100),
-    (b"b + z", Refusal::Unknown, 102),
-    (b"z < 9223372036854775808", Refusal::Unknown, 98),
-    (b"9223372036854775808 < z", Refusal::TooLarge, 98),
-    (b"2147483648 * x < -x", Refusal::TooLarge, 98),
-    (b"b && 2147483648 * x + x > 0", Refusal::TooLarge, 103),
-    (b"x * 65536 * 32769 * 0", Refusal::TooLarge, 98),
+    (b"x * y", Refusal::NotLinear, 117),
+    (b"x * 2 * y", Refusal::NotLinear, 121),
+    (b"2147483649 * x", Refusal::TooLarge, 115),
+    (b"-(2147483649 * x)", Refusal::TooLarge, 117),
+    (b"9223372036854775808", Refusal::TooLarge, 115),
+    (b"x < 9223372036854775807 + 2", Refusal::TooLarge, 119),
+    (b"!x", Refusal::WrongType, 116),
+    (b"1 + b", Refusal::WrongType, 119),
+    (b"!(z + 1)", Refusal::Unknown, 117),
+    (b"b + z", Refusal::Unknown, 119),
+    (b"z < 9223372036854775808", Refusal::Unknown, 115),
+    (b"9223372036854775808 < z", Refusal::TooLarge, 115),
+    (b"2147483648 * x < -x", Refusal::TooLarge, 115),
+    (b"b && 2147483648 * x + x > 0", Refusal::TooLarge, 120),
+    (b"x * 65536 * 32769 * 0", Refusal::TooLarge, 115),
 ];
 
 #[test]

@@ -20,10 +20,19 @@ fn have_few_inputs(methods: &[MethodTree]) -> bool
         .all(|method| method.inputs.items().len() <= 65_536)
 }
 
+fn have_few_locals(methods: &[MethodTree]) -> bool
+    ensures { IsTrue result ↔ All (λ method. length method.locals ≤ FILE_BYTES) methods.now }
+{
+    methods
+        .iter()
+        .all(|method| method.locals.items().len() <= 65_536)
+}
+
 fn has_few_names(tree: &MonitorTree) -> bool
     ensures { IsTrue result → HasFewNames tree.now }
 {
-    tree.decls.items().len() <= 65_536 && have_few_inputs(tree.methods.items())
+    let methods = tree.methods.items();
+    tree.decls.items().len() <= 65_536 && have_few_inputs(methods) && have_few_locals(methods)
 }
 
 /// The first fault of a text that is a monitor file.
@@ -377,8 +386,97 @@ fn the_least_place_comes_first(rt: HostRuntime) {
     }
 }
 
+/// Monitors with a block or a local that breaks a rule.
+const BLOCKS: [(&[u8], Refusal, u32); 15] = [
+    (
+        b"monitor M { int x = 0; method m(int k) local int k = 0; waituntil (true) { } }",
+        Refusal::Duplicate,
+        49,
+    ),
+    (
+        b"monitor M { int x = 0; method m(int k) local bool x = true; waituntil (true) { } }",
+        Refusal::Duplicate,
+        50,
+    ),
+    (
+        b"monitor M { int x = 0; method m(int k) local int l = 0; local bool l = true; waituntil (true) { } }",
+        Refusal::Duplicate,
+        67,
+    ),
+    (
+        b"monitor M { int x = 0; method m(int k) local int l = 9223372036854775808; waituntil (true) { } }",
+        Refusal::TooLarge,
+        53,
+    ),
+    (
+        b"monitor M { int x = 0; method m(int k) local int l = 0; waituntil (true) { } waituntil (l) { } }",
+        Refusal::WrongType,
+        88,
+    ),
+    (
+        b"monitor M { int x = 0; method m(int k) local int l = 0; waituntil (true) { } waituntil (x < n) { } }",
+        Refusal::Unknown,
+        92,
+    ),
+    (
+        b"monitor M { int x = 0; method m(int k) local int l = 0; waituntil (true) { } method n() waituntil (true) { l = 1; } }",
+        Refusal::Unknown,
+        107,
+    ),
+    (
+        b"monitor M { int x = 0; method m(int k) local bool l = true; waituntil (true) { } waituntil (true) { l = x; } }",
+        Refusal::WrongType,
+        104,
+    ),
+    (
+        b"monitor M { int x = 0; method m(int k) local int l = 0; waituntil (true) { l = 1; } waituntil (true) { k = 1; } }",
+        Refusal::ReadOnly,
+        103,
+    ),
+    (
+        b"monitor M { int x = 0; method m(int k) waituntil (true) { return x; } waituntil (true) { } }",
+        Refusal::Misplaced,
+        58,
+    ),
+    (
+        b"monitor M { int x = 0; method m(int k) waituntil (true) { x = 1; return x; } waituntil (true) { return k; } }",
+        Refusal::Misplaced,
+        65,
+    ),
+    (
+        b"monitor M { int x = 0; method m(int k) waituntil (true) { } waituntil (true) { return x; x = 1; } }",
+        Refusal::Misplaced,
+        79,
+    ),
+    (
+        b"monitor M { int x = 0; method m(int k) waituntil (true) { } waituntil (true) { if (x < k) { return x; } } }",
+        Refusal::Misplaced,
+        92,
+    ),
+    (
+        b"monitor M { int x = 0; method m(int k) local int a = 0; local int b = 0; local int c = 0; local int d = 0; local int e = 0; waituntil (true) { } }",
+        Refusal::TooMany(Counted::Locals),
+        117,
+    ),
+    (
+        b"monitor M { int x = 0; method m(int k) waituntil (true) { } waituntil (true) { } waituntil (true) { } waituntil (true) { } waituntil (true) { } }",
+        Refusal::TooMany(Counted::Blocks),
+        123,
+    ),
+];
+
+#[test]
+fn blocks_and_locals_keep_their_rules(rt: HostRuntime) {
+    for (text, what, at) in BLOCKS {
+        assert!(rt;
+            breaks(rt.alloc(), text, what, at),
+            "{what:?} at {at} in {text:?}"
+        );
+    }
+}
+
 /// Monitors that break no rule.
-const WHOLE: [&[u8]; 10] = [
+const WHOLE: [&[u8]; 14] = [
     b"monitor M { }",
     b"monitor M { const c = 1; int x = 0; bool b = false; method m() waituntil (true) {  } }",
     b"monitor M { const c = 1; int x = 0; bool b = false; method m() waituntil (true) { return 1; } }",
@@ -389,6 +487,10 @@ const WHOLE: [&[u8]; 10] = [
     b"monitor M { method a(int a) waituntil (true) { } method b(bool a) waituntil (a) { } }",
     b"monitor M { int x = 9223372036854775807; const a = -9223372036854775807; }",
     b"monitor M { const c = 1; int x = 0; bool b = false; method m() waituntil (true) { x = 2147483648 * x; } }",
+    b"monitor M { int x = 0; method m() local int m = 0; waituntil (true) { m = x; } waituntil (m < x) { return m; } }",
+    b"monitor M { method a(int n) local int l = 0; waituntil (true) { l = n; } method b(int l) waituntil (l > 0) { } }",
+    b"monitor M { method m() local int a = 0; local bool b = true; local int c = 0; local bool d = true; waituntil (b) { } }",
+    b"monitor M { method m() waituntil (true) { } waituntil (true) { } waituntil (true) { } waituntil (true) { return 1; } }",
 ];
 
 #[test]
@@ -422,22 +524,30 @@ const INPUT: (&[u8], &[u8]) = (b"int ", b", ");
 
 const LAST: &[u8] = b"int z) waituntil (true) { } }";
 
+const KEEPING: &[u8] = b"monitor M { method m()";
+
+const LOCAL: (&[u8], &[u8]) = (b" local int ", b" = 0;");
+
+const BLOCK: &[u8] = b" waituntil (true) { } }";
+
 /// As many as there may be.
-const EDGES: [Repeated; 5] = [
+const EDGES: [Repeated; 6] = [
     (HEAD, CONSTANT, 64, b" }"),
     (HEAD, NUMBER, 16, b" }"),
     (HEAD, FLAG, 15, b" int z = 1; }"),
     (HEAD, METHOD, 16, b" }"),
     (TAKING, INPUT, 5, LAST),
+    (KEEPING, LOCAL, 4, BLOCK),
 ];
 
 /// One more, what there is too much of, and where the first is that is too much.
-const OVER: [(Repeated, Counted, u32); 5] = [
+const OVER: [(Repeated, Counted, u32); 6] = [
     ((HEAD, CONSTANT, 65, b" }"), Counted::Constants, 914),
     ((HEAD, NUMBER, 17, b" }"), Counted::Fields, 208),
     ((HEAD, FLAG, 16, b" int z = 1; }"), Counted::Fields, 272),
     ((HEAD, METHOD, 17, b" }"), Counted::Methods, 547),
     ((TAKING, INPUT, 6, LAST), Counted::Parameters, 73),
+    ((KEEPING, LOCAL, 5, BLOCK), Counted::Locals, 105),
 ];
 
 /// The first fault of a text of items.

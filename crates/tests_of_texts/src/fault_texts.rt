@@ -73,7 +73,7 @@ fn each_refusal_has_its_text(rt: HostRuntime) -> Result<(), Fail> {
 }
 
 /// What there is too much of, and the line of each.
-const LIMITS: [(Counted, &[u8]); 5] = [
+const LIMITS: [(Counted, &[u8]); 7] = [
     (
         Counted::Constants,
         b"refused: m.mon:1:1: too many constants\n",
@@ -84,6 +84,8 @@ const LIMITS: [(Counted, &[u8]); 5] = [
         Counted::Parameters,
         b"refused: m.mon:1:1: too many parameters\n",
     ),
+    (Counted::Locals, b"refused: m.mon:1:1: too many locals\n"),
+    (Counted::Blocks, b"refused: m.mon:1:1: too many blocks\n"),
     (
         Counted::Statements,
         b"refused: m.mon:1:1: too many statements\n",

@@ -9,9 +9,9 @@ use mon_events::plan_fits;
 use mon_explicit::{FreeMonitor, Plan};
 use mon_io::MemSink;
 use mon_text::write_log;
-use samples::checked;
-use samples::monitors::{BUFFER, LEVEL, LOCK};
+use samples::monitors::{BUFFER, LEVEL, LOCK, TWICE};
 use samples::plans::signalling;
+use samples::{checked, scripts_read};
 use std::alloc::Global;
 use std::test::Fail;
 
@@ -46,8 +46,8 @@ const GETS: [(&str, &[Called]); 3] = [
     ("C", &[Called(1, &[])]),
 ];
 
-/// A monitor and these clients at the start, under the plan that wakes everyone, with so many spurious wake-ups to come
-/// at most.
+/// A monitor and these clients at the start, under the plan that wakes everyone, with so many
+/// spurious wake-ups to come at most.
 fn opened(
     alloc: Global,
     monitor: &[u8],
@@ -58,6 +58,16 @@ fn opened(
 {
     let monitor = checked(alloc, monitor).ok_or("a monitor")?;
     let scripts = scripts_of(&monitor, clients_of(alloc, clients)?).ok_or("scripts")?;
+    let plan = Plan::everyone(alloc, &monitor)?;
+    Ok(FreeMonitor::open(alloc, monitor, plan, scripts, extra)?)
+}
+
+/// The same of clients that are written as text.
+fn opened_of(alloc: Global, monitor: &[u8], clients: &[u8], extra: u64) -> Result<FreeMonitor, Fail>
+    requires { extra ≤ MOST_SPURIOUS }
+{
+    let monitor = checked(alloc, monitor).ok_or("a monitor")?;
+    let scripts = scripts_read(alloc, clients, &monitor).ok_or("scripts")?;
     let plan = Plan::everyone(alloc, &monitor)?;
     Ok(FreeMonitor::open(alloc, monitor, plan, scripts, extra)?)
 }
@@ -189,6 +199,44 @@ B.2 put() = - wakes A
 A.1 get() = -
 done
 state count=0
+"
+            .as_slice()
+    );
+    Ok(())
+}
+
+#[test]
+fn a_client_that_waits_at_a_later_block_is_blocked_there(rt: HostRuntime) -> Result<(), Fail> {
+    let mut free = opened_of(rt.alloc(), TWICE, b"client A { try pair(); }", 1)?;
+    assert!(rt; makes(&mut free, &[A, A]) && wakes(&mut free, A));
+    let log = log_of(rt.alloc(), &mut free, &[A])?;
+    assert_eq!(rt;
+        log.bytes(),
+        b"A.1.1 try pair() = -
+A.1.2 try pair() waits
+spurious A
+A.1.2 try pair() waits
+stalled
+A.1.2 try pair() blocked
+state level=1
+"
+            .as_slice()
+    );
+    Ok(())
+}
+
+#[test]
+fn a_refused_call_wakes_nobody(rt: HostRuntime) -> Result<(), Fail> {
+    let clients = b"client A { acquire(); } client B { try acquire(); release(); }";
+    let mut free = opened_of(rt.alloc(), LOCK, clients, 0)?;
+    let log = log_of(rt.alloc(), &mut free, &[A, B, B])?;
+    assert_eq!(rt;
+        log.bytes(),
+        b"A.1 acquire() = -
+B.1 try acquire() = refused
+B.2 release() = -
+done
+state held=false
 "
             .as_slice()
     );

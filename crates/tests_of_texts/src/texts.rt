@@ -24,7 +24,7 @@ const CELL: &[u8] = b"monitor Cell {
 }
 ";
 
-/// A call by its method's number, with its inputs.
+/// A call that doesn't try, by its method's number, with its inputs.
 #[derive(Clone, Copy)]
 pub(crate) struct Called<'a>(pub(crate) u32, pub(crate) &'a [Value]);
 
@@ -41,6 +41,7 @@ fn client(alloc: Global, name: &str, called: &[Called]) -> Result<Client, AllocE
         calls.push(Call {
             method: *method,
             inputs: Seq::of(Vec::from_slice(alloc, inputs)?),
+            tries: false,
         })?;
     }
     Ok(Client {

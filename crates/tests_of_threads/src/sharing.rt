@@ -91,6 +91,7 @@ fn replied(place: u64, call: u32, ticket: u64) -> Result<Receipt, NotReady> {
         entry: Entry {
             client: 0,
             call,
+            block: 1,
             outcome: Outcome::Replies {
                 reply: Reply::Unit,
                 woken: 0,

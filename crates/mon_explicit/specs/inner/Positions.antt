@@ -1,13 +1,15 @@
 -- How the code keeps a configuration.
 use Rattle.std.specs.Prelude.{◌≡◌, ◌==◌, ◌⊎◌, Bool, true, false, not, ◌||◌, if◌then◌else◌, ℕ, ◌+◌}
-use Rattle.std.specs.Prelude.{◌-◌, ◌≤◌, List, [], ◌∷◌, map, sum_by, drop, length, slice_get, Option}
-use Rattle.std.specs.Prelude.{Some}
+use Rattle.std.specs.Prelude.{◌-◌, ◌≤◌, List, [], ◌∷◌, map, drop, length, slice_get, Option, Some}
 use Rattle.mon_base.specs.declared.value.Value.{Value}
 use Rattle.mon_monitor.specs.MonitorParts.{MonitorParts}
 use Rattle.mon_implicit.specs.declared.commit.Commit.{Commit}
 use Rattle.mon_implicit.specs.declared.commit.Reply.{Reply}
 use Rattle.mon_implicit.specs.declared.commit.Reply.TheVariants as replies
+use Rattle.mon_implicit.specs.declared.place.Place.{Place}
 use Rattle.mon_implicit.specs.declared.script.Client.{Client}
+use Rattle.mon_implicit.specs.Places.{block_at, IsStep}
+use Rattle.mon_implicit.specs.Scripted.{all_blocks}
 use Rattle.mon_implicit.specs.Steps.{condition_truth, ReadsNoInputs}
 use Rattle.mon_events.specs.declared.plan.Note.{Note}
 use Rattle.mon_events.specs.declared.plan.Plan.{Plan}
@@ -16,8 +18,9 @@ use Rattle.mon_explicit.specs.declared.position.Doing.TheVariants as doings
 use Rattle.mon_explicit.specs.declared.position.Position.{Position}
 use Rattle.mon_explicit.specs.declared.notes.Next.{Next}
 use Rattle.mon_events.specs.Plans.{notes_at}
-use Rattle.mon_events.specs.Configurations.{Phase, Standing}
+use Rattle.mon_events.specs.Configurations.{Phase, Standing, block_condition}
 use Rattle.mon_events.specs.Configurations.Phase.{Idle, Entering, Waiting, Woken, Inside, Notifying}
+use Rattle.mon_events.specs.Events.{commit_at}
 use Rattle.mon_explicit.specs.Machines.{Machine}
 
 -- ---- where clients stand
@@ -31,10 +34,11 @@ phase_of plan doings.Inside = Inside
 phase_of plan (doings.Notifying block from) = Notifying (drop from (notes_at plan block))
 phase_of plan (doings.Signalling condition) =
     Notifying (record { condition = condition; all = false; tested = false } ∷ [])
-phase_of plan doings.Signalled = Notifying []
+phase_of plan doings.Unlocking = Notifying []
 
 abbrev pub standing_of : Plan → Position → Standing
-standing_of plan position = record { past = position.past; phase = phase_of plan position.doing }
+standing_of plan position =
+    record { place = position.place; phase = phase_of plan position.doing }
 
 abbrev pub machine_of : MonitorParts → Plan → List Client → List Value → Option ℕ → List Commit
     → List Position → Machine
@@ -49,48 +53,39 @@ machine_of monitor plan clients state owner commits positions = record {
       };
 }
 
-abbrev pub idle_position : Client → Position
-idle_position client = record { past = 0; doing = doings.Idle }
+abbrev pub idle_position : Place → Position
+idle_position place = record { place = place; doing = doings.Idle }
 
-abbrev pub PositionAt : List Position → ℕ → ℕ → Doing → Type 0
-PositionAt positions client past doing =
-    slice_get positions client ≡ Some (record { past = past; doing = doing })
+abbrev pub PositionAt : List Position → ℕ → Place → Doing → Type 0
+PositionAt positions client place doing =
+    slice_get positions client ≡ Some (record { place = place; doing = doing })
 
-abbrev pub WantsLockAt : List Position → ℕ → ℕ → Type 0
-WantsLockAt positions client past =
-    PositionAt positions client past doings.Entering
-    ⊎ ((condition : ℕ) × PositionAt positions client past (doings.Woken condition))
+abbrev pub WantsLockAt : List Position → ℕ → Place → Type 0
+WantsLockAt positions client place =
+    PositionAt positions client place doings.Entering
+    ⊎ ((condition : ℕ) × PositionAt positions client place (doings.Woken condition))
 
--- ---- room for the commits of the calls that are left
+-- there is room for a commit of each block of all calls, and no more
+abbrev pub HasRoom : MonitorParts → List Client → ℕ → Type 0
+HasRoom monitor clients capacity = capacity ≡ all_blocks monitor clients
 
--- the calls whose commits are made
-abbrev pub made_of : Doing → ℕ
-made_of (doings.Notifying block from) = 1
-made_of (doings.Signalling condition) = 1
-made_of doings.Signalled = 1
-made_of doing = 0
-
-abbrev pub done_in : Position → ℕ
-done_in position = position.past + made_of position.doing
-
-abbrev pub calls_left : List Client → List Position → ℕ
-calls_left [] positions = 0
-calls_left (client ∷ clients) [] = 0
-calls_left (client ∷ clients) (one ∷ positions) =
-    (length client.calls - done_in one) + calls_left clients positions
-
--- there is room for a commit of each call, and no more; those that are left find theirs
-abbrev pub HasRoom : List Client → ℕ → ℕ → List Position → Type 0
-HasRoom clients commits capacity positions =
-    (commits + calls_left clients positions ≤ capacity)
-    × (capacity ≡ sum_by (λ client. length client.calls) clients)
-
--- ---- notes
+-- ---- a step
 
 -- what a client does after the reply of its block
-abbrev pub doing_after : ℕ → ℕ → Reply → Doing
-doing_after block condition replies.Overflow = doings.Signalling condition
-doing_after block condition reply = doings.Notifying block 0
+abbrev pub doing_after : MonitorParts → ℕ → Reply → Doing
+doing_after monitor block replies.Overflow = doings.Signalling (block_condition monitor block)
+doing_after monitor block replies.Refused = doings.Unlocking
+doing_after monitor block reply = doings.Notifying block 0
+
+-- a client made its step, and its commit: it is at its next place
+pub record HasStepped (monitor : MonitorParts) (clients : List Client) (client : ℕ)
+    (state next : List Value) (before after : Position) (commit : Commit) : Type 0 where
+  pub step : IsStep monitor clients client before.place state commit.reply next after.place
+  pub commits : commit ≡ commit_at client before.place commit.reply
+  pub notes : after.doing ≡ doing_after monitor (block_at monitor step.call before.place)
+      commit.reply
+
+-- ---- notes
 
 abbrev pub fires_in : MonitorParts → List Value → Note → Bool
 fires_in monitor state note = not note.tested || condition_truth monitor state note.condition
@@ -102,35 +97,36 @@ CanTest monitor note =
 
 -- the client has no note to come
 abbrev pub HasNoNext : Plan → List Position → ℕ → Type 0
-HasNoNext plan positions client = (past : ℕ) (doing : Doing) (note : Note) (more : List Note)
-    → PositionAt positions client past doing → phase_of plan doing ≡ Notifying (note ∷ more) → ⊥
+HasNoNext plan positions client = (place : Place) (doing : Doing) (note : Note) (more : List Note)
+    → PositionAt positions client place doing → phase_of plan doing ≡ Notifying (note ∷ more) → ⊥
 
 -- so many notes of the client are to come
 abbrev pub HasNotes : Plan → List Position → ℕ → ℕ → Type 0
-HasNotes plan positions client count = (past : ℕ) (doing : Doing) (notes : List Note)
-    → PositionAt positions client past doing → phase_of plan doing ≡ Notifying notes
+HasNotes plan positions client count = (place : Place) (doing : Doing) (notes : List Note)
+    → PositionAt positions client place doing → phase_of plan doing ≡ Notifying notes
     → length notes ≡ count
 
 -- the client has made its notes
-pub record HasFinished (plan : Plan) (positions : List Position) (client past : ℕ) : Type 0 where
+pub record HasFinished (plan : Plan) (positions : List Position) (client : ℕ) (place : Place) :
+    Type 0 where
   pub doing : Doing
-  pub at : PositionAt positions client past doing
+  pub at : PositionAt positions client place doing
   pub none : phase_of plan doing ≡ Notifying []
 
 -- the first note to come of a client, and what it does after it; a tested note is one of a block
 pub record IsNext (plan : Plan) (positions : List Position) (client : ℕ) (next : Next) : Type 0
   where
+    pub place : Place
     pub doing : Doing
     pub more : List Note
-    pub at : PositionAt positions client next.past doing
+    pub at : PositionAt positions client place doing
     pub first : phase_of plan doing ≡ Notifying (next.note ∷ more)
     pub then_more : phase_of plan next.rest ≡ Notifying more
     pub source : next.note.tested ≡ true
         → (block : ℕ) × (from : ℕ) × (slice_get (notes_at plan block) from ≡ Some next.note)
 
--- it is the note of a block at this place, and the rest begins after it
-pub record IsNoteOf (plan : Plan) (block from calls : ℕ) (next : Next) : Type 0 where
-  pub past : next.past ≡ calls
+-- it is the note of a block that stands there, and the rest begins after it
+pub record IsNoteOf (plan : Plan) (block from : ℕ) (next : Next) : Type 0 where
   pub note : slice_get (notes_at plan block) from ≡ Some next.note
   pub rest : next.rest ≡ doings.Notifying block (from + 1)
 
@@ -143,7 +139,10 @@ doing_waits condition doing = false
 abbrev pub position_waits : ℕ → Position → Bool
 position_waits condition position = doing_waits condition position.doing
 
+abbrev pub waking_doing : ℕ → Doing → Doing
+waking_doing condition doing =
+    if doing_waits condition doing then doings.Woken condition else doing
+
 abbrev pub waking_position : ℕ → Position → Position
 waking_position condition position =
-    if position_waits condition position
-    then record { past = position.past; doing = doings.Woken condition } else position
+    record { place = position.place; doing = waking_doing condition position.doing }

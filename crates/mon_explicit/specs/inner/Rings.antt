@@ -5,6 +5,7 @@ use Rattle.mon_events.specs.declared.log.Outcome.{Outcome}
 use Rattle.mon_events.specs.Configurations.{System, Standing, StandsAt}
 use Rattle.mon_events.specs.Configurations.Phase.{Waiting}
 use Rattle.mon_events.specs.Logs.{says_waits}
+use Rattle.mon_implicit.specs.declared.place.Place.{Place}
 
 -- the line of a condition, empty where there is none
 abbrev pub line_of : List (List ℕ) → ℕ → List ℕ
@@ -20,10 +21,10 @@ without client line = filter (is_not client) line
 -- 0
 pub record IsLine (since : List ℕ) (standings : List Standing) (condition : ℕ) (line : List ℕ) :
     Type 0 where
-  pub all : (client past : ℕ) → StandsAt standings client past (Waiting condition)
+  pub all : (client : ℕ) (place : Place) → StandsAt standings client place (Waiting condition)
       → Contains line client
   pub only : (client : ℕ) → Contains line client
-      → (past : ℕ) × StandsAt standings client past (Waiting condition)
+      → (place : Place) × StandsAt standings client place (Waiting condition)
   pub rising : AllPairs (λ one other. get_or since one 0 < get_or since other 0) line
   pub numbered : (client : ℕ) → Contains line client → 0 < get_or since client 0
 

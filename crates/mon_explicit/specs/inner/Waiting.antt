@@ -5,7 +5,10 @@ use Rattle.std.specs.Prelude.{slice_set as set, IsBitSet, if◌then◌else◌, �
 use Rattle.mon_base.specs.Limits.{CLIENTS}
 use Rattle.mon_base.specs.declared.value.Value.{Value}
 use Rattle.mon_implicit.specs.declared.commit.Reply.{Reply}
+use Rattle.mon_implicit.specs.declared.commit.Reply.TheVariants as replies
+use Rattle.mon_implicit.specs.declared.place.Place.{Place}
 use Rattle.mon_implicit.specs.declared.script.Client.{Client}
+use Rattle.mon_implicit.specs.Places.{tries_at}
 use Rattle.mon_implicit.specs.Scripted.{calls_of}
 use Rattle.mon_events.specs.declared.plan.Note.{Note}
 use Rattle.mon_events.specs.declared.event.Event.TheVariants as events
@@ -17,12 +20,13 @@ use Rattle.mon_events.specs.declared.log.Outcome.TheVariants as outcomes
 use Rattle.mon_events.specs.Plans.{notes_at}
 use Rattle.mon_events.specs.Configurations.{Phase, Standing, Configuration, StandsAt, guard_of}
 use Rattle.mon_events.specs.Configurations.Phase.{Idle, Entering, Waiting, Woken, Inside, Notifying}
-use Rattle.mon_events.specs.Events.{Locks, Runs, Unlocks, NoneWaits, fires}
+use Rattle.mon_events.specs.Events.{Locks, Refuses, Runs, Unlocks, Waits, NoneWaits, fires}
 use Rattle.mon_events.specs.Logs.{IsNotified, IsBegun, IsSection, WaitsSince, rests, says_waits}
 use Rattle.mon_explicit.specs.Machines.{Machine, Happened}
 use Rattle.mon_explicit.specs.Sections.{FreeMachine, HoldsAlways, room_of, spurious_in}
 use Rattle.mon_explicit.specs.declared.config.Coming.{Coming}
-use Rattle.mon_explicit.specs.declared.config.Tested.{Tested}
+use Rattle.mon_explicit.specs.declared.config.Way.{Way}
+use Rattle.mon_explicit.specs.declared.config.Way.TheVariants as ways
 use Rattle.mon_explicit.specs.declared.config.Went.{Went}
 use Rattle.mon_explicit.specs.declared.config.Went.TheVariants as wents
 use Rattle.mon_explicit.specs.declared.notes.Next.{Next}
@@ -35,7 +39,7 @@ use Rattle.mon_explicit.specs.inner.Rings.{AreLines, LinesAfter}
 -- ---- the start of a section
 
 abbrev pub NoneEnters : List Standing → Type 0
-NoneEnters standings = (client past : ℕ) → StandsAt standings client past Entering → ⊥
+NoneEnters standings = (client : ℕ) (place : Place) → StandsAt standings client place Entering → ⊥
 
 -- no one owns the lock, and no one enters
 pub record IsSettled (c : Configuration) : Type 0 where
@@ -44,46 +48,71 @@ pub record IsSettled (c : Configuration) : Type 0 where
 
 abbrev pub CanStart : Machine → ℕ → Type 0
 CanStart machine client =
-    ((past : ℕ) × StandsAt machine.now.standings client past Idle
-    × (past < length (calls_of machine.system.clients client)))
-    ⊎ ((past : ℕ) × (condition : ℕ) × StandsAt machine.now.standings client past (Woken condition))
+    ((place : Place) × StandsAt machine.now.standings client place Idle
+    × (place.past < length (calls_of machine.system.clients client)))
+    ⊎ ((place : Place) × (condition : ℕ)
+    × StandsAt machine.now.standings client place (Woken condition))
 
 -- it begins, or goes on, and takes the lock
 abbrev pub Started : Machine → ℕ → Machine → Type 0
 Started before client next = (next.system ≡ before.system)
-    × ((past : ℕ) × (begun : Configuration) × IsBegun before.system client past before.now begun
-    × Locks client past begun next.now)
+    × ((place : Place) × (begun : Configuration)
+    × IsBegun before.system client place before.now begun × Locks client place begun next.now)
 
 abbrev pub NotStarted : Machine → ℕ → Machine → Type 0
 NotStarted before client next = (next ≡ before) × (CanStart before client → ⊥)
 
 abbrev pub IsInside : Machine → ℕ → Type 0
-IsInside machine client = (past : ℕ) × StandsAt machine.now.standings client past Inside
+IsInside machine client = (place : Place) × StandsAt machine.now.standings client place Inside
 
--- it is inside, and this is the truth of its guard
-abbrev pub IsTested : Machine → ℕ → Tested → Type 0
-IsTested machine client tested =
-    StandsAt machine.now.standings client tested.past Inside
-    × (tested.guard ≡ guard_of machine.system machine.now.state client tested.past)
+-- what a client inside may do at its place: it runs where its guard is true, is refused at the
+-- first block of a call that tries, and waits elsewhere
+abbrev pub IsWay : Machine → ℕ → Place → Way → Type 0
+IsWay machine client place ways.Runs =
+    guard_of machine.system machine.now.state client place ≡ true
+IsWay machine client place ways.GivesUp =
+    (guard_of machine.system machine.now.state client place ≡ false)
+    × (tries_at machine.system.clients client place ≡ true)
+IsWay machine client place ways.Waits =
+    (guard_of machine.system machine.now.state client place ≡ false)
+    × (tries_at machine.system.clients client place ≡ false)
+
+-- it is inside, and this is what it may do
+abbrev pub Goes : Machine → ℕ → Way → Type 0
+Goes machine client way =
+    (place : Place) × StandsAt machine.now.standings client place Inside
+    × IsWay machine client place way
 
 -- it waits on this condition, which is one of the monitor's
 abbrev pub WaitsOn : Machine → ℕ → ℕ → Type 0
 WaitsOn machine client condition =
-    ((past : ℕ) × StandsAt machine.now.standings client past (Waiting condition))
+    ((place : Place) × StandsAt machine.now.standings client place (Waiting condition))
     × (condition < length machine.system.monitor.conditions + 1)
+
+-- a client inside waited
+abbrev pub HasWaited : ℕ → Machine → Machine → Type 0
+HasWaited client before next = (next.system ≡ before.system)
+    × ((place : Place) × Waits before.system client place before.now next.now)
 
 -- a client inside made its step, with this reply
 abbrev pub HasRun : ℕ → Machine → Machine → Reply → Type 0
 HasRun client before next reply = (next.system ≡ before.system)
-    × ((past : ℕ) × (state : List Value)
-    × Runs before.system client past reply state before.now next.now)
+    × ((place : Place) × (goes : Place) × (state : List Value)
+    × Runs before.system client place goes reply state before.now next.now)
 
--- a client inside waits on this condition now, or made its step
+-- a client inside was refused
+abbrev pub WasRefused : ℕ → Machine → Machine → Type 0
+WasRefused client before next = (next.system ≡ before.system)
+    × ((place : Place) × (goes : Place) × (state : List Value)
+    × Refuses before.system client place goes replies.Refused state before.now next.now)
+
+-- a client inside waits on this condition now, made its step, or was refused
 abbrev pub WentIn : ℕ → Machine → Machine → Went → Type 0
 WentIn client before next (wents.Waits condition) =
-    Happened (events.Wait client) before next × WaitsOn next client condition
+    HasWaited client before next × WaitsOn next client condition
     × (length next.now.standings ≤ CLIENTS)
 WentIn client before next (wents.Ran reply) = HasRun client before next reply
+WentIn client before next wents.GaveUp = WasRefused client before next
 
 -- ---- who waits
 
@@ -96,24 +125,26 @@ pub record KeepsWaits (log : List Entry) (clients : List Client) (since : List �
 -- of the clients that wait on the condition this is one, and none has waited longer by what is kept
 pub record IsFirst (since : List ℕ) (standings : List Standing) (condition target : ℕ) : Type 0
   where
-    pub past : ℕ
-    pub waits : StandsAt standings target past (Waiting condition)
+    pub place : Place
+    pub waits : StandsAt standings target place (Waiting condition)
     pub within : target < length since
     pub numbered : 0 < get_or since target 0
-    pub first : (other others_past : ℕ) → StandsAt standings other others_past (Waiting condition)
+    pub first : (other : ℕ) (others_place : Place)
+        → StandsAt standings other others_place (Waiting condition)
         → (other < length since) × (get_or since target 0 ≤ get_or since other 0)
 
 -- the client waited before, and is woken after
 abbrev pub WasWoken : List Standing → List Standing → ℕ → Type 0
 WasWoken before next client =
-    (past : ℕ) × (condition : ℕ) × StandsAt before client past (Waiting condition)
-    × StandsAt next client past (Woken condition)
+    (place : Place) × (condition : ℕ) × StandsAt before client place (Waiting condition)
+    × StandsAt next client place (Woken condition)
 
 -- each client rests
 abbrev pub EachRests : Machine → Type 0
 EachRests machine =
-    (client past : ℕ) (phase : Phase) → StandsAt machine.now.standings client past phase
-    → rests machine.system client past phase ≡ true
+    (client : ℕ) (place : Place) (phase : Phase)
+    → StandsAt machine.now.standings client place phase
+    → rests machine.system client place phase ≡ true
 
 -- the bits of the clients of whom this is true
 abbrev pub AreBits : (ℕ → Type 0) → ℕ → Type 0
@@ -122,12 +153,16 @@ AreBits P bits = (client : ℕ) → IsBitSet bits client ↔ P client
 -- the clients of these bits were woken, and no others: each client that waited waits on or is
 -- woken, no other waits, and who was woken before still is
 pub record WokeThese (before next : List Standing) (bits : ℕ) : Type 0 where
-  pub waited : (client past condition : ℕ) → StandsAt next client past (Waiting condition)
-      → StandsAt before client past (Waiting condition)
-  pub goes : (client past condition : ℕ) → StandsAt before client past (Waiting condition)
-      → StandsAt next client past (Waiting condition) ⊎ StandsAt next client past (Woken condition)
-  pub stays : (client past condition : ℕ) → StandsAt before client past (Woken condition)
-      → StandsAt next client past (Woken condition)
+  pub waited : (client : ℕ) (place : Place) (condition : ℕ)
+      → StandsAt next client place (Waiting condition)
+      → StandsAt before client place (Waiting condition)
+  pub goes : (client : ℕ) (place : Place) (condition : ℕ)
+      → StandsAt before client place (Waiting condition)
+      → StandsAt next client place (Waiting condition)
+      ⊎ StandsAt next client place (Woken condition)
+  pub stays : (client : ℕ) (place : Place) (condition : ℕ)
+      → StandsAt before client place (Woken condition)
+      → StandsAt next client place (Woken condition)
   pub woken : AreBits (λ client. WasWoken before next client) bits
 
 -- ---- notes
@@ -135,32 +170,35 @@ pub record WokeThese (before next : List Standing) (bits : ℕ) : Type 0 where
 -- a note of the client is to come
 abbrev pub HasNote : Machine → ℕ → Type 0
 HasNote machine client =
-    (past : ℕ) × (note : Note) × (more : List Note)
-    × StandsAt machine.now.standings client past (Notifying (note ∷ more))
+    (place : Place) × (note : Note) × (more : List Note)
+    × StandsAt machine.now.standings client place (Notifying (note ∷ more))
 
 abbrev pub IsNotifying : Machine → ℕ → Type 0
 IsNotifying machine client =
-    (past : ℕ) × (notes : List Note) × StandsAt machine.now.standings client past (Notifying notes)
+    (place : Place) × (notes : List Note)
+    × StandsAt machine.now.standings client place (Notifying notes)
 
 abbrev pub CanUnlock : Machine → ℕ → Type 0
-CanUnlock machine client = (past : ℕ) × StandsAt machine.now.standings client past (Notifying [])
+CanUnlock machine client =
+    (place : Place) × StandsAt machine.now.standings client place (Notifying [])
 
 -- as many as are to come
 abbrev pub CountsNotes : List Standing → ℕ → ℕ → Type 0
 CountsNotes standings client count =
-    (past : ℕ) (notes : List Note) → StandsAt standings client past (Notifying notes)
+    (place : Place) (notes : List Note) → StandsAt standings client place (Notifying notes)
     → length notes ≡ count
 
 -- no note of the client is to come
 abbrev pub NoneComes : Machine → ℕ → Type 0
 NoneComes machine client =
-    (past : ℕ) (note : Note) (more : List Note)
-    → StandsAt machine.now.standings client past (Notifying (note ∷ more)) → ⊥
+    (place : Place) (note : Note) (more : List Note)
+    → StandsAt machine.now.standings client place (Notifying (note ∷ more)) → ⊥
 
 -- the first note to come of the client, and what it does after it; a tested note is one of a block
 pub record IsComing (machine : Machine) (client : ℕ) (next : Next) : Type 0 where
+  pub place : Place
   pub more : List Note
-  pub at : StandsAt machine.now.standings client next.past (Notifying (next.note ∷ more))
+  pub at : StandsAt machine.now.standings client place (Notifying (next.note ∷ more))
   pub then_more : phase_of machine.system.plan next.rest ≡ Notifying more
   pub source : next.note.tested ≡ true → (block : ℕ) × (from : ℕ)
       × (slice_get (notes_at machine.system.plan block) from ≡ Some next.note)
@@ -174,23 +212,23 @@ Comes machine client coming =
 -- the first note to come of the client is this, and it fires
 abbrev pub IsFired : Machine → ℕ → Note → Type 0
 IsFired machine client note =
-    (past : ℕ) × (more : List Note)
-    × StandsAt machine.now.standings client past (Notifying (note ∷ more))
+    (place : Place) × (more : List Note)
+    × StandsAt machine.now.standings client place (Notifying (note ∷ more))
     × (fires machine.system machine.now.state note ≡ true)
 
 -- the first note to come of the client, if there is one, does not fire
 abbrev pub IsNotFired : Machine → ℕ → Type 0
 IsNotFired machine client =
-    (past : ℕ) (note : Note) (more : List Note)
-    → StandsAt machine.now.standings client past (Notifying (note ∷ more))
+    (place : Place) (note : Note) (more : List Note)
+    → StandsAt machine.now.standings client place (Notifying (note ∷ more))
     → fires machine.system machine.now.state note ≡ false
 
 -- the first note to come of the client wakes nobody: it does not fire, or no one waits on its
 -- condition
 abbrev pub Passes : Machine → ℕ → Type 0
 Passes machine client =
-    (past : ℕ) × (note : Note) × (more : List Note)
-    × StandsAt machine.now.standings client past (Notifying (note ∷ more))
+    (place : Place) × (note : Note) × (more : List Note)
+    × StandsAt machine.now.standings client place (Notifying (note ∷ more))
     × ((fires machine.system machine.now.state note ≡ false)
     ⊎ NoneWaits machine.now.standings note.condition)
 
@@ -225,9 +263,9 @@ MadeNote since client before next =
 -- all notes of the client were made
 pub record MadeNotes (since : List ℕ) (client : ℕ) (before next : Machine) : Type 0 where
   pub system : next.system ≡ before.system
-  pub done : (past : ℕ) (notes : List Note)
-      → StandsAt before.now.standings client past (Notifying notes)
-      → StandsAt next.now.standings client past (Notifying [])
+  pub done : (place : Place) (notes : List Note)
+      → StandsAt before.now.standings client place (Notifying notes)
+      → StandsAt next.now.standings client place (Notifying [])
   pub notified : (log : List Entry) → KeepsWaits log before.system.clients since
       → IsNotified before.system log client before.now next.now
 
@@ -260,37 +298,45 @@ pub record AreMaking (client : ℕ) (before : Machine) (rings : List (List ℕ))
   pub some : (since : List ℕ) → AreLines since before.system before.now.standings rings
       → MadeSome since client before now × AreLines since now.system now.now.standings rings_now
       × WokeThese before.now.standings now.now.standings bits
-  pub left : (past : ℕ) (notes : List Note)
-      → StandsAt before.now.standings client past (Notifying notes)
-      → (rest : List Note) × StandsAt now.now.standings client past (Notifying rest)
+  pub left : (place : Place) (notes : List Note)
+      → StandsAt before.now.standings client place (Notifying notes)
+      → (rest : List Note) × StandsAt now.now.standings client place (Notifying rest)
       × (length rest + count ≡ end)
 
 -- ---- a section
-
--- a client inside waited
-abbrev pub HasWaited : ℕ → Machine → Machine → Type 0
-HasWaited client before next = Happened (events.Wait client) before next
 
 -- a client inside ran, made its notes, and gave the lock back
 pub record HasReplied (since : List ℕ) (client : ℕ) (before next : Machine) (reply : Reply) : Type 0
   where
     pub system : next.system ≡ before.system
-    pub past : ℕ
+    pub place : Place
+    pub goes : Place
     pub state : List Value
     pub ran : Configuration
     pub notified : Configuration
-    pub runs : Runs before.system client past reply state before.now ran
+    pub runs : Runs before.system client place goes reply state before.now ran
     pub notes : (log : List Entry) → KeepsWaits log before.system.clients since
         → IsNotified before.system log client ran notified
-    pub unlocks : Unlocks client past notified next.now
+    pub unlocks : Unlocks client goes notified next.now
+
+-- a client inside was refused, and gave the lock back
+pub record HasGivenUp (client : ℕ) (before next : Machine) : Type 0 where
+  pub system : next.system ≡ before.system
+  pub place : Place
+  pub goes : Place
+  pub state : List Value
+  pub ran : Configuration
+  pub refuses : Refuses before.system client place goes replies.Refused state before.now ran
+  pub unlocks : Unlocks client goes ran next.now
 
 -- what came of a client inside; the bits are those of the clients that waited before and are woken
--- after
+-- after, none after a refusal
 abbrev pub WentOn : List ℕ → ℕ → Machine → Machine → Outcome → Type 0
 WentOn since client before next outcomes.Waits = HasWaited client before next
 WentOn since client before next (outcomes.Replies reply woken) =
-    HasReplied since client before next reply
-    × AreBits (λ other. WasWoken before.now.standings next.now.standings other) woken
+    (HasReplied since client before next reply
+    × AreBits (λ other. WasWoken before.now.standings next.now.standings other) woken)
+    ⊎ (HasGivenUp client before next × (reply ≡ replies.Refused) × (woken ≡ 0))
 WentOn since client before next outcomes.Spurious = ⊥
 
 pub record MakesSection (since : List ℕ) (client : ℕ) (before next : Machine) (entry : Entry) : Type
@@ -316,13 +362,14 @@ WentOnOf client before rings next next_rings outcome =
 
 -- ---- the same of positions, of the first so many clients
 
-abbrev pub doing_rests : List Client → ℕ → ℕ → Doing → Bool
-doing_rests clients client past (doings.Waiting condition) = true
-doing_rests clients client past doings.Idle = nat_le (length (calls_of clients client)) past
-doing_rests clients client past doing = false
+abbrev pub doing_rests : List Client → ℕ → Place → Doing → Bool
+doing_rests clients client place (doings.Waiting condition) = true
+doing_rests clients client place doings.Idle =
+    nat_le (length (calls_of clients client)) place.past
+doing_rests clients client place doing = false
 
 abbrev pub position_rests : List Client → ℕ → Position → Bool
-position_rests clients client one = doing_rests clients client one.past one.doing
+position_rests clients client one = doing_rests clients client one.place one.doing
 
 abbrev pub AllRest : List Client → List Position → ℕ → Type 0
 AllRest clients positions count =
@@ -342,13 +389,14 @@ since_after since entry place =
     if says_waits entry.outcome then set since entry.client (place + 1) else since
 
 -- whether a client at this position can make a section
-abbrev pub doing_starts : List Client → ℕ → ℕ → Doing → Bool
-doing_starts clients client past doings.Idle = nat_lt past (length (calls_of clients client))
-doing_starts clients client past (doings.Woken condition) = true
-doing_starts clients client past doing = false
+abbrev pub doing_starts : List Client → ℕ → Place → Doing → Bool
+doing_starts clients client place doings.Idle =
+    nat_lt place.past (length (calls_of clients client))
+doing_starts clients client place (doings.Woken condition) = true
+doing_starts clients client place doing = false
 
 abbrev pub position_starts : List Client → ℕ → Position → Bool
-position_starts clients client one = doing_starts clients client one.past one.doing
+position_starts clients client one = doing_starts clients client one.place one.doing
 
 -- as contracts see it
 abbrev pub free_of : Machine → List Entry → ℕ → FreeMachine

@@ -26,13 +26,9 @@ set_faults scope at name value =
 abbrev pub misplaced_in : List Entry → StmtTree → List SourceFault
 misplaced_in scope statement = misplaced (finding scope statement).returns
 
-abbrev pub misplaced_in_each : List Entry → List StmtTree → List SourceFault
-misplaced_in_each scope statements =
-    misplaced (flat_map (λ statement. (finding scope statement).returns) statements)
-
 -- the faults in statements among which no `return` may stand
-abbrev pub block_faults : List Entry → List StmtTree → List SourceFault
-block_faults scope statements =
+abbrev pub branch_faults : List Entry → List StmtTree → List SourceFault
+branch_faults scope statements =
     flat_map
     (λ statement. (finding scope statement).faults ++ misplaced_in scope statement)
     statements

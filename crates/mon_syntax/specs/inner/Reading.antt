@@ -21,6 +21,7 @@ use Rattle.mon_tree.specs.declared.tree.Addend.{Addend, roll-Addend}
 use Rattle.mon_tree.specs.declared.tree.Factor.{Factor, roll-Factor}
 use Rattle.mon_tree.specs.declared.tree.StmtTree.{StmtTree}
 use Rattle.mon_tree.specs.declared.tree.StmtTree.TheVariants as statements
+use Rattle.mon_tree.specs.declared.tree.BlockTree.{BlockTree}
 use Rattle.mon_tree.specs.declared.tree.MethodTree.{MethodTree}
 use Rattle.mon_tree.specs.declared.tree.MonitorTree.{MonitorTree}
 use Rattle.mon_tree.specs.declared.tree.Arg.{Arg}
@@ -37,6 +38,7 @@ use Rattle.mon_base.specs.declared.source_fault.SourceError.{SourceError}
 use Rattle.mon_base.specs.declared.source_fault.SourceError.TheVariants as errors
 use Rattle.mon_syntax.specs.declared.expression_parser.Join.{Join}
 use Rattle.mon_syntax.specs.declared.expression_parser.Join.TheVariants as joins
+use Rattle.mon_syntax.specs.declared.item_parser.CallHead.{CallHead}
 use Rattle.mon_syntax.specs.declared.word.PlacedName.{PlacedName}
 use Rattle.mon_syntax.specs.declared.word.PlacedNumber.{PlacedNumber}
 use Rattle.mon_tokens.specs.Spelling.{IsToken}
@@ -264,7 +266,7 @@ unfoldable pub begins_statement : List Word → Bool
 begins_statement ws = begins_ident ws || (begins kinds.KeyIf ws || begins kinds.KeyReturn ws)
 
 unfoldable pub begins_item : List Word → Bool
-begins_item ws = begins_ident ws || begins kinds.KeyRepeat ws
+begins_item ws = begins_ident ws || (begins kinds.KeyRepeat ws || begins kinds.KeyTry ws)
 
 unfoldable pub begins_declaration : List Word → Bool
 begins_declaration ws =
@@ -477,9 +479,11 @@ int_at = made_at int_of (declared_at kinds.KeyInt literal_at)
 unfoldable pub flag_at : List Word → Read Decl
 flag_at = made_at flag_of (declared_at kinds.KeyBool (listed_at truth_of))
 
+unfoldable pub variable_at : List Word → Read Decl
+variable_at = choice_at (begins kinds.KeyInt) int_at flag_at
+
 unfoldable pub declaration_at : List Word → Read Decl
-declaration_at =
-    choice_at (begins kinds.KeyConst) constant_at (choice_at (begins kinds.KeyInt) int_at flag_at)
+declaration_at = choice_at (begins kinds.KeyConst) constant_at variable_at
 
 unfoldable pub declarations_at : List Word → Read (List Decl)
 declarations_at = each_at begins_declaration declaration_at
@@ -519,15 +523,39 @@ head_at =
     made_at head_of (mark_at kinds.KeyMethod ⊗ ident_at ⊗ mark_at kinds.OpenParen ⊗ inputs_at ⊗
     mark_at kinds.CloseParen)
 
-abbrev pub method_of : (PlacedName × List InputTree) × (Unit {0} × (Expr × List StmtTree))
-    → MethodTree
-method_of (head, (word, (guard, body))) =
-    record { at = head.0.at; name = head.0.name; inputs = head.1; guard = guard; body = body }
+abbrev pub local_of : Unit {0} × Decl → Decl
+local_of (word, local) = local
+
+unfoldable pub local_at : List Word → Read Decl
+local_at = made_at local_of (mark_at kinds.KeyLocal ⊗ variable_at)
+
+unfoldable pub locals_at : List Word → Read (List Decl)
+locals_at = each_at (begins kinds.KeyLocal) local_at
+
+abbrev pub guarded_of : ℕ × (Expr × List StmtTree) → BlockTree
+guarded_of (at, (guard, body)) = record { at = at; guard = guard; body = body }
+
+unfoldable pub guarded_at : List Word → Read BlockTree
+guarded_at =
+    made_at guarded_of (placed_at kinds.KeyWaituntil ⊗ condition_at LEVELS ⊗ block_at
+    (statement_at LEVELS))
+
+unfoldable pub later_blocks_at : List Word → Read (List BlockTree)
+later_blocks_at = each_at (begins kinds.KeyWaituntil) guarded_at
+
+abbrev pub blocks_of : BlockTree × List BlockTree → List BlockTree
+blocks_of (first, rest) = first ∷ rest
+
+-- the blocks, of which there is one at least
+unfoldable pub blocks_at : List Word → Read (List BlockTree)
+blocks_at = made_at blocks_of (guarded_at ⊗ later_blocks_at)
+
+abbrev pub method_of : (PlacedName × List InputTree) × (List Decl × List BlockTree) → MethodTree
+method_of (head, (locals, blocks)) =
+    record { at = head.0.at; name = head.0.name; inputs = head.1; locals = locals; blocks = blocks }
 
 unfoldable pub method_at : List Word → Read MethodTree
-method_at =
-    made_at method_of (head_at ⊗ mark_at kinds.KeyWaituntil ⊗ condition_at LEVELS ⊗ block_at
-    (statement_at LEVELS))
+method_at = made_at method_of (head_at ⊗ locals_at ⊗ blocks_at)
 
 unfoldable pub methods_at : List Word → Read (List MethodTree)
 methods_at = each_at (begins kinds.KeyMethod) method_at
@@ -587,13 +615,28 @@ some_arguments_at = made_at arguments_of (argument_at ⊗ later_arguments_at)
 unfoldable pub arguments_at : List Word → Read (List Arg)
 arguments_at = choice_at (begins kinds.CloseParen) (pure_at []) some_arguments_at
 
-abbrev pub call_of : PlacedName × (Unit {0} × (List Arg × (Unit {0} × Unit {0}))) → Item
-call_of (name, (left, (given, (right, semicolon)))) = items.Call name.at name.name given
+abbrev pub tried_of : ℕ × PlacedName → CallHead
+tried_of (at, name) = record { at = at; tries = true; name_at = name.at; name = name.name }
+
+abbrev pub untried_of : PlacedName → CallHead
+untried_of name = record { at = name.at; tries = false; name_at = name.at; name = name.name }
+
+-- "try" ID
+unfoldable pub tried_at : List Word → Read CallHead
+tried_at = made_at tried_of (placed_at kinds.KeyTry ⊗ ident_at)
+
+-- ["try"] ID
+unfoldable pub called_at : List Word → Read CallHead
+called_at = choice_at (begins kinds.KeyTry) tried_at (made_at untried_of ident_at)
+
+abbrev pub call_of : CallHead × (Unit {0} × (List Arg × (Unit {0} × Unit {0}))) → Item
+call_of (called, (left, (given, (right, semicolon)))) =
+    items.Call called.at called.tries called.name_at called.name given
 
 unfoldable pub call_at : List Word → Read Item
 call_at =
-    made_at call_of (ident_at ⊗ mark_at kinds.OpenParen ⊗ arguments_at ⊗ mark_at kinds.CloseParen ⊗
-    mark_at kinds.Semicolon)
+    made_at call_of (called_at ⊗ mark_at kinds.OpenParen ⊗ arguments_at ⊗ mark_at kinds.CloseParen
+    ⊗ mark_at kinds.Semicolon)
 
 -- over the reader of the items inside
 unfoldable pub items_at : (List Word → Read Item) → List Word → Read (List Item)

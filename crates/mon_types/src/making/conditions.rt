@@ -1,6 +1,7 @@
 //! Conditions: the classes of equal guards.
 
-ghost use Rattle.std.specs.Prelude.{◌≡◌, ◌≤◌, All, IfNone, IfOk, IfSome, IsSomeAnd, length, map, nat_le, slice_get};
+ghost use Rattle.std.specs.Prelude.{◌≡◌, ◌≤◌, All, IfNone, IfOk, IfSome, IsSomeAnd, length, map};
+ghost use Rattle.std.specs.Prelude.{nat_le, slice_get};
 ghost use Rattle.std.specs.List.{list_any};
 ghost use Rattle.mon_base.specs.Limits.{CONDITIONS, FIRST_INPUT};
 ghost use Rattle.mon_types.specs.inner.Making.{HasGuard, IsNumbered, LacksGuard};
@@ -87,7 +88,7 @@ fn is_of_input(term: &Term) -> bool
     is_input(term.place)
 }
 
-/// Whether a place is an input's.
+/// Whether a place is an input's or a local's.
 fn is_input(place: u32) -> bool
     ensures { result ≡ nat_le FIRST_INPUT place }
 {

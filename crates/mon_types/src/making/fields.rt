@@ -1,10 +1,10 @@
-//! The fields of a monitor.
+//! The fields of a monitor, and the values of declarations at the start.
 
-ghost use Rattle.std.specs.Prelude.{◌≡◌, ◌++◌, ◌≤◌, [], All, IfOk};
+ghost use Rattle.std.specs.Prelude.{◌≡◌, ◌++◌, ◌≤◌, [], All, IfOk, map};
 ghost use Rattle.std.specs.List.{flat_map};
 ghost use Rattle.mon_base.specs.Limits.{GREATEST_NUMBER};
 ghost use Rattle.mon_rules.specs.Rules.{literal_faults};
-ghost use Rattle.mon_types.specs.Typed.{field_of, literal_value};
+ghost use Rattle.mon_types.specs.Typed.{field_of, literal_value, starts_of};
 
 use mon_base::{Kind, Value};
 use mon_monitor::Field;
@@ -44,6 +44,37 @@ fn push_field(fields: &mut Vec<Field>, decl: &Decl) -> Result<(), AllocError>
                 kind: Kind::Bool,
                 start: Value::Bool(*value),
             })?;
+            Ok(())
+        }
+    }
+}
+
+/// The values of these declarations at the start.
+pub(crate) fn starts_of(alloc: Global, decls: &[Decl]) -> Result<Vec<Value>, AllocError>
+    requires { All (λ decl. literal_faults decl ≡ []) decls.now }
+    ensures { IfOk result (λ starts. starts.items ≡ starts_of decls.now) }
+{
+    let mut starts = Vec::new(alloc);
+    for decl in decls {
+        push_start(&mut starts, decl)?;
+    }
+    Ok(starts)
+}
+
+/// Adds the value of a declaration at the start. A constant has none.
+fn push_start(starts: &mut Vec<Value>, decl: &Decl) -> Result<(), AllocError>
+    requires { literal_faults decl.now ≡ [] }
+    ensures { IfOk result (λ _. starts.new.items
+        ≡ starts.old.items ++ map (λ field. field.start) (field_of decl.now)) }
+{
+    match decl {
+        Decl::Const { .. } => Ok(()),
+        Decl::Int { value, .. } => {
+            starts.push(Value::Int(number_of(value)))?;
+            Ok(())
+        }
+        Decl::Flag { value, .. } => {
+            starts.push(Value::Bool(*value))?;
             Ok(())
         }
     }

@@ -8,7 +8,8 @@ ghost use Rattle.mon_forms.specs.Making.{has_small_numbers};
 ghost use Rattle.mon_forms.specs.Sense.{sense};
 ghost use Rattle.mon_rules.specs.Rules.{finding};
 ghost use Rattle.mon_types.specs.Typed.{result_layer, result_of, statement_of};
-ghost use Rattle.mon_types.specs.inner.Making.{assigned, assigned_at, meaning_faults, value_faults, value_result as result_of_value};
+ghost use Rattle.mon_types.specs.inner.Making.{assigned, assigned_at, meaning_faults, value_faults};
+ghost use Rattle.mon_types.specs.inner.Making.{value_result as result_of_value};
 
 use mon_base::Kind;
 use mon_forms::{Entry, Meaning, find, form_of, formula_of, kind_of};

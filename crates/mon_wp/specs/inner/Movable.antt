@@ -1,7 +1,8 @@
--- Formulas whose inputs can be moved to the places of a waiting client's, and numbers that stay
--- small.
-use Rattle.std.specs.Prelude.{ℕ, Bool, true, ◌&&◌, nat_lt}
+-- Formulas whose inputs and locals can be moved to the places of a waiting client's, and numbers
+-- that stay small.
+use Rattle.std.specs.Prelude.{ℕ, ◌+◌, Bool, true, ◌&&◌, nat_lt}
 use Rattle.std.specs.List.{list_all}
+use Rattle.mon_base.specs.Limits.{FIRST_INPUT}
 use Rattle.mon_base.specs.Numbers.{is_within}
 use Rattle.mon_linear.specs.declared.form.Term.{Term}
 use Rattle.mon_linear.specs.Linear.{Linear}
@@ -9,17 +10,22 @@ use Rattle.mon_linear.specs.declared.formula.Formula.{Formula}
 use Rattle.mon_linear.specs.declared.formula.Formula.TheOpen.{Formula-F, Row, Flag, All as Every}
 use Rattle.mon_linear.specs.declared.formula.Formula.TheOpen.{Any as Some_of}
 use Rattle.mon_linear.specs.declared.formula.Formula.TheFolds.{fold-Formula}
+use Rattle.mon_wp.specs.Limits.{QUERY_PLACES}
+
+-- `FIRST_INPUT` places further it is still a place of queries
+abbrev pub is_movable_place : ℕ → Bool
+is_movable_place place = nat_lt (place + FIRST_INPUT) QUERY_PLACES
 
 abbrev pub is_movable_term : Term → Bool
-is_movable_term term = nat_lt term.place 64
+is_movable_term term = is_movable_place term.place
 
 abbrev pub movable_layer : Formula-F Bool → Bool
 movable_layer (Row form) = list_all is_movable_term form.terms
-movable_layer (Flag place is) = nat_lt place 64
+movable_layer (Flag place is) = is_movable_place place
 movable_layer (Every parts) = list_all (λ part. part) parts
 movable_layer (Some_of parts) = list_all (λ part. part) parts
 
--- each place is below 64
+-- each place can be moved
 abbrev pub is_movable : Formula → Bool
 is_movable = fold-Formula Bool movable_layer
 

@@ -1,4 +1,4 @@
-use Rattle.mon_explicit.proofs.MakingNotes.{next_signal, next_none, next_past, next_of_own}
+use Rattle.mon_explicit.proofs.MakingNotes.{next_signal, next_none, next_beyond, next_of_own}
 use Rattle.mon_explicit.proofs.notes.next_note.Goals as goal
 
 pub returns-in-Notifying : goal.returns-in-Notifying
@@ -14,4 +14,4 @@ returns-in_default c =
     (λ block from is. absurd (c.in_default.not-Notifying block from is)) (λ condition is. c.in_default.not-Signalling condition is)
 
 pub returns-in-None : goal.returns-in-None
-returns-in-None c = next_past c.args.plan.now c.args.positions.now c.args.client c.in-None.ensures.lookup.3
+returns-in-None c = next_beyond c.args.plan.now c.args.positions.now c.args.client c.in-None.ensures.lookup.3

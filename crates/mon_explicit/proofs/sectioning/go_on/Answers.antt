@@ -1,6 +1,6 @@
 use Rattle.std.proofs.Common.{ap, length, arith}
 use Rattle.mon_events.specs.Configurations.{System}
-use Rattle.mon_explicit.proofs.Sectioned.{ran_event, ran_notifies, ran_lines, room_to_wait, waited_length, waited_told, replied_told}
+use Rattle.mon_explicit.proofs.Sectioned.{ran_notifies, ran_lines, room_to_wait, waited_length, waited_told, replied_told, given_up_told}
 use Rattle.mon_explicit.proofs.sectioning.go_on.Goals as goal
 
 pub push-requires-clause-within : goal.push-requires-clause-within
@@ -22,21 +22,22 @@ returns-in-Waits c =
 
 pub make_notes-woken-requires-clause-lines : goal.make_notes-woken-requires-clause-lines
 make_notes-woken-requires-clause-lines c =
-    let ran = ran_event c.args.client c.args.config.now c.go_on.new.self c.in-Ran.reply c.in-Ran.ensures in
-    (c.requires.lines.0, ran_lines c.args.client c.args.config.now c.go_on.new.self c.args.rings.now ran c.requires.lines.0 c.requires.lines.1)
+    (c.requires.lines.0, ran_lines c.args.client c.args.config.now c.go_on.new.self c.args.rings.now c.in-Ran.reply c.in-Ran.ensures c.requires.lines.0 c.requires.lines.1)
 
 pub make_notes-woken-requires-clause-notifying : goal.make_notes-woken-requires-clause-notifying
 make_notes-woken-requires-clause-notifying c =
-    ran_notifies c.args.client c.args.config.now c.go_on.new.self (ran_event c.args.client c.args.config.now c.go_on.new.self c.in-Ran.reply c.in-Ran.ensures)
+    ran_notifies c.args.client c.args.config.now c.go_on.new.self c.in-Ran.reply c.in-Ran.ensures
 
 pub unlock-requires : goal.unlock-requires
 unlock-requires c =
-    let ran = ran_event c.args.client c.args.config.now c.go_on.new.self c.in-Ran.reply c.in-Ran.ensures in
-    let stands = ran_notifies c.args.client c.args.config.now c.go_on.new.self ran in
-    let lines = ran_lines c.args.client c.args.config.now c.go_on.new.self c.args.rings.now ran c.requires.lines.0 c.requires.lines.1 in
+    let stands = ran_notifies c.args.client c.args.config.now c.go_on.new.self c.in-Ran.reply c.in-Ran.ensures in
+    let lines = ran_lines c.args.client c.args.config.now c.go_on.new.self c.args.rings.now c.in-Ran.reply c.in-Ran.ensures c.requires.lines.0 c.requires.lines.1 in
     (stands.0, (c.make_notes-woken.ensures c.requires.lines.0 lines).0.done stands.0 stands.1 stands.2)
 
 pub returns-in-Ran : goal.returns-in-Ran
 returns-in-Ran c =
     replied_told c.args.client c.make_notes-woken.result.bits c.args.config.now c.go_on.new.self c.make_notes-woken.new.config c.unlock.new.config c.args.rings.now c.make_notes-woken.new.rings c.in-Ran.reply c.in-Ran.ensures
     c.make_notes-woken.ensures c.unlock.ensures
+
+pub returns-in-GaveUp : goal.returns-in-GaveUp
+returns-in-GaveUp c = given_up_told c.args.client c.args.config.now c.go_on.new.self c.unlock-in-GaveUp.new.config c.args.rings.now c.in-GaveUp.ensures c.unlock-in-GaveUp.ensures

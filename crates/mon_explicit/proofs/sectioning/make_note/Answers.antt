@@ -6,7 +6,7 @@ use Rattle.mon_explicit.proofs.Noting.{unfired_passes, unfired_made, fired_of, b
 use Rattle.mon_explicit.proofs.sectioning.make_note.Goals as goal
 
 few : (machine : Machine) → IsMachine machine → length machine.now.standings ≤ CLIENTS
-few machine rule = omega (arith, rule.is.clients.few, rule.sound.one_each)
+few machine rule = omega (arith, rule.clients.few, rule.sound.one_each)
 
 pub unreachable-requires : goal.unreachable-requires
 unreachable-requires c = c.in_default.ensures.comes c.requires.coming.0 c.requires.coming.1 c.requires.coming.2 c.requires.coming.3

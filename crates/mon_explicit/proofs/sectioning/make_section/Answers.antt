@@ -1,12 +1,13 @@
 use Rattle.std.proofs.Common.{length, ap, sym, refl, ◌∙◌, arith}
+use Rattle.mon_implicit.specs.declared.place.Place.{Place}
 use Rattle.mon_events.specs.Configurations.Phase.{Inside}
 use Rattle.mon_explicit.proofs.Starting.{started_when, started_inside}
-use Rattle.mon_explicit.proofs.MakingEvents.{past_small}
-use Rattle.mon_explicit.proofs.Sectioned.{started_lines, section_told, past_read}
+use Rattle.mon_explicit.proofs.MakingEvents.{place_small}
+use Rattle.mon_explicit.proofs.Sectioned.{started_lines, section_told, place_read}
 use Rattle.mon_explicit.proofs.sectioning.make_section.Goals as goal
 
-pub past-call-requires : goal.past-call-requires
-past-call-requires c =
+pub place-place-requires : goal.place-place-requires
+place-place-requires c =
     let started = started_when c.args.config.now c.start_section.new.config c.args.client c.start_section.result (sym c.is_err.ensures.value ∙ c.if-is_err.false) c.start_section.ensures in
     omega (arith, c.requires.within, ap (λ system. length system.clients) started.0)
 
@@ -14,8 +15,17 @@ pub overflow_add-call : goal.overflow_add-call
 overflow_add-call c =
     let started = started_when c.args.config.now c.start_section.new.config c.args.client c.start_section.result (sym c.is_err.ensures.value ∙ c.if-is_err.false) c.start_section.ensures in
     let inside = started_inside c.args.config.now c.start_section.new.config c.args.client started in
-    let same = past_read c.start_section.new.config.now.standings c.args.client inside.0 c.past-call.result Inside inside.1 c.past-call.ensures.past in
-    omega (arith, same, past_small c.start_section.new.config c.args.client inside.0 Inside c.past-call.ensures.rule inside.1 refl)
+    let same = place_read c.start_section.new.config.now.standings c.args.client inside.0 c.place-place.result.now Inside inside.1 c.place-place.ensures.place in
+    let small = place_small c.start_section.new.config c.args.client inside.0 Inside c.place-place.ensures.rule inside.1 refl in
+    omega (arith, small.past, ap (λ (place : Place). place.past) same)
+
+pub overflow_add-block : goal.overflow_add-block
+overflow_add-block c =
+    let started = started_when c.args.config.now c.start_section.new.config c.args.client c.start_section.result (sym c.is_err.ensures.value ∙ c.if-is_err.false) c.start_section.ensures in
+    let inside = started_inside c.args.config.now c.start_section.new.config c.args.client started in
+    let same = place_read c.start_section.new.config.now.standings c.args.client inside.0 c.place-place.result.now Inside inside.1 c.place-place.ensures.place in
+    let small = place_small c.start_section.new.config c.args.client inside.0 Inside c.place-place.ensures.rule inside.1 refl in
+    omega (arith, small.block, ap (λ (place : Place). place.block) same)
 
 pub go_on-outcome-requires-clause-inside : goal.go_on-outcome-requires-clause-inside
 go_on-outcome-requires-clause-inside c =
@@ -30,5 +40,5 @@ go_on-outcome-requires-clause-lines c =
 pub returns : goal.returns
 returns c =
     let started = started_when c.args.config.now c.start_section.new.config c.args.client c.start_section.result (sym c.is_err.ensures.value ∙ c.if-is_err.false) c.start_section.ensures in
-    section_told c.args.client c.past-call.result c.args.config.now c.start_section.new.config c.go_on-outcome.new.config c.args.rings.now c.go_on-outcome.new.rings c.go_on-outcome.result c.requires.settled
-    started c.past-call.ensures.past c.go_on-outcome.ensures
+    section_told c.args.client c.place-place.result.now c.args.config.now c.start_section.new.config c.go_on-outcome.new.config c.args.rings.now c.go_on-outcome.new.rings c.go_on-outcome.result c.requires.settled
+    started c.place-place.ensures.place c.go_on-outcome.ensures

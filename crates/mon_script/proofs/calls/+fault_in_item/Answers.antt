@@ -23,6 +23,6 @@ fault_in_item-returns-in-Repeat t c =
 
 pub fault_in_item-returns-in-Call : goal.fault_in_item-returns-in-Call
 fault_in_item-returns-in-Call t c =
-    c.fault_in_call.ensures ∙ ap (λ list. least (call_faults c.args.monitor.now (record { at = c.in-Call.at; name = c.in-Call.name; arguments = list }))) c.items.ensures
-    ∙ ap least (sym (faults-Call c.args.monitor.now c.in-Call.at c.in-Call.name c.in-Call.args ∙ append-nil (call_faults c.args.monitor.now (record { at = c.in-Call.at; name = c.in-Call.name; arguments = c.in-Call.args }))))
+    c.fault_in_call.ensures ∙ ap (λ list. least (call_faults c.args.monitor.now (record { name_at = c.in-Call.name_at; name = c.in-Call.name; arguments = list }))) c.items.ensures
+    ∙ ap least (sym (faults-Call c.args.monitor.now c.in-Call.at c.in-Call.tries c.in-Call.name_at c.in-Call.name c.in-Call.args ∙ append-nil (call_faults c.args.monitor.now (record { name_at = c.in-Call.name_at; name = c.in-Call.name; arguments = c.in-Call.args }))))
     ∙ ap (λ (item : Item). least (item_faults c.args.monitor.now item)) (sym c.in-Call.is)

@@ -10,5 +10,5 @@ pub returns : goal.returns
 returns c =
     let monitor = c.args.monitor.now in
     let given = c.args.arguments.now in
-    let method = c.method_fault.ensures ∙ ap (λ named. least (method_faults monitor c.args.at given named)) c.method_named-method.ensures.number in
-    c.earlier_of.ensures ∙ least_both order _ _ (method_faults monitor c.args.at given (method_named monitor c.args.name.now)) (flat_map number_faults given) method c.large_number.ensures
+    let method = c.method_fault.ensures ∙ ap (λ named. least (method_faults monitor c.args.name_at given named)) c.method_named-method.ensures.number in
+    c.earlier_of.ensures ∙ least_both order _ _ (method_faults monitor c.args.name_at given (method_named monitor c.args.name.now)) (flat_map number_faults given) method c.large_number.ensures

@@ -21,4 +21,4 @@ count_calls-returns-in-Repeat t c =
 
 pub count_calls-returns-in-Call : goal.count_calls-returns-in-Call
 count_calls-returns-in-Call t c =
-    one_call_counted c.in-Call.at c.in-Call.name c.in-Call.args ∙ ap (λ (item : Item). min (call_count item) ABOVE) (sym c.in-Call.is)
+    one_call_counted c.in-Call.at c.in-Call.tries c.in-Call.name_at c.in-Call.name c.in-Call.args ∙ ap (λ (item : Item). min (call_count item) ABOVE) (sym c.in-Call.is)

@@ -9,7 +9,7 @@ use Rattle.mon_script.proofs.Items.{calls-Repeat}
 use Rattle.mon_script.proofs.making.+make_calls.Goals as goal
 
 pub calls_of_item-one_call-requires : goal.calls_of_item-one_call-requires
-calls_of_item-one_call-requires t c = small_arguments c.args.item.now c.in-Call.at c.in-Call.name c.in-Call.args c.items.result.now c.in-Call.is c.items.ensures c.requires
+calls_of_item-one_call-requires t c = small_arguments c.args.item.now c.in-Call.at c.in-Call.tries c.in-Call.name_at c.in-Call.name c.in-Call.args c.items.result.now c.in-Call.is c.items.ensures c.requires
 
 pub calls_of_item-make_calls-requires : goal.calls_of_item-make_calls-requires
 calls_of_item-make_calls-requires t c =

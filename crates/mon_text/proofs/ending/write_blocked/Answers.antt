@@ -1,12 +1,25 @@
-use Rattle.mon_text.proofs.TurnsRows.{blocked_from-next, blocked_from-parts}
-use Rattle.mon_io.proofs.Writing.{wrote_both, wrote_same, wrote_until}
-use Rattle.mon_text.specs.inner.Replies.{commits_listed}
+use Rattle.std.proofs.Common.{ap, refl, arith}
+use Rattle.std.specs.List.{flat_map, enumerate_from}
+use Rattle.mon_text.specs.TurnsText.{blocked_text}
+use Rattle.mon_text.specs.inner.Ends.{places_listed}
+use Rattle.mon_io.proofs.Rows.{row_went, row_stopped}
+use Rattle.mon_io.proofs.Writing.{wrote_same}
+use Rattle.mon_text.proofs.PlanRows.{both}
+use Rattle.mon_text.proofs.LogRows.{within_enumerated, enumerated_at, enumerated_end}
 use Rattle.mon_text.proofs.ending.write_blocked.Goals as goal
 
 pub loop-client-preserved : goal.loop-client-preserved
 loop-client-preserved g c =
-    wrote_same _ (blocked_from-next c.args.monitor.now c.args.clients.now (commits_listed c.args.commits.now) c.args.clients.now c.loop-client.client c.loop-client-test.true) (wrote_both c.loop-client.invariant c.in_ok-write_if_blocked.ensures)
+    row_went (λ one. blocked_text c.args.monitor.now c.args.clients.now one.0 one.1) (enumerate_from 0 (places_listed c.args.left.now)) c.loop-client.client (both c.loop-client.client c.place.result.now) _
+    (within_enumerated (places_listed c.args.left.now) c.loop-client.client (omega (arith, c.loop-client-test.true, c.count-client-end.ensures))) (enumerated_at (places_listed c.args.left.now) c.loop-client.client c.place.result.now (omega (arith, c.loop-client-test.true, c.count-client-end.ensures)) c.place.ensures)
+    refl c.loop-client.invariant c.in_ok-write_if_blocked.ensures
 
 pub returns-in_err-write_if_blocked : goal.returns-in_err-write_if_blocked
 returns-in_err-write_if_blocked g c =
-    wrote_until _ _ _ (blocked_from-parts c.args.monitor.now c.args.clients.now (commits_listed c.args.commits.now) c.args.clients.now c.loop-client.client c.loop-client-test.true) c.from_residual.ensures.0 c.loop-client.invariant c.in_err-write_if_blocked.ensures
+    row_stopped (λ one. blocked_text c.args.monitor.now c.args.clients.now one.0 one.1) (enumerate_from 0 (places_listed c.args.left.now)) c.loop-client.client (both c.loop-client.client c.place.result.now) _ _
+    (within_enumerated (places_listed c.args.left.now) c.loop-client.client (omega (arith, c.loop-client-test.true, c.count-client-end.ensures))) (enumerated_at (places_listed c.args.left.now) c.loop-client.client c.place.result.now (omega (arith, c.loop-client-test.true, c.count-client-end.ensures)) c.place.ensures)
+    refl c.from_residual.ensures.0 c.loop-client.invariant c.in_err-write_if_blocked.ensures
+
+pub returns : goal.returns
+returns g c =
+    wrote_same _ (ap (flat_map (λ one. blocked_text c.args.monitor.now c.args.clients.now one.0 one.1)) (enumerated_end (places_listed c.args.left.now) c.loop-client.client (omega (arith, c.loop-client-test.false, c.count-client-end.ensures)))) c.loop-client.invariant

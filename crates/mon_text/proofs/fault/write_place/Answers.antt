@@ -5,7 +5,8 @@ use Rattle.mon_base.specs.declared.source_fault.SourceFault.{SourceFault}
 use Rattle.mon_text.proofs.fault.write_place.Goals as goal
 
 regrouped : (a name b line column c what d : List ℕ)
-    → a ++ (name ++ (b ++ (line ++ []))) ++ (b ++ (column ++ (c ++ (what ++ (d ++ []))))) ≡ a ++ name ++ b ++ line ++ b ++ column ++ c ++ what ++ d
+    → a ++ (name ++ (b ++ (line ++ []))) ++ (b ++ (column ++ (c ++ (what ++ (d ++ [])))))
+    ≡ a ++ name ++ b ++ line ++ b ++ column ++ c ++ what ++ d
 regrouped a name b line column c what d = simp (append_assoc, append-nil)
 
 -- what is written up to the line, and what is written after it
@@ -18,11 +19,13 @@ ended column what = codes ":" ++ (column ++ (codes ": " ++ (what ++ (codes "\n" 
 abbrev place_line : List ℕ → List ℕ → List ℕ → List ℕ → List ℕ
 place_line name line column what = codes "refused: " ++ name ++ codes ":" ++ line ++ codes ":" ++ column ++ codes ": " ++ what ++ codes "\n"
 
-parts : (name line column what : List ℕ) → begun name line ++ ended column what ≡ place_line name line column what
+parts : (name line column what : List ℕ)
+    → begun name line ++ ended column what ≡ place_line name line column what
 parts name line column what = regrouped (codes "refused: ") name (codes ":") line column (codes ": ") what (codes "\n")
 
 place_text-parts : (file bytes : List ℕ) (fault : SourceFault) (name line column what : List ℕ)
-    → name ≡ file → line ≡ decimal (line_at bytes fault.at) → column ≡ decimal (column_at bytes fault.at) → what ≡ refusal_text fault.what
+    → name ≡ file → line ≡ decimal (line_at bytes fault.at)
+    → column ≡ decimal (column_at bytes fault.at) → what ≡ refusal_text fault.what
     → begun name line ++ ended column what ≡ place_text file bytes fault
 place_text-parts file bytes fault name line column what is_file is_line is_column is_what =
     parts name line column what

@@ -1,7 +1,18 @@
-use Rattle.mon_text.proofs.LogRows.{log_text-parts}
-use Rattle.mon_io.proofs.Writing.{wrote_same}
+use Rattle.std.proofs.Common.{◌∙◌}
+use Rattle.mon_events.specs.Configurations.{situation_of}
+use Rattle.mon_text.specs.LogText.{closing_text}
+use Rattle.mon_text.proofs.LogRows.{entries_text-parts}
+use Rattle.mon_io.proofs.Writing.{wrote_both, wrote_fails, wrote_longer, wrote_same}
 use Rattle.mon_text.proofs.log.write_log.Goals as goal
+
+pub returns-in_err-write_entries : goal.returns-in_err-write_entries
+returns-in_err-write_entries g c =
+    let free = c.args.free.now in
+    let text = entries_text-parts free.system free.log _ _ _ c.monitor.ensures.monitor (c.clients.ensures.clients ∙ c.scripts.ensures.scripts) c.log.ensures.log in
+    wrote_fails _ c.from_residual.ensures.0 (wrote_longer (closing_text free.system.monitor free.system.clients (situation_of free.now)) (wrote_same _ text c.in_err-write_entries.ensures))
 
 pub returns : goal.returns
 returns g c =
-    wrote_same _ (log_text-parts c.args.free.now.system c.args.free.now.log c.args.free.now.now _ _ _ _ c.monitor.ensures.monitor c.scripts.ensures.scripts c.log.ensures.log c.state.ensures.state) c.write_ended_log.ensures
+    let free = c.args.free.now in
+    let text = entries_text-parts free.system free.log _ _ _ c.monitor.ensures.monitor (c.clients.ensures.clients ∙ c.scripts.ensures.scripts) c.log.ensures.log in
+    wrote_both (wrote_same _ text c.in_ok-write_entries.ensures) c.write_closing.ensures

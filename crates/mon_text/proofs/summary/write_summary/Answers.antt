@@ -1,7 +1,20 @@
-use Rattle.mon_text.proofs.SummaryRows.{summary_text-parts}
-use Rattle.mon_io.proofs.Writing.{wrote_same}
+use Rattle.std.proofs.Common.{◌∙◌, List, length, ap}
+use Rattle.mon_events.specs.declared.log.Entry.{Entry}
+use Rattle.mon_events.specs.Configurations.{situation_of}
+use Rattle.mon_events.specs.Logs.{commits_of}
+use Rattle.mon_text.specs.LogText.{closing_text}
+use Rattle.mon_text.specs.SummaryText.{calls_text}
+use Rattle.mon_text.proofs.SummaryRows.{replies_are_commits}
+use Rattle.mon_io.proofs.Writing.{wrote_both, wrote_fails, wrote_longer, wrote_same}
 use Rattle.mon_text.proofs.summary.write_summary.Goals as goal
+
+pub returns-in_err-write_calls : goal.returns-in_err-write_calls
+returns-in_err-write_calls g c =
+    let free = c.args.free.now in
+    let calls = c.calls_replied.ensures ∙ replies_are_commits c.log.result.now ∙ ap (λ (log : List Entry). length (commits_of log)) c.log.ensures.log in
+    wrote_fails _ c.from_residual.ensures.0 (wrote_longer (closing_text free.system.monitor free.system.clients (situation_of free.now)) (wrote_same _ (ap calls_text calls) c.in_err-write_calls.ensures))
 
 pub returns : goal.returns
 returns g c =
-    wrote_same _ (summary_text-parts c.args.free.now.system c.args.free.now.log c.args.free.now.now _ _ _ _ c.monitor.ensures.monitor c.scripts.ensures.scripts c.log.ensures.log c.state.ensures.state) c.write_ended_summary.ensures
+    let calls = c.calls_replied.ensures ∙ replies_are_commits c.log.result.now ∙ ap (λ (log : List Entry). length (commits_of log)) c.log.ensures.log in
+    wrote_both (wrote_same _ (ap calls_text calls) c.in_ok-write_calls.ensures) c.write_closing.ensures

@@ -5,7 +5,7 @@ use Rattle.mon_explicit.specs.Machines.{Machine}
 use Rattle.mon_explicit.specs.inner.Waiting.{IsComing}
 use Rattle.mon_explicit.specs.inner.Positions.{machine_of, waking_position}
 use Rattle.mon_explicit.proofs.Making.{event_keeps_machine}
-use Rattle.mon_explicit.proofs.MakingWakes.{lent, coming_made, next_within, broadcasts, room_broadcast}
+use Rattle.mon_explicit.proofs.MakingWakes.{lent, lent_woken, coming_made, next_within, broadcasts}
 use Rattle.mon_explicit.proofs.config.Config.wake_each.Goals as goal
 
 pub index_mut-requires : goal.index_mut-requires
@@ -20,12 +20,14 @@ invariant_of-self c =
     let i = c.self.inside in
     let coming : IsComing (machine_of i.monitor i.plan i.scripts i.state i.owner i.commits.items i.positions.items) c.args.client c.args.next = rw (← c.self.view_is) at c.requires.next in
     let here = coming_made i.monitor i.plan i.scripts i.state i.owner i.commits.items i.positions.items c.args.client c.args.next coming in
+    let woken = lent (waking_position c.args.next.note.condition) i.positions.items c.wake_all.new.positions i.positions.len (omega (arith, i.positions.ok.0))
+    (c.wake_all.ensures ∙ ap (map (waking_position c.args.next.note.condition)) c.deref_mut.ensures.value) in
     let fired : fires (record { monitor = i.monitor; plan = i.plan; clients = i.scripts }) i.state c.args.next.note ≡ true = rw (← c.self.view_is) at c.requires.fires in
+    let same = lent_woken i.plan i.positions.items c.args.client c.args.next here c.index_mut.result.now _ woken c.index_mut.ensures.value in
     let before = machine_of i.monitor i.plan i.scripts i.state i.owner i.commits.items i.positions.items in
-    rw (lent (waking_position c.args.next.note.condition) i.positions.items c.wake_all.new.positions i.positions.len (omega (arith, i.positions.ok.0))
-    (c.wake_all.ensures ∙ ap (map (waking_position c.args.next.note.condition)) c.deref_mut.ensures.value)) (
+    rw (← same, woken) (
       event_keeps_machine (events.Notify c.args.client None) before _ c.self.invariant.0 (broadcasts i.monitor i.plan i.scripts i.state i.owner i.commits.items i.positions.items c.args.client c.args.next here fired c.requires.each),
-      rw (room_broadcast i.plan i.scripts i.positions.items c.args.client c.args.next here) c.self.invariant.1,
+      c.self.invariant.1,
     )
 
 pub returns : goal.returns
@@ -33,11 +35,8 @@ returns c =
     let i = c.self.inside in
     let coming : IsComing (machine_of i.monitor i.plan i.scripts i.state i.owner i.commits.items i.positions.items) c.args.client c.args.next = rw (← c.self.view_is) at c.requires.next in
     let here = coming_made i.monitor i.plan i.scripts i.state i.owner i.commits.items i.positions.items c.args.client c.args.next coming in
-    let fired : fires (record { monitor = i.monitor; plan = i.plan; clients = i.scripts }) i.state c.args.next.note ≡ true = rw (← c.self.view_is) at c.requires.fires in (
-      ap (λ (m : Machine). m.system) c.self.view_is,
-      rw (
-        ← c.self.view_is,
-        lent (waking_position c.args.next.note.condition) i.positions.items c.wake_all.new.positions i.positions.len (omega (arith, i.positions.ok.0))
-            (c.wake_all.ensures ∙ ap (map (waking_position c.args.next.note.condition)) c.deref_mut.ensures.value),
-      ) (broadcasts i.monitor i.plan i.scripts i.state i.owner i.commits.items i.positions.items c.args.client c.args.next here fired c.requires.each),
-    )
+    let woken = lent (waking_position c.args.next.note.condition) i.positions.items c.wake_all.new.positions i.positions.len (omega (arith, i.positions.ok.0))
+    (c.wake_all.ensures ∙ ap (map (waking_position c.args.next.note.condition)) c.deref_mut.ensures.value) in
+    let fired : fires (record { monitor = i.monitor; plan = i.plan; clients = i.scripts }) i.state c.args.next.note ≡ true = rw (← c.self.view_is) at c.requires.fires in
+    let same = lent_woken i.plan i.positions.items c.args.client c.args.next here c.index_mut.result.now _ woken c.index_mut.ensures.value in
+    (ap (λ (m : Machine). m.system) c.self.view_is, rw (← c.self.view_is, ← same, woken) (broadcasts i.monitor i.plan i.scripts i.state i.owner i.commits.items i.positions.items c.args.client c.args.next here fired c.requires.each))

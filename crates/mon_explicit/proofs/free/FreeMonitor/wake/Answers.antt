@@ -1,9 +1,10 @@
 use Rattle.std.proofs.Common.{◌<◌, length, ap, sym, refl, ◌∙◌, arith}
 use Rattle.mon_events.specs.declared.event.Event.TheVariants as events
 use Rattle.mon_events.specs.Configurations.Phase.{Waiting}
+use Rattle.mon_implicit.specs.declared.place.Place.{Place}
 use Rattle.mon_explicit.specs.Sections.{FreeMachine}
-use Rattle.mon_explicit.proofs.MakingEvents.{past_small}
-use Rattle.mon_explicit.proofs.Sectioned.{past_read}
+use Rattle.mon_explicit.proofs.MakingEvents.{place_small}
+use Rattle.mon_explicit.proofs.Sectioned.{place_read}
 use Rattle.mon_explicit.proofs.Starting.{refused_when, happened_when}
 use Rattle.mon_explicit.proofs.Logging.{stage_tells, stage_denies, can_wake, woken_kept, woken_room}
 use Rattle.mon_explicit.proofs.free.FreeMonitor.wake.Goals as goal
@@ -26,8 +27,17 @@ pub overflow_add-call : goal.overflow_add-call
 overflow_add-call c =
     let i = c.self.inside in
     let waits = stage_tells i.config.now.standings c.args.client c.in-Some.condition c.stage.result c.stage.ensures.stage (sym c.in-Some.ensures) in
-    let same = past_read i.config.now.standings c.args.client waits.0 c.past-call.result (Waiting c.in-Some.condition) waits.1 c.past-call.ensures.past in
-    omega (arith, same, past_small i.config c.args.client waits.0 (Waiting c.in-Some.condition) c.past-call.ensures.rule waits.1 refl)
+    let same = place_read i.config.now.standings c.args.client waits.0 c.place-place.result.now (Waiting c.in-Some.condition) waits.1 c.place-place.ensures.place in
+    let small = place_small i.config c.args.client waits.0 (Waiting c.in-Some.condition) c.place-place.ensures.rule waits.1 refl in
+    omega (arith, small.past, ap (λ (place : Place). place.past) same)
+
+pub overflow_add-block : goal.overflow_add-block
+overflow_add-block c =
+    let i = c.self.inside in
+    let waits = stage_tells i.config.now.standings c.args.client c.in-Some.condition c.stage.result c.stage.ensures.stage (sym c.in-Some.ensures) in
+    let same = place_read i.config.now.standings c.args.client waits.0 c.place-place.result.now (Waiting c.in-Some.condition) waits.1 c.place-place.ensures.place in
+    let small = place_small i.config c.args.client waits.0 (Waiting c.in-Some.condition) c.place-place.ensures.rule waits.1 refl in
+    omega (arith, small.block, ap (λ (place : Place). place.block) same)
 
 pub unreachable-requires : goal.unreachable-requires
 unreachable-requires c =
@@ -44,7 +54,7 @@ push_reserved-requires c =
     omega (
       arith,
       i.log.ok.0,
-      woken_room i.config i.log.items i.extra i.log.cap c.args.client c.past-call.result c.in-Some.condition i.rings i.spurious c.spurious.new.self c.self.invariant c.if-self.false waits c.past-call.ensures.past within happened,
+      woken_room i.config i.log.items i.extra i.log.cap c.args.client c.place-place.result.now c.in-Some.condition i.rings i.spurious c.spurious.new.self c.self.invariant c.if-self.false waits c.place-place.ensures.place within happened,
     )
 
 pub invariant_of-self : goal.invariant_of-self
@@ -54,4 +64,4 @@ invariant_of-self c =
     let waits = stage_tells i.config.now.standings c.args.client c.in-Some.condition c.stage.result c.stage.ensures.stage (sym c.in-Some.ensures) in
     let happened = happened_when (events.Spurious c.args.client) i.config c.spurious.new.self c.spurious.result (sym c.is_err.ensures.value ∙ c.if-is_err.false) c.spurious.ensures in
     rw (c.push_reserved.ensures.items, c.push_reserved.ensures.capacity, c.remove.ensures)
-    (woken_kept i.config i.log.items i.extra i.log.cap c.args.client c.past-call.result c.in-Some.condition i.rings i.spurious c.spurious.new.self c.self.invariant c.if-self.false waits c.past-call.ensures.past within happened)
+    (woken_kept i.config i.log.items i.extra i.log.cap c.args.client c.place-place.result.now c.in-Some.condition i.rings i.spurious c.spurious.new.self c.self.invariant c.if-self.false waits c.place-place.ensures.place within happened)

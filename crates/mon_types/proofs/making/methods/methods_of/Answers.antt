@@ -1,9 +1,8 @@
-use Rattle.std.proofs.Common.{◌≡◌, map, ap, ◌∙◌, arith}
-use Rattle.mon_types.proofs.BlockSteps.{methods_more}
+use Rattle.mon_types.specs.inner.Making.{HasSmallParts}
+use Rattle.mon_types.proofs.BlockSteps.{each_at, methods_more}
 use Rattle.mon_types.proofs.making.methods.methods_of.Goals as goal
 
-pub loop-number-preserved : goal.loop-number-preserved
-loop-number-preserved c =
-    let more = methods_more c.args.trees.now c.loop-number.number c.index-trees-number.result (omega arith) c.index-trees-number.is in
-    let kinds : c.of.result ≡ map (λ input. input.kind) c.index-trees-number.result.inputs = c.of.ensures ∙ c.in_ok-kinds_of.ensures ∙ ap (map (λ input. input.kind)) c.items.ensures in
-    grind (arith, more, kinds)
+pub loop-tree-preserved : goal.loop-tree-preserved
+loop-tree-preserved c =
+    methods_more c.args.trees.now c.loop-tree.tree-index c.tree-item.result c.loop-tree.methods.items c.push.new.self.items c.loop-tree.first c.in_ok-method.method c.loop-tree-test.true c.tree-item.is c.loop-tree.invariant
+    (each_at HasSmallParts c.args.trees.now c.loop-tree.tree-index c.tree-item.result c.tree-item.is c.loop-tree-test.true c.requires.small) c.in_ok-method.ensures c.in_ok-push.ensures.items

@@ -1,6 +1,6 @@
-use Rattle.std.proofs.Common.{◌≡◌, take}
-use Rattle.mon_types.specs.Typed.{methods_from}
+use Rattle.std.proofs.Common.{take}
+use Rattle.mon_types.proofs.BlockSteps.{MethodsMade}
 use Rattle.mon_types.proofs.making.methods.methods_of.Given as goal
 
-abbrev pub invariant-loop-number : goal.invariant-loop-number
-invariant-loop-number l = l.methods.items ≡ methods_from 0 (take l.number l.trees)
+abbrev pub invariant-loop-tree : goal.invariant-loop-tree
+invariant-loop-tree l = MethodsMade (take l.tree-index l.trees) l.methods.items l.first

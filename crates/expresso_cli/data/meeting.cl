@@ -1,0 +1,3 @@
+client A { meet(); meet(); }
+client B { meet(); }
+client C { meet(); }

@@ -1,0 +1,2 @@
+client A { acquire(); release(); }
+client B { try acquire(); try acquire(); release(); }
