@@ -1,6 +1,6 @@
 #!/usr/bin/env bash
 # Measures the program's commands on generated files of 4,096, 16,384 and 65,536 bytes, `compile` on monitors that are
-# hard to compile, and `run` on a buffer with 32 clients and 16,384 calls: median wall time, instructions as callgrind
+# hard to compile, `run` on a buffer with 32 clients and 16,384 calls, and a monitor of 64 blocks: median wall time, instructions as callgrind
 # counts them, and peak memory. With more than one worker the instructions vary with the schedule, and are not counted.
 #
 #   bench/commands.sh          builds the program, and measures
@@ -52,4 +52,12 @@ for clients in sides in-turn; do
   for workers in 1 4 16; do
     measure run "buffer, $clients" "$workers" "$here/../crates/expresso_cli/data/buffer.mon $work/$clients.cl"
   done
+done
+
+"$here/generate.py" blocks >"$work/blocks.mon"
+"$here/generate.py" in-blocks >"$work/blocks.cl"
+measure compile blocks - "$work/blocks.mon"
+measure simulate blocks - "$work/blocks.mon $work/blocks.cl"
+for workers in 1 4 16; do
+  measure run blocks "$workers" "$work/blocks.mon $work/blocks.cl"
 done

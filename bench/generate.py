@@ -5,6 +5,8 @@
   generate.py clients BYTES     32 clients of that monitor with as many calls as fit, each written out; they end done
   generate.py sides             32 clients of a buffer with 16,384 calls: half only put, and half only get
   generate.py in-turn           32 clients of a buffer with 16,384 calls: each puts and gets in turn
+  generate.py blocks            a monitor of 16 methods, each of 4 blocks and with 4 locals
+  generate.py in-blocks         32 clients of that monitor with 16,384 calls; they end done
 
 The monitor has 64 constants, 16 fields and 16 methods, in pairs. The first of a pair waits for room and the second
 for something, as `put` and `get` of a buffer do; a larger file has more pairs that wait, from 2 to 4, and the others
@@ -114,6 +116,47 @@ def in_turn():
     return buffer_clients([f"{CALLS // CLIENTS // 2} {{ put(); get(); }}"] * CLIENTS)
 
 
+def blocks_method(number):
+    """A method of four blocks that read and change its four locals; a pair of methods shares a count."""
+    count, flag = f"count{number // 2}", f"flag{number // 2}"
+    return f"""  method step{number:02}(int n)
+    local int seen = 0;
+    local int sum = 0;
+    local bool even = false;
+    local bool odd = true;
+    waituntil (true) {{
+      seen = {count};
+      even = !even;
+      {count} = {count} + 1;
+    }}
+    waituntil ({count} > seen) {{
+      sum = sum + seen;
+      odd = !odd;
+    }}
+    waituntil ({count} >= seen + n && (even || odd)) {{
+      sum = sum + n;
+      {flag} = even;
+    }}
+    waituntil (sum >= seen) {{
+      {flag} = odd;
+      return sum;
+    }}
+"""
+
+
+def blocks():
+    """A monitor with as many methods and blocks as there may be."""
+    pairs = range(METHODS // 2)
+    fields = "".join(f"  int count{pair} = 0;\n  bool flag{pair} = false;\n" for pair in pairs)
+    methods = "".join(blocks_method(number) for number in range(METHODS))
+    return f"monitor Blocks {{\n{fields}{methods}}}\n"
+
+
+def in_blocks():
+    """Two clients for each method, each with as many calls."""
+    return buffer_clients([f"{CALLS // CLIENTS} {{ step{number % METHODS:02}(1); }}" for number in range(CLIENTS)])
+
+
 def main(words):
     """Prints the text that the words ask for."""
     match words:
@@ -123,6 +166,10 @@ def main(words):
             sys.stdout.write(clients(int(size)))
         case ["sides"]:
             sys.stdout.write(sides())
+        case ["blocks"]:
+            sys.stdout.write(blocks())
+        case ["in-blocks"]:
+            sys.stdout.write(in_blocks())
         case ["in-turn"]:
             sys.stdout.write(in_turn())
         case _:

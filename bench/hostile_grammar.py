@@ -95,7 +95,22 @@ class Reader:
         self.each(b"method", b"ident", b"(")
         if not self.sees(b")"):
             self.some([b","], lambda: (self.take(b"int", b"bool"), self.take(b"ident")))
-        self.each(b")", b"waituntil", b"(")
+        self.take(b")")
+        while self.sees(b"local"):
+            self.local()
+        self.block()
+        while self.sees(b"waituntil"):
+            self.block()
+
+    def local(self):
+        self.take(b"local")
+        kind = self.take(b"int", b"bool")
+        self.each(b"ident", b"=")
+        self.take(b"true", b"false") if kind == b"bool" else self.written()
+        self.take(b";")
+
+    def block(self):
+        self.each(b"waituntil", b"(")
         self.expression(0)
         self.take(b")")
         self.body(0)
@@ -156,13 +171,16 @@ class Reader:
 
     def items(self, level):
         self.take(b"{")
-        while self.sees(b"ident", b"repeat"):
+        while self.sees(b"ident", b"try", b"repeat"):
             self.item(level)
         self.take(b"}")
 
     def item(self, level):
         inner = self.deeper(level) if self.sees(b"repeat") else level
-        if self.take(b"ident", b"repeat") == b"repeat":
+        first = self.take(b"ident", b"try", b"repeat")
+        if first == b"try":
+            self.take(b"ident")
+        if first == b"repeat":
             self.take(b"number")
             self.items(inner)
             return

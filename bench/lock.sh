@@ -114,6 +114,7 @@ fn client(alloc: Global, number: u32, method: u32) -> Result<Client, AllocError>
         calls.push(Call {
             method,
             inputs: Seq::of(Vec::new(alloc)),
+            tries: false,
         })?;
     }
     Ok(Client {
