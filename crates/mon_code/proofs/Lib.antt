@@ -1,0 +1,13 @@
+pub mod Lists
+pub mod Views
+pub mod Stages
+pub mod Placed
+pub mod Running
+pub mod Holding
+pub mod Order
+pub mod Pending
+pub mod Covering
+pub mod Answering
+pub mod Stillness
+pub mod Live
+pub mod Printed

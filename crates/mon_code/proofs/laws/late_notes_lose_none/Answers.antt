@@ -1,0 +1,24 @@
+use Rattle.mon_code.proofs.Running.{late_runs}
+use Rattle.mon_code.proofs.Answering.{late_answers}
+use Rattle.mon_code.proofs.Covering.{late_seen_to}
+use Rattle.mon_code.proofs.Stillness.{still_late, still_ends}
+use Rattle.mon_code.proofs.Order.{late_is_told}
+use Rattle.mon_code.proofs.laws.late_notes_lose_none.Goals as goal
+
+pub returns-clause-run : goal.returns-clause-run
+returns-clause-run c = late_runs
+
+pub returns-clause-answers : goal.returns-clause-answers
+returns-clause-answers c = late_answers
+
+pub returns-clause-pending : goal.returns-clause-pending
+returns-clause-pending c = late_seen_to
+
+pub returns-clause-ends : goal.returns-clause-ends
+returns-clause-ends c = still_late
+
+pub returns-clause-ends_the_run : goal.returns-clause-ends_the_run
+returns-clause-ends_the_run c = still_ends
+
+pub returns-clause-order : goal.returns-clause-order
+returns-clause-order c = late_is_told

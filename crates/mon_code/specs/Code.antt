@@ -1,0 +1,118 @@
+-- The code of a monitor under a plan: what a thread does in a call, one operation after the other.
+use Rattle.std.specs.Prelude.{ℕ, zero, suc, ◌+◌, ◌-◌, Bool, true, false, not, List, [], ◌∷◌, ◌++◌}
+use Rattle.std.specs.Prelude.{slice_get, if◌then◌else◌}
+use Rattle.std.specs.Option.{option_map_or}
+use Rattle.mon_linear.specs.declared.formula.Formula.{Formula}
+use Rattle.mon_linear.specs.declared.formula.Formula.TheOpen.{Formula-F, Row, Flag, All as Every}
+use Rattle.mon_linear.specs.declared.formula.Formula.TheOpen.{Any as Some_of}
+use Rattle.mon_linear.specs.declared.formula.Formula.TheFolds.{fold-Formula}
+use Rattle.mon_monitor.specs.MonitorParts.{MonitorParts, first_in, count_in}
+use Rattle.mon_events.specs.declared.plan.Note.{Note}
+use Rattle.mon_events.specs.declared.plan.Plan.{Plan}
+use Rattle.mon_events.specs.Plans.{notes_at}
+use Rattle.mon_events.specs.Configurations.{block_condition}
+
+-- ---- operations; each stands for a statement of Rust, with `m` for the block's name
+
+pub data Op : Type 0 where
+  -- `let mut state = lock(&self.state);`
+  Lock : Op
+  -- `while !state.can_m() { state = wait(&self.can_m, state); }`: the guard of a block, on a
+  -- condition
+  WaitUntil : (block condition : ℕ) → Op
+  -- `if !state.can_m() { return None; }`: the guard of a block
+  ElseRefuse : (block : ℕ) → Op
+  -- `let Ok(answer) = state.run_m() else { .. return Err(Overflow); };`: the body of a block, and
+  -- the notes that are made where it overflows
+  Run : (block : ℕ) (otherwise : List Note) → Op
+  -- `self.can_m.notify_one();`, or `notify_all` where the note is for all; where it is tested, in an
+  -- `if` on the guard of its condition
+  Notify : (note : Note) → Op
+  -- the guard of the mutex is dropped
+  Unlock : Op
+
+-- ---- whether anyone ever waits on a condition: its guard is not `true`
+
+abbrev pub is_always_step : Formula-F Bool → Bool
+is_always_step (Every []) = true
+is_always_step (Every (part ∷ parts)) = false
+is_always_step (Row form) = false
+is_always_step (Flag place is) = false
+is_always_step (Some_of parts) = false
+
+-- the formula is `true` as it is written
+abbrev pub is_always : Formula → Bool
+is_always = fold-Formula Bool is_always_step
+
+abbrev pub is_waited_on : MonitorParts → ℕ → Bool
+is_waited_on monitor condition =
+    option_map_or (λ which. not (is_always which.guard))
+    (slice_get monitor.conditions (condition - 1)) false
+
+-- ---- the code of a block, from its end
+
+-- these notes are made, and the mutex is given back
+abbrev pub telling_code : List Note → List Op
+telling_code [] = Unlock ∷ []
+telling_code (note ∷ notes) = Notify note ∷ telling_code notes
+
+abbrev pub signal_on : ℕ → Note
+signal_on condition = record { condition = condition; all = false; tested = false }
+
+-- after an overflow: one signal on the block's own condition, where anyone waits there
+abbrev pub overflow_notes : MonitorParts → ℕ → List Note
+overflow_notes monitor block =
+    if is_waited_on monitor (block_condition monitor block)
+    then signal_on (block_condition monitor block) ∷ [] else []
+
+-- A block's guard is tested before the rest, if it is not `true`: the call waits for it, or, where
+-- it tries, is refused.
+abbrev pub test_code : MonitorParts → Bool → ℕ → List Op → List Op
+test_code monitor tries block rest =
+    if is_waited_on monitor (block_condition monitor block)
+    then (if tries then ElseRefuse block ∷ rest
+    else WaitUntil block (block_condition monitor block) ∷ rest)
+    else rest
+
+-- ---- the code of a method, given what comes after the body of each block
+
+-- the body of a block, what comes after it, and the rest
+abbrev pub running_code : MonitorParts → (ℕ → List Op) → ℕ → List Op → List Op
+running_code monitor told block rest = Run block (overflow_notes monitor block) ∷ told block ++ rest
+
+-- So many blocks one after the other, the first of them with this number: each locks the mutex
+-- anew. A call that tries does so at the first alone.
+abbrev pub blocks_code : MonitorParts → (ℕ → List Op) → Bool → ℕ → ℕ → List Op
+blocks_code monitor told tries block zero = []
+blocks_code monitor told tries block (suc more) =
+    Lock ∷ test_code monitor tries block
+    (running_code monitor told block (blocks_code monitor told false (block + 1) more))
+
+-- the code of a method, by its number, for calls that try or for those that wait
+abbrev pub code_with : MonitorParts → (ℕ → List Op) → ℕ → Bool → List Op
+code_with monitor told method tries =
+    blocks_code monitor told tries (first_in (slice_get monitor.methods method))
+    (count_in (slice_get monitor.methods method))
+
+-- ---- the code that is printed
+
+-- the tested notes, which read the state, and then the rest
+abbrev pub tested_then : List Note → List Op → List Op
+tested_then [] rest = rest
+tested_then (note ∷ notes) rest =
+    if note.tested then Notify note ∷ tested_then notes rest else tested_then notes rest
+
+-- the other notes
+abbrev pub untested_told : List Note → List Op
+untested_told [] = []
+untested_told (note ∷ notes) =
+    if note.tested then untested_told notes else Notify note ∷ untested_told notes
+
+-- after the body of a block: its tested notes, the mutex is given back, and its other notes
+abbrev pub late_order : Plan → ℕ → List Op
+late_order plan block =
+    tested_then (notes_at plan block) (Unlock ∷ untested_told (notes_at plan block))
+
+-- the code of a method under a plan
+abbrev pub code_of : MonitorParts → Plan → ℕ → Bool → List Op
+code_of monitor plan = code_with monitor (late_order plan)

@@ -1,0 +1,172 @@
+-- What the laws say.
+use Rattle.std.specs.Prelude.{◌≡◌, ◌≢◌, ◌⊎◌, ℕ, ◌+◌, true, false, List, ◌∷◌, ◌++◌, All, None, Some}
+use Rattle.std.specs.Prelude.{[], slice_get}
+use Rattle.mon_monitor.specs.MonitorParts.{MonitorParts, IsMonitor, count_in}
+use Rattle.mon_implicit.specs.declared.commit.Commit.{Commit}
+use Rattle.mon_implicit.specs.declared.script.Call.{Call}
+use Rattle.mon_implicit.specs.declared.script.Client.{Client}
+use Rattle.mon_implicit.specs.Scripted.{FitsScripts}
+use Rattle.mon_implicit.specs.Places.{gives_up}
+use Rattle.mon_implicit.specs.Runs.{Situation, IsRun, Ends}
+use Rattle.mon_events.specs.declared.plan.Plan.{Plan}
+use Rattle.mon_events.specs.Plans.{has_note, FitsPlan, IsLawful}
+use Rattle.mon_events.specs.Configurations.{System}
+use Rattle.mon_events.specs.Pending.{IsSystem}
+use Rattle.mon_events.specs.Laws.{HasLawfulPlan}
+use Rattle.mon_code.specs.Code.{Op, late_order}
+use Rattle.mon_code.specs.Executions.{Program, program_with, Position, Frame, Moment, IsThread}
+use Rattle.mon_code.specs.Executions.{start, call_of, is_open, Executes, IsStill}
+use Rattle.mon_code.specs.Executions.Position.{Outside, At, Asleep, Notified}
+use Rattle.mon_code.specs.Orders.{notes_to_come, IsTold}
+use Rattle.mon_code.specs.LivePlans.{live_plan, printed_program}
+
+-- an execution of the program from its start leads to the moment
+abbrev pub Leads : Program → Moment → Type 0
+Leads program last = Executes program (start program) last
+
+-- ---- what ran
+
+-- what ran, with the answers, is a run of the implicit monitor to a situation with this state
+pub record Ran (program : Program) (last : Moment) : Type 0 where
+  pub now : Situation
+  pub run : IsRun program.monitor program.clients last.ran now
+  pub state_is : now.state ≡ last.state
+
+-- ---- what calls answer
+
+-- the commit is the last one of this thread
+pub record IsLastOf (thread : ℕ) (ran : List Commit) (commit : Commit) : Type 0 where
+  pub earlier : List Commit
+  pub later : List Commit
+  pub is : ran ≡ earlier ++ commit ∷ later
+  pub own : commit.client ≡ thread
+  pub none_later : All (λ other. other.client ≢ thread) later
+
+-- the call is done after the commit: it overflowed, was refused, or ran its last block
+abbrev pub IsDoneBy : MonitorParts → Call → Commit → Type 0
+IsDoneBy monitor call commit =
+    (gives_up commit.reply ≡ true)
+    ⊎ (commit.block ≡ count_in (slice_get monitor.methods call.method))
+
+-- the call that the thread is in answers the reply of the last commit of the thread, after which
+-- the call is done
+pub record Answers (program : Program) (ran : List Commit) (thread : ℕ) (frame : Frame)
+    (call : Call) : Type 0 where
+  pub commit : Commit
+  pub last_is : IsLastOf thread ran commit
+  pub of : commit.call ≡ frame.past + 1
+  pub answer_is : commit.reply ≡ frame.answer
+  pub done : IsDoneBy program.monitor call commit
+
+-- so it is wherever a call is about to return
+abbrev pub AnswersAreReplies : Program → Moment → Type 0
+AnswersAreReplies program last =
+    (thread : ℕ) (frame : Frame) (call : Call) → IsThread last.threads thread frame (At [])
+    → call_of program thread frame ≡ Some call → Answers program last.ran thread frame call
+
+-- ---- no wake-up is lost
+
+-- a thread is notified on the condition, or has a note on it to make
+abbrev pub SomeoneSees : Moment → ℕ → Type 0
+SomeoneSees now condition =
+    ((other : ℕ) × (frame : Frame) × (block : ℕ) × (rest : List Op)
+    × IsThread now.threads other frame (Notified block condition rest))
+    ⊎ ((other : ℕ) × (frame : Frame) × (rest : List Op) × IsThread now.threads other frame (At rest)
+    × (has_note (notes_to_come rest) condition ≡ true))
+
+-- where nobody holds the mutex and a thread sleeps whose guard is true, someone sees to it
+abbrev pub SleepersAreSeenTo : Program → Moment → Type 0
+SleepersAreSeenTo program last =
+    last.holder ≡ None → (thread : ℕ) (frame : Frame) (block condition : ℕ) (rest : List Op)
+    → IsThread last.threads thread frame (Asleep block condition rest)
+    → is_open program last.state thread frame block ≡ true → SomeoneSees last condition
+
+-- ---- where no thread can move but by nothing
+
+-- the thread is between two calls and has none left, or it sleeps and its guard is false
+abbrev pub IsAtEnd : Program → Moment → ℕ → Frame → Position → Type 0
+IsAtEnd program now thread frame Outside = call_of program thread frame ≡ None
+IsAtEnd program now thread frame (At rest) = ⊥
+IsAtEnd program now thread frame (Asleep block condition rest) =
+    is_open program now.state thread frame block ≡ false
+IsAtEnd program now thread frame (Notified block condition rest) = ⊥
+
+-- each thread is at its end: so none hangs whose guard is true
+abbrev pub StillIsTheEnd : Program → Moment → Type 0
+StillIsTheEnd program last =
+    IsStill program last → (thread : ℕ) (frame : Frame) (position : Position)
+    → IsThread last.threads thread frame position → IsAtEnd program last thread frame position
+
+-- and the run of what ran is at its end
+abbrev pub StillEndsTheRun : Program → Moment → Type 0
+StillEndsTheRun program last =
+    IsStill program last → (now : Situation)
+    → IsRun program.monitor program.clients last.ran now
+    → Ends program.monitor program.clients now
+
+-- ---- the laws, of code that makes a block's notes before or after it gives the mutex back
+
+-- whatever the plan
+abbrev pub LateExecutionsRun : Type 0
+LateExecutionsRun =
+    (system : System) (told : ℕ → List Op) (last : Moment) → IsSystem system → IsTold system told
+    → Leads (program_with system told) last → Ran (program_with system told) last
+
+abbrev pub LateAnswersAreReplies : Type 0
+LateAnswersAreReplies =
+    (system : System) (told : ℕ → List Op) (last : Moment) → IsSystem system → IsTold system told
+    → Leads (program_with system told) last → AnswersAreReplies (program_with system told) last
+
+-- under a lawful plan
+abbrev pub LateSleepersAreSeenTo : Type 0
+LateSleepersAreSeenTo =
+    (system : System) (told : ℕ → List Op) (last : Moment) → HasLawfulPlan system
+    → IsTold system told → Leads (program_with system told) last
+    → SleepersAreSeenTo (program_with system told) last
+
+abbrev pub LateStillIsTheEnd : Type 0
+LateStillIsTheEnd =
+    (system : System) (told : ℕ → List Op) (last : Moment) → HasLawfulPlan system
+    → IsTold system told → Leads (program_with system told) last
+    → StillIsTheEnd (program_with system told) last
+
+abbrev pub LateStillEndsTheRun : Type 0
+LateStillEndsTheRun =
+    (system : System) (told : ℕ → List Op) (last : Moment) → HasLawfulPlan system
+    → IsTold system told → Leads (program_with system told) last
+    → StillEndsTheRun (program_with system told) last
+
+-- the order that is printed is such an order
+abbrev pub LateOrderIsTold : Type 0
+LateOrderIsTold = (system : System) → IsSystem system → IsTold system (late_order system.plan)
+
+-- ---- plans without the notes that nobody hears
+
+abbrev pub LivePlansFit : Type 0
+LivePlansFit =
+    (monitor : MonitorParts) (plan : Plan) → FitsPlan monitor plan
+    → FitsPlan monitor (live_plan monitor plan)
+
+abbrev pub LivePlansAreLawful : Type 0
+LivePlansAreLawful =
+    (monitor : MonitorParts) (plan : Plan) → IsLawful monitor plan
+    → IsLawful monitor (live_plan monitor plan)
+
+-- ---- the program that is printed
+
+-- what is so at each moment of its executions
+pub record LosesNone (program : Program) (last : Moment) : Type 0 where
+  pub run : Ran program last
+  pub answers : AnswersAreReplies program last
+  pub pending : SleepersAreSeenTo program last
+  pub ends : StillIsTheEnd program last
+  pub ends_the_run : StillEndsTheRun program last
+
+-- whatever threads call its methods, as often as they do
+abbrev pub PrintedCodeLosesNone : Type 0
+PrintedCodeLosesNone =
+    (monitor : MonitorParts) (plan : Plan) (clients : List Client) (last : Moment)
+    → IsMonitor monitor → FitsScripts monitor clients
+    → FitsPlan monitor plan → IsLawful monitor plan
+    → Leads (printed_program monitor plan clients) last
+    → LosesNone (printed_program monitor plan clients) last

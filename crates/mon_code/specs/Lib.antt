@@ -1,0 +1,5 @@
+pub mod Code
+pub mod Executions
+pub mod Orders
+pub mod LivePlans
+pub mod Laws
