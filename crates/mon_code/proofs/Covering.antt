@@ -34,7 +34,7 @@ use Rattle.mon_code.specs.Executions.{Position, Frame, Thread, Moment, IsThread,
 use Rattle.mon_code.specs.Executions.Position.{Outside, At, Asleep, Notified}
 use Rattle.mon_code.specs.Executions.IsMove.{calls, takes, passes, falls_asleep, wakes, retakes, refuses, runs_body, notifies, unlocks, returns}
 use Rattle.mon_code.specs.Executions.Executes.{none_yet, one_more}
-use Rattle.mon_code.specs.Orders.{notes_to_come, IsPlain, HasAllNotes, IsTold}
+use Rattle.mon_code.specs.Orders.{notes_to_come, IsTestable, HasAllNotes, IsTold}
 use Rattle.mon_code.specs.Laws.{Leads, SomeoneSees, SleepersAreSeenTo}
 use Rattle.mon_code.proofs.Views.{next_block, place_by, place_at, phase_at, phase_of, standings, stands, stands_from, goes_here, goes_unseen, goes_seen, all_woken, sleeps_from}
 use Rattle.mon_code.proofs.Stages.{tries_in, IsAt, told_code, block_is, condition_at, open_is_guard, some_block, inside_locked, never, follows_locked, telling_notes, tells_phase}
@@ -164,7 +164,7 @@ none_waits_late system threads condition none client place at =
     none client sleeps.frame sleeps.block sleeps.rest sleeps.at
 
 noted_pending : (system : System) (told : ℕ → List Op) (now : Moment) (note : Note) (more : List Note) (woken : List Thread) (thread : ℕ) (place : Place) → IsSystem system → IsSoundly system told now
-    → IsPlain system.monitor note → StandsAt (standings system now.threads) thread place (Notifying (note ∷ more)) → AreNotified (program_with system told) now note woken
+    → IsTestable system.monitor note → StandsAt (standings system now.threads) thread place (Notifying (note ∷ more)) → AreNotified (program_with system told) now note woken
     → IsPending system now.state (standings system now.threads) → IsPending system now.state (put (standings system woken) thread place (Notifying more))
 noted_pending system told now note more woken thread place is sound plain at (inl first) pending =
     subst (λ (some : List Standing). IsPending system now.state (put some thread place (Notifying more)))
@@ -257,7 +257,7 @@ move_covered system told set order before next sound covered (notifies thread fr
     (covered_as system before.state before.holder before.ran (goes move.woken thread frame (At move.rest)) (put (standings system move.woken) thread place (Notifying (notes_to_come move.rest)))
     (goes_here system move.woken thread frame (At move.rest) place (Notifying (notes_to_come move.rest)) refl (tells_phase move.rest (shape_of later))) covered.invariant
     (noted_pending system told before move.note (notes_to_come move.rest) move.woken thread place set.is sound
-    (All-head (IsPlain system.monitor) move.note (notes_to_come move.rest) tells.plain)
+    (All-head (IsTestable system.monitor) move.note (notes_to_come move.rest) tells.plain)
     (stands system before.threads thread frame (At (Notify move.note ∷ move.rest)) move.at) move.notified covered.pending))
 move_covered system told set order before next sound covered (unlocks thread frame move) =
     let ends = after_unlock system told before.holder thread frame.past move.rest (sound.placed thread frame (At (Unlock ∷ move.rest)) move.at) in

@@ -15,7 +15,7 @@ use Rattle.mon_events.specs.Configurations.{System}
 use Rattle.mon_events.specs.Pending.{IsSystem}
 use Rattle.mon_code.specs.Code.{Op, tested_then, untested_told, late_order}
 use Rattle.mon_code.specs.Code.Op.{Notify, Unlock}
-use Rattle.mon_code.specs.Orders.{notes_to_come, is_free, is_locked, IsPlain, IsTold}
+use Rattle.mon_code.specs.Orders.{notes_to_come, is_free, is_locked, IsTestable, IsTold}
 
 -- ---- the shape
 
@@ -98,18 +98,18 @@ plain_untested P (note ∷ notes) all = by note.tested (plain_untested P notes (
     by true later = later
     by false later = All-cons P note (notes_to_come (untested_told notes)) (All-head P note notes all) later
 
-fitting_plain : (monitor : MonitorParts) (note : Note) → FitsNote monitor note → IsPlain monitor note
+fitting_plain : (monitor : MonitorParts) (note : Note) → FitsNote monitor note → IsTestable monitor note
 fitting_plain monitor note fits tested which is =
     let found = is_some_and (slice_get monitor.conditions (note.condition - 1)) (λ (one : Condition). note.tested ≡ true → reads_inputs one.guard ≡ false) fits.1 in
     subst (λ (one : Condition). reads_inputs one.guard ≡ false) (same_Some found.0 which (sym found.1 ∙ is.there)) (found.2 tested)
 
-all_plain : (monitor : MonitorParts) (notes : List Note) → All (FitsNote monitor) notes → All (IsPlain monitor) notes
-all_plain monitor [] all = All-nil (IsPlain monitor)
+all_plain : (monitor : MonitorParts) (notes : List Note) → All (FitsNote monitor) notes → All (IsTestable monitor) notes
+all_plain monitor [] all = All-nil (IsTestable monitor)
 all_plain monitor (note ∷ notes) all =
-    All-cons (IsPlain monitor) note notes (fitting_plain monitor note (All-head (FitsNote monitor) note notes all)) (all_plain monitor notes (All-tail (FitsNote monitor) note notes all))
+    All-cons (IsTestable monitor) note notes (fitting_plain monitor note (All-head (FitsNote monitor) note notes all)) (all_plain monitor notes (All-tail (FitsNote monitor) note notes all))
 
-notes_plain : (system : System) (block : ℕ) (found : Option (List Note)) → slice_get system.plan.notes block ≡ found → IsSystem system → All (IsPlain system.monitor) (unwrap_or found [])
-notes_plain system block None is set = All-nil (IsPlain system.monitor)
+notes_plain : (system : System) (block : ℕ) (found : Option (List Note)) → slice_get system.plan.notes block ≡ found → IsSystem system → All (IsTestable system.monitor) (unwrap_or found [])
+notes_plain system block None is set = All-nil (IsTestable system.monitor)
 notes_plain system block (Some notes) is set = all_plain system.monitor notes (all_at (FitsNotes system.monitor) system.plan.notes block notes is set.plan.each).each
 
 pub late_is_told : (system : System) → IsSystem system → IsTold system (late_order system.plan)
@@ -119,7 +119,7 @@ late_is_told system set = record {
     noted = λ condition is. all_there (λ note. note.condition == condition) (notes_at system.plan block) is;
     broadcast = λ condition is. all_there (λ note. note.condition == condition && note.all) (notes_at system.plan block) is;
   };
-  plain = λ block.
+  testable = λ block.
       let plain = notes_plain system block (slice_get system.plan.notes block) refl set in
-      plain_tested (IsPlain system.monitor) (notes_at system.plan block) (Unlock ∷ untested_told (notes_at system.plan block)) plain (plain_untested (IsPlain system.monitor) (notes_at system.plan block) plain);
+      plain_tested (IsTestable system.monitor) (notes_at system.plan block) (Unlock ∷ untested_told (notes_at system.plan block)) plain (plain_untested (IsTestable system.monitor) (notes_at system.plan block) plain);
 }

@@ -27,7 +27,7 @@ use Rattle.mon_events.proofs.Applying.{none_needed_applies, one_enough_applies}
 use Rattle.mon_events.proofs.Standings.{stands_within, put_same, came, apart, stays, mover_stands, someone_stays, unwoken_stays, none_waits}
 use Rattle.mon_events.proofs.Covered.{MayStep, reads_not, condition_truth_is, signal_guard, not_both, pending_put, wakes_pending, wakes_all_pending, takes_pending}
 use Rattle.mon_events.proofs.Sound.{target_apart}
-use Rattle.mon_code.specs.Orders.{IsPlain, HasAllNotes}
+use Rattle.mon_code.specs.Orders.{IsTestable, HasAllNotes}
 use Rattle.mon_code.proofs.Stages.{never}
 
 -- who waits is at a place that there is, has a call left, and waits on the condition of its block
@@ -215,7 +215,7 @@ idle_note system state note still =
     (not-false note.tested both.0, both.1)
 
 -- where a note isn't made, nobody waits on its condition with a true guard
-nobody_true : (system : System) → IsSystem system → (state : List Value) (standings : List Standing) → WaitWell system standings → (note : Note) → IsPlain system.monitor note → fires system state note ≡ false
+nobody_true : (system : System) → IsSystem system → (state : List Value) (standings : List Standing) → WaitWell system standings → (note : Note) → IsTestable system.monitor note → fires system state note ≡ false
     → (who : ℕ) (others_place : Place) → StandsAt standings who others_place (Waiting note.condition) → guard_of system state who others_place ≡ true → ⊥
 nobody_true system is state standings well note plain still who others_place at holds =
     let tested = idle_note system state note still in
@@ -225,7 +225,7 @@ nobody_true system is state standings well note plain still who others_place at 
     ∙ sym (condition_truth_is system state (inputs_at theirs.call others_place) note.condition theirs.which theirs.which_is (plain tested.0 theirs.which theirs.which_is)) ∙ tested.1)
 
 pub passes_late : (system : System) → IsSystem system → (state : List Value) (standings : List Standing) → WaitWell system standings → (client : ℕ) (place : Place) (note : Note) (more : List Note)
-    → IsPlain system.monitor note → StandsAt standings client place (Notifying (note ∷ more)) → (fires system state note ≡ false) ⊎ ((note.all ≡ false) × NoneWaits standings note.condition)
+    → IsTestable system.monitor note → StandsAt standings client place (Notifying (note ∷ more)) → (fires system state note ≡ false) ⊎ ((note.all ≡ false) × NoneWaits standings note.condition)
     → IsPending system state standings → IsPending system state (put standings client place (Notifying more))
 passes_late system is state standings well client place note more plain at (inl still) pending =
     takes_pending system state standings client place note more at pending

@@ -24,7 +24,7 @@ use Rattle.mon_code.specs.Executions.{Position, Frame, Thread, Moment, IsThread,
 use Rattle.mon_code.specs.Executions.{IsMove}
 use Rattle.mon_code.specs.Executions.Position.{Outside, At, Asleep, Notified}
 use Rattle.mon_code.specs.Executions.IsMove.{calls, takes, passes, falls_asleep, wakes, retakes, refuses, runs_body, notifies, unlocks, returns}
-use Rattle.mon_code.specs.Orders.{notes_to_come, IsPlain, IsTold}
+use Rattle.mon_code.specs.Orders.{notes_to_come, IsTestable, IsTold}
 use Rattle.mon_code.proofs.Lists.{came}
 use Rattle.mon_code.proofs.Views.{next_block, place_by, place_at, phase_at, place_there, situation_at, thread_before}
 use Rattle.mon_code.proofs.Stages.{first_of, count_of, tries_in, IsAt, later_code, locked_code, passed_code, told_code, Faced, faced_at, open_unwaited, some_block, tries_first, tries_later, next_at, end_at, end_later, next_locked}
@@ -76,7 +76,7 @@ pub record Tells (system : System) (told : ℕ → List Op) (holder : Option ℕ
   pub patient : tries_in system call block ≡ false
   pub later_is : from_lock ops ≡ later_code system told block left
   pub held : ((now_locked ops ≡ true) × (holder ≡ Some thread)) ⊎ (now_free ops ≡ true)
-  pub plain : All (IsPlain system.monitor) (notes_to_come ops)
+  pub plain : All (IsTestable system.monitor) (notes_to_come ops)
 
 abbrev pub IsPlaced : System → (ℕ → List Op) → List Value → Option ℕ → ℕ → Frame → Position → Type 0
 IsPlaced system told state holder thread frame Outside = Unit {0}
@@ -290,14 +290,14 @@ passed_at system told now placed thread frame Unlock number rest at tests = absu
 
 -- ---- after a body, or a refusal
 
-signal_plain : (system : System) (condition : ℕ) (test : Bool) → All (IsPlain system.monitor) (cond test (signal_on condition ∷ []) [])
+signal_plain : (system : System) (condition : ℕ) (test : Bool) → All (IsTestable system.monitor) (cond test (signal_on condition ∷ []) [])
 signal_plain system condition true =
-    All-cons (IsPlain system.monitor) (signal_on condition) [] (λ tested which is. absurd (true≢false (sym tested))) (All-nil (IsPlain system.monitor))
-signal_plain system condition false = All-nil (IsPlain system.monitor)
+    All-cons (IsTestable system.monitor) (signal_on condition) [] (λ tested which is. absurd (true≢false (sym tested))) (All-nil (IsTestable system.monitor))
+signal_plain system condition false = All-nil (IsTestable system.monitor)
 
 -- at the end of the call, with these notes to make
 end_tells : (system : System) (told : ℕ → List Op) (holder : Option ℕ) (thread past : ℕ) (call : Call) (block left : ℕ) (notes_left : List Note) → IsAt system thread past call block (suc left)
-    → holder ≡ Some thread → All (IsPlain system.monitor) notes_left → Tells system told holder thread past (telling_code notes_left)
+    → holder ≡ Some thread → All (IsTestable system.monitor) notes_left → Tells system told holder thread past (telling_code notes_left)
 end_tells system told holder thread past call block left notes_left at held plain = record {
   call = call;
   block = first_of system call + count_of system call;
@@ -306,7 +306,7 @@ end_tells system told holder thread past call block left notes_left at held plai
   patient = tries_later system call (first_of system call + count_of system call) (end_later system thread past call block left at);
   later_is = telling_lock notes_left;
   held = inl (telling_locked notes_left, held);
-  plain = subst (All (IsPlain system.monitor)) (sym (telling_notes notes_left)) plain;
+  plain = subst (All (IsTestable system.monitor)) (sym (telling_notes notes_left)) plain;
 }
 
 pub body_tells : (system : System) (told : ℕ → List Op) → IsTold system told → (holder : Option ℕ) (thread past : ℕ) (call : Call) (block left : ℕ) → IsAt system thread past call block (suc left)
@@ -321,7 +321,7 @@ body_tells system told order holder thread past call block left at held =
       patient = tries_later system call (block + 1) (omega (arith, at.begins));
       later_is = later.lock;
       held = inl (locked_later system told (block + 1) left (told block) (order.shape block), held);
-      plain = subst (All (IsPlain system.monitor)) (sym later.notes) (order.plain block);
+      plain = subst (All (IsTestable system.monitor)) (sym later.notes) (order.testable block);
     }
 
 pub overflow_tells : (system : System) (told : ℕ → List Op) (holder : Option ℕ) (thread past : ℕ) (call : Call) (block left : ℕ) → IsAt system thread past call block (suc left)
@@ -332,7 +332,7 @@ overflow_tells system told holder thread past call block left at held =
 
 pub refusal_tells : (system : System) (told : ℕ → List Op) (holder : Option ℕ) (thread past : ℕ) (call : Call) (block left : ℕ) → IsAt system thread past call block (suc left)
     → holder ≡ Some thread → Tells system told holder thread past (Unlock ∷ [])
-refusal_tells system told holder thread past call block left at held = end_tells system told holder thread past call block left [] at held (All-nil (IsPlain system.monitor))
+refusal_tells system told holder thread past call block left at held = end_tells system told holder thread past call block left [] at held (All-nil (IsTestable system.monitor))
 
 pub continues_tells : (system : System) (told : ℕ → List Op) → IsTold system told → (holder : Option ℕ) (thread past : ℕ) (call : Call) (block left : ℕ) → IsAt system thread past call block (suc left)
     → holder ≡ Some thread → (reply : Reply) (otherwise : List Note) (rest : List Op) → otherwise ≡ overflow_notes system.monitor block → rest ≡ told_code system told block left
@@ -363,7 +363,7 @@ after_note system told holder thread past note rest tells = record {
     | inl held ↦ inl held
     | inr free ↦ inr (and_parts (not note.tested) (now_free rest) free).1
   ];
-  plain = All-tail (IsPlain system.monitor) note (notes_to_come rest) tells.plain;
+  plain = All-tail (IsTestable system.monitor) note (notes_to_come rest) tells.plain;
 }
 
 -- the mutex is given back

@@ -25,8 +25,8 @@ pub data Op : Type 0 where
   -- `let Ok(answer) = state.run_m() else { .. return Err(Overflow); };`: the body of a block, and
   -- the notes that are made where it overflows
   Run : (block : ℕ) (otherwise : List Note) → Op
-  -- `self.can_m.notify_one();`, or `notify_all` where the note is for all; where it is tested, in an
-  -- `if` on the guard of its condition
+  -- `self.can_m.notify_one();`, or `notify_all` where the note is for all; where it is tested, in
+  -- an `if` on the guard of its condition
   Notify : (note : Note) → Op
   -- the guard of the mutex is dropped
   Unlock : Op

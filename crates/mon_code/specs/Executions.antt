@@ -46,8 +46,8 @@ pub data Position : Type 0 where
   -- in `Condvar::wait`, notified or woken by nothing, and in want of the mutex
   Notified : (block condition : ℕ) (rest : List Op) → Position
 
--- what a thread keeps: how many of its calls were answered, and of the call that it is in the locals
--- and the answer so far
+-- what a thread keeps: how many of its calls were answered, and, of the call that it is in, the
+-- locals and the answer so far
 pub record Frame : Type 0 where
   pub past : ℕ
   pub locals : List Value

@@ -106,47 +106,52 @@ StillEndsTheRun program last =
 
 -- ---- the laws, of code that makes a block's notes before or after it gives the mutex back
 
--- whatever the plan
+-- whatever the plan, what ran is a run of the implicit monitor
 abbrev pub LateExecutionsRun : Type 0
 LateExecutionsRun =
     (system : System) (told : ℕ → List Op) (last : Moment) → IsSystem system → IsTold system told
     → Leads (program_with system told) last → Ran (program_with system told) last
 
+-- whatever the plan, a call answers the reply of the last that its thread did
 abbrev pub LateAnswersAreReplies : Type 0
 LateAnswersAreReplies =
     (system : System) (told : ℕ → List Op) (last : Moment) → IsSystem system → IsTold system told
     → Leads (program_with system told) last → AnswersAreReplies (program_with system told) last
 
--- under a lawful plan
+-- under a lawful plan no wake-up is lost
 abbrev pub LateSleepersAreSeenTo : Type 0
 LateSleepersAreSeenTo =
     (system : System) (told : ℕ → List Op) (last : Moment) → HasLawfulPlan system
     → IsTold system told → Leads (program_with system told) last
     → SleepersAreSeenTo (program_with system told) last
 
+-- under a lawful plan no thread hangs whose guard is true
 abbrev pub LateStillIsTheEnd : Type 0
 LateStillIsTheEnd =
     (system : System) (told : ℕ → List Op) (last : Moment) → HasLawfulPlan system
     → IsTold system told → Leads (program_with system told) last
     → StillIsTheEnd (program_with system told) last
 
+-- under a lawful plan the run is at its end where no thread can move but by nothing
 abbrev pub LateStillEndsTheRun : Type 0
 LateStillEndsTheRun =
     (system : System) (told : ℕ → List Op) (last : Moment) → HasLawfulPlan system
     → IsTold system told → Leads (program_with system told) last
     → StillEndsTheRun (program_with system told) last
 
--- the order that is printed is such an order
+-- tested notes, the mutex is given back, the other notes: the order that is printed is such a one
 abbrev pub LateOrderIsTold : Type 0
 LateOrderIsTold = (system : System) → IsSystem system → IsTold system (late_order system.plan)
 
 -- ---- plans without the notes that nobody hears
 
+-- the plan without the notes that nobody hears fits where the plan does
 abbrev pub LivePlansFit : Type 0
 LivePlansFit =
     (monitor : MonitorParts) (plan : Plan) → FitsPlan monitor plan
     → FitsPlan monitor (live_plan monitor plan)
 
+-- and is lawful where the plan is
 abbrev pub LivePlansAreLawful : Type 0
 LivePlansAreLawful =
     (monitor : MonitorParts) (plan : Plan) → IsLawful monitor plan
@@ -162,7 +167,8 @@ pub record LosesNone (program : Program) (last : Moment) : Type 0 where
   pub ends : StillIsTheEnd program last
   pub ends_the_run : StillEndsTheRun program last
 
--- whatever threads call its methods, as often as they do
+-- the printed program of a lawful plan loses no wake-up, whatever threads call its methods, and as
+-- often as they do
 abbrev pub PrintedCodeLosesNone : Type 0
 PrintedCodeLosesNone =
     (monitor : MonitorParts) (plan : Plan) (clients : List Client) (last : Moment)

@@ -27,9 +27,9 @@ is_locked (Notify note ∷ rest) = is_locked rest
 is_locked (Unlock ∷ rest) = is_free rest
 is_locked ops = false
 
--- of a tested note: its condition's guard reads no inputs
-abbrev pub IsPlain : MonitorParts → Note → Type 0
-IsPlain monitor note =
+-- a tested note can be tested: its condition's guard reads no inputs
+abbrev pub IsTestable : MonitorParts → Note → Type 0
+IsTestable monitor note =
     note.tested ≡ true → (which : Condition) → IsCondition monitor note.condition which
     → reads_inputs which.guard ≡ false
 
@@ -45,4 +45,4 @@ pub record HasAllNotes (system : System) (block : ℕ) (notes : List Note) : Typ
 pub record IsTold (system : System) (told : ℕ → List Op) : Type 0 where
   pub shape : (block : ℕ) → is_locked (told block) ≡ true
   pub notes : (block : ℕ) → HasAllNotes system block (notes_to_come (told block))
-  pub plain : (block : ℕ) → All (IsPlain system.monitor) (notes_to_come (told block))
+  pub testable : (block : ℕ) → All (IsTestable system.monitor) (notes_to_come (told block))

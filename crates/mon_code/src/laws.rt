@@ -5,12 +5,12 @@ ghost use Rattle.mon_code.specs.Laws.{LateSleepersAreSeenTo, LateStillIsTheEnd};
 ghost use Rattle.mon_code.specs.Laws.{LateStillEndsTheRun, LateOrderIsTold};
 ghost use Rattle.mon_code.specs.Laws.{LivePlansFit, LivePlansAreLawful, PrintedCodeLosesNone};
 
-/// Whatever the interleaving of any threads that call the methods of a monitor, any number of times,
-/// by code that makes the notes of each block before or after it gives the mutex back: what ran is
-/// a run of the implicit monitor, and what a call answers is the reply of the last that its thread
-/// did. Under a lawful plan no wake-up is lost: where nobody holds the mutex and a thread sleeps
-/// whose guard is true, a thread is notified on its condition, or has a note on it to make; and
-/// where no thread can move but by nothing, each has no call left, or sleeps and its guard is
+/// Whatever the interleaving of any threads that call the methods of a monitor, any number of
+/// times, by code that makes the notes of each block before or after it gives the mutex back: what
+/// ran is a run of the implicit monitor, and what a call answers is the reply of the last that its
+/// thread did. Under a lawful plan no wake-up is lost: where nobody holds the mutex and a thread
+/// sleeps whose guard is true, a thread is notified on its condition, or has a note on it to make;
+/// and where no thread can move but by nothing, each has no call left, or sleeps and its guard is
 /// false, and the run is at its end. The order that is printed is such an order: tested notes, the
 /// mutex is given back, and the other notes.
 pub fn late_notes_lose_none()
@@ -29,8 +29,8 @@ pub fn live_plans_are_lawful()
     ensures lawful { LivePlansAreLawful }
 {}
 
-/// So all this is true of the program that is printed of a monitor and a lawful plan, at each moment
-/// of each execution.
+/// So all this is true of the program that is printed of a monitor and a lawful plan, at each
+/// moment of each execution.
 pub fn printed_code_loses_none()
     ensures { PrintedCodeLosesNone }
 {}
