@@ -1,8 +1,8 @@
 -- Who holds the mutex is where the code has it.
-use Rattle.std.proofs.Common.{◌≡◌, ℕ, ◌+◌, Bool, true, false, cond, List, [], ◌∷◌, Option, Some, None, refl, sym, ap, subst, ◌∙◌, inl, inr}
+use Rattle.std.proofs.Common.{◌≡◌, ℕ, ◌+◌, Bool, true, false, cond, not, List, [], ◌∷◌, Option, Some, None, refl, sym, ap, subst, ◌∙◌, inl, inr}
 use Rattle.std.specs.Prelude.{slice_get, option_map}
 use Rattle.std.proofs.lemmas.Option.{none-some, same_Some, slice_get-map}
-use Rattle.std.proofs.lemmas.Bool.{cases_eq}
+use Rattle.std.proofs.lemmas.Bool.{true≢false, cases_eq, and_parts, not-true}
 use Rattle.mon_implicit.specs.declared.commit.Reply.{Reply}
 use Rattle.mon_implicit.specs.declared.commit.Reply.TheVariants as replies
 use Rattle.mon_monitor.specs.MonitorParts.{locals_in}
@@ -16,9 +16,10 @@ use Rattle.mon_code.specs.Executions.Position.{Outside, At, Asleep, Notified}
 use Rattle.mon_code.specs.Executions.IsMove.{calls, takes, passes, falls_asleep, wakes, retakes, refuses, runs_body, notifies, unlocks, returns}
 use Rattle.mon_code.specs.Executions.Executes.{none_yet, one_more}
 use Rattle.mon_code.specs.Orders.{IsTold}
+use Rattle.mon_code.specs.Laws.{Leads, HoldersAct}
 use Rattle.mon_code.proofs.Lists.{set_here, set_other}
 use Rattle.mon_code.proofs.Stages.{tries_in, passed_code, now_free, now_locked, never, locked_later, telling_locked}
-use Rattle.mon_code.proofs.Placed.{ArePlaced, passed_at}
+use Rattle.mon_code.proofs.Placed.{ArePlaced, passed_at, after_unlock}
 use Rattle.mon_code.proofs.Running.{noter_stays, sound_late}
 
 -- ---- where the holder is
@@ -165,3 +166,19 @@ pub holder_late : (system : System) (told : ℕ → List Op) → IsSystem system
 holder_late system told is order last none_yet = nobody_holds (start (program_with system told)).threads
 holder_late system told is order last (one_more middle end so_far move) =
     move_holding system told order middle end (sound_late system told is order middle so_far).placed (holder_late system told is order middle so_far) move
+
+-- ---- who does what needs the mutex
+
+needs_holder : (system : System) (told : ℕ → List Op) (now : Moment) → ArePlaced system told now → HoldersAct (program_with system told) now
+needs_holder system told now placed thread frame Lock rest at needs = never needs
+needs_holder system told now placed thread frame (WaitUntil block condition) rest at needs = (placed thread frame (At (WaitUntil block condition ∷ rest)) at).0
+needs_holder system told now placed thread frame (ElseRefuse block) rest at needs = (placed thread frame (At (ElseRefuse block ∷ rest)) at).0
+needs_holder system told now placed thread frame (Run block otherwise) rest at needs = (placed thread frame (At (Run block otherwise ∷ rest)) at).0
+needs_holder system told now placed thread frame (Notify note) rest at needs = elim (placed thread frame (At (Notify note ∷ rest)) at).held [
+  | inl held ↦ held.1
+  | inr free ↦ absurd (true≢false (sym needs ∙ not-true note.tested (and_parts (not note.tested) (now_free rest) free).0))
+]
+needs_holder system told now placed thread frame Unlock rest at needs = (after_unlock system told now.holder thread frame.past rest (placed thread frame (At (Unlock ∷ rest)) at)).0
+
+pub late_holders_act : (system : System) (told : ℕ → List Op) (last : Moment) → IsSystem system → IsTold system told → Leads (program_with system told) last → HoldersAct (program_with system told) last
+late_holders_act system told last is order run = needs_holder system told last (sound_late system told is order last run).placed

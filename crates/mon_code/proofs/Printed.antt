@@ -13,6 +13,7 @@ use Rattle.mon_code.specs.Executions.{Moment}
 use Rattle.mon_code.specs.LivePlans.{live_plan, printed_program}
 use Rattle.mon_code.specs.Laws.{Leads, LosesNone}
 use Rattle.mon_code.proofs.Running.{late_runs}
+use Rattle.mon_code.proofs.Holding.{late_holders_act}
 use Rattle.mon_code.proofs.Answering.{late_answers}
 use Rattle.mon_code.proofs.Covering.{late_seen_to}
 use Rattle.mon_code.proofs.Stillness.{still_late, still_ends}
@@ -29,6 +30,7 @@ printed_loses_none monitor plan clients last rule scripts fits lawful run =
     let told : ℕ → List Op = late_order live in
     let order = late_is_told system is in
     record {
+      mutex = late_holders_act system told last is order run;
       run = late_runs system told last is order run;
       answers = late_answers system told last is order run;
       pending = late_seen_to system told last set order run;

@@ -44,6 +44,7 @@ is_always_step (Some_of parts) = false
 abbrev pub is_always : Formula → Bool
 is_always = fold-Formula Bool is_always_step
 
+-- the condition of this number has such a guard
 abbrev pub is_waited_on : MonitorParts → ℕ → Bool
 is_waited_on monitor condition =
     option_map_or (λ which. not (is_always which.guard))
@@ -56,6 +57,7 @@ abbrev pub telling_code : List Note → List Op
 telling_code [] = Unlock ∷ []
 telling_code (note ∷ notes) = Notify note ∷ telling_code notes
 
+-- an untested signal
 abbrev pub signal_on : ℕ → Note
 signal_on condition = record { condition = condition; all = false; tested = false }
 

@@ -53,6 +53,7 @@ pub record Frame : Type 0 where
   pub locals : List Value
   pub answer : Reply
 
+-- a thread: what it keeps, and where it is
 pub record Thread : Type 0 where
   pub frame : Frame
   pub position : Position
@@ -74,6 +75,7 @@ new_thread = record {
   position = Outside;
 }
 
+-- the fields at their start, the mutex free, and every thread between two calls
 abbrev pub start : Program → Moment
 start program = record {
   state = start_of program.monitor;
@@ -269,6 +271,7 @@ abbrev pub is_made : Program → List Value → Note → Bool
 is_made program state note =
     not note.tested || condition_truth program.monitor state note.condition
 
+-- no thread sleeps on the condition
 abbrev pub NoneSleeps : List Thread → ℕ → Type 0
 NoneSleeps threads condition =
     (thread : ℕ) (frame : Frame) (block : ℕ) (rest : List Op)
@@ -282,6 +285,7 @@ woken_position condition Outside = Outside
 woken_position condition (At rest) = At rest
 woken_position condition (Notified block other rest) = Notified block other rest
 
+-- so is the thread, if it sleeps on the condition
 abbrev pub woken_thread : ℕ → Thread → Thread
 woken_thread condition thread =
     record { frame = thread.frame; position = woken_position condition thread.position }

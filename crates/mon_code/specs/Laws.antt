@@ -1,6 +1,6 @@
 -- What the laws say.
-use Rattle.std.specs.Prelude.{◌≡◌, ◌≢◌, ◌⊎◌, ℕ, ◌+◌, true, false, List, ◌∷◌, ◌++◌, All, None, Some}
-use Rattle.std.specs.Prelude.{[], slice_get}
+use Rattle.std.specs.Prelude.{◌≡◌, ◌≢◌, ◌⊎◌, ℕ, ◌+◌, Bool, true, false, List, [], ◌∷◌, ◌++◌}
+use Rattle.std.specs.Prelude.{All, None, Some, slice_get}
 use Rattle.mon_monitor.specs.MonitorParts.{MonitorParts, IsMonitor, count_in}
 use Rattle.mon_implicit.specs.declared.commit.Commit.{Commit}
 use Rattle.mon_implicit.specs.declared.script.Call.{Call}
@@ -14,6 +14,7 @@ use Rattle.mon_events.specs.Configurations.{System}
 use Rattle.mon_events.specs.Pending.{IsSystem}
 use Rattle.mon_events.specs.Laws.{HasLawfulPlan}
 use Rattle.mon_code.specs.Code.{Op, late_order}
+use Rattle.mon_code.specs.Code.Op.{Lock, WaitUntil, ElseRefuse, Run, Notify, Unlock}
 use Rattle.mon_code.specs.Executions.{Program, program_with, Position, Frame, Moment, IsThread}
 use Rattle.mon_code.specs.Executions.{start, call_of, is_open, Executes, IsStill}
 use Rattle.mon_code.specs.Executions.Position.{Outside, At, Asleep, Notified}
@@ -23,6 +24,24 @@ use Rattle.mon_code.specs.LivePlans.{live_plan, printed_program}
 -- an execution of the program from its start leads to the moment
 abbrev pub Leads : Program → Moment → Type 0
 Leads program last = Executes program (start program) last
+
+-- ---- who holds the mutex
+
+-- the operation reads or changes what is in the mutex, or gives it back
+abbrev pub needs_mutex : Op → Bool
+needs_mutex Lock = false
+needs_mutex (WaitUntil block condition) = true
+needs_mutex (ElseRefuse block) = true
+needs_mutex (Run block otherwise) = true
+needs_mutex (Notify note) = note.tested
+needs_mutex Unlock = true
+
+-- a thread that is about to do such an operation holds the mutex, as Rust's types ask
+abbrev pub HoldersAct : Program → Moment → Type 0
+HoldersAct program last =
+    (thread : ℕ) (frame : Frame) (op : Op) (rest : List Op)
+    → IsThread last.threads thread frame (At (op ∷ rest)) → needs_mutex op ≡ true
+    → last.holder ≡ Some thread
 
 -- ---- what ran
 
@@ -106,6 +125,12 @@ StillEndsTheRun program last =
 
 -- ---- the laws, of code that makes a block's notes before or after it gives the mutex back
 
+-- whatever the plan, who reads or changes the state holds the mutex
+abbrev pub LateHoldersAct : Type 0
+LateHoldersAct =
+    (system : System) (told : ℕ → List Op) (last : Moment) → IsSystem system → IsTold system told
+    → Leads (program_with system told) last → HoldersAct (program_with system told) last
+
 -- whatever the plan, what ran is a run of the implicit monitor
 abbrev pub LateExecutionsRun : Type 0
 LateExecutionsRun =
@@ -161,6 +186,7 @@ LivePlansAreLawful =
 
 -- what is so at each moment of its executions
 pub record LosesNone (program : Program) (last : Moment) : Type 0 where
+  pub mutex : HoldersAct program last
   pub run : Ran program last
   pub answers : AnswersAreReplies program last
   pub pending : SleepersAreSeenTo program last

@@ -23,6 +23,7 @@ heard_kinds monitor number (kind ∷ kinds_left) =
     (if is_waited_on monitor (suc number) then kind else kinds.Broadcast)
     ∷ heard_kinds monitor (suc number) kinds_left
 
+-- what is kept stays, and the notes that nobody hears are left out
 abbrev pub live_plan : MonitorParts → Plan → Plan
 live_plan monitor plan = record {
   kept = plan.kept;

@@ -1,9 +1,13 @@
 use Rattle.mon_code.proofs.Running.{late_runs}
+use Rattle.mon_code.proofs.Holding.{late_holders_act}
 use Rattle.mon_code.proofs.Answering.{late_answers}
 use Rattle.mon_code.proofs.Covering.{late_seen_to}
 use Rattle.mon_code.proofs.Stillness.{still_late, still_ends}
 use Rattle.mon_code.proofs.Order.{late_is_told}
 use Rattle.mon_code.proofs.laws.late_notes_lose_none.Goals as goal
+
+pub returns-clause-mutex : goal.returns-clause-mutex
+returns-clause-mutex c = late_holders_act
 
 pub returns-clause-run : goal.returns-clause-run
 returns-clause-run c = late_runs
