@@ -1,4 +1,5 @@
-//! Tests of the words of the command line, and of what each command prints over files and sinks in memory.
+//! Tests of the words of the command line, of workers that pass a gate, and of standard output. What each command prints
+//! is said by the rows of the crate `rows`.
 //!
 //! There are only tests. What is asked for was worked out by hand.
 #![tactic(auto)]
@@ -6,36 +7,8 @@
 #[cfg(test)]
 mod asking;
 #[cfg(test)]
-mod blocks;
-#[cfg(test)]
-mod checks;
-#[cfg(test)]
-mod clients;
-#[cfg(test)]
-mod compile;
-#[cfg(test)]
-mod derived;
-#[cfg(test)]
 mod gates;
 #[cfg(test)]
-mod outside;
-#[cfg(test)]
-mod readme;
-#[cfg(test)]
-mod recheck;
-#[cfg(test)]
-mod report;
-#[cfg(test)]
-mod run;
-#[cfg(test)]
-mod runs;
-#[cfg(test)]
-mod simulate;
-#[cfg(test)]
 mod standard_output;
-#[cfg(test)]
-mod stress;
-#[cfg(test)]
-mod tries;
 #[cfg(test)]
 mod words;

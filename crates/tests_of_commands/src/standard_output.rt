@@ -1,12 +1,8 @@
-//! The program over a standard output that takes three bytes at a time.
+//! The program over a standard output that takes three bytes at a time, and over one that takes none.
 
 ghost use Rattle.std.specs.Prelude.{◌≤◌, IfOk, length};
 
-use super::asking::{
-    Call, Devices, RUN, SIMULATE, SOUND, asked, check, compile, texts_of, turns, two_files,
-};
-use super::outside::USAGE;
-use super::runs::TWO_RUN;
+use super::asking::{Call, ROOM, asked, texts_of, two_files};
 use expresso::{Status, expresso, without_workers};
 use mon_io::{MemSink, StdSink};
 use mon_pool::OpenGate;
@@ -21,6 +17,39 @@ use std::process::Abort;
 use std::sync::Wait;
 use std::test::Fail;
 use std::thread::Threads;
+
+const ALONE: &[&str] = &["expresso"];
+
+const CHECK: &[&str] = &["expresso", "check", "m.mon"];
+
+const COMPILE: &[&str] = &["expresso", "compile", "m.mon"];
+
+const TURNS: &[&str] = &["expresso", "turns", "m.mon", "c.cl"];
+
+const SIMULATE: &[&str] = &["expresso", "simulate", "m.mon", "c.cl"];
+
+const RUN: &[&str] = &["expresso", "run", "m.mon", "c.cl"];
+
+const STRESS: &[&str] = &["expresso", "stress", "3"];
+
+const USAGE: &[u8] = b"usage:
+expresso check FILE
+expresso turns FILE CLIENTS
+expresso compile FILE
+expresso simulate FILE CLIENTS [--seed N] [--spurious K]
+expresso run FILE CLIENTS [--workers N]
+expresso stress N [--workers N]
+expresso report FILE
+expresso recheck FILE REPORT
+";
+
+const TWO_RUN: &[u8] = b"A.1 put() = -
+B.1 get() = -
+A.2 put() = -
+B.2 get() = -
+done
+state count=0
+";
 
 /// A standard output that keeps what it is given, three bytes at a time.
 #[derive(Drop)]
@@ -87,28 +116,24 @@ fn hands_on(
 
 #[test]
 fn the_text_of_each_status_reaches_standard_output(rt: HostRuntime) -> Result<(), Fail> {
-    let alone: &[&str] = &["expresso"];
     let unread = Call {
-        devices: Devices {
-            failing_read: Some(1),
-            ..SOUND
-        },
-        ..turns(BUFFER, TWO)
+        failing_read: Some(1),
+        ..asked(TURNS, BUFFER, TWO)
     };
     let table: [(Call<'_>, Status, &[u8]); 5] = [
-        (turns(BUFFER, TWO), Status::Done, TWO_RUN),
+        (asked(TURNS, BUFFER, TWO), Status::Done, TWO_RUN),
         (
-            turns(BUFFER, b"client A { get(); }"),
+            asked(TURNS, BUFFER, b"client A { get(); }"),
             Status::Stalled,
             b"stalled\nA.1 get() blocked\nstate count=0\n",
         ),
         (unread, Status::ReadFault, b"read fault: m.mon\n"),
         (
-            check(b"@"),
+            asked(CHECK, b"@", b""),
             Status::Refused,
             b"refused: m.mon:1:1: no token starts here\n",
         ),
-        (asked(alone, b"", TWO), Status::Usage, USAGE),
+        (asked(ALONE, b"", TWO), Status::Usage, USAGE),
     ];
     for (call, status, text) in table {
         hands_on(&rt, call, status, text)?;
@@ -120,25 +145,68 @@ fn the_text_of_each_status_reaches_standard_output(rt: HostRuntime) -> Result<()
 fn status_alone(alloc: Global, call: &Call<'_>) -> Result<Option<Status>, AllocError> {
     let words = texts_of(alloc, call.words)?;
     let mut files = two_files(alloc, call)?;
-    let mut out = MemSink::open(alloc, 1 << 20, Vec::new(alloc))?;
+    let mut out = MemSink::open(alloc, ROOM, Vec::new(alloc))?;
     Ok(without_workers(alloc, &words, &mut files, &mut out).ok())
 }
 
 #[test]
 fn only_run_and_stress_want_a_runtime(rt: HostRuntime) -> Result<(), Fail> {
-    let alone: &[&str] = &["expresso"];
-    let stress: &[&str] = &["expresso", "stress", "3"];
     let table = [
-        (check(BUFFER), Some(Status::Done)),
-        (turns(BUFFER, TWO), Some(Status::Done)),
-        (compile(BUFFER), Some(Status::Done)),
+        (asked(CHECK, BUFFER, TWO), Some(Status::Done)),
+        (asked(TURNS, BUFFER, TWO), Some(Status::Done)),
+        (asked(COMPILE, BUFFER, TWO), Some(Status::Done)),
         (asked(SIMULATE, BUFFER, TWO), Some(Status::Done)),
-        (asked(alone, BUFFER, TWO), Some(Status::Usage)),
+        (asked(ALONE, BUFFER, TWO), Some(Status::Usage)),
         (asked(RUN, BUFFER, TWO), None),
-        (asked(stress, BUFFER, TWO), None),
+        (asked(STRESS, BUFFER, TWO), None),
     ];
     for (call, status) in table {
         assert_eq!(rt; status_alone(rt.alloc(), &call)?, status);
+    }
+    Ok(())
+}
+
+/// A standard output that takes nothing.
+#[derive(Drop)]
+struct Closed;
+
+impl Print for Closed {
+    fn print<D: Display + Drop>(&self, _value: D) -> io::Result<()> {
+        Ok(())
+    }
+
+    fn println<D: Display + Drop>(&self, _value: D) -> io::Result<()> {
+        Ok(())
+    }
+
+    fn write_all(&self, _bytes: &[u8]) -> io::Result<()> {
+        Err(io::Error::from(io::ErrorKind::BrokenPipe))
+    }
+}
+
+/// Demands of a call over this output that it is a write fault, counted once.
+fn fails_to_hand_on(
+    rt: &(impl Abort + Threads + Wait + Sync + AllocGlobal),
+    call: &Call<'_>,
+) -> Result<(), AllocError> {
+    let words = texts_of(rt.alloc(), call.words)?;
+    let mut files = two_files(rt.alloc(), call)?;
+    let mut out = StdSink::new(&Closed);
+    let status = expresso(rt, rt.alloc(), &words, &mut files, &mut out, &OpenGate);
+    assert_eq!(rt; status, Status::WriteFault);
+    assert_eq!(rt; out.faults(), 1);
+    Ok(())
+}
+
+#[test]
+fn a_text_that_is_gathered_and_not_handed_on_is_a_write_fault(rt: HostRuntime) -> Result<(), Fail> {
+    for call in [
+        asked(TURNS, BUFFER, TWO),
+        asked(CHECK, BUFFER, TWO),
+        asked(CHECK, b"@", b""),
+        asked(ALONE, b"", TWO),
+    ] {
+        fails_to_hand_on(&rt, &call)?;
     }
     Ok(())
 }

@@ -1,6 +1,6 @@
-//! Tests of the crates that read, check and prove monitors: what the checker makes of a text, and which rule it names;
-//! the forms and the formulas of expressions; paths, queries, candidates, invariants and certificates of whole
-//! monitors, and which of them are small.
+//! Tests of the crates that read, check and prove monitors: what the checker makes of a text; the forms and the formulas
+//! of expressions; paths, queries, candidates, invariants and certificates of whole monitors, and which of them are
+//! small. Which rule is named of a text that breaks one is said by the rows of the crate `rows`.
 //!
 //! There are only tests. Every answer was worked out by hand from the rules of the language and of plans.
 #![tactic(auto)]
@@ -17,7 +17,5 @@ mod forms;
 mod invariants;
 #[cfg(test)]
 mod queries;
-#[cfg(test)]
-mod rules;
 #[cfg(test)]
 mod small;
