@@ -6,6 +6,7 @@ pub mod MakingNotes
 pub mod MakingWakes
 pub mod Opening
 pub mod Starting
+pub mod Beginning
 pub mod Came
 pub mod Sectioned
 pub mod Noting

@@ -139,6 +139,11 @@ stands_finished plan positions client place done = subst (λ (phase : Phase). St
 pub lent_finished : (plan : Plan) (positions : List Position) (client : ℕ) (place : Place) (one : Position) → HasFinished plan positions client place → one ≡ get_or positions client one → HasFinished plan positions client one.place
 lent_finished plan positions client place one done is = record { doing = done.doing; at = lent_at positions client place done.doing one done.at is; none = done.none }
 
+pub finished_made : (plan : Plan) (positions : List Position) (client : ℕ) (place : Place) → StandsAt (map (standing_of plan) positions) client place (Notifying []) → HasFinished plan positions client place
+finished_made plan positions client place stands =
+    let found = standing_position plan positions client place (Notifying []) stands in
+    record { doing = found.0; at = found.1; none = found.2 }
+
 pub unlocks : (monitor : MonitorParts) (plan : Plan) (clients : List Client) (state : List Value) (owner : Option ℕ) (commits : List Commit) (positions : List Position) (client : ℕ) (place : Place)
     → HasFinished plan positions client place
     → IsEvent (record { monitor = monitor; plan = plan; clients = clients }) (events.Unlock client) (machine_of monitor plan clients state owner commits positions).now

@@ -4,11 +4,11 @@ use Rattle.mon_events.specs.declared.event.Event.{Event}
 use Rattle.mon_events.specs.declared.event.Event.TheVariants as events
 use Rattle.mon_events.specs.Configurations.{System, Configuration, StandsAt}
 use Rattle.mon_events.specs.Configurations.Phase.{Idle, Entering, Woken, Inside}
-use Rattle.mon_events.specs.Events.{Begins, Locks, WantsLock, IsEvent}
+use Rattle.mon_events.specs.Events.{Begins, Locks, WantsLock}
 use Rattle.std.specs.Prelude.{is_err, true, false}
 use Rattle.std.proofs.lemmas.Bool.{true≢false}
 use Rattle.mon_explicit.specs.Machines.{Machine, Happened, Refused, Steps, NotAllowed}
-use Rattle.mon_explicit.specs.inner.Waiting.{NoneEnters, Started, NotStarted, IsInside, CanUnlock}
+use Rattle.mon_explicit.specs.inner.Waiting.{Started, NotStarted, IsInside}
 use Rattle.mon_events.proofs.Standings.{put_same, stands_within, one_place}
 use Rattle.mon_implicit.specs.declared.place.Place.{Place}
 
@@ -43,24 +43,6 @@ began before begun last client (Err error) free happened told =
       },
     ))
 
-pub went_on : {E : Type 0} (before same last : Machine) (client : ℕ) (result : Result (Unit {0}) E) → before.now.owner ≡ None → NoneEnters before.now.standings → Refused (events.Begin client) before same
-    → MatchResult result (λ _. Happened (events.Lock client) same last) (λ _. Refused (events.Lock client) same last)
-    → MatchResult result (λ _. Started before client last) (λ _. NotStarted before client last)
-went_on before same last client (Ok done) free settled refused told =
-    let locks : Locks client told.1.0 before.now last.now = subst (λ (m : Machine). Locks client told.1.0 m.now last.now) refused.0 told.1.1 in
-    elim locks.wants [
-      | inl entering ↦ absurd (settled client told.1.0 entering)
-      | inr woken ↦ (told.0 ∙ ap (λ (m : Machine). m.system) refused.0, (told.1.0, before.now, inr (woken, refl), locks))
-    ]
-went_on before same last client (Err error) free settled refused told =
-    let never = subst (λ (m : Machine). (next : Configuration) → IsEvent m.system (events.Lock client) m.now next → ⊥) refused.0 told.1 in (
-      told.0 ∙ refused.0,
-      λ can. elim can [
-        | inl idle ↦ refused.1 _ (idle.0, record { idle = idle.1; left = idle.2; becomes = refl })
-        | inr woken ↦ never _ (woken.0, record { free = free; wants = inr (woken.1, woken.2); becomes = refl })
-      ],
-    )
-
 -- a client that started is inside
 pub started_inside : (before next : Machine) (client : ℕ) → Started before client next → IsInside next client
 started_inside before next client started =
@@ -86,6 +68,3 @@ happened_when event before next (Err error) works steps = absurd (true≢false w
 pub started_when : {E : Type 0} (before next : Machine) (client : ℕ) (result : Result (Unit {0}) E) → is_err result ≡ false → MatchResult result (λ _. Started before client next) (λ _. NotStarted before client next) → Started before client next
 started_when before next client (Ok done) works told = told
 started_when before next client (Err error) works told = absurd (true≢false works)
-
-pub can_unlock : (machine : Machine) (client : ℕ) → CanUnlock machine client → NotAllowed machine (events.Unlock client) → ⊥
-can_unlock machine client can never = never _ (can.0, record { notifying = can.1; becomes = refl })

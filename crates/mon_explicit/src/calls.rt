@@ -1,10 +1,8 @@
 //! The calls of clients, and their blocks.
 
-ghost use Rattle.std.specs.Prelude.{◌≡◌, ◌==◌, ◌&&◌, ◌<◌, ◌≤◌, ◌*◌, Some, length, sum_by};
+ghost use Rattle.std.specs.Prelude.{◌≡◌, ◌==◌, ◌&&◌, ◌<◌, ◌≤◌, ◌*◌, length, sum_by};
 ghost use Rattle.mon_base.specs.Limits.{CALLS, METHOD_BLOCKS};
-ghost use Rattle.mon_implicit.specs.Places.{FitsPlaceAt, block_at, inputs_at};
-ghost use Rattle.mon_implicit.specs.Scripted.{AreClients, FitsCall, all_blocks, blocks_in, calls_of};
-ghost use Rattle.mon_implicit.specs.Steps.{FitsBlock};
+ghost use Rattle.mon_implicit.specs.Scripted.{AreClients, all_blocks, blocks_in, calls_of};
 ghost use Rattle.mon_events.specs.Configurations.{block_condition};
 
 use mon_implicit::{Call, Client, Place, Scripts};
@@ -19,17 +17,6 @@ pub fn calls(scripts: &Scripts, client: u32) -> &[Call]
         Some(one) => one.calls.items(),
         None => &[],
     }
-}
-
-/// The number in the monitor of the block that a client is at.
-pub fn block_number(monitor: &Monitor, call: &Call, place: &Place) -> u32
-    requires call { FitsCall monitor.now call.now }
-    requires place { FitsPlaceAt monitor.now place.now (Some call.now) }
-    ensures number { result ≡ block_at monitor.now call.now place.now }
-    ensures fits { FitsBlock monitor.now result (inputs_at call.now place.now) }
-    ensures few { place.now.block < METHOD_BLOCKS }
-{
-    monitor.methods()[call.method as usize].first + place.block
 }
 
 /// Whether a call that tries is at its first block.

@@ -1,6 +1,6 @@
 //! The event machine.
 
-ghost use Rattle.std.specs.Prelude.{◌≡◌, ◌<◌, ◌↔◌, false, true, IfOk, IsSomeAnd, IsTrue, MatchOption, None, Some};
+ghost use Rattle.std.specs.Prelude.{◌≡◌, ◌<◌, ◌↔◌, false, true, IfOk, IsSomeAnd, IsTrue, MatchOption, MatchResult, None, Some};
 ghost use Rattle.std.specs.Prelude.{length, map};
 ghost use Rattle.std.specs.Prelude.{slice_get};
 ghost use Rattle.mon_implicit.specs.declared.place.Place.{Place};
@@ -14,10 +14,11 @@ ghost use Rattle.mon_explicit.specs.Machines.{Happened, IsMachine, KeepsWakeUps,
 ghost use Rattle.mon_explicit.specs.Machines.{opened, stage_of};
 ghost use Rattle.mon_explicit.specs.inner.Positions.{idle_position};
 ghost use Rattle.mon_explicit.specs.Sections.{can_start};
-ghost use Rattle.mon_explicit.specs.inner.Waiting.{Comes, CountsNotes, EachRests, Goes, HasRun, HasWaited};
-ghost use Rattle.mon_explicit.specs.inner.Waiting.{IsComing, IsInside, NoneComes, Passes, WaitsOn, WasRefused, WentIn};
+ghost use Rattle.mon_explicit.specs.inner.Waiting.{CanUnlock, Comes, CountsNotes, EachRests, Goes, HasRun, HasWaited};
+ghost use Rattle.mon_explicit.specs.inner.Waiting.{IsComing, IsInside, IsSettled, NoneComes, NotStarted, Passes};
+ghost use Rattle.mon_explicit.specs.inner.Waiting.{Started, WaitsOn, WasRefused, WentIn};
 
-use super::calls::{all_blocks, block_number, calls, condition_of, is_first_try};
+use super::calls::{all_blocks, calls, condition_of, is_first_try};
 use super::notes::{Next, count_notes, finished, fires, next_note};
 use super::position::{
     Doing, Position, idle, inside, ready, some_waits, waiting, waiting_on, wake_all,
@@ -26,7 +27,8 @@ use super::steps::{refuse_step, run_step};
 use super::waiting::{all_rest, starts};
 use mon_events::{Event, Plan, Stage};
 use mon_implicit::{
-    Client, Commit, Place, Reply, Scripts, State, guard_of_call, place_at_start, start,
+    Client, Commit, Place, Reply, Scripts, State, block_number, guard_of_call, place_at_start,
+    start,
 };
 use mon_monitor::Monitor;
 use std::alloc::{AllocError, Global};
@@ -329,8 +331,23 @@ impl Config {
         Some(Way::Waits)
     }
 
+    /// An idle client with a call left begins, and one that was woken goes on; it takes the lock.
+    pub(crate) fn start(&mut self, client: u32) -> Result<(), NotEnabled>
+        requires settled { IsSettled self.old.now }
+        requires within { client < length self.old.system.clients }
+        ensures { MatchResult result (λ _. Started self.old client self.new)
+            (λ _. NotStarted self.old client self.new) }
+    {
+        if !self.starts(client) {
+            return Err(NotEnabled);
+        }
+        self.owner = Some(client);
+        self.positions[client as usize].doing = Doing::Inside;
+        Ok(())
+    }
+
     /// An idle client with a call left enters.
-    pub(crate) fn begin(&mut self, client: u32) -> Result<(), NotEnabled>
+    fn begin(&mut self, client: u32) -> Result<(), NotEnabled>
         ensures { Steps (Event.Begin client) self.old self.new result }
     {
         let Some(place) = idle(&self.positions, client) else {
@@ -344,7 +361,7 @@ impl Config {
     }
 
     /// A client that enters, or was woken, takes the free lock.
-    pub(crate) fn lock(&mut self, client: u32) -> Result<(), NotEnabled>
+    fn lock(&mut self, client: u32) -> Result<(), NotEnabled>
         ensures { Steps (Event.Lock client) self.old self.new result }
     {
         if self.owner.is_some() {
@@ -537,15 +554,23 @@ impl Config {
     }
 
     /// A client with no note to come gives the lock back.
-    pub(crate) fn unlock(&mut self, client: u32) -> Result<(), NotEnabled>
+    fn unlock(&mut self, client: u32) -> Result<(), NotEnabled>
         ensures { Steps (Event.Unlock client) self.old self.new result }
     {
         let Some(_place) = finished(&self.plan, &self.positions, client) else {
             return Err(NotEnabled);
         };
+        self.release(client);
+        Ok(())
+    }
+
+    /// A client that has made all its notes gives the lock back.
+    pub(crate) fn release(&mut self, client: u32)
+        requires { CanUnlock self.old client }
+        ensures { Happened (Event.Unlock client) self.old self.new }
+    {
         self.owner = None;
         self.positions[client as usize].doing = Doing::Idle;
-        Ok(())
     }
 
     /// A client that waits is woken by nothing.

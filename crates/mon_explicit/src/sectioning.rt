@@ -1,15 +1,13 @@
 //! A section, made of the events of one client.
 
-ghost use Rattle.std.specs.Prelude.{◌≡◌, ◌<◌, MatchOption, MatchResult, length};
-ghost use Rattle.mon_events.specs.declared.event.Event.TheVariants.{Unlock};
-ghost use Rattle.mon_explicit.specs.Machines.{Happened};
+ghost use Rattle.std.specs.Prelude.{◌≡◌, ◌<◌, MatchOption, length};
 ghost use Rattle.mon_explicit.specs.inner.Rings.{HaveLines};
-ghost use Rattle.mon_explicit.specs.inner.Waiting.{CanUnlock, HasNote, IsInside, IsNotifying};
+ghost use Rattle.mon_explicit.specs.inner.Waiting.{HasNote, IsInside, IsNotifying};
 ghost use Rattle.mon_explicit.specs.inner.Waiting.{IsSettled, MadeNoteOf, MadeNotesOf, MakesSectionOf};
-ghost use Rattle.mon_explicit.specs.inner.Waiting.{NotStarted, Started, WentOnOf};
+ghost use Rattle.mon_explicit.specs.inner.Waiting.{NotStarted, WentOnOf};
 
 use super::clients::Clients;
-use super::config::{Config, NotEnabled, Went};
+use super::config::{Config, Went};
 use super::rings::Rings;
 use mon_events::{Entry, Outcome};
 use mon_implicit::Reply;
@@ -23,7 +21,7 @@ pub fn make_section(config: &mut Config, rings: &mut Rings, client: u32) -> Opti
         (NotStarted config.old client config.new × (rings.new ≡ rings.old))
         (λ entry. MakesSectionOf client config.old rings.old config.new rings.new entry) }
 {
-    if start_section(config, client).is_err() {
+    if config.start(client).is_err() {
         return None;
     }
     let place = config.place(client);
@@ -35,18 +33,6 @@ pub fn make_section(config: &mut Config, rings: &mut Rings, client: u32) -> Opti
         block,
         outcome,
     })
-}
-
-/// An idle client with a call left begins, and one that was woken goes on; it takes the lock.
-fn start_section(config: &mut Config, client: u32) -> Result<(), NotEnabled>
-    requires { IsSettled config.old.now }
-    ensures { MatchResult result (λ _. Started config.old client config.new)
-        (λ _. NotStarted config.old client config.new) }
-{
-    match config.begin(client) {
-        Ok(()) => config.lock(client),
-        Err(NotEnabled) => config.lock(client),
-    }
 }
 
 /// A client inside runs its block, makes its notes and gives the lock back, where its guard is true. Where it is false
@@ -63,14 +49,14 @@ fn go_on(config: &mut Config, rings: &mut Rings, client: u32) -> Outcome
         }
         Went::Ran(reply) => {
             let woken = make_notes(config, rings, client);
-            unlock(config, client);
+            config.release(client);
             Outcome::Replies {
                 reply,
                 woken: woken.bits,
             }
         }
         Went::GaveUp => {
-            unlock(config, client);
+            config.release(client);
             Outcome::Replies {
                 reply: Reply::Refused,
                 woken: 0,
@@ -120,14 +106,4 @@ fn make_note(config: &mut Config, rings: &mut Rings, client: u32) -> Clients
     config.wake_one(client, next, target);
     rings.pop(next.note.condition);
     Clients::one(target)
-}
-
-/// A client with no note to come gives the lock back.
-fn unlock(config: &mut Config, client: u32)
-    requires { CanUnlock config.old client }
-    ensures { Happened (Unlock client) config.old config.new }
-{
-    if config.unlock(client).is_err() {
-        unreachable!()
-    }
 }

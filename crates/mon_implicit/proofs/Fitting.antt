@@ -229,8 +229,8 @@ block_inputs monitor call place method rule fit is here =
       locals = subst (λ (which : ℕ). FitsLocals monitor which place.locals) (sym block.2.of) here.1;
     })
 
-pub last_is : (monitor : MonitorParts) (call : Call) (place : Place) (method : Method) → slice_get monitor.methods call.method ≡ Some method → nat_le method.count (place.block + 1) ≡ is_last monitor call place.block
-last_is monitor call place method is = sym (ap (λ (found : Option Method). nat_le (count_in found) (place.block + 1)) is)
+pub last_is : (monitor : MonitorParts) (call : Call) (block : ℕ) (method : Method) → slice_get monitor.methods call.method ≡ Some method → nat_le method.count (block + 1) ≡ is_last monitor call block
+last_is monitor call block method is = sym (ap (λ (found : Option Method). nat_le (count_in found) (block + 1)) is)
 
 -- the step of a client that is refused
 pub refusal_step : (monitor : MonitorParts) (clients : List Client) (client : ℕ) (place goes : Place) (call : Call) (state : List Value) → call_at clients client place ≡ Some call

@@ -5,7 +5,7 @@ ghost use Rattle.std.specs.Prelude.{slice_get};
 ghost use Rattle.mon_base.specs.Limits.{CALLS, METHOD_BLOCKS};
 ghost use Rattle.mon_implicit.specs.Steps.{guard_truth, FitsBlock, FitsState};
 ghost use Rattle.mon_implicit.specs.Scripted.{calls_of, FitsCall, FitsScripts};
-ghost use Rattle.mon_implicit.specs.Places.{block_at, first_place, inputs_at, is_last, gives_up};
+ghost use Rattle.mon_implicit.specs.Places.{block_at, first_place, inputs_at, is_last, gives_up, next_place};
 ghost use Rattle.mon_implicit.specs.Places.{may_step, FitsPlace, FitsPlaceAt, IsStep};
 
 use super::commit::Reply;
@@ -13,7 +13,7 @@ use super::locals::Locals;
 use super::place::Place;
 use super::script::{Call, Client};
 use super::state::State;
-use super::step::{guard_holds, method_of, run_block, start_locals};
+use super::step::{guard_holds, method_of, restart_locals, run_block};
 use mon_monitor::Monitor;
 
 /// The call of a client that is past so many, where it has one left.
@@ -39,22 +39,37 @@ pub fn place_at_start(monitor: &Monitor, clients: &[Client], client: usize, past
     requires scripts { FitsScripts monitor.now clients.now }
     ensures { result ≡ first_place monitor.now clients.now client past }
 {
+    let mut place = Place {
+        past,
+        block: 0,
+        locals: Locals::empty(),
+    };
+    begin_call(monitor, clients, client, past, &mut place);
+    place
+}
+
+/// A client begins the call after so many: it leaves the place where it was.
+pub fn begin_call(
+    monitor: &Monitor,
+    clients: &[Client],
+    client: usize,
+    past: u32,
+    place: &mut Place,
+)
+    requires client { client < length clients.now }
+    requires scripts { FitsScripts monitor.now clients.now }
+    ensures { place.new ≡ first_place monitor.now clients.now client past }
+{
+    place.past = past;
+    place.block = 0;
     match call_of(monitor, clients, client, past) {
-        Some(call) => Place {
-            past,
-            block: 0,
-            locals: start_locals(monitor, call.method),
-        },
-        None => Place {
-            past,
-            block: 0,
-            locals: Locals::empty(),
-        },
+        Some(call) => restart_locals(monitor, call.method, &mut place.locals),
+        None => place.locals.clear(),
     }
 }
 
 /// The number in the monitor of the block that a client is at.
-fn block_number(monitor: &Monitor, call: &Call, place: &Place) -> u32
+pub fn block_number(monitor: &Monitor, call: &Call, place: &Place) -> u32
     requires call { FitsCall monitor.now call.now }
     requires place { FitsPlaceAt monitor.now place.now (Some call.now) }
     ensures number { result ≡ block_at monitor.now call.now place.now }
@@ -64,13 +79,38 @@ fn block_number(monitor: &Monitor, call: &Call, place: &Place) -> u32
     method_of(monitor, call.method).first + place.block
 }
 
-/// Whether the block that a client is at is the last one of its method.
-fn is_at_last(monitor: &Monitor, call: &Call, place: &Place) -> bool
+/// Takes a client, after the reply of the block that it is at, to its next call, where this one is
+/// done, or to the call's next block. The locals are those that the block left.
+pub fn go_to_next(
+    monitor: &Monitor,
+    clients: &[Client],
+    client: usize,
+    call: &Call,
+    reply: Reply,
+    place: &mut Place,
+)
+    requires client { client < length clients.now }
+    requires scripts { FitsScripts monitor.now clients.now }
     requires call { FitsCall monitor.now call.now }
-    requires place { FitsPlaceAt monitor.now place.now (Some call.now) }
-    ensures { result ≡ is_last monitor.now call.now place.now.block }
+    requires past { place.old.past < CALLS }
+    requires block { place.old.block < METHOD_BLOCKS }
+    ensures { place.new
+        ≡ next_place monitor.now clients.now client call.now place.old reply place.old.locals }
 {
-    method_of(monitor, call.method).count <= place.block + 1
+    if ends_call(reply) || is_at_last(monitor, call, place.block) {
+        begin_call(monitor, clients, client, place.past + 1, place);
+    } else {
+        place.block += 1;
+    }
+}
+
+/// Whether a block of a call, counted from 0, is the last one of its method.
+fn is_at_last(monitor: &Monitor, call: &Call, block: u32) -> bool
+    requires call { FitsCall monitor.now call.now }
+    requires block { block < METHOD_BLOCKS }
+    ensures { result ≡ is_last monitor.now call.now block }
+{
+    method_of(monitor, call.method).count <= block + 1
 }
 
 /// Whether a call is done after a reply, whatever blocks are left.
@@ -137,10 +177,9 @@ pub fn make_step(
     };
     let block = block_number(monitor, call, place);
     if !guard_holds(monitor, state, block, call.inputs.items(), &place.locals) {
-        *place = place_at_start(monitor, clients, client, place.past + 1);
+        begin_call(monitor, clients, client, place.past + 1, place);
         return Reply::Refused;
     }
-    let last = is_at_last(monitor, call, place);
     let reply = run_block(
         monitor,
         state,
@@ -148,10 +187,6 @@ pub fn make_step(
         call.inputs.items(),
         &mut place.locals,
     );
-    if ends_call(reply) || last {
-        *place = place_at_start(monitor, clients, client, place.past + 1);
-    } else {
-        place.block += 1;
-    }
+    go_to_next(monitor, clients, client, call, reply, place);
     reply
 }

@@ -28,16 +28,16 @@ pub make_notes-woken-requires-clause-notifying : goal.make_notes-woken-requires-
 make_notes-woken-requires-clause-notifying c =
     ran_notifies c.args.client c.args.config.now c.go_on.new.self c.in-Ran.reply c.in-Ran.ensures
 
-pub unlock-requires : goal.unlock-requires
-unlock-requires c =
+pub release-requires : goal.release-requires
+release-requires c =
     let stands = ran_notifies c.args.client c.args.config.now c.go_on.new.self c.in-Ran.reply c.in-Ran.ensures in
     let lines = ran_lines c.args.client c.args.config.now c.go_on.new.self c.args.rings.now c.in-Ran.reply c.in-Ran.ensures c.requires.lines.0 c.requires.lines.1 in
     (stands.0, (c.make_notes-woken.ensures c.requires.lines.0 lines).0.done stands.0 stands.1 stands.2)
 
 pub returns-in-Ran : goal.returns-in-Ran
 returns-in-Ran c =
-    replied_told c.args.client c.make_notes-woken.result.bits c.args.config.now c.go_on.new.self c.make_notes-woken.new.config c.unlock.new.config c.args.rings.now c.make_notes-woken.new.rings c.in-Ran.reply c.in-Ran.ensures
-    c.make_notes-woken.ensures c.unlock.ensures
+    replied_told c.args.client c.make_notes-woken.result.bits c.args.config.now c.go_on.new.self c.make_notes-woken.new.config c.release.new.self c.args.rings.now c.make_notes-woken.new.rings c.in-Ran.reply c.in-Ran.ensures
+    c.make_notes-woken.ensures c.release.ensures
 
 pub returns-in-GaveUp : goal.returns-in-GaveUp
-returns-in-GaveUp c = given_up_told c.args.client c.args.config.now c.go_on.new.self c.unlock-in-GaveUp.new.config c.args.rings.now c.in-GaveUp.ensures c.unlock-in-GaveUp.ensures
+returns-in-GaveUp c = given_up_told c.args.client c.args.config.now c.go_on.new.self c.release-in-GaveUp.new.self c.args.rings.now c.in-GaveUp.ensures c.release-in-GaveUp.ensures

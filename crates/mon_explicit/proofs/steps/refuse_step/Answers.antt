@@ -15,8 +15,8 @@ overflow_add-position c =
 
 pub returns-clause-step : goal.returns-clause-step
 returns-clause-step c state fails = record {
-  step = refused_step c.args.monitor.now c.args.clients.now c.args.client c.args.position.now.place c.place_at_start-position.result state
-      (trying c.args.clients.now c.args.client c.args.position.now.place c.requires.tries) fails c.place_at_start-position.ensures;
+  step = refused_step c.args.monitor.now c.args.clients.now c.args.client c.args.position.now.place c.begin_call.new.place state
+      (trying c.args.clients.now c.args.client c.args.position.now.place c.requires.tries) fails c.begin_call.ensures;
   commits = refl;
   notes = refl;
 }
