@@ -27,6 +27,7 @@ use Rattle.mon_place.specs.Backing.{condition_numbers, reads_none, waits_at}
 abbrev pub relayed_kind : MonitorParts → ℕ → CondKind → CondKind
 relayed_kind monitor condition kind = if reads_none monitor condition then kinds.Signal else kind
 
+-- of each condition, the first of which has number 1
 abbrev pub relayed_kinds : MonitorParts → List CondKind → List CondKind
 relayed_kinds monitor all_kinds =
     map (λ one. relayed_kind monitor one.0 one.1) (enumerate_from 1 all_kinds)
@@ -45,9 +46,11 @@ relayed_note monitor note = record {
   tested = note.tested;
 }
 
+-- a tested signal on the condition
 abbrev pub tested_signal : ℕ → Note
 tested_signal condition = record { condition = condition; all = false; tested = true }
 
+-- there is such a kind, and it is broadcast
 abbrev pub is_broadcast : Option CondKind → Bool
 is_broadcast None = false
 is_broadcast (Some kinds.Signal) = false
@@ -88,10 +91,12 @@ relay_of monitor plan = record {
 
 -- ---- what the laws say
 
+-- where a plan fits, so does the relayed one
 abbrev pub RelayedPlansFit : Type 0
 RelayedPlansFit = (monitor : MonitorParts) (plan : Plan) → IsMonitor monitor
     → FitsPlan monitor plan → FitsPlan monitor (relay_of monitor plan)
 
+-- where a plan that fits is lawful, so is the relayed one
 abbrev pub RelayedPlansAreLawful : Type 0
 RelayedPlansAreLawful = (monitor : MonitorParts) (plan : Plan) → IsMonitor monitor
     → FitsPlan monitor plan → IsLawful monitor plan → IsLawful monitor (relay_of monitor plan)
