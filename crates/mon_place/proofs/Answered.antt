@@ -12,8 +12,6 @@ use Rattle.mon_monitor.specs.declared.monitor.Condition.{Condition}
 use Rattle.mon_monitor.specs.MonitorParts.{MonitorParts, IsMonitor}
 use Rattle.mon_monitor.specs.Conditions.{HasCondition, IsDescribed}
 use Rattle.mon_monitor.specs.Inputs.{reads_inputs}
-use Rattle.mon_monitor.specs.Candidates.{candidates_of}
-use Rattle.mon_monitor.specs.Queries.{query_of}
 use Rattle.mon_monitor.specs.Triples.{Holds, NoneNeeded, OneEnough, NoTestNeeded}
 use Rattle.mon_events.specs.declared.plan.CondKind.{CondKind}
 use Rattle.mon_events.specs.declared.plan.CondKind.TheVariants as kinds

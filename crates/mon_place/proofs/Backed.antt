@@ -1,5 +1,5 @@
 -- What a backed plan says of each of its claims.
-use Rattle.std.proofs.Common.{◌≡◌, ◌==◌, ℕ, ◌-◌, ◌<◌, ◌≤◌, true, false, not, ◌&&◌, List, ◌++◌, length, get_or, Option, Some, None, subst, arith}
+use Rattle.std.proofs.Common.{◌≡◌, ◌==◌, ℕ, ◌-◌, ◌<◌, ◌≤◌, true, false, not, ◌&&◌, List, ◌++◌, map, length, get_or, Option, Some, None, subst, arith}
 use Rattle.std.specs.Prelude.{All, slice_get, IsSomeAnd}
 use Rattle.std.specs.List.{filter, flat_map, enumerate_from, range_with_len}
 use Rattle.std.specs.Option.{option_map_or}
@@ -29,7 +29,8 @@ use Rattle.mon_wp.specs.PlainClaims.{ReadsNone, WaitsAt}
 use Rattle.mon_prune.specs.Hardness.{IsHard, MayStayOpen}
 use Rattle.mon_prune.specs.Invariants.{keeps_claims}
 use Rattle.mon_place.specs.declared.placed.Proof.{Proof}
-use Rattle.mon_place.specs.Backing.{AreProofs, HasCertificate, IsBacked, kind_claims, reads_none, unnoted_claims, untested_claims, waits_at}
+use Rattle.mon_place.specs.Backing.{AreProofs, HasCertificate, IsBacked, backed_claims, block_numbers, kind_claims, reads_none, unnoted_claims, untested_claims, waits_at}
+use Rattle.mon_events.proofs.Facing.{all_at}
 use Rattle.mon_place.proofs.Lists.{all_left, all_right, all_flat, all_mapped, all_filtered, in_range, in_numbered}
 
 -- ---- what the crates below promise
@@ -66,11 +67,23 @@ reads_as_test monitor condition reads = by_found (slice_get monitor.conditions (
 
 -- ---- the claims
 
-pub unnoted_backed : (monitor : MonitorParts) (plan : Plan) (block condition : ℕ) (notes : List Note) → IsBacked monitor plan
+-- what is true of each claim that the plan rests on, is true of this one
+
+pub of_kept : (P : Claim → Type 0) (monitor : MonitorParts) (plan : Plan) (place : ℕ) (candidate : Candidate) (block : ℕ) → All P (backed_claims monitor plan)
+    → slice_get plan.kept place ≡ Some candidate → block < length monitor.blocks → P (claims.Keeps candidate block)
+of_kept P monitor plan place candidate block backed there within =
+    let a = keeps_claims monitor plan.kept in
+    let b = flat_map (λ (one : ℕ × List Note). unnoted_claims monitor one.0 one.1) (enumerate_from 0 plan.notes) in
+    let c = flat_map (λ (one : ℕ × CondKind). kind_claims monitor one.0 one.1) (enumerate_from 1 plan.kinds) in
+    let d = flat_map (λ (one : ℕ × List Note). untested_claims monitor one.0 one.1) (enumerate_from 0 plan.notes) in
+    let each = all_flat P (λ candidate. map (claims.Keeps candidate) (block_numbers monitor)) plan.kept (all_left P a (b ++ (c ++ d)) backed) in
+    let own = all_at (λ (one : Candidate). All P (map (claims.Keeps one) (block_numbers monitor))) plan.kept place candidate there each in
+    in_range (λ (one : ℕ). P (claims.Keeps candidate one)) 0 (length monitor.blocks) block (omega arith) (omega arith) (all_mapped P (claims.Keeps candidate) (block_numbers monitor) own)
+
+pub of_unnoted : (P : Claim → Type 0) (monitor : MonitorParts) (plan : Plan) (block condition : ℕ) (notes : List Note) → All P (backed_claims monitor plan)
     → slice_get plan.notes block ≡ Some notes → 1 ≤ condition → condition ≤ length monitor.conditions → has_note notes condition ≡ false
-    → HasCertificate monitor plan.kept (claims.NoNote block condition)
-unnoted_backed monitor plan block condition notes backed there first last none =
-    let P = HasCertificate monitor plan.kept in
+    → P (claims.NoNote block condition)
+of_unnoted P monitor plan block condition notes backed there first last none =
     let numbered = enumerate_from 0 plan.notes in
     let a = keeps_claims monitor plan.kept in
     let b = flat_map (λ (one : ℕ × List Note). unnoted_claims monitor one.0 one.1) numbered in
@@ -85,11 +98,15 @@ unnoted_backed monitor plan block condition notes backed there first last none =
     (all_filtered test (λ (one : ℕ). P (claims.NoNote block one)) range (all_mapped P (claims.NoNote block) (filter test range) here))
     (not_from_false (has_note notes condition) none)
 
-pub signals_backed : (monitor : MonitorParts) (plan : Plan) (block condition : ℕ) → IsBacked monitor plan
+pub unnoted_backed : (monitor : MonitorParts) (plan : Plan) (block condition : ℕ) (notes : List Note) → IsBacked monitor plan
+    → slice_get plan.notes block ≡ Some notes → 1 ≤ condition → condition ≤ length monitor.conditions → has_note notes condition ≡ false
+    → HasCertificate monitor plan.kept (claims.NoNote block condition)
+unnoted_backed monitor plan = of_unnoted (HasCertificate monitor plan.kept) monitor plan
+
+pub of_signal : (P : Claim → Type 0) (monitor : MonitorParts) (plan : Plan) (block condition : ℕ) → All P (backed_claims monitor plan)
     → condition_kind plan condition ≡ Some kinds.Signal → 1 ≤ condition → WaitsAt monitor block condition → block < length monitor.blocks
-    → HasCertificate monitor plan.kept (claims.One condition block)
-signals_backed monitor plan block condition backed kind first waits within =
-    let P = HasCertificate monitor plan.kept in
+    → P (claims.One condition block)
+of_signal P monitor plan block condition backed kind first waits within =
     let numbered = enumerate_from 0 plan.notes in
     let a = keeps_claims monitor plan.kept in
     let b = flat_map (λ (one : ℕ × List Note). unnoted_claims monitor one.0 one.1) numbered in
@@ -103,6 +120,11 @@ signals_backed monitor plan block condition backed kind first waits within =
     in_range (λ (one : ℕ). test one ≡ true → P (claims.One condition one)) 0 (length monitor.blocks) block (omega arith) (omega arith)
     (all_filtered test (λ (one : ℕ). P (claims.One condition one)) range (all_mapped P (claims.One condition) (filter test range) here))
     (waits_as_test monitor condition block waits)
+
+pub signals_backed : (monitor : MonitorParts) (plan : Plan) (block condition : ℕ) → IsBacked monitor plan
+    → condition_kind plan condition ≡ Some kinds.Signal → 1 ≤ condition → WaitsAt monitor block condition → block < length monitor.blocks
+    → HasCertificate monitor plan.kept (claims.One condition block)
+signals_backed monitor plan = of_signal (HasCertificate monitor plan.kept) monitor plan
 
 pub untested_backed : (monitor : MonitorParts) (plan : Plan) (block : ℕ) (notes : List Note) → IsBacked monitor plan → slice_get plan.notes block ≡ Some notes
     → All (λ note. note.tested ≡ false → ReadsNone monitor note.condition → HasCertificate monitor plan.kept (claims.NoTest block note.condition)) notes

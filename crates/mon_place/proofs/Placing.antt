@@ -15,7 +15,6 @@ use Rattle.mon_monitor.specs.declared.monitor.Block.{Block}
 use Rattle.mon_monitor.specs.declared.monitor.Condition.{Condition}
 use Rattle.mon_monitor.specs.MonitorParts.{MonitorParts}
 use Rattle.mon_events.specs.declared.plan.CondKind.{CondKind}
-use Rattle.mon_events.specs.declared.plan.CondKind.TheVariants as kinds
 use Rattle.mon_events.specs.declared.plan.Note.{Note}
 use Rattle.mon_events.specs.declared.plan.Plan.{Plan}
 use Rattle.mon_events.specs.Plans.{has_note}
@@ -75,7 +74,7 @@ all_more P first xs x last is all here =
 
 -- ---- the notes of a block
 
-rises_more : (xs : List ℕ) (x count : ℕ) → IsStrictlyIncreasing xs → All (λ y. y ≤ count) xs → x ≡ count + 1 → IsStrictlyIncreasing (xs ++ x ∷ [])
+pub rises_more : (xs : List ℕ) (x count : ℕ) → IsStrictlyIncreasing xs → All (λ y. y ≤ count) xs → x ≡ count + 1 → IsStrictlyIncreasing (xs ++ x ∷ [])
 rises_more xs x count rising below is place within = by_place (cases_lt (place + 1) (length xs))
   where
     by_place : ((place + 1 < length xs) ⊎ (length xs ≤ place + 1)) → get_or (xs ++ x ∷ []) place 0 < get_or (xs ++ x ∷ []) (place + 1) 0

@@ -1,3 +1,4 @@
 pub mod Backing
 pub mod Exact
+pub mod Relayed
 pub mod inner

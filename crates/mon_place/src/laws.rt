@@ -6,6 +6,8 @@ ghost use Rattle.mon_events.specs.Plans.{FitsPlan, IsLawful};
 ghost use Rattle.mon_monitor.specs.MonitorParts.{MonitorParts, IsMonitor};
 ghost use Rattle.mon_prune.specs.Hardness.{HasNoHardClaim, IsSmall};
 ghost use Rattle.mon_place.specs.Exact.{IsExact, IsLicensed};
+ghost use Rattle.mon_place.specs.Relayed.{RelayedPlansAreLawful, RelayedPlansFit};
+ghost use Rattle.mon_place.specs.Relayed.{RelayedPlansOmitNoMore, RelayedSectionsWakeOne};
 ghost use Rattle.mon_place.specs.inner.Answers.{IsAnswered};
 
 use mon_cert::refuted_formula_is_false;
@@ -37,4 +39,18 @@ pub fn one_exact_plan()
         → FitsPlan monitor plan → FitsPlan monitor other
         → IsExact monitor plan → IsExact monitor other
         → plan ≡ other }
+{}
+
+/// Where a plan fits, so does the relayed one; where it is lawful too, so is the relayed one, which
+/// has a note on each condition on which the plan has one.
+pub fn relayed_plans_are_lawful()
+    ensures fits { RelayedPlansFit }
+    ensures lawful { RelayedPlansAreLawful }
+    ensures omits { RelayedPlansOmitNoMore }
+{}
+
+/// Under a relayed plan each section wakes, of the clients that wait on a condition that reads no
+/// inputs, one at most.
+pub fn relayed_sections_wake_one()
+    ensures { RelayedSectionsWakeOne }
 {}

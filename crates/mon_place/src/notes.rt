@@ -144,7 +144,8 @@ fn note_on(
     }
 }
 
-fn push_some(notes: &mut Vec<Note>, note: Option<Note>) -> Result<(), AllocError>
+/// Appends the note, where there is one.
+pub(crate) fn push_some(notes: &mut Vec<Note>, note: Option<Note>) -> Result<(), AllocError>
     ensures { OnOk result (notes.new.items ≡ notes.old.items ++ option_to_list note) }
 {
     match note {

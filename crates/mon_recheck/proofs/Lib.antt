@@ -15,4 +15,3 @@ pub mod KeptLines
 pub mod NoteLines
 pub mod PlanParts
 pub mod ReportParts
-pub mod WrittenLines

@@ -84,7 +84,7 @@ note_suited monitor plan suited k i notes note is here =
     (all_at (λ (one : Note). is_note_suited monitor plan.kinds one ≡ true) notes i note here (all_at (AreNotesSuited monitor plan.kinds) plan.notes k notes is suited))
 
 -- the notes of a block that there is, or none
-of_block : (P : List Note → Type 0) → P [] → (plan : Plan) (block : ℕ) → All P plan.notes
+pub of_block : (P : List Note → Type 0) → P [] → (plan : Plan) (block : ℕ) → All P plan.notes
     → P (notes_at plan block)
 of_block P none plan block all = by_found (slice_get plan.notes block) refl
   where
@@ -172,7 +172,7 @@ kinds_seen monitor plan rule fits sight =
         ap (λ (o : Option CondKind). unwrap_or o kind.0) (sym kind.1 ∙ ap (slice_get plan.kinds) {x = k} {y = k + 1 - 1} (omega arith) ∙ wakes.kind)))
 
 -- what all notes on a condition are, a note of a block is
-note_at : (P : Note → Type 0) (plan : Plan) (k i : ℕ) (notes : List Note) (note : Note)
+pub note_at : (P : Note → Type 0) (plan : Plan) (k i : ℕ) (notes : List Note) (note : Note)
     → slice_get plan.notes k ≡ Some notes → slice_get notes i ≡ Some note
     → EachNoteOn plan note.condition P → P note
 note_at P plan k i notes note there here each =

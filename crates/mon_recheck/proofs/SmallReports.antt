@@ -51,7 +51,7 @@ passing {X} test P (x ∷ xs) all = by_test (test x) refl (passing test P xs (Al
     by_test true is rest = All-cons P x (filter test xs) (All-head (λ (x : X). test x ≡ true → P x) x xs all is) rest
     by_test false is rest = rest
 
-waits_of_test : (found : Option Block) (condition : ℕ)
+pub waits_of_test : (found : Option Block) (condition : ℕ)
     → option_map_or (λ held. held.condition == condition) found false ≡ true
     → IsSomeAnd found (λ held. held.condition ≡ condition)
 waits_of_test None condition is = absurd (true≢false (sym is))
@@ -65,7 +65,7 @@ reads_of_test (Some held) is = not-true held.reads_inputs is
 
 -- ---- the claims of a plan are claims of its monitor
 
-some_contained : (kept all : List Candidate) → AreSomeOf kept all → All (Contains all) kept
+pub some_contained : (kept all : List Candidate) → AreSomeOf kept all → All (Contains all) kept
 some_contained [] all are = All-nil (Contains all)
 some_contained (one ∷ kept) [] are = absurd are
 some_contained (one ∷ kept) (first ∷ all) (inl both) =
@@ -111,13 +111,13 @@ untested_of monitor plan fits =
     (omega (arith, low, fits.notes), (one.0, reads_of_test (slice_get monitor.conditions (note.condition - 1)) reads))))))
 
 -- a condition of kind signal reads no inputs
-signal_reads_none : (monitor : MonitorParts) (plan : Plan) (k : ℕ) → IsMonitor monitor
-    → FitsPlan monitor plan → IsLawfulAtSight monitor plan
+pub signal_reads_none : (monitor : MonitorParts) (plan : Plan) (k : ℕ) → IsMonitor monitor
+    → length plan.kinds ≡ length monitor.conditions → IsLawfulAtSight monitor plan
     → slice_get plan.kinds k ≡ Some kinds.Signal
     → ReadsNone monitor (1 + k)
-signal_reads_none monitor plan k rule fits sight is =
+signal_reads_none monitor plan k rule many sight is =
     let low = slice_get_within plan.kinds k kinds.Signal is in
-    let held = at_place monitor.conditions k (omega (arith, low, fits.kinds)) in
+    let held = at_place monitor.conditions k (omega (arith, low, many)) in
     let at : slice_get monitor.conditions (1 + k - 1) ≡ Some held.0 = ap (slice_get monitor.conditions) {x = 1 + k - 1} {y = k} (omega arith) ∙ held.1 in
     let described = all_at IsDescribed monitor.conditions k held.0 held.1 rule.described in
     let none : held.0.reads_inputs ≡ false = elim (cases_Bool held.0.reads_inputs) [
@@ -149,7 +149,7 @@ kinds_of monitor plan rule fits sight =
         All-map (IsClaimOf monitor) (claims.One (1 + k)) (filter test (block_numbers monitor))
         (passing test (λ block. IsClaimOf monitor (claims.One (1 + k) block)) (block_numbers monitor)
         (range_all (λ block. test block ≡ true → IsClaimOf monitor (claims.One (1 + k) block)) 0 (length monitor.blocks)
-        (λ block first last passes. (signal_reads_none monitor plan k rule fits sight is, waits_of_test (slice_get monitor.blocks block) (1 + k) passes))))
+        (λ block first last passes. (signal_reads_none monitor plan k rule fits.kinds sight is, waits_of_test (slice_get monitor.blocks block) (1 + k) passes))))
     by_kind kinds.Broadcast k is = All-nil (IsClaimOf monitor)
 
 claims_are : (monitor : MonitorParts) (plan : Plan) → IsMonitor monitor → FitsPlan monitor plan

@@ -6,20 +6,17 @@ ghost use Rattle.mon_base.specs.Limits.{BLOCKS, CONDITIONS};
 ghost use Rattle.mon_events.specs.Plans.{has_note};
 ghost use Rattle.mon_prune.specs.Invariants.{keeps_claims};
 ghost use Rattle.mon_monitor.specs.declared.claim.Claim.TheVariants.{Keeps};
-ghost use Rattle.mon_place.specs.Backing.{backed_claims, block_numbers, kind_claims, reads_none};
-ghost use Rattle.mon_place.specs.Backing.{unnoted_claims, untested_claims, waits_at};
+ghost use Rattle.mon_place.specs.Backing.{backed_claims, block_numbers, kind_claims};
+ghost use Rattle.mon_place.specs.Backing.{unnoted_claims, untested_claims};
 ghost use Rattle.mon_recheck.specs.Reports.{IsPlanOf};
 
 use mon_events::{CondKind, Note, NoteList, Plan};
 use mon_monitor::{Candidate, Claim, Monitor};
+use mon_place::{reads_none, waits_at};
 use std::alloc::{AllocError, Global};
 
-/// The claims that a plan rests on, in their order.
-pub(crate) fn claims_of(
-    alloc: Global,
-    monitor: &Monitor,
-    plan: &Plan,
-) -> Result<Vec<Claim>, AllocError>
+/// The claims that a plan rests on, in their order. It fails only for want of memory.
+pub fn claims_of(alloc: Global, monitor: &Monitor, plan: &Plan) -> Result<Vec<Claim>, AllocError>
     requires { IsPlanOf monitor.now plan.now }
     ensures { IfOk result (λ claims. claims.items ≡ backed_claims monitor.now plan.now) }
 {
@@ -112,7 +109,7 @@ fn push_unnoted_of(
 }
 
 /// Whether some note is on the condition.
-fn has_note(notes: &[Note], condition: u32) -> bool
+pub fn has_note(notes: &[Note], condition: u32) -> bool
     ensures { result ≡ has_note notes.now condition }
 {
     notes.iter().any(|note| note.condition == condition)
@@ -166,16 +163,6 @@ fn push_class(claims: &mut Vec<Claim>, monitor: &Monitor, condition: u32) -> Res
     Ok(())
 }
 
-/// Whether the monitor has this block, and it waits at the condition.
-fn waits_at(monitor: &Monitor, condition: u32, block: u32) -> bool
-    ensures { result ≡ waits_at monitor.now condition block }
-{
-    match monitor.blocks().get(block as usize) {
-        Some(held) => held.condition == condition,
-        None => false,
-    }
-}
-
 // ---- that no test is needed
 
 /// Appends for each block that each untested note on a condition that reads no inputs needs no
@@ -216,15 +203,4 @@ fn push_untested_of(
         )?;
     }
     Ok(())
-}
-
-/// Whether the monitor has this condition, and its guard reads no inputs.
-pub(crate) fn reads_none(monitor: &Monitor, condition: u32) -> bool
-    ensures { result ≡ reads_none monitor.now condition }
-{
-    let place = condition.saturating_sub(1) as usize;
-    match monitor.conditions().get(place) {
-        Some(held) => !held.reads_inputs,
-        None => false,
-    }
 }

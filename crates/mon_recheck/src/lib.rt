@@ -26,9 +26,10 @@ mod writing;
 
 pub use certificates::MOST_NESTING;
 pub use checking::recheck;
+pub use claims::{claims_of, has_note};
 pub use laws::{easy_reports_are_accepted, placed_text_is_report_text};
 pub use making::report_of;
 pub use plan_reading::read_plan;
 pub use report::{Report, Verdict};
 pub use report_reading::read_report;
-pub use writing::{write_report, write_verdict};
+pub use writing::{write_claim, write_report, write_verdict};

@@ -5,7 +5,7 @@ ghost use Rattle.mon_printer.specs.Canonical.{expression_text};
 ghost use Rattle.mon_events.specs.PlanText.{block_name};
 ghost use Rattle.mon_recheck.specs.Reports.{claim_text};
 
-use super::writing::{write_claim, write_named};
+use super::writing::{write_claim_head, write_named};
 use mon_io::{Sink, SinkFailed};
 use mon_monitor::{Claim, Monitor};
 use mon_printer::write_around;
@@ -85,7 +85,7 @@ pub(crate) fn claim_head(
         bytes: Vec::new(alloc),
         faults: 0,
     };
-    match write_claim(monitor, claim, &mut out) {
+    match write_claim_head(monitor, claim, &mut out) {
         Ok(()) => Ok(out.bytes),
         Err(SinkFailed) => Err(AllocError),
     }

@@ -8,9 +8,9 @@ ghost use Rattle.mon_recheck.specs.inner.Sight.{is_broadcast, is_broadcast_at};
 ghost use Rattle.mon_recheck.specs.inner.Sight.{is_kind_suited, is_note_suited, is_test_suited};
 ghost use Rattle.mon_recheck.specs.inner.Sight.{is_way_suited};
 
-use super::claims::reads_none;
 use mon_events::{CondKind, Note, NoteList, Plan};
 use mon_monitor::{Condition, Monitor};
+use mon_place::reads_none;
 use mon_prune::are_true_at_start;
 
 /// Whether what a plan keeps is true at the start, and its kinds and notes suit the conditions.

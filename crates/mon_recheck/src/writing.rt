@@ -51,13 +51,13 @@ pub(crate) fn write_proof<S: Sink>(
     ensures { Wrote (S.seen out.old) (S.seen out.new) result
         (proof_text monitor.now claim cert.now) }
 {
-    write_claim(monitor, claim, out)?;
+    write_claim_head(monitor, claim, out)?;
     print_cert(cert, out)?;
     write_piece(b"\n", out)
 }
 
 /// `proof none put 2: `
-pub(crate) fn write_claim<S: Sink>(
+pub(crate) fn write_claim_head<S: Sink>(
     monitor: &Monitor,
     claim: Claim,
     out: &mut S,
@@ -65,19 +65,31 @@ pub(crate) fn write_claim<S: Sink>(
     ensures { Wrote (S.seen out.old) (S.seen out.new) result
         (codes "proof " ++ claim_text monitor.now claim ++ codes ": ") }
 {
+    write_piece(b"proof ", out)?;
+    write_claim(monitor, claim, out)?;
+    write_piece(b": ", out)
+}
+
+/// Writes a claim, as it stands in the line of a proof: `keep x <= 4 put`, `none put 2`,
+/// `one 1 put` or `untested put 2`. It takes no memory.
+///
+/// After `SinkFailed` the first bytes of the text were taken, fewer than all and maybe none.
+pub fn write_claim<S: Sink>(monitor: &Monitor, claim: Claim, out: &mut S) -> Result<(), SinkFailed>
+    ensures { Wrote (S.seen out.old) (S.seen out.new) result (claim_text monitor.now claim) }
+{
     match claim {
         Claim::Keeps { candidate, block } => write_keeps(monitor, candidate, block, out),
         Claim::NoNote { block, condition } => {
-            write_after_block(b"proof none ", monitor, block, condition, out)
+            write_after_block(b"none ", monitor, block, condition, out)
         }
         Claim::One { condition, block } => write_one(monitor, condition, block, out),
         Claim::NoTest { block, condition } => {
-            write_after_block(b"proof untested ", monitor, block, condition, out)
+            write_after_block(b"untested ", monitor, block, condition, out)
         }
     }
 }
 
-/// `proof keep x <= 4 put: `
+/// `keep x <= 4 put`
 fn write_keeps<S: Sink>(
     monitor: &Monitor,
     candidate: Candidate,
@@ -85,15 +97,16 @@ fn write_keeps<S: Sink>(
     out: &mut S,
 ) -> Result<(), SinkFailed>
     ensures { Wrote (S.seen out.old) (S.seen out.new) result
-        (codes "proof keep " ++ candidate_text monitor.now.fields candidate ++ codes " "
-        ++ block_name monitor.now block ++ codes ": ") }
+        (codes "keep " ++ candidate_text monitor.now.fields candidate ++ codes " "
+        ++ block_name monitor.now block) }
 {
-    write_piece(b"proof keep ", out)?;
+    write_piece(b"keep ", out)?;
     write_candidate(monitor.fields(), candidate, out)?;
-    write_named(b" ", monitor, block as usize, b": ", out)
+    write_piece(b" ", out)?;
+    write_block_name(monitor, block as usize, out)
 }
 
-/// `proof one 1 put: `
+/// `one 1 put`
 fn write_one<S: Sink>(
     monitor: &Monitor,
     condition: u32,
@@ -101,14 +114,13 @@ fn write_one<S: Sink>(
     out: &mut S,
 ) -> Result<(), SinkFailed>
     ensures { Wrote (S.seen out.old) (S.seen out.new) result
-        (codes "proof one " ++ decimal condition ++ codes " " ++ block_name monitor.now block
-        ++ codes ": ") }
+        (codes "one " ++ decimal condition ++ codes " " ++ block_name monitor.now block) }
 {
-    write_count(b"proof one ", condition as u64, b" ", out)?;
-    write_named(b"", monitor, block as usize, b": ", out)
+    write_count(b"one ", condition as u64, b" ", out)?;
+    write_block_name(monitor, block as usize, out)
 }
 
-/// `proof none put 2: `, with these words before the block.
+/// `none put 2`, with these words before the block.
 fn write_after_block<S: Sink>(
     words: &[u8],
     monitor: &Monitor,
@@ -117,11 +129,10 @@ fn write_after_block<S: Sink>(
     out: &mut S,
 ) -> Result<(), SinkFailed>
     ensures { Wrote (S.seen out.old) (S.seen out.new) result
-        (words.now ++ block_name monitor.now block ++ codes " " ++ decimal condition
-        ++ codes ": ") }
+        (words.now ++ block_name monitor.now block ++ codes " " ++ decimal condition) }
 {
     write_named(words, monitor, block as usize, b" ", out)?;
-    write_count(b"", condition as u64, b": ", out)
+    write_number(condition as u64, out)
 }
 
 /// The name of a block between two words.
@@ -195,4 +206,11 @@ fn write_count<S: Sink>(
 {
     let mut digits = Buffer::new();
     write_sides(before, digits.format(number).as_bytes(), after, out)
+}
+
+fn write_number<S: Sink>(number: u64, out: &mut S) -> Result<(), SinkFailed>
+    ensures { Wrote (S.seen out.old) (S.seen out.new) result (decimal number) }
+{
+    let mut digits = Buffer::new();
+    write_piece(digits.format(number).as_bytes(), out)
 }
