@@ -16,3 +16,8 @@ pub mod NoteLines
 pub mod PlanParts
 pub mod ReportParts
 pub mod WrittenLines
+mod FewerSplits
+pub mod LoneParts
+mod Nested
+mod PrintedReports
+mod TypedNumbers
