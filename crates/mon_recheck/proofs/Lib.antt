@@ -15,3 +15,8 @@ pub mod KeptLines
 pub mod NoteLines
 pub mod PlanParts
 pub mod ReportParts
+mod FewerSplits
+pub mod LoneParts
+mod Nested
+mod PrintedReports
+mod TypedNumbers

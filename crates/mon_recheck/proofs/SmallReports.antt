@@ -152,7 +152,7 @@ kinds_of monitor plan rule fits sight =
         (λ block first last passes. (signal_reads_none monitor plan k rule fits.kinds sight is, waits_of_test (slice_get monitor.blocks block) (1 + k) passes))))
     by_kind kinds.Broadcast k is = All-nil (IsClaimOf monitor)
 
-claims_are : (monitor : MonitorParts) (plan : Plan) → IsMonitor monitor → FitsPlan monitor plan
+pub claims_are : (monitor : MonitorParts) (plan : Plan) → IsMonitor monitor → FitsPlan monitor plan
     → IsLawfulAtSight monitor plan → All (IsClaimOf monitor) (backed_claims monitor plan)
 claims_are monitor plan rule fits sight =
     let a = keeps_claims monitor plan.kept in

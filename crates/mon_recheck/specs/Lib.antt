@@ -2,4 +2,6 @@ pub mod Reports
 pub mod Verdicts
 pub mod Readings
 pub mod inner
+pub mod EasyPlacements
 pub mod Nesting
+pub mod Splits

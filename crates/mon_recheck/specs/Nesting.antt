@@ -32,6 +32,14 @@ unfoldable pub IsNested : ℕ → Cert → Type 0
 IsNested zero cert = ⊥
 IsNested (suc levels) cert = IsLayer (IsNested levels) (out-Cert cert)
 
+-- A certificate that is read has so many levels at most.
+abbrev pub MOST_LEVELS : ℕ
+MOST_LEVELS = 4096
+
+-- The numbers of a certificate are of their types, however deep it nests.
+abbrev pub HasTypedNumbers : Cert → Type 0
+HasTypedNumbers cert = (levels : ℕ) × IsNested levels cert
+
 -- No digit comes next.
 abbrev pub EndsNumber : List ℕ → Type 0
 EndsNumber [] = ⊤

@@ -4,9 +4,8 @@ use Rattle.mon_cert.specs.declared.cert.Cert.{Cert}
 use Rattle.mon_monitor.specs.MonitorParts.{MonitorParts}
 use Rattle.mon_events.specs.declared.plan.Plan.{Plan}
 use Rattle.mon_events.specs.PlanText.{plan_text}
-use Rattle.mon_recheck.specs.declared.certificates.TheConstants.{MOST_NESTING}
 use Rattle.mon_recheck.specs.declared.report.Report.{Report}
-use Rattle.mon_recheck.specs.Nesting.{IsNested}
+use Rattle.mon_recheck.specs.Nesting.{IsNested, MOST_LEVELS}
 use Rattle.mon_recheck.specs.Reports.{IsPlanOf, IsReport, report_text}
 
 -- the bytes are the text of this plan of the monitor, and of no other
@@ -24,7 +23,7 @@ IsPlanRead monitor bytes None =
 
 -- a certificate that nests within the limit, with numbers of their types
 abbrev pub IsReadable : Cert → Type 0
-IsReadable cert = IsNested MOST_NESTING cert
+IsReadable cert = IsNested MOST_LEVELS cert
 
 -- the bytes are the text of this report with readable certificates, and of no other
 pub record IsTextOfReport (monitor : MonitorParts) (bytes : List ℕ) (report : Report) :

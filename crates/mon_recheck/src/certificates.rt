@@ -7,6 +7,7 @@ ghost use Rattle.std.specs.Fmt.{signed_decimal};
 ghost use Rattle.mon_base.specs.Identifiers.{is_digit};
 ghost use Rattle.mon_cert.specs.CertText.{cert_text, combine_text};
 ghost use Rattle.mon_recheck.specs.Nesting.{IsCombine, IsFactor, IsNested, IsRead};
+ghost use Rattle.mon_recheck.specs.Nesting.{MOST_LEVELS};
 ghost use Rattle.mon_recheck.specs.inner.CertParts.{AreCombines, AreParts, chain_text, clash_text};
 ghost use Rattle.mon_recheck.specs.inner.CertParts.{combines_text, IsBelow, IsBelowZero, IsChain};
 ghost use Rattle.mon_recheck.specs.inner.CertParts.{IsClash, IsFromZero, IsPair, IsSplit};
@@ -39,7 +40,7 @@ pub(crate) fn read_cert<'a>(
     alloc: Global,
     bytes: &'a [u8],
 ) -> Result<Option<(Cert, &'a [u8])>, AllocError>
-    ensures { IfOk result (IsRead cert_text (IsNested MOST_NESTING) bytes.now) }
+    ensures { IfOk result (IsRead cert_text (IsNested MOST_LEVELS) bytes.now) }
 {
     cert_within(alloc, MOST_NESTING, bytes)
 }

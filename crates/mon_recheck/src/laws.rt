@@ -1,14 +1,27 @@
 //! What follows from the definitions alone.
 
-ghost use Rattle.std.specs.Prelude.{◌≡◌, length, map};
+ghost use Rattle.std.specs.Prelude.{◌≡◌, ◌<◌, ◌≤◌, suc, true, length, map, List, Option, Some};
+ghost use Rattle.mon_linear.specs.declared.formula.Formula.{Formula};
+ghost use Rattle.mon_linear.specs.Measures.{cubes_of};
+ghost use Rattle.mon_cert.specs.declared.cert.Cert.{Cert};
+ghost use Rattle.mon_cert.specs.Refutes.{Refutes};
+ghost use Rattle.mon_monitor.specs.declared.candidate.Candidate.{Candidate};
+ghost use Rattle.mon_monitor.specs.declared.claim.Claim.{Claim};
 ghost use Rattle.mon_monitor.specs.MonitorParts.{MonitorParts, IsMonitor};
+ghost use Rattle.mon_monitor.specs.Queries.{query_of};
 ghost use Rattle.mon_events.specs.Plans.{FitsPlan, IsLawful};
+ghost use Rattle.mon_wp.specs.NegatedQueries.{negated_query};
 ghost use Rattle.mon_prune.specs.Hardness.{HasNoHardClaim};
 ghost use Rattle.mon_place.specs.declared.placed.PlacedPlan.{PlacedPlan};
 ghost use Rattle.mon_place.specs.Backing.{AreProofs, backed_claims};
+ghost use Rattle.mon_recheck.specs.declared.report.Report.{Report};
 ghost use Rattle.mon_recheck.specs.declared.report.Verdict.{Verdict};
 ghost use Rattle.mon_recheck.specs.declared.report.Verdict.TheVariants.{Accepted};
+ghost use Rattle.mon_recheck.specs.EasyPlacements.{IsEasyPlacement};
+ghost use Rattle.mon_recheck.specs.Nesting.{HasTypedNumbers, IsNested};
+ghost use Rattle.mon_recheck.specs.Readings.{IsReportRead};
 ghost use Rattle.mon_recheck.specs.Reports.{IsReport, placed_text, report_of, report_text};
+ghost use Rattle.mon_recheck.specs.Splits.{HasNoLoneParts, has_no_lone_part, splits_of};
 ghost use Rattle.mon_recheck.specs.Verdicts.{IsVerdict};
 
 use mon_wp::fewer_kept_are_no_harder;
@@ -34,6 +47,41 @@ pub fn easy_reports_are_accepted()
         → IsMonitor monitor → FitsPlan monitor placed.plan → IsLawful monitor placed.plan
         → AreProofs monitor placed.plan.kept (backed_claims monitor placed.plan) placed.proofs
         → HasNoHardClaim monitor → IsVerdict monitor (report_of placed) verdict
+        → verdict ≡ Accepted (length placed.proofs) }
+{
+    fewer_kept_are_no_harder();
+}
+
+/// A certificate that refutes a formula has a level more than the formula has splits, at most.
+pub fn certificates_nest_by_splits()
+    ensures { (formula : Formula) (cert : Cert)
+        → Refutes formula cert → HasTypedNumbers cert → IsNested (suc (splits_of formula)) cert }
+{}
+
+/// A formula without lone parts has fewer splits than cubes. The negated query of a claim has no
+/// more, where no formula of the monitor has a lone part.
+pub fn splits_are_few()
+    ensures formulas { (formula : Formula) → has_no_lone_part formula ≡ true
+        → splits_of formula < cubes_of formula }
+    ensures queries { (monitor : MonitorParts) (kept : List Candidate) (claim : Claim)
+        → HasNoLoneParts monitor
+        → splits_of (negated_query monitor (query_of monitor kept claim))
+        ≤ cubes_of (negated_query monitor (query_of monitor kept claim)) }
+{}
+
+/// Where no claim of the monitor is hard, and no formula of it has a lone part, what
+/// [`write_report`] writes of a placed plan is read as its report, and accepted.
+///
+/// [`write_report`]: super::write_report
+pub fn printed_reports_are_accepted()
+    ensures read { (monitor : MonitorParts) (placed : PlacedPlan) (read : Option Report)
+        → IsEasyPlacement monitor placed
+        → IsReportRead monitor (placed_text monitor placed) read
+        → read ≡ Some (report_of placed) }
+    ensures accepted { (monitor : MonitorParts) (placed : PlacedPlan) (report : Report)
+        (verdict : Verdict) → IsEasyPlacement monitor placed
+        → IsReportRead monitor (placed_text monitor placed) (Some report)
+        → IsVerdict monitor report verdict
         → verdict ≡ Accepted (length placed.proofs) }
 {
     fewer_kept_are_no_harder();

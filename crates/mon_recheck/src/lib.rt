@@ -4,8 +4,9 @@
 //! [`read_plan`] and [`read_report`] read such texts (`specs/Readings`), and [`recheck`] says
 //! whether the plan of a [`Report`] is lawful by its certificates alone (`specs/Verdicts`).
 //! [`write_report`] writes the report of a plan that was placed (`specs/Reports`), and
-//! [`write_verdict`] the line of what a check says. Each report of a placed plan is accepted where
-//! no claim of the monitor is hard (`laws`).
+//! [`write_verdict`] the line of what a check says. Where no claim of the monitor is hard, what was
+//! written of a placed plan is read again as its report, and accepted (`laws`): its certificates nest
+//! no deeper than a reader goes, since a formula has fewer splits than cubes (`specs/Splits`).
 #![tactic(auto)]
 
 mod after;
@@ -18,6 +19,7 @@ mod laws;
 mod making;
 mod notes;
 mod plan_reading;
+mod ranges;
 mod report;
 mod report_reading;
 mod shown;
@@ -27,9 +29,13 @@ mod writing;
 pub use certificates::MOST_NESTING;
 pub use checking::recheck;
 pub use claims::{claims_of, has_note};
-pub use laws::{easy_reports_are_accepted, placed_text_is_report_text};
+pub use laws::{
+    certificates_nest_by_splits, easy_reports_are_accepted, placed_text_is_report_text,
+    printed_reports_are_accepted, splits_are_few,
+};
 pub use making::report_of;
 pub use plan_reading::read_plan;
+pub use ranges::read_numbers;
 pub use report::{Report, Verdict};
 pub use report_reading::read_report;
 pub use writing::{write_claim, write_report, write_verdict};
