@@ -1,0 +1,4 @@
+pub mod AtSight
+pub mod Asked
+pub mod Found
+pub mod FoundLawful

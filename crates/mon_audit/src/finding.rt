@@ -1,0 +1,17 @@
+//! What an audit says.
+
+use mon_monitor::Claim;
+
+/// What an audit says of a plan.
+#[derive(Clone, Copy, Debug, PartialEq, Eq)]
+pub enum Finding {
+    /// It is lawful.
+    Lawful,
+    /// The kept candidate at this place, counted from 0, is the first that is false at the start.
+    Start { kept: u32 },
+    /// The kind of this condition, numbered from 1, or a note on it doesn't suit it; it is the first
+    /// such one.
+    Kind { condition: u32 },
+    /// The claim is the first for which no certificate is found.
+    Unproved { claim: Claim },
+}
