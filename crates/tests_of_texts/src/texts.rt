@@ -1,4 +1,4 @@
-//! The bytes of a run, taken by hand from the rules of the text.
+//! The bytes of a run in a sink with little room, taken by hand from the rules of the text.
 
 ghost use Rattle.std.specs.Prelude.{IfSome};
 ghost use Rattle.mon_implicit.specs.Scripted.{FitsScripts};
@@ -10,19 +10,9 @@ use mon_list::Seq;
 use mon_monitor::Monitor;
 use mon_text::write_turns;
 use samples::checked;
-use samples::monitors::{BUFFER, LEVEL};
+use samples::monitors::BUFFER;
 use std::alloc::{AllocError, Global};
 use std::test::Fail;
-
-const CELL: &[u8] = b"monitor Cell {
-  int held = 0;
-  bool full = false;
-  method put(int n, bool f) waituntil (!full) {
-    held = n;
-    full = f;
-  }
-}
-";
 
 /// A call that doesn't try, by its method's number, with its inputs.
 #[derive(Clone, Copy)]
@@ -106,15 +96,6 @@ fn run_of(
     Ok(write_run(alloc, &monitor, &scripts, room)?)
 }
 
-/// All that is written of a run, as text.
-fn text_of(alloc: Global, monitor: &[u8], clients: &[(&str, &[Called])]) -> Result<Vec<u8>, Fail> {
-    let all = run_of(alloc, monitor, clients, 4096)?;
-    if !all.whole {
-        Err("the text is written whole")?;
-    }
-    Ok(all.text)
-}
-
 /// Two puts of one client and two gets of another, in the buffer.
 const TWO: [(&str, &[Called]); 2] = [
     ("A", &[Called(0, &[]), Called(0, &[])]),
@@ -128,57 +109,6 @@ B.2 get() = -
 done
 state count=0
 ";
-
-#[test]
-fn each_client_with_a_call_left_is_blocked(rt: HostRuntime) -> Result<(), Fail> {
-    let clients: [(&str, &[Called]); 4] = [
-        ("A", &[Called(1, &[]), Called(0, &[Value::Int(5)])]),
-        ("B", &[Called(1, &[])]),
-        ("C", &[]),
-        ("D", &[Called(0, &[Value::Int(4)]), Called(1, &[])]),
-    ];
-    let text = text_of(rt.alloc(), LEVEL, &clients)?;
-    assert_eq!(rt;
-        text.as_slice(),
-        b"A.1 add() = -
-B.1 add() = -
-stalled
-A.2 reach(5) blocked
-D.1 reach(4) blocked
-state count=2
-"
-            .as_slice()
-    );
-    Ok(())
-}
-
-#[test]
-fn inputs_and_fields_of_both_kinds_are_printed(rt: HostRuntime) -> Result<(), Fail> {
-    let calls = [
-        Called(0, &[Value::Int(-3), Value::Bool(false)]),
-        Called(0, &[Value::Int(40), Value::Bool(true)]),
-        Called(0, &[Value::Int(0), Value::Bool(false)]),
-    ];
-    let text = text_of(rt.alloc(), CELL, &[("A", &calls)])?;
-    assert_eq!(rt;
-        text.as_slice(),
-        b"A.1 put(-3, false) = -
-A.2 put(40, true) = -
-stalled
-A.3 put(0, false) blocked
-state held=40 full=true
-"
-            .as_slice()
-    );
-    Ok(())
-}
-
-#[test]
-fn no_clients_and_no_fields_leave_the_end(rt: HostRuntime) -> Result<(), Fail> {
-    let text = text_of(rt.alloc(), b"monitor Empty { }", &[])?;
-    assert_eq!(rt; text.as_slice(), b"done\nstate\n".as_slice());
-    Ok(())
-}
 
 /// Whether of the run of the buffer this much is written to a sink that takes `room` bytes.
 fn is_written(alloc: Global, room: u64, text: &[u8], whole: bool) -> Result<bool, Fail> {
