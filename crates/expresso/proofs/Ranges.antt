@@ -22,9 +22,9 @@ few_workers (Some word) number (is, some) = (some, is.within)
 pub in_range : (words : List (List ℕ)) (command : Command) → Takes words command → IsInRange command
 in_range words (check monitor) taken = tt
 in_range words (turns monitor clients) taken = tt
-in_range words (compile monitor) taken = tt
+in_range words (compile monitor choice) taken = tt
 in_range words (report monitor) taken = tt
 in_range words (recheck monitor report_file) taken = tt
-in_range words (simulate monitor clients schedule) (given, is, asks) = few_of_schedule given.seed given.spurious schedule (asks.has_options).0
-in_range words (run monitor clients workers) (given, is, asks) = few_workers given.workers workers (asks.has_options).1
+in_range words (simulate monitor clients schedule choice) (given, is, asks) = few_of_schedule given.seed given.spurious schedule (asks.has_options).0
+in_range words (run monitor clients workers choice) (given, is, asks) = few_workers given.workers workers (asks.has_options).1
 in_range words (stress number workers) (given, is, asks) = few_workers given.workers workers (asks.has_options).1

@@ -12,6 +12,7 @@ use Rattle.mon_explicit.specs.Sections.{spurious_in}
 use Rattle.mon_text.specs.LogText.{are_done}
 use Rattle.mon_events.specs.Configurations.{system_under}
 use Rattle.mon_text.specs.Laws.{plan_and_log_text}
+use Rattle.mon_command.specs.declared.plan_choice.PlanChoice.{PlanChoice}
 use Rattle.mon_command.specs.CommandLine.{run}
 use Rattle.expresso.specs.declared.status.Status.{Status}
 use Rattle.expresso.specs.PlacedRuns.{IsPlacedRun}
@@ -21,24 +22,24 @@ use Rattle.expresso.proofs.Finishing.{done_finished, finished_done}
 use Rattle.expresso.proofs.RunFiles.{held_not_rejected}
 use Rattle.expresso.proofs.Ending.{work_ended}
 
-module _ (monitor_file clients_file : List ℕ) (workers : ℕ) (files files_now : FilesSeen) (monitor : MonitorParts) (plan : Plan) (clients : List Client) (log : List Entry) (last : Configuration) (system : System)
-    (held : HoldRun files.held monitor_file clients_file monitor clients) (placed : IsPlacedRun (system_under monitor clients plan) log last) (unprompted : spurious_in log ≡ 0) (system_is : system ≡ system_under monitor clients plan) where
+module _ (monitor_file clients_file : List ℕ) (workers : ℕ) (choice : PlanChoice) (files files_now : FilesSeen) (monitor : MonitorParts) (plan : Plan) (clients : List Client) (log : List Entry) (last : Configuration) (system : System)
+    (held : HoldRun files.held monitor_file clients_file monitor clients) (placed : IsPlacedRun choice (system_under monitor clients plan) log last) (unprompted : spurious_in log ≡ 0) (system_is : system ≡ system_under monitor clients plan) where
   pub worked_closed : IsClosed system last
   worked_closed = subst (λ (s : System). IsClosed s last) (sym system_is) placed.closed
 
-  worked_shown : IsRunText files.held monitor_file clients_file clients last (plan_and_log_text (system_under monitor clients plan) log last)
+  worked_shown : IsRunText files.held monitor_file clients_file choice clients last (plan_and_log_text (system_under monitor clients plan) log last)
   worked_shown = record { monitor = monitor; plan = plan; log = log; files = held; placed = placed; unprompted = unprompted; printed = refl }
 
   log_shown : (finished : Bool) → are_done clients (situation_of last).places ≡ finished
-      → IsCommandText (run monitor_file clients_file workers) files files_now (ended finished) (plan_and_log_text (system_under monitor clients plan) log last)
+      → IsCommandText (run monitor_file clients_file workers choice) files files_now (ended finished) (plan_and_log_text (system_under monitor clients plan) log last)
   log_shown true end = (clients, last, worked_shown, done_finished clients (situation_of last) end)
   log_shown false end = (clients, last, worked_shown, λ all. false≢true (sym end ∙ finished_done clients (situation_of last) all))
 
   pub worked_ended : (result : Status) (out out_now : SinkSeen) → files_now.faults ≡ files.faults
       → IsWritten (ended (are_done system.clients (situation_of last).places)) (plan_and_log_text system log last) result out out_now
-      → CommandEnds (run monitor_file clients_file workers) files files_now result out out_now
+      → CommandEnds (run monitor_file clients_file workers choice) files files_now result out out_now
   worked_ended result out out_now steady written =
-      work_ended (run monitor_file clients_file workers) files files_now (plan_and_log_text (system_under monitor clients plan) log last) result out out_now
+      work_ended (run monitor_file clients_file workers choice) files files_now (plan_and_log_text (system_under monitor clients plan) log last) result out out_now
       (are_done clients (situation_of last).places) (log_shown (are_done clients (situation_of last).places) refl)
       (held_not_rejected files.held monitor_file clients_file monitor clients held) steady
       (subst (λ (s : System). IsWritten (ended (are_done s.clients (situation_of last).places)) (plan_and_log_text s log last) result out out_now) system_is written)

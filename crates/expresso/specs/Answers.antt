@@ -19,12 +19,14 @@ use Rattle.mon_text.specs.FaultText.{unread_text}
 use Rattle.expresso.specs.declared.status.Status.{Status}
 use Rattle.expresso.specs.declared.status.Status.TheVariants.{Done, Refused, Usage, ReadFault}
 use Rattle.expresso.specs.declared.status.Status.TheVariants.{WriteFault, OutOfMemory, Stalled}
+use Rattle.mon_command.specs.declared.plan_choice.PlanChoice.{PlanChoice}
+use Rattle.mon_command.specs.declared.plan_choice.PlanChoice.TheVariants.{Placed}
 use Rattle.mon_command.specs.declared.schedule.Schedule.{Schedule}
 use Rattle.mon_command.specs.CommandLine.{Command, check, turns, compile, simulate, run, stress}
 use Rattle.mon_command.specs.CommandLine.{report, recheck}
 use Rattle.mon_command.specs.CommandLine.{Takes, TakesNone, files_of}
 use Rattle.mon_stress.specs.LargeInput.{buffer_of, capacity_of, producers_and_consumers}
-use Rattle.expresso.specs.Placements.{IsPlacement}
+use Rattle.expresso.specs.Placements.{IsChosen, IsPlacement}
 use Rattle.expresso.specs.PlacedRuns.{IsPlacedRun}
 use Rattle.expresso.specs.Simulations.{IsSimulation}
 use Rattle.mon_events.specs.Configurations.{system_under}
@@ -82,36 +84,38 @@ pub record IsTurnsText (held : List ℕ
   pub rounds : AreTurnsByRounds monitor clients run
   pub printed : text ≡ turns_text monitor clients run
 
--- the text of a plan that the monitor of the file is compiled to
-pub record IsCompileText (held : List ℕ → Option (List ℕ)) (file text : List ℕ) : Type 0 where
+-- the text of the plan that is asked for of the monitor of the file
+pub record IsCompileText (held : List ℕ
+    → Option (List ℕ)) (file : List ℕ) (choice : PlanChoice) (text : List ℕ) : Type 0 where
   pub tree : MonitorTree
   pub monitor : MonitorParts
   pub plan : Plan
   pub holds : HoldsMonitor held file tree monitor
-  pub placement : IsPlacement monitor plan
+  pub chosen : IsChosen choice monitor plan
   pub printed : text ≡ plan_text monitor plan
 
--- the text of a plan that the monitor is compiled to, and of the log of a simulation under it
+-- the text of the plan that is asked for, and of the log of a simulation under it
 pub record IsSimulateText (held : List ℕ
     → Option (List ℕ)) (monitor_file clients_file : List ℕ) (schedule : Schedule)
+    (choice : PlanChoice) (clients : List Client) (last : Configuration) (text : List ℕ) : Type 0
+  where
+    pub monitor : MonitorParts
+    pub plan : Plan
+    pub log : List Entry
+    pub files : HoldRun held monitor_file clients_file monitor clients
+    pub simulation : IsSimulation choice (system_under monitor clients plan) schedule log last
+    pub printed : text ≡ plan_and_log_text (system_under monitor clients plan) log last
+
+-- the text of the plan that is asked for, and of the log of a run under it in which no wake-up is
+-- spurious
+pub record IsRunText (held : List ℕ
+    → Option (List ℕ)) (monitor_file clients_file : List ℕ) (choice : PlanChoice)
     (clients : List Client) (last : Configuration) (text : List ℕ) : Type 0 where
   pub monitor : MonitorParts
   pub plan : Plan
   pub log : List Entry
   pub files : HoldRun held monitor_file clients_file monitor clients
-  pub simulation : IsSimulation (system_under monitor clients plan) schedule log last
-  pub printed : text ≡ plan_and_log_text (system_under monitor clients plan) log last
-
--- the text of a plan that the monitor is compiled to, and of the log of a run under it in which no
--- wake-up is spurious
-pub record IsRunText (held : List ℕ
-    → Option (List ℕ)) (monitor_file clients_file : List ℕ) (clients : List Client)
-    (last : Configuration) (text : List ℕ) : Type 0 where
-  pub monitor : MonitorParts
-  pub plan : Plan
-  pub log : List Entry
-  pub files : HoldRun held monitor_file clients_file monitor clients
-  pub placed : IsPlacedRun (system_under monitor clients plan) log last
+  pub placed : IsPlacedRun choice (system_under monitor clients plan) log last
   pub unprompted : spurious_in log ≡ 0
   pub printed : text ≡ plan_and_log_text (system_under monitor clients plan) log last
 
@@ -121,8 +125,8 @@ pub record IsStressText (number : ℕ) (text : List ℕ) : Type 0 where
   pub plan : Plan
   pub log : List Entry
   pub last : Configuration
-  pub placed : IsPlacedRun (system_under (buffer_of (capacity_of number)) producers_and_consumers
-      plan) log last
+  pub placed : IsPlacedRun Placed
+      (system_under (buffer_of (capacity_of number)) producers_and_consumers plan) log last
   pub unprompted : spurious_in log ≡ 0
   pub finished : IsFinished producers_and_consumers (situation_of last)
   pub summed : text ≡ summary_text
@@ -157,14 +161,14 @@ IsDoneText held (check file) text = IsCheckText held file text
 IsDoneText held (turns monitor clients) text =
     (scripts : List Client) × (run : Turns) × IsTurnsText held monitor clients scripts run text
     × IsFinished scripts (end_of run)
-IsDoneText held (compile file) text = IsCompileText held file text
-IsDoneText held (simulate monitor clients schedule) text =
+IsDoneText held (compile file choice) text = IsCompileText held file choice text
+IsDoneText held (simulate monitor clients schedule choice) text =
     (scripts : List Client) × (last : Configuration)
-    × IsSimulateText held monitor clients schedule scripts last text
+    × IsSimulateText held monitor clients schedule choice scripts last text
     × IsFinished scripts (situation_of last)
-IsDoneText held (run monitor clients workers) text =
+IsDoneText held (run monitor clients workers choice) text =
     (scripts : List Client) × (last : Configuration)
-    × IsRunText held monitor clients scripts last text
+    × IsRunText held monitor clients choice scripts last text
     × IsFinished scripts (situation_of last)
 IsDoneText held (stress number workers) text = IsStressText number text
 IsDoneText held (report file) text = IsReportText held file text
@@ -177,14 +181,14 @@ IsStalledText held (check file) text = ⊥
 IsStalledText held (turns monitor clients) text =
     (scripts : List Client) × (run : Turns) × IsTurnsText held monitor clients scripts run text
     × (IsFinished scripts (end_of run) → ⊥)
-IsStalledText held (compile file) text = ⊥
-IsStalledText held (simulate monitor clients schedule) text =
+IsStalledText held (compile file choice) text = ⊥
+IsStalledText held (simulate monitor clients schedule choice) text =
     (scripts : List Client) × (last : Configuration)
-    × IsSimulateText held monitor clients schedule scripts last text
+    × IsSimulateText held monitor clients schedule choice scripts last text
     × (IsFinished scripts (situation_of last) → ⊥)
-IsStalledText held (run monitor clients workers) text =
+IsStalledText held (run monitor clients workers choice) text =
     (scripts : List Client) × (last : Configuration)
-    × IsRunText held monitor clients scripts last text
+    × IsRunText held monitor clients choice scripts last text
     × (IsFinished scripts (situation_of last) → ⊥)
 IsStalledText held (stress number workers) text = ⊥
 IsStalledText held (report file) text = ⊥
@@ -233,9 +237,9 @@ IsRecheckRefusal held monitor report_file text =
 abbrev pub IsRefusedText : (List ℕ → Option (List ℕ)) → Command → List ℕ → Type 0
 IsRefusedText held (check file) text = IsMonitorRefusal held file text
 IsRefusedText held (turns monitor clients) text = IsRunRefusal held monitor clients text
-IsRefusedText held (compile file) text = IsMonitorRefusal held file text
-IsRefusedText held (simulate monitor clients schedule) text = IsRunRefusal held monitor clients text
-IsRefusedText held (run monitor clients workers) text = IsRunRefusal held monitor clients text
+IsRefusedText held (compile file choice) text = IsMonitorRefusal held file text
+IsRefusedText held (simulate monitor clients schedule choice) text = IsRunRefusal held monitor clients text
+IsRefusedText held (run monitor clients workers choice) text = IsRunRefusal held monitor clients text
 IsRefusedText held (stress number workers) text = ⊥
 IsRefusedText held (report file) text = IsMonitorRefusal held file text
 IsRefusedText held (recheck monitor report_file) text =
@@ -331,9 +335,9 @@ RejectsReport held monitor_file report_file =
 abbrev pub AcceptsFiles : (List ℕ → Option (List ℕ)) → Command → Type 0
 AcceptsFiles held (check file) = AcceptsMonitor held file
 AcceptsFiles held (turns monitor clients) = AcceptsRun held monitor clients
-AcceptsFiles held (compile file) = AcceptsMonitor held file
-AcceptsFiles held (simulate monitor clients schedule) = AcceptsRun held monitor clients
-AcceptsFiles held (run monitor clients workers) = AcceptsRun held monitor clients
+AcceptsFiles held (compile file choice) = AcceptsMonitor held file
+AcceptsFiles held (simulate monitor clients schedule choice) = AcceptsRun held monitor clients
+AcceptsFiles held (run monitor clients workers choice) = AcceptsRun held monitor clients
 AcceptsFiles held (stress number workers) = Unit {0}
 AcceptsFiles held (report file) = AcceptsMonitor held file
 AcceptsFiles held (recheck monitor report_file) = AcceptsReport held monitor report_file
@@ -342,9 +346,9 @@ AcceptsFiles held (recheck monitor report_file) = AcceptsReport held monitor rep
 abbrev pub RejectsFiles : (List ℕ → Option (List ℕ)) → Command → Type 0
 RejectsFiles held (check file) = RejectsMonitor held file
 RejectsFiles held (turns monitor clients) = RejectsRun held monitor clients
-RejectsFiles held (compile file) = RejectsMonitor held file
-RejectsFiles held (simulate monitor clients schedule) = RejectsRun held monitor clients
-RejectsFiles held (run monitor clients workers) = RejectsRun held monitor clients
+RejectsFiles held (compile file choice) = RejectsMonitor held file
+RejectsFiles held (simulate monitor clients schedule choice) = RejectsRun held monitor clients
+RejectsFiles held (run monitor clients workers choice) = RejectsRun held monitor clients
 RejectsFiles held (stress number workers) = ⊥
 RejectsFiles held (report file) = RejectsMonitor held file
 RejectsFiles held (recheck monitor report_file) = RejectsReport held monitor report_file

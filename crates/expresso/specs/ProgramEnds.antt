@@ -10,7 +10,7 @@ use Rattle.expresso.specs.Answers.{IsUnreadOrMemory}
 
 -- the command runs in workers
 abbrev pub HasWorkers : Command → Type 0
-HasWorkers (run monitor clients workers) = Unit {0}
+HasWorkers (run monitor clients workers choice) = Unit {0}
 HasWorkers (stress number workers) = Unit {0}
 HasWorkers command = ⊥
 

@@ -6,6 +6,8 @@
 //! the clients by a schedule in place of threads, and `stress` runs a large input. `report` prints the plan with a
 //! certificate of each claim that it rests on, and `recheck` checks such a text without the prover.
 //!
+//! `--relay` asks for the plan with its signals relayed.
+//!
 //! Its clause `headline` is `specs/Headline`: what `run` promises. `specs/ProgramEnds` says what every call promises,
 //! `specs/Answers` what each command prints, and `specs/Exit` which number stands for a [`Status`]. [`without_workers`]
 //! does what needs no threads, with no runtime: so it returns. That bytes stand for one monitor and one list of clients,

@@ -26,6 +26,8 @@ use std::thread::Threads;
 /// `report FILE` writes the plan and, for each claim that it rests on, a line with a certificate; `recheck FILE REPORT`
 /// checks such a report again, by its certificates alone, and writes whether it is accepted.
 ///
+/// With `--relay` beside `run`, `compile` or `simulate` the plan is that one with its signals relayed.
+///
 /// The words begin with the program's name. First the files are read, the monitor first, then all work is
 /// done and all memory taken, and then the text is written, which takes no memory. Of a file that isn't accepted
 /// the line of its first fault is written, the monitor's first. Each worker calls the gate ahead of each section that it

@@ -45,12 +45,15 @@ pub(crate) fn work<'a, F: Files, S: Sink>(
     match command {
         Command::Check { monitor } => Ok(check_file(alloc, monitor, files, out)),
         Command::Turns { monitor, clients } => Ok(take_turns(alloc, monitor, clients, files, out)),
-        Command::Compile { monitor } => Ok(compile_file(alloc, monitor, files, out)),
+        Command::Compile { monitor, choice } => {
+            Ok(compile_file(alloc, monitor, choice, files, out))
+        }
         Command::Simulate {
             monitor,
             clients,
             schedule,
-        } => Ok(simulate_files(alloc, monitor, clients, schedule, files, out)),
+            choice,
+        } => Ok(simulate_files(alloc, monitor, clients, schedule, choice, files, out)),
         Command::Report { monitor } => Ok(report_file(alloc, monitor, files, out)),
         Command::Recheck { monitor, report } => {
             Ok(recheck_files(alloc, monitor, report, files, out))
@@ -82,7 +85,10 @@ pub(crate) fn work_in_threads<R: Threads + Wait + Sync, F: Files, S: Sink, G: Ga
             monitor,
             clients,
             workers,
-        } => run_files(rt, alloc, monitor, clients, workers, files, out, gate),
+            choice,
+        } => run_files(
+            rt, alloc, monitor, clients, workers, choice, files, out, gate,
+        ),
         Command::Stress { number, workers } => stress(rt, alloc, number, workers, out, gate),
         _ => unreachable!(),
     }

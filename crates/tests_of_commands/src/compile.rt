@@ -44,7 +44,7 @@ block startWrite: 4 signal
 block endWrite: 1 broadcast, 3 signal tested
 ";
 
-const BUFFER_OF_FOUR: &[u8] = b"monitor Buffer {
+pub(crate) const BUFFER_OF_FOUR: &[u8] = b"monitor Buffer {
   const CAP = 4;
   int count = 0;
   method put() waituntil (count < CAP) {

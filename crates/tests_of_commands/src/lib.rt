@@ -24,6 +24,8 @@ mod readme;
 #[cfg(test)]
 mod recheck;
 #[cfg(test)]
+mod relay;
+#[cfg(test)]
 mod report;
 #[cfg(test)]
 mod run;

@@ -24,9 +24,9 @@ use std::thread::Threads;
 pub(crate) const USAGE: &[u8] = b"usage:
 expresso check FILE
 expresso turns FILE CLIENTS
-expresso compile FILE
-expresso simulate FILE CLIENTS [--seed N] [--spurious K]
-expresso run FILE CLIENTS [--workers N]
+expresso compile FILE [--relay]
+expresso simulate FILE CLIENTS [--seed N] [--spurious K] [--relay]
+expresso run FILE CLIENTS [--workers N] [--relay]
 expresso stress N [--workers N]
 expresso report FILE
 expresso recheck FILE REPORT
@@ -35,7 +35,7 @@ expresso recheck FILE REPORT
 #[test]
 fn other_words_get_the_usage(rt: HostRuntime) -> Result<(), Fail> {
     let none: [&str; 0] = [];
-    let table: [&[&str]; 23] = [
+    let table: [&[&str]; 25] = [
         &["expresso", "turns", "m.mon"],
         &["expresso", "check"],
         &["expresso", "check", "m.mon", "c.cl"],
@@ -59,6 +59,8 @@ fn other_words_get_the_usage(rt: HostRuntime) -> Result<(), Fail> {
         &["expresso", "report", "m.mon", "c.cl"],
         &["expresso", "recheck", "m.mon"],
         &["expresso", "recheck", "m.mon", "c.cl", "--workers", "2"],
+        &["expresso", "turns", "m.mon", "c.cl", "--relay"],
+        &["expresso", "run", "m.mon", "c.cl", "--relay=yes"],
     ];
     for words in table {
         answers(&rt, asked(words, BUFFER, TWO), Status::Usage, USAGE)?;
