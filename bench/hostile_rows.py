@@ -101,6 +101,7 @@ expresso run FILE CLIENTS [--workers N] [--relay]
 expresso stress N [--workers N]
 expresso report FILE
 expresso recheck FILE REPORT
+expresso audit FILE PLAN
 """
 
 SUMMARY = b"calls 16384\ndone\nstate count=0\n"

@@ -23,7 +23,7 @@ use Rattle.mon_command.specs.declared.plan_choice.PlanChoice.{PlanChoice}
 use Rattle.mon_command.specs.declared.plan_choice.PlanChoice.TheVariants.{Placed}
 use Rattle.mon_command.specs.declared.schedule.Schedule.{Schedule}
 use Rattle.mon_command.specs.CommandLine.{Command, check, turns, compile, simulate, run, stress}
-use Rattle.mon_command.specs.CommandLine.{report, recheck}
+use Rattle.mon_command.specs.CommandLine.{report, recheck, audit}
 use Rattle.mon_command.specs.CommandLine.{Takes, TakesNone, files_of}
 use Rattle.mon_stress.specs.LargeInput.{buffer_of, capacity_of, producers_and_consumers}
 use Rattle.expresso.specs.Placements.{IsChosen, IsPlacement}
@@ -37,6 +37,7 @@ use Rattle.expresso.specs.MonitorFiles.{IsAccepted, IsFirstOfMonitor}
 use Rattle.expresso.specs.ClientFiles.{AreAccepted, IsFirstOfClients}
 use Rattle.expresso.specs.ReportFiles.{IsAcceptanceLine, IsRechecked}
 use Rattle.expresso.specs.ReportFiles.{IsReportRefusalLine}
+use Rattle.expresso.specs.PlanFiles.{IsAudited, IsLawfulLine, IsPlanRefusalLine, MayBeLawful}
 use Rattle.mon_place.specs.declared.placed.PlacedPlan.{PlacedPlan}
 use Rattle.mon_place.specs.Backing.{AreProofs, backed_claims}
 use Rattle.mon_recheck.specs.declared.report.Report.{Report}
@@ -154,6 +155,16 @@ pub record IsRecheckText (held : List ℕ
   pub told : HoldsBytes held report_file bytes
   pub line : IsAcceptanceLine monitor bytes text
 
+-- the line that says that the plan of the second file is lawful for the monitor of the first
+pub record IsAuditText (held : List ℕ
+    → Option (List ℕ)) (monitor_file plan_file text : List ℕ) : Type 0 where
+  pub tree : MonitorTree
+  pub monitor : MonitorParts
+  pub bytes : List ℕ
+  pub holds : HoldsMonitor held monitor_file tree monitor
+  pub told : HoldsBytes held plan_file bytes
+  pub line : IsLawfulLine monitor bytes text
+
 -- the text of a command whose work is done; of `turns`, `simulate` and `run`, that no client has a
 -- call left
 abbrev pub IsDoneText : (List ℕ → Option (List ℕ)) → Command → List ℕ → Type 0
@@ -173,6 +184,7 @@ IsDoneText held (run monitor clients workers choice) text =
 IsDoneText held (stress number workers) text = IsStressText number text
 IsDoneText held (report file) text = IsReportText held file text
 IsDoneText held (recheck monitor report_file) text = IsRecheckText held monitor report_file text
+IsDoneText held (audit monitor plan_file) text = IsAuditText held monitor plan_file text
 
 -- the text of `turns`, `simulate` or `run` where some client has a call left; no other command
 -- stalls
@@ -193,6 +205,7 @@ IsStalledText held (run monitor clients workers choice) text =
 IsStalledText held (stress number workers) text = ⊥
 IsStalledText held (report file) text = ⊥
 IsStalledText held (recheck monitor report_file) text = ⊥
+IsStalledText held (audit monitor plan_file) text = ⊥
 
 -- ---- refusals
 
@@ -234,6 +247,21 @@ abbrev pub IsRecheckRefusal : (List ℕ → Option (List ℕ)) → List ℕ → 
 IsRecheckRefusal held monitor report_file text =
     IsMonitorRefusal held monitor text ⊎ IsReportRefusal held monitor report_file text
 
+-- the monitor file is accepted, and the line refuses the plan's file
+pub record IsPlanRefusal (held : List ℕ
+    → Option (List ℕ)) (monitor_file plan_file text : List ℕ) : Type 0 where
+  pub tree : MonitorTree
+  pub monitor : MonitorParts
+  pub bytes : List ℕ
+  pub holds : HoldsMonitor held monitor_file tree monitor
+  pub told : HoldsBytes held plan_file bytes
+  pub line : IsPlanRefusalLine monitor plan_file bytes text
+
+-- the line of the first of both files that is not accepted
+abbrev pub IsAuditRefusal : (List ℕ → Option (List ℕ)) → List ℕ → List ℕ → List ℕ → Type 0
+IsAuditRefusal held monitor plan_file text =
+    IsMonitorRefusal held monitor text ⊎ IsPlanRefusal held monitor plan_file text
+
 abbrev pub IsRefusedText : (List ℕ → Option (List ℕ)) → Command → List ℕ → Type 0
 IsRefusedText held (check file) text = IsMonitorRefusal held file text
 IsRefusedText held (turns monitor clients) text = IsRunRefusal held monitor clients text
@@ -244,6 +272,7 @@ IsRefusedText held (stress number workers) text = ⊥
 IsRefusedText held (report file) text = IsMonitorRefusal held file text
 IsRefusedText held (recheck monitor report_file) text =
     IsRecheckRefusal held monitor report_file text
+IsRefusedText held (audit monitor plan_file) text = IsAuditRefusal held monitor plan_file text
 
 -- a read fault's line that names one of the command's files; which of them, no clause says
 abbrev pub IsUnreadText : Command → List ℕ → Type 0
@@ -331,6 +360,23 @@ RejectsReport held monitor_file report_file =
     × ((tree : MonitorTree) (monitor : MonitorParts) (own : Report)
     → IsAccepted monitor_bytes tree monitor → IsRechecked report_bytes monitor own → ⊥)
 
+-- the two files tell their bytes: a monitor's, and those of a plan of which nothing may be found but
+-- that it is lawful
+abbrev pub AcceptsPlan : (List ℕ → Option (List ℕ)) → List ℕ → List ℕ → Type 0
+AcceptsPlan held monitor_file plan_file =
+    (monitor_bytes : List ℕ) × (plan_bytes : List ℕ) × (tree : MonitorTree)
+    × (monitor : MonitorParts) × (plan : Plan)
+    × (held monitor_file ≡ Some monitor_bytes) × (held plan_file ≡ Some plan_bytes)
+    × IsAccepted monitor_bytes tree monitor × IsAudited plan_bytes monitor plan
+
+-- they tell their bytes, and these are not a monitor's and those of a plan that may be found lawful
+abbrev pub RejectsPlan : (List ℕ → Option (List ℕ)) → List ℕ → List ℕ → Type 0
+RejectsPlan held monitor_file plan_file =
+    (monitor_bytes : List ℕ) × (plan_bytes : List ℕ) × (held monitor_file ≡ Some monitor_bytes)
+    × (held plan_file ≡ Some plan_bytes)
+    × ((tree : MonitorTree) (monitor : MonitorParts) (plan : Plan)
+    → IsAccepted monitor_bytes tree monitor → MayBeLawful plan_bytes monitor plan → ⊥)
+
 -- the files of the command tell their bytes, which are accepted; `stress` has no files
 abbrev pub AcceptsFiles : (List ℕ → Option (List ℕ)) → Command → Type 0
 AcceptsFiles held (check file) = AcceptsMonitor held file
@@ -341,6 +387,7 @@ AcceptsFiles held (run monitor clients workers choice) = AcceptsRun held monitor
 AcceptsFiles held (stress number workers) = Unit {0}
 AcceptsFiles held (report file) = AcceptsMonitor held file
 AcceptsFiles held (recheck monitor report_file) = AcceptsReport held monitor report_file
+AcceptsFiles held (audit monitor plan_file) = AcceptsPlan held monitor plan_file
 
 -- they tell their bytes, and one of them is not accepted
 abbrev pub RejectsFiles : (List ℕ → Option (List ℕ)) → Command → Type 0
@@ -352,6 +399,7 @@ RejectsFiles held (run monitor clients workers choice) = RejectsRun held monitor
 RejectsFiles held (stress number workers) = ⊥
 RejectsFiles held (report file) = RejectsMonitor held file
 RejectsFiles held (recheck monitor report_file) = RejectsReport held monitor report_file
+RejectsFiles held (audit monitor plan_file) = RejectsPlan held monitor plan_file
 
 -- the words are a command's whose files are accepted; or one of them is not
 abbrev pub Accepts : (List ℕ → Option (List ℕ)) → List (List ℕ) → Type 0

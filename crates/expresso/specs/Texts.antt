@@ -1,5 +1,6 @@
 -- What the program itself prints. Plans are texts of `mon_events`; runs, logs, summaries and faults
--- of `mon_text`; canonical forms of `mon_printer`; reports and verdicts of `mon_recheck`.
+-- of `mon_text`; canonical forms of `mon_printer`; reports and verdicts of `mon_recheck`;
+-- findings of `mon_audit`.
 use Rattle.std.specs.Prelude.{ℕ, List, ◌++◌, codes}
 
 abbrev pub usage_text : List ℕ
@@ -13,3 +14,4 @@ usage_text =
     ++ codes "expresso stress N [--workers N]\n"
     ++ codes "expresso report FILE\n"
     ++ codes "expresso recheck FILE REPORT\n"
+    ++ codes "expresso audit FILE PLAN\n"

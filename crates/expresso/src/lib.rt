@@ -4,7 +4,8 @@
 //! plan, has workers run clients on it in threads, and prints the plan and the log. `check` prints a monitor's canonical
 //! form, `turns` a run by rounds of the implicit machine, `compile` the plan alone: whom each block wakes; `simulate` runs
 //! the clients by a schedule in place of threads, and `stress` runs a large input. `report` prints the plan with a
-//! certificate of each claim that it rests on, and `recheck` checks such a text without the prover.
+//! certificate of each claim that it rests on, and `recheck` checks such a text without the prover. `audit` says whether
+//! a plan that was written by hand is lawful, or what it lacks.
 //!
 //! `--relay` asks for the plan with its signals relayed.
 //!
@@ -14,6 +15,7 @@
 //! and that a schedule has one simulation, which for a small monitor has one text, are the laws of `laws`.
 #![tactic(auto)]
 
+mod audit;
 mod check;
 mod client_file;
 mod compile;

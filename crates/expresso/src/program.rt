@@ -24,7 +24,8 @@ use std::thread::Threads;
 /// the clients by sections under such a plan, by rounds or by the words that a seed draws, and writes as `run`;
 /// `stress N [--workers N]` has workers run a large input that is made of a number, and writes a summary.
 /// `report FILE` writes the plan and, for each claim that it rests on, a line with a certificate; `recheck FILE REPORT`
-/// checks such a report again, by its certificates alone, and writes whether it is accepted.
+/// checks such a report again, by its certificates alone, and writes whether it is accepted. `audit FILE PLAN` writes
+/// whether a plan that was written by hand is lawful, or what it lacks.
 ///
 /// With `--relay` beside `run`, `compile` or `simulate` the plan is that one with its signals relayed.
 ///
@@ -59,8 +60,8 @@ pub fn expresso<R: Threads + Wait + Sync, F: Files, S: Sink, G: Gate>(
     }
 }
 
-/// The program but for `run` and `stress`: what `check`, `turns`, `compile`, `simulate`, `report` and `recheck` do, and
-/// what comes of other words. It starts no thread and waits for none, so it returns. A command that runs in workers is
+/// The program but for `run` and `stress`: what `check`, `turns`, `compile`, `simulate`, `report`, `recheck` and `audit`
+/// do, and what comes of other words. It starts no thread and waits for none, so it returns. A command that runs in workers is
 /// handed back, with nothing read and nothing written.
 pub fn without_workers<'a, F: Files, S: Sink>(
     alloc: Global,

@@ -7,6 +7,7 @@ ghost use Rattle.expresso.specs.ProgramEnds.{HasWorkers, KeepsFiles};
 ghost use Rattle.expresso.specs.inner.Ending.{CommandEnds};
 ghost use Rattle.expresso.specs.inner.Ranges.{IsInRange};
 
+use crate::audit::audit_files;
 use crate::check::check_file;
 use crate::compile::compile_file;
 use crate::recheck::recheck_files;
@@ -58,6 +59,7 @@ pub(crate) fn work<'a, F: Files, S: Sink>(
         Command::Recheck { monitor, report } => {
             Ok(recheck_files(alloc, monitor, report, files, out))
         }
+        Command::Audit { monitor, plan } => Ok(audit_files(alloc, monitor, plan, files, out)),
         Command::Run { .. } => Err(command),
         Command::Stress { .. } => Err(command),
     }

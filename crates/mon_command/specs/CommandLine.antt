@@ -31,6 +31,8 @@ pub data Command : Type 0 where
   report : List ℕ → Command
   -- checks such a report, the second file, of the monitor of the first
   recheck : List ℕ → List ℕ → Command
+  -- says whether a plan, the second file, is lawful for the monitor of the first
+  audit : List ℕ → List ℕ → Command
 
 -- ---- the arguments
 
@@ -144,6 +146,7 @@ name_of (run monitor clients workers choice) = codes "run"
 name_of (stress number workers) = codes "stress"
 name_of (report monitor) = codes "report"
 name_of (recheck monitor report_file) = codes "recheck"
+name_of (audit monitor plan_file) = codes "audit"
 
 -- the values are those of the command, as many as it has
 abbrev pub HasValues : List Text → Command → Type 0
@@ -156,6 +159,7 @@ HasValues values (stress number workers) =
     (word : Text) × (values ≡ word ∷ []) × IsNumber GREATEST_UNSIGNED word number
 HasValues values (report monitor) = values ≡ monitor ∷ []
 HasValues values (recheck monitor report_file) = values ≡ monitor ∷ report_file ∷ []
+HasValues values (audit monitor plan_file) = values ≡ monitor ∷ plan_file ∷ []
 
 abbrev pub HasNoSchedule : Given → Type 0
 HasNoSchedule given = (given.seed ≡ None) × (given.spurious ≡ None)
@@ -179,6 +183,7 @@ HasOptions given (stress number workers) =
     HasNoSchedule given × IsWorkers given.workers workers × (given.relay ≡ false)
 HasOptions given (report monitor) = HasNoOptions given
 HasOptions given (recheck monitor report_file) = HasNoOptions given
+HasOptions given (audit monitor plan_file) = HasNoOptions given
 
 -- the arguments ask for the command
 pub record Asks (given : Given) (command : Command) : Type 0 where
@@ -206,6 +211,7 @@ files_of (run monitor clients workers choice) = monitor ∷ clients ∷ []
 files_of (stress number workers) = []
 files_of (report monitor) = monitor ∷ []
 files_of (recheck monitor report_file) = monitor ∷ report_file ∷ []
+files_of (audit monitor plan_file) = monitor ∷ plan_file ∷ []
 
 -- each file that the words name is one that may be read
 abbrev pub MayReadFiles : (List ℕ → Type 0) → List (List ℕ) → Type 0

@@ -58,6 +58,11 @@ pub enum Command<'a> {
         monitor: &'a str,
         report: &'a str,
     },
+    /// Says whether a plan that is written by hand is lawful for the monitor of another file.
+    Audit {
+        monitor: &'a str,
+        plan: &'a str,
+    },
 }
 
 /// Why words gave no command.

@@ -25,6 +25,8 @@ pub(crate) const REPORT: &[&str] = &["expresso", "report", "m.mon"];
 
 pub(crate) const RECHECK: &[&str] = &["expresso", "recheck", "m.mon", "r.txt"];
 
+pub(crate) const AUDIT: &[&str] = &["expresso", "audit", "m.mon", "p.txt"];
+
 /// Which calls of the files and of the sink fail, and how much the sink takes.
 #[derive(Clone, Copy)]
 pub(crate) struct Devices {
@@ -85,6 +87,14 @@ pub(crate) fn recheck<'a>(monitor: &'a [u8], report: &'a [u8]) -> Call<'a> {
     Call {
         other: "r.txt",
         ..asked(RECHECK, monitor, report)
+    }
+}
+
+/// `expresso audit m.mon p.txt`
+pub(crate) fn audit<'a>(monitor: &'a [u8], plan: &'a [u8]) -> Call<'a> {
+    Call {
+        other: "p.txt",
+        ..asked(AUDIT, monitor, plan)
     }
 }
 

@@ -30,12 +30,13 @@ expresso run FILE CLIENTS [--workers N] [--relay]
 expresso stress N [--workers N]
 expresso report FILE
 expresso recheck FILE REPORT
+expresso audit FILE PLAN
 ";
 
 #[test]
 fn other_words_get_the_usage(rt: HostRuntime) -> Result<(), Fail> {
     let none: [&str; 0] = [];
-    let table: [&[&str]; 25] = [
+    let table: [&[&str]; 27] = [
         &["expresso", "turns", "m.mon"],
         &["expresso", "check"],
         &["expresso", "check", "m.mon", "c.cl"],
@@ -59,6 +60,8 @@ fn other_words_get_the_usage(rt: HostRuntime) -> Result<(), Fail> {
         &["expresso", "report", "m.mon", "c.cl"],
         &["expresso", "recheck", "m.mon"],
         &["expresso", "recheck", "m.mon", "c.cl", "--workers", "2"],
+        &["expresso", "audit", "m.mon"],
+        &["expresso", "audit", "m.mon", "c.cl", "--seed", "1"],
         &["expresso", "turns", "m.mon", "c.cl", "--relay"],
         &["expresso", "run", "m.mon", "c.cl", "--relay=yes"],
     ];
@@ -79,9 +82,12 @@ fn buffer_over<'a>(words: &'a [&'a str], devices: Devices) -> Call<'a> {
 /// A recheck whose report is the clients' file.
 const RECHECK_CLIENTS: &[&str] = &["expresso", "recheck", "m.mon", "c.cl"];
 
+/// An audit whose plan is the clients' file.
+const AUDIT_CLIENTS: &[&str] = &["expresso", "audit", "m.mon", "c.cl"];
+
 #[test]
 fn a_read_that_fails_names_its_file(rt: HostRuntime) -> Result<(), Fail> {
-    let table: [(&[&str], u64, &[u8]); 11] = [
+    let table: [(&[&str], u64, &[u8]); 13] = [
         (TURNS, 1, b"read fault: m.mon\n"),
         (TURNS, 2, b"read fault: c.cl\n"),
         (CHECK, 1, b"read fault: m.mon\n"),
@@ -93,6 +99,8 @@ fn a_read_that_fails_names_its_file(rt: HostRuntime) -> Result<(), Fail> {
         (REPORT, 1, b"read fault: m.mon\n"),
         (RECHECK_CLIENTS, 1, b"read fault: m.mon\n"),
         (RECHECK_CLIENTS, 2, b"read fault: c.cl\n"),
+        (AUDIT_CLIENTS, 1, b"read fault: m.mon\n"),
+        (AUDIT_CLIENTS, 2, b"read fault: c.cl\n"),
     ];
     for (words, number, line) in table {
         let devices = Devices {

@@ -76,6 +76,12 @@ fn each_command_is_taken(rt: HostRuntime) -> Result<(), Fail> {
         &["recheck", "m", "r"],
         "Recheck { monitor: \"m\", report: \"r\" }",
     )?;
+    is(
+        &rt,
+        alloc,
+        &["audit", "m", "p"],
+        "Audit { monitor: \"m\", plan: \"p\" }",
+    )?;
     Ok(())
 }
 
@@ -157,6 +163,7 @@ fn a_relayed_plan_is_asked_for(rt: HostRuntime) -> Result<(), Fail> {
     is_usage(&rt, alloc, &["turns", "m", "c", "--relay"])?;
     is_usage(&rt, alloc, &["report", "m", "--relay"])?;
     is_usage(&rt, alloc, &["recheck", "m", "r", "--relay"])?;
+    is_usage(&rt, alloc, &["audit", "m", "p", "--relay"])?;
     is_usage(&rt, alloc, &["stress", "3", "--relay"])?;
     is_usage(&rt, alloc, &["compile", "m", "--relay=true"])?;
     is_usage(&rt, alloc, &["compile", "m", "--relay", "--relay"])?;
@@ -183,6 +190,7 @@ fn other_commands_and_values_are_refused(rt: HostRuntime) -> Result<(), Fail> {
     is_usage(&rt, alloc, &["check", "-m"])?;
     is_usage(&rt, alloc, &["report", "m", "r"])?;
     is_usage(&rt, alloc, &["recheck", "m"])?;
+    is_usage(&rt, alloc, &["audit", "m"])?;
     Ok(())
 }
 
