@@ -101,6 +101,7 @@ expresso run FILE CLIENTS [--workers N] [--relay]
 expresso stress N [--workers N]
 expresso report FILE
 expresso recheck FILE REPORT
+expresso block FILE CLIENTS
 expresso audit FILE PLAN
 """
 

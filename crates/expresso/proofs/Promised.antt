@@ -1,4 +1,4 @@
--- The answer of a call keeps what `run` promises.
+-- The answer of a call keeps what `run` and `block` promise.
 use Rattle.std.proofs.Common.{◌≡◌, ◌++◌, ℕ, List, Option, Some, None, inl, inr, sym, ap, subst, ◌∙◌}
 use Rattle.std.specs.Io.KnownBytes.{Appends}
 use Rattle.mon_io.specs.Outside.{FilesSeen, SinkSeen}
@@ -6,13 +6,13 @@ use Rattle.mon_implicit.specs.declared.script.Client.{Client}
 use Rattle.mon_implicit.specs.Runs.{IsFinished}
 use Rattle.mon_events.specs.Configurations.{Configuration, situation_of}
 use Rattle.mon_command.specs.declared.plan_choice.PlanChoice.{PlanChoice}
-use Rattle.mon_command.specs.CommandLine.{Command, run}
+use Rattle.mon_command.specs.CommandLine.{Command, Takes, run, block}
 use Rattle.expresso.specs.declared.status.Status.{Status}
 use Rattle.expresso.specs.declared.status.Status.TheVariants.{Done, Stalled}
 use Rattle.expresso.specs.MonitorFiles.{IsAccepted}
 use Rattle.expresso.specs.ClientFiles.{AreAccepted}
-use Rattle.expresso.specs.Answers.{Answers, IsDoneText, IsStalledText, IsRunText}
-use Rattle.expresso.specs.Headline.{IsHeadlineText, Headline}
+use Rattle.expresso.specs.Answers.{Answers, IsDoneText, IsFinishedRunText, IsRunText, IsStalledRunText, IsStalledText}
+use Rattle.expresso.specs.Headline.{IsHeadlineText, Headline, RunInThreads}
 use Rattle.expresso.proofs.Telling.{holds_same}
 use Rattle.expresso.proofs.Completeness.{OneCommand}
 
@@ -64,38 +64,55 @@ module _ (held : List ℕ → Option (List ℕ)) (monitor_file clients_file moni
     stalled = (stalled, left);
   }
 
-  done_promised : (workers : ℕ) (choice : PlanChoice) (text : List ℕ) → IsDoneText held (run monitor_file clients_file workers choice) text → IsHeadlineText choice monitor_bytes clients_bytes Done text
-  done_promised workers choice text (clients, last, shown, finished) =
+  done_promised : (choice : PlanChoice) (text : List ℕ) → IsFinishedRunText held monitor_file clients_file choice text → IsHeadlineText choice monitor_bytes clients_bytes Done text
+  done_promised choice text (clients, last, shown, finished) =
       run_promised choice clients last Done text shown (λ is. absurd (done_stalled is)) (λ none. absurd (none finished))
 
-  stalled_promised : (workers : ℕ) (choice : PlanChoice) (text : List ℕ) → IsStalledText held (run monitor_file clients_file workers choice) text → IsHeadlineText choice monitor_bytes clients_bytes Stalled text
-  stalled_promised workers choice text (clients, last, shown, left) =
+  stalled_promised : (choice : PlanChoice) (text : List ℕ) → IsStalledRunText held monitor_file clients_file choice text → IsHeadlineText choice monitor_bytes clients_bytes Stalled text
+  stalled_promised choice text (clients, last, shown, left) =
       run_promised choice clients last Stalled text shown (λ is. left) (λ none. refl_stalled)
     where
       refl_stalled : Stalled ≡ Stalled
       refl_stalled = cc
 
 module _ (one_command : OneCommand) (words : List (List ℕ)) (files files_now : FilesSeen) (out out_now : SinkSeen) where
+  -- the text of the words' command is that of a run
+  done_run : (command : Command) (monitor_file clients_file : List ℕ) (choice : PlanChoice) (text : List ℕ) → Takes words command → IsDoneText files.held command text → RunInThreads words monitor_file clients_file choice
+      → IsFinishedRunText files.held monitor_file clients_file choice text
+  done_run command monitor_file clients_file choice text taken shown (inl (workers, also)) =
+      subst (λ (c : Command). IsDoneText files.held c text) (one_command words command (run monitor_file clients_file workers choice) taken also) shown
+  done_run command monitor_file clients_file choice text taken shown (inr (also, is)) =
+      subst (λ (p : PlanChoice). IsFinishedRunText files.held monitor_file clients_file p text) (sym is)
+      (subst (λ (c : Command). IsDoneText files.held c text) (one_command words command (block monitor_file clients_file) taken also) shown)
+
+  stalled_run : (command : Command) (monitor_file clients_file : List ℕ) (choice : PlanChoice) (text : List ℕ) → Takes words command → IsStalledText files.held command text → RunInThreads words monitor_file clients_file choice
+      → IsStalledRunText files.held monitor_file clients_file choice text
+  stalled_run command monitor_file clients_file choice text taken shown (inl (workers, also)) =
+      subst (λ (c : Command). IsStalledText files.held c text) (one_command words command (run monitor_file clients_file workers choice) taken also) shown
+  stalled_run command monitor_file clients_file choice text taken shown (inr (also, is)) =
+      subst (λ (p : PlanChoice). IsStalledRunText files.held monitor_file clients_file p text) (sym is)
+      (subst (λ (c : Command). IsStalledText files.held c text) (one_command words command (block monitor_file clients_file) taken also) shown)
+
   done_kept : Answers words files files_now Done out out_now → Headline words files Done out out_now
-  done_kept (text, (command, taken, shown), appends) monitor_file clients_file workers choice monitor_bytes clients_bytes written also monitor_tells clients_tells sink_tells either = (
+  done_kept (text, (command, taken, shown), appends) monitor_file clients_file choice monitor_bytes clients_bytes written also monitor_tells clients_tells sink_tells either = (
     text,
     appended out.written out_now.written written text sink_tells appends,
-    done_promised files.held monitor_file clients_file monitor_bytes clients_bytes monitor_tells clients_tells workers choice text
-        (subst (λ (c : Command). IsDoneText files.held c text) (one_command words command (run monitor_file clients_file workers choice) taken also) shown),
+    done_promised files.held monitor_file clients_file monitor_bytes clients_bytes monitor_tells clients_tells choice text
+        (done_run command monitor_file clients_file choice text taken shown also),
   )
 
   stalled_kept : Answers words files files_now Stalled out out_now → Headline words files Stalled out out_now
-  stalled_kept (text, (command, taken, shown), appends) monitor_file clients_file workers choice monitor_bytes clients_bytes written also monitor_tells clients_tells sink_tells either = (
+  stalled_kept (text, (command, taken, shown), appends) monitor_file clients_file choice monitor_bytes clients_bytes written also monitor_tells clients_tells sink_tells either = (
     text,
     appended out.written out_now.written written text sink_tells appends,
-    stalled_promised files.held monitor_file clients_file monitor_bytes clients_bytes monitor_tells clients_tells workers choice text
-        (subst (λ (c : Command). IsStalledText files.held c text) (one_command words command (run monitor_file clients_file workers choice) taken also) shown),
+    stalled_promised files.held monitor_file clients_file monitor_bytes clients_bytes monitor_tells clients_tells choice text
+        (stalled_run command monitor_file clients_file choice text taken shown also),
   )
 
   pub headline_kept : (status : Status) → Answers words files files_now status out out_now → Headline words files status out out_now
-  headline_kept status answers monitor_file clients_file workers choice monitor_bytes clients_bytes written also monitor_tells clients_tells sink_tells (inl is) =
+  headline_kept status answers monitor_file clients_file choice monitor_bytes clients_bytes written also monitor_tells clients_tells sink_tells (inl is) =
       (subst (λ (s : Status). Headline words files s out out_now) (sym is) (done_kept (subst (λ (s : Status). Answers words files files_now s out out_now) is answers)))
-      monitor_file clients_file workers choice monitor_bytes clients_bytes written also monitor_tells clients_tells sink_tells (inl is)
-  headline_kept status answers monitor_file clients_file workers choice monitor_bytes clients_bytes written also monitor_tells clients_tells sink_tells (inr is) =
+      monitor_file clients_file choice monitor_bytes clients_bytes written also monitor_tells clients_tells sink_tells (inl is)
+  headline_kept status answers monitor_file clients_file choice monitor_bytes clients_bytes written also monitor_tells clients_tells sink_tells (inr is) =
       (subst (λ (s : Status). Headline words files s out out_now) (sym is) (stalled_kept (subst (λ (s : Status). Answers words files files_now s out out_now) is answers)))
-      monitor_file clients_file workers choice monitor_bytes clients_bytes written also monitor_tells clients_tells sink_tells (inr is)
+      monitor_file clients_file choice monitor_bytes clients_bytes written also monitor_tells clients_tells sink_tells (inr is)

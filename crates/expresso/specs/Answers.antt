@@ -23,7 +23,7 @@ use Rattle.mon_command.specs.declared.plan_choice.PlanChoice.{PlanChoice}
 use Rattle.mon_command.specs.declared.plan_choice.PlanChoice.TheVariants.{Placed}
 use Rattle.mon_command.specs.declared.schedule.Schedule.{Schedule}
 use Rattle.mon_command.specs.CommandLine.{Command, check, turns, compile, simulate, run, stress}
-use Rattle.mon_command.specs.CommandLine.{report, recheck, audit}
+use Rattle.mon_command.specs.CommandLine.{report, recheck, block, audit}
 use Rattle.mon_command.specs.CommandLine.{Takes, TakesNone, files_of}
 use Rattle.mon_stress.specs.LargeInput.{buffer_of, capacity_of, producers_and_consumers}
 use Rattle.expresso.specs.Placements.{IsChosen, IsPlacement}
@@ -120,6 +120,21 @@ pub record IsRunText (held : List ℕ
   pub unprompted : spurious_in log ≡ 0
   pub printed : text ≡ plan_and_log_text (system_under monitor clients plan) log last
 
+-- the text of such a run in which no client has a call left; in which some client has
+abbrev pub IsFinishedRunText : (List ℕ → Option (List ℕ)) → List ℕ → List ℕ → PlanChoice → List ℕ
+    → Type 0
+IsFinishedRunText held monitor clients choice text =
+    (scripts : List Client) × (last : Configuration)
+    × IsRunText held monitor clients choice scripts last text
+    × IsFinished scripts (situation_of last)
+
+abbrev pub IsStalledRunText : (List ℕ → Option (List ℕ)) → List ℕ → List ℕ → PlanChoice → List ℕ
+    → Type 0
+IsStalledRunText held monitor clients choice text =
+    (scripts : List Client) × (last : Configuration)
+    × IsRunText held monitor clients choice scripts last text
+    × (IsFinished scripts (situation_of last) → ⊥)
+
 -- the summary of such a run of the large input that the number stands for; its calls are done and
 -- the buffer is empty
 pub record IsStressText (number : ℕ) (text : List ℕ) : Type 0 where
@@ -165,8 +180,8 @@ pub record IsAuditText (held : List ℕ
   pub told : HoldsBytes held plan_file bytes
   pub line : IsLawfulLine monitor bytes text
 
--- the text of a command whose work is done; of `turns`, `simulate` and `run`, that no client has a
--- call left
+-- the text of a command whose work is done; of `turns`, `simulate`, `run` and `block`, that no
+-- client has a call left
 abbrev pub IsDoneText : (List ℕ → Option (List ℕ)) → Command → List ℕ → Type 0
 IsDoneText held (check file) text = IsCheckText held file text
 IsDoneText held (turns monitor clients) text =
@@ -178,16 +193,15 @@ IsDoneText held (simulate monitor clients schedule choice) text =
     × IsSimulateText held monitor clients schedule choice scripts last text
     × IsFinished scripts (situation_of last)
 IsDoneText held (run monitor clients workers choice) text =
-    (scripts : List Client) × (last : Configuration)
-    × IsRunText held monitor clients choice scripts last text
-    × IsFinished scripts (situation_of last)
+    IsFinishedRunText held monitor clients choice text
 IsDoneText held (stress number workers) text = IsStressText number text
 IsDoneText held (report file) text = IsReportText held file text
 IsDoneText held (recheck monitor report_file) text = IsRecheckText held monitor report_file text
+IsDoneText held (block monitor clients) text = IsFinishedRunText held monitor clients Placed text
 IsDoneText held (audit monitor plan_file) text = IsAuditText held monitor plan_file text
 
--- the text of `turns`, `simulate` or `run` where some client has a call left; no other command
--- stalls
+-- the text of `turns`, `simulate`, `run` or `block` where some client has a call left; no other
+-- command stalls
 abbrev pub IsStalledText : (List ℕ → Option (List ℕ)) → Command → List ℕ → Type 0
 IsStalledText held (check file) text = ⊥
 IsStalledText held (turns monitor clients) text =
@@ -199,12 +213,12 @@ IsStalledText held (simulate monitor clients schedule choice) text =
     × IsSimulateText held monitor clients schedule choice scripts last text
     × (IsFinished scripts (situation_of last) → ⊥)
 IsStalledText held (run monitor clients workers choice) text =
-    (scripts : List Client) × (last : Configuration)
-    × IsRunText held monitor clients choice scripts last text
-    × (IsFinished scripts (situation_of last) → ⊥)
+    IsStalledRunText held monitor clients choice text
 IsStalledText held (stress number workers) text = ⊥
 IsStalledText held (report file) text = ⊥
 IsStalledText held (recheck monitor report_file) text = ⊥
+IsStalledText held (block monitor clients) text =
+    IsStalledRunText held monitor clients Placed text
 IsStalledText held (audit monitor plan_file) text = ⊥
 
 -- ---- refusals
@@ -272,6 +286,7 @@ IsRefusedText held (stress number workers) text = ⊥
 IsRefusedText held (report file) text = IsMonitorRefusal held file text
 IsRefusedText held (recheck monitor report_file) text =
     IsRecheckRefusal held monitor report_file text
+IsRefusedText held (block monitor clients) text = IsRunRefusal held monitor clients text
 IsRefusedText held (audit monitor plan_file) text = IsAuditRefusal held monitor plan_file text
 
 -- a read fault's line that names one of the command's files; which of them, no clause says
@@ -387,6 +402,7 @@ AcceptsFiles held (run monitor clients workers choice) = AcceptsRun held monitor
 AcceptsFiles held (stress number workers) = Unit {0}
 AcceptsFiles held (report file) = AcceptsMonitor held file
 AcceptsFiles held (recheck monitor report_file) = AcceptsReport held monitor report_file
+AcceptsFiles held (block monitor clients) = AcceptsRun held monitor clients
 AcceptsFiles held (audit monitor plan_file) = AcceptsPlan held monitor plan_file
 
 -- they tell their bytes, and one of them is not accepted
@@ -399,6 +415,7 @@ RejectsFiles held (run monitor clients workers choice) = RejectsRun held monitor
 RejectsFiles held (stress number workers) = ⊥
 RejectsFiles held (report file) = RejectsMonitor held file
 RejectsFiles held (recheck monitor report_file) = RejectsReport held monitor report_file
+RejectsFiles held (block monitor clients) = RejectsRun held monitor clients
 RejectsFiles held (audit monitor plan_file) = RejectsPlan held monitor plan_file
 
 -- the words are a command's whose files are accepted; or one of them is not

@@ -1,4 +1,5 @@
--- What `run` promises, however many workers run and however their steps interleave.
+-- What `run` promises, however many workers run and however their steps interleave, and `block`,
+-- which has a caller for each client in place of workers.
 use Rattle.std.specs.Prelude.{◌≡◌, ◌⊎◌, ◌↔◌, ◌++◌, ℕ, false, List, Some}
 use Rattle.mon_io.specs.Outside.{FilesSeen, SinkSeen}
 use Rattle.mon_tree.specs.declared.tree.MonitorTree.{MonitorTree}
@@ -20,14 +21,15 @@ use Rattle.mon_place.specs.Exact.{IsExact, IsLicensed}
 use Rattle.mon_text.specs.LogText.{log_text}
 use Rattle.mon_events.specs.Configurations.{system_under}
 use Rattle.mon_command.specs.declared.plan_choice.PlanChoice.{PlanChoice}
-use Rattle.mon_command.specs.CommandLine.{Takes, run}
+use Rattle.mon_command.specs.declared.plan_choice.PlanChoice.TheVariants.{Placed}
+use Rattle.mon_command.specs.CommandLine.{Takes, run, block}
 use Rattle.expresso.specs.declared.status.Status.{Status}
 use Rattle.expresso.specs.declared.status.Status.TheVariants.{Done, Stalled}
 use Rattle.expresso.specs.MonitorFiles.{IsAccepted}
 use Rattle.expresso.specs.ClientFiles.{AreAccepted}
 use Rattle.expresso.specs.Placements.{chosen_of}
 
--- What the text of `run` says of the bytes of the two files, with the plan that was asked for and
+-- What the text of `run` or `block` says of the bytes of the two files, with the plan that was asked for and
 -- the status that it comes with.
 pub record IsHeadlineText (choice : PlanChoice) (monitor_bytes clients_bytes : List ℕ)
     (status : Status) (text : List ℕ) : Type 0 where
@@ -80,14 +82,20 @@ pub record IsHeadlineText (choice : PlanChoice) (monitor_bytes clients_bytes : L
   -- The status is `Stalled` exactly where some client has a call left.
   pub stalled : (status ≡ Stalled) ↔ (IsFinished clients (situation_of last) → ⊥)
 
--- The words are those of `run`, the files and the sink tell their bytes, and the status is `Done`
--- or `Stalled`: then the bytes that were appended
--- are such a text.
+-- The words are those of `run` with these files and this choice of the plan, or those of `block`
+-- with these files: it is always under the plan that is placed.
+abbrev pub RunInThreads : List (List ℕ) → List ℕ → List ℕ → PlanChoice → Type 0
+RunInThreads words monitor_file clients_file choice =
+    ((workers : ℕ) × Takes words (run monitor_file clients_file workers choice))
+    ⊎ (Takes words (block monitor_file clients_file) × (choice ≡ Placed))
+
+-- The words are such, the files and the sink tell their bytes, and the status is `Done` or
+-- `Stalled`: then the bytes that were appended are such a text.
 abbrev pub Headline : List (List ℕ) → FilesSeen → Status → SinkSeen → SinkSeen → Type 0
 Headline words files status out out_now =
-    (monitor_file clients_file : List ℕ) (workers : ℕ) (choice : PlanChoice)
+    (monitor_file clients_file : List ℕ) (choice : PlanChoice)
     (monitor_bytes clients_bytes written : List ℕ)
-    → Takes words (run monitor_file clients_file workers choice)
+    → RunInThreads words monitor_file clients_file choice
     → files.held monitor_file ≡ Some monitor_bytes → files.held clients_file ≡ Some clients_bytes
     → out.written ≡ Some written
     → (status ≡ Done) ⊎ (status ≡ Stalled)

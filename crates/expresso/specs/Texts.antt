@@ -14,4 +14,5 @@ usage_text =
     ++ codes "expresso stress N [--workers N]\n"
     ++ codes "expresso report FILE\n"
     ++ codes "expresso recheck FILE REPORT\n"
+    ++ codes "expresso block FILE CLIENTS\n"
     ++ codes "expresso audit FILE PLAN\n"

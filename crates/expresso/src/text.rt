@@ -66,6 +66,7 @@ pub(crate) fn show_usage<S: Sink>(out: &mut S) -> Status
             b"expresso stress N [--workers N]\n",
             b"expresso report FILE\n",
             b"expresso recheck FILE REPORT\n",
+            b"expresso block FILE CLIENTS\n",
             b"expresso audit FILE PLAN\n",
         ],
         out,

@@ -7,7 +7,7 @@ use Rattle.mon_base.specs.Limits.{MOST_SPURIOUS, WORKERS}
 use Rattle.mon_command.specs.declared.plan_choice.PlanChoice.{PlanChoice}
 use Rattle.mon_command.specs.declared.schedule.Schedule.{Schedule}
 use Rattle.mon_command.specs.declared.schedule.Schedule.TheVariants.{Rounds, Drawn}
-use Rattle.mon_command.specs.CommandLine.{Command, check, turns, compile, simulate, run, stress, report, recheck, audit, Given, GREATEST_UNSIGNED, HasNoOptions, HasNoSchedule, IsSpurious, IsSchedule, IsWorkers, Asks, choice_of}
+use Rattle.mon_command.specs.CommandLine.{Command, check, turns, compile, simulate, run, stress, report, recheck, block, audit, Given, GREATEST_UNSIGNED, HasNoOptions, HasNoSchedule, IsSpurious, IsSchedule, IsWorkers, Asks, choice_of}
 use Rattle.mon_command.specs.inner.Asked.{number_if, spurious_if, schedule_if, some_workers, workers_if, has_schedule, has_settings, plain_if, compile_if, stress_if, run_if, simulate_if, single_if, pair_if, command_of_values, command_if}
 use Rattle.mon_command.proofs.Written.{chosen, cond_second, number_found, number_is}
 
@@ -129,7 +129,8 @@ pair_named name given monitor clients =
     (cond (bytes_eq name (codes "simulate")) (simulate_if given monitor clients)
     (cond (bytes_eq name (codes "run")) (run_if given monitor clients)
     (cond (bytes_eq name (codes "recheck")) (plain_if given (recheck monitor clients))
-    (cond (bytes_eq name (codes "audit")) (plain_if given (audit monitor clients)) None))))
+    (cond (bytes_eq name (codes "block")) (plain_if given (block monitor clients))
+    (cond (bytes_eq name (codes "audit")) (plain_if given (audit monitor clients)) None)))))
 
 single_found : (given : Given) (name value : Text) (command : Command) → given.command ≡ name → given.values ≡ value ∷ []
     → single_named name given value ≡ Some command → command_if given ≡ Some command
@@ -149,6 +150,7 @@ command_found given (compile m p) asks =
     single_found given (codes "compile") m (compile m p) asks.name asks.has_values (compile_found given m p rounds no_workers chosen_is)
 command_found given (report m) asks = single_found given (codes "report") m (report m) asks.name asks.has_values (plain_found given (report m) asks.has_options)
 command_found given (recheck m r) asks = pair_found given (codes "recheck") m r (recheck m r) asks.name asks.has_values (plain_found given (recheck m r) asks.has_options)
+command_found given (block m c) asks = pair_found given (codes "block") m c (block m c) asks.name asks.has_values (plain_found given (block m c) asks.has_options)
 command_found given (audit m p) asks = pair_found given (codes "audit") m p (audit m p) asks.name asks.has_values (plain_found given (audit m p) asks.has_options)
 command_found given (turns m c) asks = pair_found given (codes "turns") m c (turns m c) asks.name asks.has_values (plain_found given (turns m c) asks.has_options)
 command_found given (simulate m c s p) asks =
@@ -251,11 +253,15 @@ pair_asks given monitor clients found values e =
     (λ is made.
     let (unused, same) = plain_is given (recheck monitor clients) found made in
     subst (Asks given) same (record { name = named given (codes "recheck") is; has_values = values; has_options = unused }))
-    (λ no_recheck last. chosen (bytes_eq given.command (codes "audit")) _ _ found last
+    (λ no_recheck later. chosen (bytes_eq given.command (codes "block")) _ _ found later
+    (λ is made.
+    let (unused, same) = plain_is given (block monitor clients) found made in
+    subst (Asks given) same (record { name = named given (codes "block") is; has_values = values; has_options = unused }))
+    (λ no_block last. chosen (bytes_eq given.command (codes "audit")) _ _ found last
     (λ is made.
     let (unused, same) = plain_is given (audit monitor clients) found made in
     subst (Asks given) same (record { name = named given (codes "audit") is; has_values = values; has_options = unused }))
-    (λ no_audit none. absurd (none-some found none))))))
+    (λ no_audit none. absurd (none-some found none)))))))
 
 values_ask : (given : Given) (values : List Text) (found : Command) → given.values ≡ values → command_of_values given values ≡ Some found → Asks given found
 values_ask given [] found is e = absurd (none-some found e)

@@ -31,6 +31,9 @@ pub data Command : Type 0 where
   report : List ℕ → Command
   -- checks such a report, the second file, of the monitor of the first
   recheck : List ℕ → List ℕ → Command
+  -- runs the clients of the second file on the monitor of the first, under the plan that is placed
+  -- for it, by a caller for each client
+  block : List ℕ → List ℕ → Command
   -- says whether a plan, the second file, is lawful for the monitor of the first
   audit : List ℕ → List ℕ → Command
 
@@ -146,6 +149,7 @@ name_of (run monitor clients workers choice) = codes "run"
 name_of (stress number workers) = codes "stress"
 name_of (report monitor) = codes "report"
 name_of (recheck monitor report_file) = codes "recheck"
+name_of (block monitor clients) = codes "block"
 name_of (audit monitor plan_file) = codes "audit"
 
 -- the values are those of the command, as many as it has
@@ -159,6 +163,7 @@ HasValues values (stress number workers) =
     (word : Text) × (values ≡ word ∷ []) × IsNumber GREATEST_UNSIGNED word number
 HasValues values (report monitor) = values ≡ monitor ∷ []
 HasValues values (recheck monitor report_file) = values ≡ monitor ∷ report_file ∷ []
+HasValues values (block monitor clients) = values ≡ monitor ∷ clients ∷ []
 HasValues values (audit monitor plan_file) = values ≡ monitor ∷ plan_file ∷ []
 
 abbrev pub HasNoSchedule : Given → Type 0
@@ -183,6 +188,7 @@ HasOptions given (stress number workers) =
     HasNoSchedule given × IsWorkers given.workers workers × (given.relay ≡ false)
 HasOptions given (report monitor) = HasNoOptions given
 HasOptions given (recheck monitor report_file) = HasNoOptions given
+HasOptions given (block monitor clients) = HasNoOptions given
 HasOptions given (audit monitor plan_file) = HasNoOptions given
 
 -- the arguments ask for the command
@@ -211,6 +217,7 @@ files_of (run monitor clients workers choice) = monitor ∷ clients ∷ []
 files_of (stress number workers) = []
 files_of (report monitor) = monitor ∷ []
 files_of (recheck monitor report_file) = monitor ∷ report_file ∷ []
+files_of (block monitor clients) = monitor ∷ clients ∷ []
 files_of (audit monitor plan_file) = monitor ∷ plan_file ∷ []
 
 -- each file that the words name is one that may be read

@@ -70,6 +70,14 @@ fn pair_asked<'a>(given: &Given<'a>, monitor: &'a str, other: &'a str) -> Option
                 report: other,
             },
         )
+    } else if given.command == "block" {
+        plain_asked(
+            given,
+            Command::Block {
+                monitor,
+                clients: other,
+            },
+        )
     } else if given.command == "audit" {
         plain_asked(
             given,

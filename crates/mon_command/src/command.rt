@@ -58,6 +58,12 @@ pub enum Command<'a> {
         monitor: &'a str,
         report: &'a str,
     },
+    /// Runs the clients of a file on the monitor of another by a caller for each client, under the plan that is placed for
+    /// it.
+    Block {
+        monitor: &'a str,
+        clients: &'a str,
+    },
     /// Says whether a plan that is written by hand is lawful for the monitor of another file.
     Audit {
         monitor: &'a str,

@@ -25,6 +25,8 @@ pub(crate) const REPORT: &[&str] = &["expresso", "report", "m.mon"];
 
 pub(crate) const RECHECK: &[&str] = &["expresso", "recheck", "m.mon", "r.txt"];
 
+pub(crate) const BLOCK: &[&str] = &["expresso", "block", "m.mon", "c.cl"];
+
 pub(crate) const AUDIT: &[&str] = &["expresso", "audit", "m.mon", "p.txt"];
 
 /// Which calls of the files and of the sink fail, and how much the sink takes.

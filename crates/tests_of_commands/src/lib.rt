@@ -8,6 +8,8 @@ mod asking;
 #[cfg(test)]
 mod audit;
 #[cfg(test)]
+mod block;
+#[cfg(test)]
 mod blocks;
 #[cfg(test)]
 mod checks;

@@ -1,8 +1,8 @@
 //! Words that are no command, and devices that fail.
 
 use super::asking::{
-    CHECK, COMPILE, Call, Devices, Outcome, REPORT, RUN, SIMULATE, SOUND, TURNS, answers, asked,
-    check, compile, outcome_of, texts_of, turns, two_files,
+    BLOCK, CHECK, COMPILE, Call, Devices, Outcome, REPORT, RUN, SIMULATE, SOUND, TURNS, answers,
+    asked, check, compile, outcome_of, texts_of, turns, two_files,
 };
 use super::run::LOCK_PLAN;
 use super::runs::TWO_RUN;
@@ -30,13 +30,14 @@ expresso run FILE CLIENTS [--workers N] [--relay]
 expresso stress N [--workers N]
 expresso report FILE
 expresso recheck FILE REPORT
+expresso block FILE CLIENTS
 expresso audit FILE PLAN
 ";
 
 #[test]
 fn other_words_get_the_usage(rt: HostRuntime) -> Result<(), Fail> {
     let none: [&str; 0] = [];
-    let table: [&[&str]; 27] = [
+    let table: [&[&str]; 29] = [
         &["expresso", "turns", "m.mon"],
         &["expresso", "check"],
         &["expresso", "check", "m.mon", "c.cl"],
@@ -60,6 +61,8 @@ fn other_words_get_the_usage(rt: HostRuntime) -> Result<(), Fail> {
         &["expresso", "report", "m.mon", "c.cl"],
         &["expresso", "recheck", "m.mon"],
         &["expresso", "recheck", "m.mon", "c.cl", "--workers", "2"],
+        &["expresso", "block", "m.mon"],
+        &["expresso", "block", "m.mon", "c.cl", "--workers", "2"],
         &["expresso", "audit", "m.mon"],
         &["expresso", "audit", "m.mon", "c.cl", "--seed", "1"],
         &["expresso", "turns", "m.mon", "c.cl", "--relay"],
@@ -87,7 +90,7 @@ const AUDIT_CLIENTS: &[&str] = &["expresso", "audit", "m.mon", "c.cl"];
 
 #[test]
 fn a_read_that_fails_names_its_file(rt: HostRuntime) -> Result<(), Fail> {
-    let table: [(&[&str], u64, &[u8]); 13] = [
+    let table: [(&[&str], u64, &[u8]); 15] = [
         (TURNS, 1, b"read fault: m.mon\n"),
         (TURNS, 2, b"read fault: c.cl\n"),
         (CHECK, 1, b"read fault: m.mon\n"),
@@ -99,6 +102,8 @@ fn a_read_that_fails_names_its_file(rt: HostRuntime) -> Result<(), Fail> {
         (REPORT, 1, b"read fault: m.mon\n"),
         (RECHECK_CLIENTS, 1, b"read fault: m.mon\n"),
         (RECHECK_CLIENTS, 2, b"read fault: c.cl\n"),
+        (BLOCK, 1, b"read fault: m.mon\n"),
+        (BLOCK, 2, b"read fault: c.cl\n"),
         (AUDIT_CLIENTS, 1, b"read fault: m.mon\n"),
         (AUDIT_CLIENTS, 2, b"read fault: c.cl\n"),
     ];

@@ -3,11 +3,11 @@
 ghost use Rattle.std.specs.Prelude.{◌≤◌, IfOk, length};
 
 use super::asking::{
-    Call, Devices, RUN, SIMULATE, SOUND, asked, check, compile, texts_of, turns, two_files,
+    BLOCK, Call, Devices, RUN, SIMULATE, SOUND, asked, check, compile, texts_of, turns, two_files,
 };
 use super::outside::USAGE;
 use super::runs::TWO_RUN;
-use expresso::{Status, expresso, without_workers};
+use expresso::{Status, expresso, without_threads};
 use mon_io::{MemSink, StdSink};
 use mon_pool::OpenGate;
 use samples::clients::TWO;
@@ -116,16 +116,16 @@ fn the_text_of_each_status_reaches_standard_output(rt: HostRuntime) -> Result<()
     Ok(())
 }
 
-/// The status of a call that is given no runtime, or none where it runs in workers.
+/// The status of a call that is given no runtime, or none where it runs clients in threads.
 fn status_alone(alloc: Global, call: &Call<'_>) -> Result<Option<Status>, AllocError> {
     let words = texts_of(alloc, call.words)?;
     let mut files = two_files(alloc, call)?;
     let mut out = MemSink::open(alloc, 1 << 20, Vec::new(alloc))?;
-    Ok(without_workers(alloc, &words, &mut files, &mut out).ok())
+    Ok(without_threads(alloc, &words, &mut files, &mut out).ok())
 }
 
 #[test]
-fn only_run_and_stress_want_a_runtime(rt: HostRuntime) -> Result<(), Fail> {
+fn only_run_stress_and_block_want_a_runtime(rt: HostRuntime) -> Result<(), Fail> {
     let alone: &[&str] = &["expresso"];
     let stress: &[&str] = &["expresso", "stress", "3"];
     let table = [
@@ -135,6 +135,7 @@ fn only_run_and_stress_want_a_runtime(rt: HostRuntime) -> Result<(), Fail> {
         (asked(SIMULATE, BUFFER, TWO), Some(Status::Done)),
         (asked(alone, BUFFER, TWO), Some(Status::Usage)),
         (asked(RUN, BUFFER, TWO), None),
+        (asked(BLOCK, BUFFER, TWO), None),
         (asked(stress, BUFFER, TWO), None),
     ];
     for (call, status) in table {

@@ -79,6 +79,12 @@ fn each_command_is_taken(rt: HostRuntime) -> Result<(), Fail> {
     is(
         &rt,
         alloc,
+        &["block", "m", "c"],
+        "Block { monitor: \"m\", clients: \"c\" }",
+    )?;
+    is(
+        &rt,
+        alloc,
         &["audit", "m", "p"],
         "Audit { monitor: \"m\", plan: \"p\" }",
     )?;
@@ -163,6 +169,7 @@ fn a_relayed_plan_is_asked_for(rt: HostRuntime) -> Result<(), Fail> {
     is_usage(&rt, alloc, &["turns", "m", "c", "--relay"])?;
     is_usage(&rt, alloc, &["report", "m", "--relay"])?;
     is_usage(&rt, alloc, &["recheck", "m", "r", "--relay"])?;
+    is_usage(&rt, alloc, &["block", "m", "c", "--relay"])?;
     is_usage(&rt, alloc, &["audit", "m", "p", "--relay"])?;
     is_usage(&rt, alloc, &["stress", "3", "--relay"])?;
     is_usage(&rt, alloc, &["compile", "m", "--relay=true"])?;
@@ -190,6 +197,7 @@ fn other_commands_and_values_are_refused(rt: HostRuntime) -> Result<(), Fail> {
     is_usage(&rt, alloc, &["check", "-m"])?;
     is_usage(&rt, alloc, &["report", "m", "r"])?;
     is_usage(&rt, alloc, &["recheck", "m"])?;
+    is_usage(&rt, alloc, &["block", "m"])?;
     is_usage(&rt, alloc, &["audit", "m"])?;
     Ok(())
 }

@@ -9,8 +9,8 @@ use Rattle.mon_tokens.specs.Words.{decimal_value}
 use Rattle.mon_command.specs.declared.schedule.Schedule.{Schedule}
 use Rattle.mon_command.specs.declared.schedule.Schedule.TheVariants.{Rounds, Drawn}
 use Rattle.mon_command.specs.CommandLine.{Given, Command, check, turns, compile, simulate, run}
-use Rattle.mon_command.specs.CommandLine.{stress, report, recheck, audit, GREATEST_UNSIGNED}
-use Rattle.mon_command.specs.CommandLine.{DEFAULT_WORKERS, MOST_DIGITS, choice_of}
+use Rattle.mon_command.specs.CommandLine.{stress, report, recheck, block, audit}
+use Rattle.mon_command.specs.CommandLine.{GREATEST_UNSIGNED, DEFAULT_WORKERS, MOST_DIGITS, choice_of}
 
 -- 1 to `MOST_DIGITS` decimal digits
 abbrev pub is_written : List ℕ → Bool
@@ -89,8 +89,9 @@ pair_if given monitor other =
     (cond (bytes_eq given.command (codes "simulate")) (simulate_if given monitor other)
     (cond (bytes_eq given.command (codes "run")) (run_if given monitor other)
     (cond (bytes_eq given.command (codes "recheck")) (plain_if given (recheck monitor other))
+    (cond (bytes_eq given.command (codes "block")) (plain_if given (block monitor other))
     (cond (bytes_eq given.command (codes "audit")) (plain_if given (audit monitor other))
-    None))))
+    None)))))
 
 -- the command that these values ask for
 abbrev pub command_of_values : Given → List (List ℕ) → Option Command
