@@ -95,12 +95,14 @@ block endWrite: 1 broadcast, 3 signal tested
 USAGE_TEXT = b"""usage:
 expresso check FILE
 expresso turns FILE CLIENTS
-expresso compile FILE
-expresso simulate FILE CLIENTS [--seed N] [--spurious K]
-expresso run FILE CLIENTS [--workers N]
+expresso compile FILE [--relay]
+expresso simulate FILE CLIENTS [--seed N] [--spurious K] [--relay]
+expresso run FILE CLIENTS [--workers N] [--relay]
 expresso stress N [--workers N]
 expresso report FILE
 expresso recheck FILE REPORT
+expresso block FILE CLIENTS
+expresso audit FILE PLAN
 """
 
 SUMMARY = b"calls 16384\ndone\nstate count=0\n"

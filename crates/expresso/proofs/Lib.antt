@@ -7,6 +7,7 @@ pub mod Completeness
 pub mod Telling
 pub mod RunFiles
 pub mod Judged
+pub mod Audited
 pub mod Simulating
 pub mod Simulated
 pub mod Ending

@@ -13,8 +13,9 @@ use Rattle.mon_text.specs.FaultText.{unread_text}
 use Rattle.expresso.specs.declared.status.Status.{Status}
 use Rattle.expresso.specs.declared.status.Status.TheVariants as statuses
 use Rattle.expresso.specs.declared.monitor_file.MonitorFile.{MonitorFile}
+use Rattle.mon_command.specs.declared.plan_choice.PlanChoice.{PlanChoice}
 use Rattle.mon_command.specs.CommandLine.{Command, check, compile, report}
-use Rattle.expresso.specs.Placements.{IsPlacement}
+use Rattle.expresso.specs.Placements.{IsChosen}
 use Rattle.expresso.specs.FirstFaults.{IsRefusalLine}
 use Rattle.expresso.specs.MonitorFiles.{IsAccepted, IsFirstOfMonitor}
 use Rattle.expresso.specs.Answers.{AcceptsMonitor, HoldsMonitor, IsUnreadText, RejectsMonitor}
@@ -30,8 +31,8 @@ use Rattle.expresso.proofs.Ending.{memory_ended, no_bytes_ended, refused_ended, 
 pub check_works : (file : List ℕ) → WorksOn (check file) file []
 check_works file = record { files = refl; refused = λ held text is. is; accepted = λ held is. is }
 
-pub compile_works : (file : List ℕ) → WorksOn (compile file) file []
-compile_works file = record { files = refl; refused = λ held text is. is; accepted = λ held is. is }
+pub compile_works : (file : List ℕ) (choice : PlanChoice) → WorksOn (compile file choice) file []
+compile_works file choice = record { files = refl; refused = λ held text is. is; accepted = λ held is. is }
 
 pub report_works : (file : List ℕ) → WorksOn (report file) file []
 report_works file = record { files = refl; refused = λ held text is. is; accepted = λ held is. is }
@@ -104,10 +105,10 @@ check_done file tree monitor files files_now result out out_now holds steady wri
     (record { tree = tree; monitor = monitor; holds = holds; printed = refl })
     (no_rejection files.held file tree monitor holds) steady written
 
-pub compile_done : (file : List ℕ) (tree : MonitorTree) (monitor : MonitorParts) (plan : Plan) (files files_now : FilesSeen) (result : Status) (out out_now : SinkSeen)
-    → HoldsMonitor files.held file tree monitor → IsPlacement monitor plan → files_now.faults ≡ files.faults → IsWritten statuses.Done (plan_text monitor plan) result out out_now
-    → CommandEnds (compile file) files files_now result out out_now
-compile_done file tree monitor plan files files_now result out out_now holds placement steady written =
-    work_ended (compile file) files files_now (plan_text monitor plan) result out out_now true
-    (record { tree = tree; monitor = monitor; plan = plan; holds = holds; placement = placement; printed = refl })
+pub compile_done : (file : List ℕ) (choice : PlanChoice) (tree : MonitorTree) (monitor : MonitorParts) (plan : Plan) (files files_now : FilesSeen) (result : Status) (out out_now : SinkSeen)
+    → HoldsMonitor files.held file tree monitor → IsChosen choice monitor plan → files_now.faults ≡ files.faults → IsWritten statuses.Done (plan_text monitor plan) result out out_now
+    → CommandEnds (compile file choice) files files_now result out out_now
+compile_done file choice tree monitor plan files files_now result out out_now holds chosen steady written =
+    work_ended (compile file choice) files files_now (plan_text monitor plan) result out out_now true
+    (record { tree = tree; monitor = monitor; plan = plan; holds = holds; chosen = chosen; printed = refl })
     (no_rejection files.held file tree monitor holds) steady written

@@ -1,5 +1,5 @@
 -- A schedule has one simulation under a plan, and a small monitor one plan.
-use Rattle.std.proofs.Common.{◌≡◌, ℕ, List, sym, ap, subst}
+use Rattle.std.proofs.Common.{◌≡◌, ℕ, List, sym, ap, subst, ◌∙◌}
 use Rattle.mon_monitor.specs.MonitorParts.{MonitorParts}
 use Rattle.mon_implicit.specs.declared.script.Client.{Client}
 use Rattle.mon_events.specs.declared.plan.Plan.{Plan}
@@ -11,9 +11,10 @@ use Rattle.mon_place.specs.Exact.{IsExact}
 use Rattle.mon_text.specs.Laws.{plan_and_log_text}
 use Rattle.mon_explicit.specs.Sections.{FreeMachine, opened_free}
 use Rattle.mon_simulate.specs.Schedules.{IsByRounds, IsDrawn}
+use Rattle.mon_command.specs.declared.plan_choice.PlanChoice.{PlanChoice}
 use Rattle.mon_command.specs.declared.schedule.Schedule.{Schedule}
 use Rattle.mon_command.specs.declared.schedule.Schedule.TheVariants.{Rounds, Drawn}
-use Rattle.expresso.specs.Placements.{IsPlacement}
+use Rattle.expresso.specs.Placements.{IsChosen, IsPlacement, chosen_of}
 use Rattle.expresso.specs.Simulations.{IsScheduled, IsSimulation, most_spurious}
 
 abbrev OneByRounds : Type 0
@@ -30,19 +31,19 @@ one_end by_rounds drawn (Drawn seed spurious) before one other are also = drawn 
 abbrev ending : System → Schedule → List Entry → Configuration → FreeMachine
 ending system schedule log last = record { system = system; now = last; log = log; extra = most_spurious schedule }
 
-same_end : OneByRounds → OneDrawn → (system : System) (schedule : Schedule) (log other : List Entry) (last also : Configuration) → IsSimulation system schedule log last → IsSimulation system schedule other also
+same_end : OneByRounds → OneDrawn → (choice : PlanChoice) (system : System) (schedule : Schedule) (log other : List Entry) (last also : Configuration) → IsSimulation choice system schedule log last → IsSimulation choice system schedule other also
     → ending system schedule log last ≡ ending system schedule other also
-same_end by_rounds drawn system schedule log other last also one two =
+same_end by_rounds drawn choice system schedule log other last also one two =
     one_end by_rounds drawn schedule (opened_free system.monitor system.plan system.clients (most_spurious schedule))
     (ending system schedule log last) (ending system schedule other also) one.scheduled two.scheduled
 
-pub one_log : OneByRounds → OneDrawn → (system : System) (schedule : Schedule) (log other : List Entry) (last also : Configuration) → IsSimulation system schedule log last → IsSimulation system schedule other also → log ≡ other
-one_log by_rounds drawn system schedule log other last also one two =
-    ap (λ (machine : FreeMachine). machine.log) (same_end by_rounds drawn system schedule log other last also one two)
+pub one_log : OneByRounds → OneDrawn → (choice : PlanChoice) (system : System) (schedule : Schedule) (log other : List Entry) (last also : Configuration) → IsSimulation choice system schedule log last → IsSimulation choice system schedule other also → log ≡ other
+one_log by_rounds drawn choice system schedule log other last also one two =
+    ap (λ (machine : FreeMachine). machine.log) (same_end by_rounds drawn choice system schedule log other last also one two)
 
-pub one_last : OneByRounds → OneDrawn → (system : System) (schedule : Schedule) (log other : List Entry) (last also : Configuration) → IsSimulation system schedule log last → IsSimulation system schedule other also → last ≡ also
-one_last by_rounds drawn system schedule log other last also one two =
-    ap (λ (machine : FreeMachine). machine.now) (same_end by_rounds drawn system schedule log other last also one two)
+pub one_last : OneByRounds → OneDrawn → (choice : PlanChoice) (system : System) (schedule : Schedule) (log other : List Entry) (last also : Configuration) → IsSimulation choice system schedule log last → IsSimulation choice system schedule other also → last ≡ also
+one_last by_rounds drawn choice system schedule log other last also one two =
+    ap (λ (machine : FreeMachine). machine.now) (same_end by_rounds drawn choice system schedule log other last also one two)
 
 -- ---- small monitors
 
@@ -52,12 +53,17 @@ OneExactPlan = (monitor : MonitorParts) (plan other : Plan) → FitsPlan monitor
 pub one_placement : OneExactPlan → (monitor : MonitorParts) (plan other : Plan) → IsSmall monitor → IsPlacement monitor plan → IsPlacement monitor other → plan ≡ other
 one_placement one_exact monitor plan other small one two = one_exact monitor plan other one.fits two.fits (one.exact small) (two.exact small)
 
-pub one_text : OneExactPlan → OneByRounds → OneDrawn → (monitor : MonitorParts) (clients : List Client) (schedule : Schedule) (plan other : Plan) (log others : List Entry) (last also : Configuration) → IsSmall monitor
-    → IsSimulation (system_under monitor clients plan) schedule log last → IsSimulation (system_under monitor clients other) schedule others also
+-- and so one plan that is asked for
+one_chosen : OneExactPlan → (choice : PlanChoice) (monitor : MonitorParts) (plan other : Plan) → IsSmall monitor → IsChosen choice monitor plan → IsChosen choice monitor other → plan ≡ other
+one_chosen one_exact choice monitor plan other small one two =
+    one.is ∙ ap (chosen_of monitor choice) (one_placement one_exact monitor one.placed two.placed small one.placement two.placement) ∙ sym two.is
+
+pub one_text : OneExactPlan → OneByRounds → OneDrawn → (choice : PlanChoice) (monitor : MonitorParts) (clients : List Client) (schedule : Schedule) (plan other : Plan) (log others : List Entry) (last also : Configuration) → IsSmall monitor
+    → IsSimulation choice (system_under monitor clients plan) schedule log last → IsSimulation choice (system_under monitor clients other) schedule others also
     → plan_and_log_text (system_under monitor clients plan) log last ≡ plan_and_log_text (system_under monitor clients other) others also
-one_text one_exact by_rounds drawn monitor clients schedule plan other log others last also small one two =
-    let plans = one_placement one_exact monitor plan other small one.placed.placement two.placed.placement in
-    let moved = subst (λ (placed : Plan). IsSimulation (system_under monitor clients placed) schedule others also) (sym plans) two in
-    let logs = one_log by_rounds drawn (system_under monitor clients plan) schedule log others last also one moved in
-    let ends = one_last by_rounds drawn (system_under monitor clients plan) schedule log others last also one moved in
+one_text one_exact by_rounds drawn choice monitor clients schedule plan other log others last also small one two =
+    let plans = one_chosen one_exact choice monitor plan other small one.placed.chosen two.placed.chosen in
+    let moved = subst (λ (placed : Plan). IsSimulation choice (system_under monitor clients placed) schedule others also) (sym plans) two in
+    let logs = one_log by_rounds drawn choice (system_under monitor clients plan) schedule log others last also one moved in
+    let ends = one_last by_rounds drawn choice (system_under monitor clients plan) schedule log others last also one moved in
     λ i. plan_and_log_text (system_under monitor clients (plans i)) (logs i) (ends i)

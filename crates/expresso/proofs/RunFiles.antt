@@ -10,8 +10,9 @@ use Rattle.mon_implicit.specs.declared.script.Client.{Client}
 use Rattle.mon_text.specs.FaultText.{unread_text}
 use Rattle.expresso.specs.declared.status.Status.{Status}
 use Rattle.expresso.specs.declared.status.Status.TheVariants as statuses
+use Rattle.mon_command.specs.declared.plan_choice.PlanChoice.{PlanChoice}
 use Rattle.mon_command.specs.declared.schedule.Schedule.{Schedule}
-use Rattle.mon_command.specs.CommandLine.{Command, turns, simulate, run}
+use Rattle.mon_command.specs.CommandLine.{Command, turns, simulate, run, block}
 use Rattle.expresso.specs.FirstFaults.{IsRefusalLine}
 use Rattle.expresso.specs.MonitorFiles.{IsAccepted}
 use Rattle.expresso.specs.Answers.{AcceptsMonitor, AcceptsRun, RejectsRun, HoldRun, HoldsMonitor, IsUnreadText}
@@ -29,11 +30,14 @@ use Rattle.expresso.proofs.Ending.{memory_ended, no_bytes_ended, refused_ended}
 pub turns_runs : (monitor clients : List ℕ) → RunsFiles (turns monitor clients) monitor clients
 turns_runs monitor clients = record { files = refl; refused = λ held text is. is; accepted = λ held is. is }
 
-pub simulate_runs : (monitor clients : List ℕ) (schedule : Schedule) → RunsFiles (simulate monitor clients schedule) monitor clients
-simulate_runs monitor clients schedule = record { files = refl; refused = λ held text is. is; accepted = λ held is. is }
+pub simulate_runs : (monitor clients : List ℕ) (schedule : Schedule) (choice : PlanChoice) → RunsFiles (simulate monitor clients schedule choice) monitor clients
+simulate_runs monitor clients schedule choice = record { files = refl; refused = λ held text is. is; accepted = λ held is. is }
 
-pub run_runs : (monitor clients : List ℕ) (workers : ℕ) → RunsFiles (run monitor clients workers) monitor clients
-run_runs monitor clients workers = record { files = refl; refused = λ held text is. is; accepted = λ held is. is }
+pub run_runs : (monitor clients : List ℕ) (workers : ℕ) (choice : PlanChoice) → RunsFiles (run monitor clients workers choice) monitor clients
+run_runs monitor clients workers choice = record { files = refl; refused = λ held text is. is; accepted = λ held is. is }
+
+pub block_runs : (monitor clients : List ℕ) → RunsFiles (block monitor clients) monitor clients
+block_runs monitor clients = record { files = refl; refused = λ held text is. is; accepted = λ held is. is }
 
 -- files that hold a monitor and its clients are not rejected
 pub held_not_rejected : (held : List ℕ → Option (List ℕ)) (monitor_file clients_file : List ℕ) (monitor : MonitorParts) (clients : List Client)

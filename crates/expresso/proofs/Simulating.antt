@@ -9,9 +9,10 @@ use Rattle.mon_explicit.specs.Sections.{FreeMachine, HoldsAlways, HasEnded, open
 use Rattle.mon_events.specs.PlanText.{plan_text}
 use Rattle.mon_text.specs.LogText.{log_text}
 use Rattle.mon_simulate.specs.Schedules.{Extends, IsByRounds, IsDrawn}
+use Rattle.mon_command.specs.declared.plan_choice.PlanChoice.{PlanChoice}
 use Rattle.mon_command.specs.declared.schedule.Schedule.{Schedule}
 use Rattle.mon_command.specs.declared.schedule.Schedule.TheVariants.{Rounds, Drawn}
-use Rattle.expresso.specs.Placements.{IsPlacement}
+use Rattle.expresso.specs.Placements.{IsChosen}
 use Rattle.expresso.specs.Simulations.{IsScheduled, IsSimulation, most_spurious}
 use Rattle.expresso.specs.inner.Schedules.{IsRunOut}
 use Rattle.expresso.proofs.Placed.{placed_run}
@@ -28,10 +29,10 @@ pub drawn_run_out : (schedule : Schedule) (seed extra : ℕ) (before next : Free
 drawn_run_out schedule seed extra before next is drawn closed extends spurious always ends =
     subst (λ (s : Schedule). IsRunOut s before next) (sym is) (record { scheduled = drawn; closed = closed; extends = extends; spurious = spurious; always = always; ends = ends })
 
-run_from_start : (system : System) (schedule : Schedule) (next : FreeMachine) → IsPlacement system.monitor system.plan
-    → IsRunOut schedule (opened_free system.monitor system.plan system.clients (most_spurious schedule)) next → IsSimulation system schedule next.log next.now
-run_from_start system schedule next placement out = record {
-  placed = placed_run system next placement out.extends.system out.closed out.always out.ends;
+run_from_start : (choice : PlanChoice) (system : System) (schedule : Schedule) (next : FreeMachine) → IsChosen choice system.monitor system.plan
+    → IsRunOut schedule (opened_free system.monitor system.plan system.clients (most_spurious schedule)) next → IsSimulation choice system schedule next.log next.now
+run_from_start choice system schedule next chosen out = record {
+  placed = placed_run choice system next chosen out.extends.system out.closed out.always out.ends;
   scheduled = subst (λ (m : FreeMachine). IsScheduled schedule (opened_free system.monitor system.plan system.clients (most_spurious schedule)) m) whole out.scheduled;
   spurious = let most : spurious_in next.log ≤ 0 + most_spurious schedule = out.spurious in omega (arith, most);
 }
@@ -51,11 +52,11 @@ module _ (monitor : MonitorParts) (clients : List Client) (schedule : Schedule) 
   pub run_system : IsRunOut schedule before next → next.system ≡ system_under monitor clients next.system.plan
   run_system out = let is : next.system ≡ system_under monitor clients plan = (run_out out).extends.system in cc is
 
-  pub run_simulates : IsPlacement monitor plan → IsRunOut schedule before next → IsSimulation (system_under monitor clients next.system.plan) schedule next.log next.now
-  run_simulates placement out =
+  pub run_simulates : (choice : PlanChoice) → IsChosen choice monitor plan → IsRunOut schedule before next → IsSimulation choice (system_under monitor clients next.system.plan) schedule next.log next.now
+  run_simulates choice chosen out =
       let is : next.system ≡ system_under monitor clients plan = (run_out out).extends.system in
-      subst (λ (p : Plan). IsSimulation (system_under monitor clients p) schedule next.log next.now) (sym (ap (λ system. system.plan) is))
-      (run_from_start (system_under monitor clients plan) schedule next placement (run_out out))
+      subst (λ (p : Plan). IsSimulation choice (system_under monitor clients p) schedule next.log next.now) (sym (ap (λ system. system.plan) is))
+      (run_from_start choice (system_under monitor clients plan) schedule next chosen (run_out out))
 
 -- ---- the text
 

@@ -12,6 +12,7 @@ use Rattle.mon_explicit.specs.Sections.{spurious_in}
 use Rattle.mon_text.specs.LogText.{are_done}
 use Rattle.mon_events.specs.Configurations.{system_under}
 use Rattle.mon_text.specs.SummaryText.{summary_text}
+use Rattle.mon_command.specs.declared.plan_choice.PlanChoice.TheVariants.{Placed}
 use Rattle.mon_command.specs.CommandLine.{stress}
 use Rattle.mon_stress.specs.LargeInput.{buffer_of, capacity_of, producers_and_consumers}
 use Rattle.expresso.specs.declared.status.Status.{Status}
@@ -28,7 +29,7 @@ abbrev pub large : ℕ → Plan → System
 large number plan = system_under (buffer_of (capacity_of number)) producers_and_consumers plan
 
 module _ (ends_done : EveryLargeRunEndsDone) (number workers : ℕ) (plan : Plan) (log : List Entry) (last : Configuration) (system : System)
-    (placed : IsPlacedRun (large number plan) log last) (unprompted : spurious_in log ≡ 0) (system_is : system ≡ large number plan) where
+    (placed : IsPlacedRun Placed (large number plan) log last) (unprompted : spurious_in log ≡ 0) (system_is : system ≡ large number plan) where
   pub stressed_closed : IsClosed system last
   stressed_closed = subst (λ (s : System). IsClosed s last) (sym system_is) placed.closed
 
@@ -57,9 +58,9 @@ module _ (ends_done : EveryLargeRunEndsDone) (number workers : ℕ) (plan : Plan
 -- the monitor and the clients are those of the large input
 pub large_ended : EveryLargeRunEndsDone → (number workers : ℕ) (monitor : MonitorParts) (clients : List Client) (plan : Plan) (log : List Entry) (last : Configuration) (system : System)
     → monitor ≡ buffer_of (capacity_of number) → clients ≡ producers_and_consumers
-    → IsPlacedRun (system_under monitor clients plan) log last → spurious_in log ≡ 0 → system ≡ system_under monitor clients plan
+    → IsPlacedRun Placed (system_under monitor clients plan) log last → spurious_in log ≡ 0 → system ≡ system_under monitor clients plan
     → (files : FilesSeen) (result : Status) (out out_now : SinkSeen)
     → IsWritten (ended (are_done system.clients (situation_of last).places)) (summary_text system log last) result out out_now → CommandEnds (stress number workers) files files result out out_now
 large_ended ends_done number workers monitor clients plan log last system monitor_is clients_is placed unprompted system_is files result out out_now written =
     let same : system_under monitor clients plan ≡ large number plan = λ i. system_under (monitor_is i) (clients_is i) plan in
-    stress_ended ends_done number workers plan log last system (subst (λ (s : System). IsPlacedRun s log last) same placed) unprompted (system_is ∙ same) files result out out_now written
+    stress_ended ends_done number workers plan log last system (subst (λ (s : System). IsPlacedRun Placed s log last) same placed) unprompted (system_is ∙ same) files result out out_now written

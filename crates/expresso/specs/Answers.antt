@@ -19,12 +19,14 @@ use Rattle.mon_text.specs.FaultText.{unread_text}
 use Rattle.expresso.specs.declared.status.Status.{Status}
 use Rattle.expresso.specs.declared.status.Status.TheVariants.{Done, Refused, Usage, ReadFault}
 use Rattle.expresso.specs.declared.status.Status.TheVariants.{WriteFault, OutOfMemory, Stalled}
+use Rattle.mon_command.specs.declared.plan_choice.PlanChoice.{PlanChoice}
+use Rattle.mon_command.specs.declared.plan_choice.PlanChoice.TheVariants.{Placed}
 use Rattle.mon_command.specs.declared.schedule.Schedule.{Schedule}
 use Rattle.mon_command.specs.CommandLine.{Command, check, turns, compile, simulate, run, stress}
-use Rattle.mon_command.specs.CommandLine.{report, recheck}
+use Rattle.mon_command.specs.CommandLine.{report, recheck, block, audit}
 use Rattle.mon_command.specs.CommandLine.{Takes, TakesNone, files_of}
 use Rattle.mon_stress.specs.LargeInput.{buffer_of, capacity_of, producers_and_consumers}
-use Rattle.expresso.specs.Placements.{IsPlacement}
+use Rattle.expresso.specs.Placements.{IsChosen, IsPlacement}
 use Rattle.expresso.specs.PlacedRuns.{IsPlacedRun}
 use Rattle.expresso.specs.Simulations.{IsSimulation}
 use Rattle.mon_events.specs.Configurations.{system_under}
@@ -35,6 +37,7 @@ use Rattle.expresso.specs.MonitorFiles.{IsAccepted, IsFirstOfMonitor}
 use Rattle.expresso.specs.ClientFiles.{AreAccepted, IsFirstOfClients}
 use Rattle.expresso.specs.ReportFiles.{IsAcceptanceLine, IsRechecked}
 use Rattle.expresso.specs.ReportFiles.{IsReportRefusalLine}
+use Rattle.expresso.specs.PlanFiles.{IsAudited, IsLawfulLine, IsPlanRefusalLine, MayBeLawful}
 use Rattle.mon_place.specs.declared.placed.PlacedPlan.{PlacedPlan}
 use Rattle.mon_place.specs.Backing.{AreProofs, backed_claims}
 use Rattle.mon_recheck.specs.declared.report.Report.{Report}
@@ -82,38 +85,55 @@ pub record IsTurnsText (held : List ℕ
   pub rounds : AreTurnsByRounds monitor clients run
   pub printed : text ≡ turns_text monitor clients run
 
--- the text of a plan that the monitor of the file is compiled to
-pub record IsCompileText (held : List ℕ → Option (List ℕ)) (file text : List ℕ) : Type 0 where
+-- the text of the plan that is asked for of the monitor of the file
+pub record IsCompileText (held : List ℕ
+    → Option (List ℕ)) (file : List ℕ) (choice : PlanChoice) (text : List ℕ) : Type 0 where
   pub tree : MonitorTree
   pub monitor : MonitorParts
   pub plan : Plan
   pub holds : HoldsMonitor held file tree monitor
-  pub placement : IsPlacement monitor plan
+  pub chosen : IsChosen choice monitor plan
   pub printed : text ≡ plan_text monitor plan
 
--- the text of a plan that the monitor is compiled to, and of the log of a simulation under it
+-- the text of the plan that is asked for, and of the log of a simulation under it
 pub record IsSimulateText (held : List ℕ
     → Option (List ℕ)) (monitor_file clients_file : List ℕ) (schedule : Schedule)
+    (choice : PlanChoice) (clients : List Client) (last : Configuration) (text : List ℕ) : Type 0
+  where
+    pub monitor : MonitorParts
+    pub plan : Plan
+    pub log : List Entry
+    pub files : HoldRun held monitor_file clients_file monitor clients
+    pub simulation : IsSimulation choice (system_under monitor clients plan) schedule log last
+    pub printed : text ≡ plan_and_log_text (system_under monitor clients plan) log last
+
+-- the text of the plan that is asked for, and of the log of a run under it in which no wake-up is
+-- spurious
+pub record IsRunText (held : List ℕ
+    → Option (List ℕ)) (monitor_file clients_file : List ℕ) (choice : PlanChoice)
     (clients : List Client) (last : Configuration) (text : List ℕ) : Type 0 where
   pub monitor : MonitorParts
   pub plan : Plan
   pub log : List Entry
   pub files : HoldRun held monitor_file clients_file monitor clients
-  pub simulation : IsSimulation (system_under monitor clients plan) schedule log last
-  pub printed : text ≡ plan_and_log_text (system_under monitor clients plan) log last
-
--- the text of a plan that the monitor is compiled to, and of the log of a run under it in which no
--- wake-up is spurious
-pub record IsRunText (held : List ℕ
-    → Option (List ℕ)) (monitor_file clients_file : List ℕ) (clients : List Client)
-    (last : Configuration) (text : List ℕ) : Type 0 where
-  pub monitor : MonitorParts
-  pub plan : Plan
-  pub log : List Entry
-  pub files : HoldRun held monitor_file clients_file monitor clients
-  pub placed : IsPlacedRun (system_under monitor clients plan) log last
+  pub placed : IsPlacedRun choice (system_under monitor clients plan) log last
   pub unprompted : spurious_in log ≡ 0
   pub printed : text ≡ plan_and_log_text (system_under monitor clients plan) log last
+
+-- the text of such a run in which no client has a call left; in which some client has
+abbrev pub IsFinishedRunText : (List ℕ → Option (List ℕ)) → List ℕ → List ℕ → PlanChoice → List ℕ
+    → Type 0
+IsFinishedRunText held monitor clients choice text =
+    (scripts : List Client) × (last : Configuration)
+    × IsRunText held monitor clients choice scripts last text
+    × IsFinished scripts (situation_of last)
+
+abbrev pub IsStalledRunText : (List ℕ → Option (List ℕ)) → List ℕ → List ℕ → PlanChoice → List ℕ
+    → Type 0
+IsStalledRunText held monitor clients choice text =
+    (scripts : List Client) × (last : Configuration)
+    × IsRunText held monitor clients choice scripts last text
+    × (IsFinished scripts (situation_of last) → ⊥)
 
 -- the summary of such a run of the large input that the number stands for; its calls are done and
 -- the buffer is empty
@@ -121,8 +141,8 @@ pub record IsStressText (number : ℕ) (text : List ℕ) : Type 0 where
   pub plan : Plan
   pub log : List Entry
   pub last : Configuration
-  pub placed : IsPlacedRun (system_under (buffer_of (capacity_of number)) producers_and_consumers
-      plan) log last
+  pub placed : IsPlacedRun Placed
+      (system_under (buffer_of (capacity_of number)) producers_and_consumers plan) log last
   pub unprompted : spurious_in log ≡ 0
   pub finished : IsFinished producers_and_consumers (situation_of last)
   pub summed : text ≡ summary_text
@@ -150,45 +170,56 @@ pub record IsRecheckText (held : List ℕ
   pub told : HoldsBytes held report_file bytes
   pub line : IsAcceptanceLine monitor bytes text
 
--- the text of a command whose work is done; of `turns`, `simulate` and `run`, that no client has a
--- call left
+-- the line that says that the plan of the second file is lawful for the monitor of the first
+pub record IsAuditText (held : List ℕ
+    → Option (List ℕ)) (monitor_file plan_file text : List ℕ) : Type 0 where
+  pub tree : MonitorTree
+  pub monitor : MonitorParts
+  pub bytes : List ℕ
+  pub holds : HoldsMonitor held monitor_file tree monitor
+  pub told : HoldsBytes held plan_file bytes
+  pub line : IsLawfulLine monitor bytes text
+
+-- the text of a command whose work is done; of `turns`, `simulate`, `run` and `block`, that no
+-- client has a call left
 abbrev pub IsDoneText : (List ℕ → Option (List ℕ)) → Command → List ℕ → Type 0
 IsDoneText held (check file) text = IsCheckText held file text
 IsDoneText held (turns monitor clients) text =
     (scripts : List Client) × (run : Turns) × IsTurnsText held monitor clients scripts run text
     × IsFinished scripts (end_of run)
-IsDoneText held (compile file) text = IsCompileText held file text
-IsDoneText held (simulate monitor clients schedule) text =
+IsDoneText held (compile file choice) text = IsCompileText held file choice text
+IsDoneText held (simulate monitor clients schedule choice) text =
     (scripts : List Client) × (last : Configuration)
-    × IsSimulateText held monitor clients schedule scripts last text
+    × IsSimulateText held monitor clients schedule choice scripts last text
     × IsFinished scripts (situation_of last)
-IsDoneText held (run monitor clients workers) text =
-    (scripts : List Client) × (last : Configuration)
-    × IsRunText held monitor clients scripts last text
-    × IsFinished scripts (situation_of last)
+IsDoneText held (run monitor clients workers choice) text =
+    IsFinishedRunText held monitor clients choice text
 IsDoneText held (stress number workers) text = IsStressText number text
 IsDoneText held (report file) text = IsReportText held file text
 IsDoneText held (recheck monitor report_file) text = IsRecheckText held monitor report_file text
+IsDoneText held (block monitor clients) text = IsFinishedRunText held monitor clients Placed text
+IsDoneText held (audit monitor plan_file) text = IsAuditText held monitor plan_file text
 
--- the text of `turns`, `simulate` or `run` where some client has a call left; no other command
--- stalls
+-- the text of `turns`, `simulate`, `run` or `block` where some client has a call left; no other
+-- command stalls
 abbrev pub IsStalledText : (List ℕ → Option (List ℕ)) → Command → List ℕ → Type 0
 IsStalledText held (check file) text = ⊥
 IsStalledText held (turns monitor clients) text =
     (scripts : List Client) × (run : Turns) × IsTurnsText held monitor clients scripts run text
     × (IsFinished scripts (end_of run) → ⊥)
-IsStalledText held (compile file) text = ⊥
-IsStalledText held (simulate monitor clients schedule) text =
+IsStalledText held (compile file choice) text = ⊥
+IsStalledText held (simulate monitor clients schedule choice) text =
     (scripts : List Client) × (last : Configuration)
-    × IsSimulateText held monitor clients schedule scripts last text
+    × IsSimulateText held monitor clients schedule choice scripts last text
     × (IsFinished scripts (situation_of last) → ⊥)
-IsStalledText held (run monitor clients workers) text =
-    (scripts : List Client) × (last : Configuration)
-    × IsRunText held monitor clients scripts last text
-    × (IsFinished scripts (situation_of last) → ⊥)
+IsStalledText held (run monitor clients workers choice) text =
+    IsStalledRunText held monitor clients choice text
 IsStalledText held (stress number workers) text = ⊥
 IsStalledText held (report file) text = ⊥
 IsStalledText held (recheck monitor report_file) text = ⊥
+IsStalledText held (block monitor clients) text =
+    IsStalledRunText held monitor clients Placed text
+IsStalledText held (audit monitor plan_file) text = ⊥
 
 -- ---- refusals
 
@@ -230,16 +261,33 @@ abbrev pub IsRecheckRefusal : (List ℕ → Option (List ℕ)) → List ℕ → 
 IsRecheckRefusal held monitor report_file text =
     IsMonitorRefusal held monitor text ⊎ IsReportRefusal held monitor report_file text
 
+-- the monitor file is accepted, and the line refuses the plan's file
+pub record IsPlanRefusal (held : List ℕ
+    → Option (List ℕ)) (monitor_file plan_file text : List ℕ) : Type 0 where
+  pub tree : MonitorTree
+  pub monitor : MonitorParts
+  pub bytes : List ℕ
+  pub holds : HoldsMonitor held monitor_file tree monitor
+  pub told : HoldsBytes held plan_file bytes
+  pub line : IsPlanRefusalLine monitor plan_file bytes text
+
+-- the line of the first of both files that is not accepted
+abbrev pub IsAuditRefusal : (List ℕ → Option (List ℕ)) → List ℕ → List ℕ → List ℕ → Type 0
+IsAuditRefusal held monitor plan_file text =
+    IsMonitorRefusal held monitor text ⊎ IsPlanRefusal held monitor plan_file text
+
 abbrev pub IsRefusedText : (List ℕ → Option (List ℕ)) → Command → List ℕ → Type 0
 IsRefusedText held (check file) text = IsMonitorRefusal held file text
 IsRefusedText held (turns monitor clients) text = IsRunRefusal held monitor clients text
-IsRefusedText held (compile file) text = IsMonitorRefusal held file text
-IsRefusedText held (simulate monitor clients schedule) text = IsRunRefusal held monitor clients text
-IsRefusedText held (run monitor clients workers) text = IsRunRefusal held monitor clients text
+IsRefusedText held (compile file choice) text = IsMonitorRefusal held file text
+IsRefusedText held (simulate monitor clients schedule choice) text = IsRunRefusal held monitor clients text
+IsRefusedText held (run monitor clients workers choice) text = IsRunRefusal held monitor clients text
 IsRefusedText held (stress number workers) text = ⊥
 IsRefusedText held (report file) text = IsMonitorRefusal held file text
 IsRefusedText held (recheck monitor report_file) text =
     IsRecheckRefusal held monitor report_file text
+IsRefusedText held (block monitor clients) text = IsRunRefusal held monitor clients text
+IsRefusedText held (audit monitor plan_file) text = IsAuditRefusal held monitor plan_file text
 
 -- a read fault's line that names one of the command's files; which of them, no clause says
 abbrev pub IsUnreadText : Command → List ℕ → Type 0
@@ -327,27 +375,48 @@ RejectsReport held monitor_file report_file =
     × ((tree : MonitorTree) (monitor : MonitorParts) (own : Report)
     → IsAccepted monitor_bytes tree monitor → IsRechecked report_bytes monitor own → ⊥)
 
+-- the two files tell their bytes: a monitor's, and those of a plan of which nothing may be found but
+-- that it is lawful
+abbrev pub AcceptsPlan : (List ℕ → Option (List ℕ)) → List ℕ → List ℕ → Type 0
+AcceptsPlan held monitor_file plan_file =
+    (monitor_bytes : List ℕ) × (plan_bytes : List ℕ) × (tree : MonitorTree)
+    × (monitor : MonitorParts) × (plan : Plan)
+    × (held monitor_file ≡ Some monitor_bytes) × (held plan_file ≡ Some plan_bytes)
+    × IsAccepted monitor_bytes tree monitor × IsAudited plan_bytes monitor plan
+
+-- they tell their bytes, and these are not a monitor's and those of a plan that may be found lawful
+abbrev pub RejectsPlan : (List ℕ → Option (List ℕ)) → List ℕ → List ℕ → Type 0
+RejectsPlan held monitor_file plan_file =
+    (monitor_bytes : List ℕ) × (plan_bytes : List ℕ) × (held monitor_file ≡ Some monitor_bytes)
+    × (held plan_file ≡ Some plan_bytes)
+    × ((tree : MonitorTree) (monitor : MonitorParts) (plan : Plan)
+    → IsAccepted monitor_bytes tree monitor → MayBeLawful plan_bytes monitor plan → ⊥)
+
 -- the files of the command tell their bytes, which are accepted; `stress` has no files
 abbrev pub AcceptsFiles : (List ℕ → Option (List ℕ)) → Command → Type 0
 AcceptsFiles held (check file) = AcceptsMonitor held file
 AcceptsFiles held (turns monitor clients) = AcceptsRun held monitor clients
-AcceptsFiles held (compile file) = AcceptsMonitor held file
-AcceptsFiles held (simulate monitor clients schedule) = AcceptsRun held monitor clients
-AcceptsFiles held (run monitor clients workers) = AcceptsRun held monitor clients
+AcceptsFiles held (compile file choice) = AcceptsMonitor held file
+AcceptsFiles held (simulate monitor clients schedule choice) = AcceptsRun held monitor clients
+AcceptsFiles held (run monitor clients workers choice) = AcceptsRun held monitor clients
 AcceptsFiles held (stress number workers) = Unit {0}
 AcceptsFiles held (report file) = AcceptsMonitor held file
 AcceptsFiles held (recheck monitor report_file) = AcceptsReport held monitor report_file
+AcceptsFiles held (block monitor clients) = AcceptsRun held monitor clients
+AcceptsFiles held (audit monitor plan_file) = AcceptsPlan held monitor plan_file
 
 -- they tell their bytes, and one of them is not accepted
 abbrev pub RejectsFiles : (List ℕ → Option (List ℕ)) → Command → Type 0
 RejectsFiles held (check file) = RejectsMonitor held file
 RejectsFiles held (turns monitor clients) = RejectsRun held monitor clients
-RejectsFiles held (compile file) = RejectsMonitor held file
-RejectsFiles held (simulate monitor clients schedule) = RejectsRun held monitor clients
-RejectsFiles held (run monitor clients workers) = RejectsRun held monitor clients
+RejectsFiles held (compile file choice) = RejectsMonitor held file
+RejectsFiles held (simulate monitor clients schedule choice) = RejectsRun held monitor clients
+RejectsFiles held (run monitor clients workers choice) = RejectsRun held monitor clients
 RejectsFiles held (stress number workers) = ⊥
 RejectsFiles held (report file) = RejectsMonitor held file
 RejectsFiles held (recheck monitor report_file) = RejectsReport held monitor report_file
+RejectsFiles held (block monitor clients) = RejectsRun held monitor clients
+RejectsFiles held (audit monitor plan_file) = RejectsPlan held monitor plan_file
 
 -- the words are a command's whose files are accepted; or one of them is not
 abbrev pub Accepts : (List ℕ → Option (List ℕ)) → List (List ℕ) → Type 0

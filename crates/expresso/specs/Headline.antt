@@ -1,5 +1,6 @@
--- What `run` promises, however many workers run and however their steps interleave.
-use Rattle.std.specs.Prelude.{◌≡◌, ◌⊎◌, ◌↔◌, ◌++◌, ℕ, List, Some}
+-- What `run` promises, however many workers run and however their steps interleave, and `block`,
+-- which has a caller for each client in place of workers.
+use Rattle.std.specs.Prelude.{◌≡◌, ◌⊎◌, ◌↔◌, ◌++◌, ℕ, false, List, Some}
 use Rattle.mon_io.specs.Outside.{FilesSeen, SinkSeen}
 use Rattle.mon_tree.specs.declared.tree.MonitorTree.{MonitorTree}
 use Rattle.mon_monitor.specs.MonitorParts.{MonitorParts}
@@ -11,7 +12,7 @@ use Rattle.mon_events.specs.declared.plan.Plan.{Plan}
 use Rattle.mon_events.specs.Configurations.{Configuration, situation_of}
 use Rattle.mon_events.specs.Logs.{IsLegal, IsClosed, commits_of}
 use Rattle.mon_events.specs.Pending.{IsSystem}
-use Rattle.mon_events.specs.Plans.{IsLawful}
+use Rattle.mon_events.specs.Plans.{IsLawful, has_note, notes_at}
 use Rattle.mon_events.specs.PlanText.{plan_text}
 use Rattle.mon_explicit.specs.Sections.{spurious_in}
 use Rattle.mon_prune.specs.Hardness.{IsSmall}
@@ -19,18 +20,23 @@ use Rattle.mon_place.specs.Backing.{IsBacked}
 use Rattle.mon_place.specs.Exact.{IsExact, IsLicensed}
 use Rattle.mon_text.specs.LogText.{log_text}
 use Rattle.mon_events.specs.Configurations.{system_under}
-use Rattle.mon_command.specs.CommandLine.{Takes, run}
+use Rattle.mon_command.specs.declared.plan_choice.PlanChoice.{PlanChoice}
+use Rattle.mon_command.specs.declared.plan_choice.PlanChoice.TheVariants.{Placed}
+use Rattle.mon_command.specs.CommandLine.{Takes, run, block}
 use Rattle.expresso.specs.declared.status.Status.{Status}
 use Rattle.expresso.specs.declared.status.Status.TheVariants.{Done, Stalled}
 use Rattle.expresso.specs.MonitorFiles.{IsAccepted}
 use Rattle.expresso.specs.ClientFiles.{AreAccepted}
+use Rattle.expresso.specs.Placements.{chosen_of}
 
--- What the text of `run` says of the bytes of the two files, with the status that it comes with.
-pub record IsHeadlineText (monitor_bytes clients_bytes : List ℕ) (status : Status) (text : List ℕ) :
-    Type 0 where
+-- What the text of `run` or `block` says of the bytes of the two files, with the plan that was asked for and
+-- the status that it comes with.
+pub record IsHeadlineText (choice : PlanChoice) (monitor_bytes clients_bytes : List ℕ)
+    (status : Status) (text : List ℕ) : Type 0 where
   pub tree : MonitorTree
   pub monitor : MonitorParts
   pub clients : List Client
+  pub placed : Plan
   pub plan : Plan
   pub log : List Entry
   pub last : Configuration
@@ -47,14 +53,20 @@ pub record IsHeadlineText (monitor_bytes clients_bytes : List ℕ) (status : Sta
   -- The plan is lawful. (So no wake-up is lost under it: the law `no_wakeup_is_lost` of
   -- `mon_events`.)
   pub lawful : IsLawful monitor plan
-  -- Every omitted notification has an accepted certificate, and so has each other claim that the
-  -- plan rests on.
-  pub backed : IsBacked monitor plan
-  -- Each note has its condition's kind, each invariant without a hard query is kept, and what the
-  -- plan does beyond need has a hard query.
-  pub licensed : IsLicensed monitor plan
-  -- Where the monitor is small the plan is exactly what the queries say.
-  pub exact : IsSmall monitor → IsExact monitor plan
+  -- It is the plan that was placed, or with `--relay` that one with its signals relayed. The placed
+  -- one is lawful too.
+  pub chosen : plan ≡ chosen_of monitor choice placed
+  pub placed_lawful : IsLawful monitor placed
+  -- Every notification that the plan omits is one that the placed plan omits. Each of those has an
+  -- accepted certificate, and so has each other claim that the placed plan rests on.
+  pub omits : (block condition : ℕ) → has_note (notes_at plan block) condition ≡ false
+      → has_note (notes_at placed block) condition ≡ false
+  pub backed : IsBacked monitor placed
+  -- Each note of the placed plan has its condition's kind, each invariant without a hard query is
+  -- kept, and what the placed plan does beyond need has a hard query.
+  pub licensed : IsLicensed monitor placed
+  -- Where the monitor is small the placed plan is exactly what the queries say.
+  pub exact : IsSmall monitor → IsExact monitor placed
   -- The log is a legal log of the explicit machine of this plan, and ends closed.
   pub legal : IsLegal (system_under monitor clients plan) log last
   pub closed : IsClosed (system_under monitor clients plan) last
@@ -70,16 +82,22 @@ pub record IsHeadlineText (monitor_bytes clients_bytes : List ℕ) (status : Sta
   -- The status is `Stalled` exactly where some client has a call left.
   pub stalled : (status ≡ Stalled) ↔ (IsFinished clients (situation_of last) → ⊥)
 
--- The words are those of `run`, the files and the sink tell their bytes, and the status is `Done`
--- or `Stalled`: then the bytes that were appended
--- are such a text.
+-- The words are those of `run` with these files and this choice of the plan, or those of `block`
+-- with these files: it is always under the plan that is placed.
+abbrev pub RunInThreads : List (List ℕ) → List ℕ → List ℕ → PlanChoice → Type 0
+RunInThreads words monitor_file clients_file choice =
+    ((workers : ℕ) × Takes words (run monitor_file clients_file workers choice))
+    ⊎ (Takes words (block monitor_file clients_file) × (choice ≡ Placed))
+
+-- The words are such, the files and the sink tell their bytes, and the status is `Done` or
+-- `Stalled`: then the bytes that were appended are such a text.
 abbrev pub Headline : List (List ℕ) → FilesSeen → Status → SinkSeen → SinkSeen → Type 0
 Headline words files status out out_now =
-    (monitor_file clients_file : List ℕ) (workers : ℕ)
+    (monitor_file clients_file : List ℕ) (choice : PlanChoice)
     (monitor_bytes clients_bytes written : List ℕ)
-    → Takes words (run monitor_file clients_file workers)
+    → RunInThreads words monitor_file clients_file choice
     → files.held monitor_file ≡ Some monitor_bytes → files.held clients_file ≡ Some clients_bytes
     → out.written ≡ Some written
     → (status ≡ Done) ⊎ (status ≡ Stalled)
     → (text : List ℕ) × (out_now.written ≡ Some (written ++ text))
-    × IsHeadlineText monitor_bytes clients_bytes status text
+    × IsHeadlineText choice monitor_bytes clients_bytes status text

@@ -1,4 +1,4 @@
--- Runs of a monitor by sections, under a plan that it may be compiled to.
+-- Runs of a monitor by sections, under a plan that is asked for.
 use Rattle.std.specs.Prelude.{List}
 use Rattle.mon_implicit.specs.Scripted.{AreClients}
 use Rattle.mon_implicit.specs.Runs.{IsRun, Ends}
@@ -6,12 +6,14 @@ use Rattle.mon_events.specs.declared.log.Entry.{Entry}
 use Rattle.mon_events.specs.Configurations.{System, Configuration, situation_of}
 use Rattle.mon_events.specs.Logs.{IsLegal, IsClosed, commits_of}
 use Rattle.mon_events.specs.Pending.{IsSystem}
-use Rattle.expresso.specs.Placements.{IsPlacement}
+use Rattle.mon_command.specs.declared.plan_choice.PlanChoice.{PlanChoice}
+use Rattle.expresso.specs.Placements.{IsChosen}
 
 -- the log of such a run, and the configuration in which it ended
-pub record IsPlacedRun (system : System) (log : List Entry) (last : Configuration) : Type 0 where
-  -- the plan is one that the monitor may be compiled to
-  pub placement : IsPlacement system.monitor system.plan
+pub record IsPlacedRun (choice : PlanChoice) (system : System) (log : List Entry)
+    (last : Configuration) : Type 0 where
+  -- the plan is one that is asked for
+  pub chosen : IsChosen choice system.monitor system.plan
   -- the clients' calls and the plan fit the monitor
   pub is : IsSystem system
   -- the clients and their calls are no more than there may be, and their names are distinct

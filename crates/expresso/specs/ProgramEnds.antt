@@ -1,18 +1,19 @@
 -- How a call of the program ends.
 use Rattle.std.specs.Prelude.{◌≡◌, ◌<◌, ◌≤◌, ◌↔◌, ℕ, List}
 use Rattle.mon_io.specs.Outside.{FilesSeen, SinkSeen, Rises}
-use Rattle.mon_command.specs.CommandLine.{Command, run, stress, TakesNone}
+use Rattle.mon_command.specs.CommandLine.{Command, run, stress, block, TakesNone}
 use Rattle.expresso.specs.declared.status.Status.{Status}
 use Rattle.expresso.specs.declared.status.Status.TheVariants.{ReadFault, WriteFault, OutOfMemory}
 use Rattle.expresso.specs.Answers.{Answers, Accepts, Rejects, IsFaultless, IsWorkedOrMemory}
 use Rattle.expresso.specs.Answers.{IsRefusedOrMemory, IsStoppedOrMemory, IsUsageOrMemory}
 use Rattle.expresso.specs.Answers.{IsUnreadOrMemory}
 
--- the command runs in workers
-abbrev pub HasWorkers : Command → Type 0
-HasWorkers (run monitor clients workers) = Unit {0}
-HasWorkers (stress number workers) = Unit {0}
-HasWorkers command = ⊥
+-- the command runs clients in threads
+abbrev pub HasThreads : Command → Type 0
+HasThreads (run monitor clients workers choice) = Unit {0}
+HasThreads (stress number workers) = Unit {0}
+HasThreads (block monitor clients) = Unit {0}
+HasThreads command = ⊥
 
 -- What a call that reads leaves of files: their count of faults does not fall, and what they hold
 -- and which may be read stays.

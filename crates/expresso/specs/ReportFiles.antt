@@ -9,13 +9,13 @@ use Rattle.mon_recheck.specs.Readings.{IsReportRead}
 use Rattle.mon_recheck.specs.Verdicts.{IsAccepted, IsVerdict, verdict_text}
 use Rattle.mon_text.specs.FaultText.{not_report_text, other_too_long_text}
 
--- the most bytes of a report's file
-abbrev pub REPORT_BYTES : ℕ
-REPORT_BYTES = 16777216
+-- the most bytes of a file that is no monitor and no clients
+abbrev pub OTHER_BYTES : ℕ
+OTHER_BYTES = 16777216
 
 -- the bytes are those of a file with the text of this report of the monitor
 pub record IsReportFile (bytes : List ℕ) (monitor : MonitorParts) (report : Report) : Type 0 where
-  pub short : length bytes ≤ REPORT_BYTES
+  pub short : length bytes ≤ OTHER_BYTES
   pub read : IsReportRead monitor bytes (Some report)
 
 -- a report's file whose report is accepted: its plan is lawful, and each certificate refutes the
@@ -50,7 +50,7 @@ pub record IsRejectionLine (monitor : MonitorParts) (bytes text : List ℕ) : Ty
 -- report that they are is rejected
 abbrev pub IsReportRefusalLine : MonitorParts → List ℕ → List ℕ → List ℕ → Type 0
 IsReportRefusalLine monitor file bytes text =
-    ((REPORT_BYTES < length bytes) × (text ≡ other_too_long_text file))
-    ⊎ ((length bytes ≤ REPORT_BYTES) × IsReportRead monitor bytes None
+    ((OTHER_BYTES < length bytes) × (text ≡ other_too_long_text file))
+    ⊎ ((length bytes ≤ OTHER_BYTES) × IsReportRead monitor bytes None
     × (text ≡ not_report_text file))
     ⊎ IsRejectionLine monitor bytes text

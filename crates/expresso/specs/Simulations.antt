@@ -4,6 +4,7 @@ use Rattle.mon_events.specs.declared.log.Entry.{Entry}
 use Rattle.mon_events.specs.Configurations.{System, Configuration}
 use Rattle.mon_explicit.specs.Sections.{FreeMachine, opened_free, spurious_in}
 use Rattle.mon_simulate.specs.Schedules.{IsByRounds, IsDrawn}
+use Rattle.mon_command.specs.declared.plan_choice.PlanChoice.{PlanChoice}
 use Rattle.mon_command.specs.declared.schedule.Schedule.{Schedule}
 use Rattle.mon_command.specs.declared.schedule.Schedule.TheVariants.{Rounds, Drawn}
 use Rattle.expresso.specs.PlacedRuns.{IsPlacedRun}
@@ -19,9 +20,9 @@ IsScheduled Rounds before last = IsByRounds 0 before last
 IsScheduled (Drawn seed spurious) before last = IsDrawn seed spurious before last
 
 -- what a log and its last configuration are a simulation of
-pub record IsSimulation (system : System) (schedule : Schedule) (log : List Entry)
-    (last : Configuration) : Type 0 where
-  pub placed : IsPlacedRun system log last
+pub record IsSimulation (choice : PlanChoice) (system : System) (schedule : Schedule)
+    (log : List Entry) (last : Configuration) : Type 0 where
+  pub placed : IsPlacedRun choice system log last
   -- they are what the schedule leads to from the start
   pub scheduled : IsScheduled schedule
       (opened_free system.monitor system.plan system.clients (most_spurious schedule))

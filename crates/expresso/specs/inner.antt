@@ -1,3 +1,4 @@
+pub mod Auditing
 pub mod Ending
 pub mod Input
 pub mod Judging

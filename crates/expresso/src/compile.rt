@@ -1,4 +1,4 @@
-//! `expresso compile FILE`.
+//! `expresso compile FILE [--relay]`.
 
 ghost use Rattle.mon_command.specs.CommandLine.{compile};
 ghost use Rattle.expresso.specs.ProgramEnds.{KeepsFiles};
@@ -8,18 +8,20 @@ use crate::input::monitor_of;
 use crate::placement::plan_of;
 use crate::status::Status;
 use crate::text::show_plan;
+use mon_command::PlanChoice;
 use mon_io::{Files, Sink};
 use std::alloc::{AllocError, Global};
 
-/// Compiles a monitor file and writes the plan, or the line of its first fault.
+/// Compiles a monitor file and writes the plan that is asked for, or the line of its first fault.
 pub(crate) fn compile_file<F: Files, S: Sink>(
     alloc: Global,
     file: &str,
+    choice: PlanChoice,
     files: &mut F,
     out: &mut S,
 ) -> Status
     requires { F.may_read files.old file.now }
-    ensures ended { CommandEnds (compile file.now)
+    ensures ended { CommandEnds (compile file.now choice)
         (F.seen files.old) (F.seen files.new) result (S.seen out.old) (S.seen out.new) }
     ensures files { KeepsFiles (F.seen files.old) (F.seen files.new)
         (F.may_read files.old) (F.may_read files.new) }
@@ -28,7 +30,7 @@ pub(crate) fn compile_file<F: Files, S: Sink>(
         Ok(found) => found,
         Err(status) => return status,
     };
-    match plan_of(alloc, &found.monitor) {
+    match plan_of(alloc, &found.monitor, choice) {
         Ok(plan) => show_plan(&found.monitor, &plan, out),
         Err(AllocError) => Status::OutOfMemory,
     }

@@ -9,6 +9,7 @@ ghost use Rattle.mon_events.specs.declared.plan.Plan.{Plan};
 ghost use Rattle.mon_events.specs.Configurations.{System, Configuration, system_under};
 ghost use Rattle.mon_prune.specs.Hardness.{IsSmall};
 ghost use Rattle.mon_text.specs.Laws.{plan_and_log_text};
+ghost use Rattle.mon_command.specs.declared.plan_choice.PlanChoice.{PlanChoice};
 ghost use Rattle.mon_command.specs.declared.schedule.Schedule.{Schedule};
 ghost use Rattle.expresso.specs.MonitorFiles.{IsAccepted};
 ghost use Rattle.expresso.specs.ClientFiles.{AreAccepted};
@@ -43,27 +44,29 @@ pub fn accepts_one_client_list()
 
 /// Under one plan, clients of one monitor have one simulation by a schedule: one log, and one configuration at its end.
 pub fn one_simulation()
-    ensures logs { (system : System) (schedule : Schedule)
+    ensures logs { (choice : PlanChoice) (system : System) (schedule : Schedule)
         (log other : List Entry) (last also : Configuration)
-        → IsSimulation system schedule log last → IsSimulation system schedule other also
-        → log ≡ other }
-    ensures ends { (system : System) (schedule : Schedule)
+        → IsSimulation choice system schedule log last
+        → IsSimulation choice system schedule other also → log ≡ other }
+    ensures ends { (choice : PlanChoice) (system : System) (schedule : Schedule)
         (log other : List Entry) (last also : Configuration)
-        → IsSimulation system schedule log last → IsSimulation system schedule other also
-        → last ≡ also }
+        → IsSimulation choice system schedule log last
+        → IsSimulation choice system schedule other also → last ≡ also }
 {
     one_log_by_rounds();
     one_drawn_log();
 }
 
-/// A small monitor is compiled to one plan, so its clients have one simulation by a schedule, and `simulate` has one text.
+/// A small monitor is compiled to one plan, so its clients have one simulation by a schedule and a choice of the plan, and
+/// `simulate` has one text.
 pub fn one_simulated_text()
     ensures plans { (monitor : MonitorParts) (plan other : Plan) → IsSmall monitor
         → IsPlacement monitor plan → IsPlacement monitor other → plan ≡ other }
-    ensures texts { (monitor : MonitorParts) (clients : List Client) (schedule : Schedule)
-        (plan other : Plan) (log others : List Entry) (last also : Configuration) → IsSmall monitor
-        → IsSimulation (system_under monitor clients plan) schedule log last
-        → IsSimulation (system_under monitor clients other) schedule others also
+    ensures texts { (choice : PlanChoice) (monitor : MonitorParts) (clients : List Client)
+        (schedule : Schedule) (plan other : Plan) (log others : List Entry)
+        (last also : Configuration) → IsSmall monitor
+        → IsSimulation choice (system_under monitor clients plan) schedule log last
+        → IsSimulation choice (system_under monitor clients other) schedule others also
         → plan_and_log_text (system_under monitor clients plan) log last
         ≡ plan_and_log_text (system_under monitor clients other) others also }
 {

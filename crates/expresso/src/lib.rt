@@ -3,15 +3,21 @@
 //! [`expresso`] reads the words of the command line and does what they ask for. `run FILE CLIENTS` compiles a monitor to a
 //! plan, has workers run clients on it in threads, and prints the plan and the log. `check` prints a monitor's canonical
 //! form, `turns` a run by rounds of the implicit machine, `compile` the plan alone: whom each block wakes; `simulate` runs
-//! the clients by a schedule in place of threads, and `stress` runs a large input. `report` prints the plan with a
-//! certificate of each claim that it rests on, and `recheck` checks such a text without the prover.
+//! the clients by a schedule in place of threads, `stress` runs a large input, and `block` has a caller for each client run
+//! it in place of workers. `report` prints the plan with a certificate of each claim that it rests on, and `recheck`
+//! checks such a text without the prover. `audit` says whether a plan that was written by hand is lawful, or what it
+//! lacks.
 //!
-//! Its clause `headline` is `specs/Headline`: what `run` promises. `specs/ProgramEnds` says what every call promises,
-//! `specs/Answers` what each command prints, and `specs/Exit` which number stands for a [`Status`]. [`without_workers`]
-//! does what needs no threads, with no runtime: so it returns. That bytes stand for one monitor and one list of clients,
+//! `--relay` asks for the plan with its signals relayed.
+//!
+//! Its clause `headline` is `specs/Headline`: what `run` and `block` promise. `specs/ProgramEnds` says what every call
+//! promises, `specs/Answers` what each command prints, and `specs/Exit` which number stands for a [`Status`].
+//! [`without_threads`] does what needs no threads, with no runtime: so it returns. That bytes stand for one monitor and one list of clients,
 //! and that a schedule has one simulation, which for a small monitor has one text, are the laws of `laws`.
 #![tactic(auto)]
 
+mod audit;
+mod block;
 mod check;
 mod client_file;
 mod compile;
@@ -32,5 +38,5 @@ mod turns;
 mod work;
 
 pub use laws::{accepts_one_client_list, accepts_one_monitor, one_simulated_text, one_simulation};
-pub use program::{expresso, without_workers};
+pub use program::{expresso, without_threads};
 pub use status::{Status, exit_status};

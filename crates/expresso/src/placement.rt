@@ -1,12 +1,13 @@
-//! The plan that a monitor is compiled to.
+//! The plan that a monitor is compiled to, and the one that is asked for.
 
 ghost use Rattle.std.specs.Prelude.{IfOk};
 ghost use Rattle.mon_place.specs.Backing.{AreProofs, backed_claims};
-ghost use Rattle.expresso.specs.Placements.{IsPlacement};
+ghost use Rattle.expresso.specs.Placements.{IsChosen, IsPlacement};
 
+use mon_command::PlanChoice;
 use mon_events::Plan;
 use mon_monitor::Monitor;
-use mon_place::{PlacedPlan, place};
+use mon_place::{PlacedPlan, place, relay, relayed_plans_are_lawful};
 use std::alloc::{AllocError, Global};
 
 /// A plan that the monitor is compiled to, with a proof of each claim that it rests on. It fails only for want of memory.
@@ -21,10 +22,22 @@ pub(crate) fn placed_of(alloc: Global, monitor: &Monitor) -> Result<PlacedPlan, 
     Ok(placed)
 }
 
-/// A plan that the monitor is compiled to. It fails only for want of memory.
-pub(crate) fn plan_of(alloc: Global, monitor: &Monitor) -> Result<Plan, AllocError>
-    ensures { IfOk result (IsPlacement monitor.now) }
+/// The plan that is asked for: one that the monitor is compiled to, or that one with its signals relayed. It fails only
+/// for want of memory.
+pub(crate) fn plan_of(
+    alloc: Global,
+    monitor: &Monitor,
+    choice: PlanChoice,
+) -> Result<Plan, AllocError>
+    ensures { IfOk result (IsChosen choice monitor.now) }
 {
+    relayed_plans_are_lawful();
     let placed = placed_of(alloc, monitor)?;
-    Ok(placed.plan)
+    match choice {
+        PlanChoice::Placed => Ok(placed.plan),
+        PlanChoice::Relayed => {
+            let relayed = relay(alloc, monitor, &placed.plan)?;
+            Ok(relayed)
+        }
+    }
 }

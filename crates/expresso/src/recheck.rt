@@ -7,17 +7,15 @@ ghost use Rattle.expresso.specs.inner.Ending.{CommandEnds, IsWritten};
 ghost use Rattle.expresso.specs.inner.Judging.{IsFinding, IsJudged, finding_status, finding_text};
 
 use crate::input::open_both;
+use crate::reading::OTHER_BYTES;
 use crate::status::Status;
-use crate::text::{show_not_report, show_report_too_long, show_verdict};
+use crate::text::{show_not_report, show_other_too_long, show_verdict};
 use mon_io::{Files, Sink};
 use mon_monitor::Monitor;
 use mon_recheck::{Verdict, read_report, recheck};
 use mon_syntax::derives_one_tree;
 use mon_tokens::one_spelling;
 use std::alloc::{AllocError, Global};
-
-/// The most bytes of a report's file. Definitions give it the same name and number (`specs/ReportFiles`).
-const REPORT_BYTES: usize = 16_777_216;
 
 /// Reads both files, the monitor first, checks the report of the second without the prover, and writes that it is
 /// accepted, or the line of the first fault.
@@ -36,7 +34,7 @@ pub(crate) fn recheck_files<F: Files, S: Sink>(
 {
     one_spelling();
     derives_one_tree();
-    let opened = match open_both(alloc, monitor, report, REPORT_BYTES as u64, files, out) {
+    let opened = match open_both(alloc, monitor, report, OTHER_BYTES as u64, files, out) {
         Ok(opened) => opened,
         Err(status) => return status,
     };
@@ -47,8 +45,8 @@ pub(crate) fn recheck_files<F: Files, S: Sink>(
 fn judge<S: Sink>(alloc: Global, file: &str, bytes: &[u8], monitor: &Monitor, out: &mut S) -> Status
     ensures { IsJudged monitor.now file.now bytes.now result (S.seen out.old) (S.seen out.new) }
 {
-    if bytes.len() > REPORT_BYTES {
-        return show_report_too_long(file, out);
+    if bytes.len() > OTHER_BYTES {
+        return show_other_too_long(file, out);
     }
     match finding(alloc, monitor, bytes) {
         Ok(found) => show_finding(file, found, out),

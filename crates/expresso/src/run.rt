@@ -1,4 +1,4 @@
-//! `expresso run FILE CLIENTS [--workers N]`.
+//! `expresso run FILE CLIENTS [--workers N] [--relay]`.
 
 ghost use Rattle.std.specs.Prelude.{◌≡◌, [], ◌∷◌, All, IfOk};
 ghost use Rattle.mon_command.specs.CommandLine.{run};
@@ -14,6 +14,7 @@ use crate::input::{Input, input_of};
 use crate::placement::plan_of;
 use crate::status::Status;
 use crate::text::show_plan_and_log;
+use mon_command::PlanChoice;
 use mon_explicit::FreeMonitor;
 use mon_implicit::Scripts;
 use mon_io::{Files, Sink};
@@ -23,14 +24,15 @@ use std::alloc::{AllocError, Global};
 use std::sync::Wait;
 use std::thread::Threads;
 
-/// So many workers run the clients on their monitor to the end, under a plan that it is compiled to. All memory is
-/// taken here.
+/// So many workers run the clients on their monitor to the end, under the plan that is asked for. All memory is taken
+/// here.
 pub(crate) fn worked<R: Threads + Wait + Sync, G: Gate>(
     rt: &R,
     alloc: Global,
     monitor: Monitor,
     scripts: Scripts,
     workers: u32,
+    choice: PlanChoice,
     gate: &G,
 ) -> Result<FreeMonitor, AllocError>
     requires fits { FitsScripts monitor scripts }
@@ -38,10 +40,11 @@ pub(crate) fn worked<R: Threads + Wait + Sync, G: Gate>(
     ensures system { IfOk result (λ free.
         free.system ≡ system_under monitor scripts free.system.plan) }
     ensures placed { IfOk result (λ free.
-        IsPlacedRun (system_under monitor scripts free.system.plan) free.log free.now) }
+        IsPlacedRun choice
+        (system_under monitor scripts free.system.plan) free.log free.now) }
     ensures unprompted { IfOk result (λ free. spurious_in free.log ≡ 0) }
 {
-    let plan = plan_of(alloc, &monitor)?;
+    let plan = plan_of(alloc, &monitor, choice)?;
     let free = FreeMonitor::open(alloc, monitor, plan, scripts, 0)?;
     run_pool(rt, alloc, free, workers, gate)
 }
@@ -54,13 +57,14 @@ pub(crate) fn run_files<R: Threads + Wait + Sync, F: Files, S: Sink, G: Gate>(
     monitor: &str,
     clients: &str,
     workers: u32,
+    choice: PlanChoice,
     files: &mut F,
     out: &mut S,
     gate: &G,
 ) -> Status
     requires files { All (F.may_read files.old) (monitor.now ∷ clients.now ∷ []) }
     requires workers { AreWorkers workers }
-    ensures ended { CommandEnds (run monitor.now clients.now workers)
+    ensures ended { CommandEnds (run monitor.now clients.now workers choice)
         (F.seen files.old) (F.seen files.new) result (S.seen out.old) (S.seen out.new) }
     ensures files { KeepsFiles (F.seen files.old) (F.seen files.new)
         (F.may_read files.old) (F.may_read files.new) }
@@ -69,7 +73,7 @@ pub(crate) fn run_files<R: Threads + Wait + Sync, F: Files, S: Sink, G: Gate>(
         Ok(input) => input,
         Err(status) => return status,
     };
-    match worked(rt, alloc, monitor, scripts, workers, gate) {
+    match worked(rt, alloc, monitor, scripts, workers, choice, gate) {
         Ok(free) => show_plan_and_log(&free, out),
         Err(AllocError) => Status::OutOfMemory,
     }

@@ -1,4 +1,4 @@
-//! `expresso simulate FILE CLIENTS [--seed N] [--spurious K]`.
+//! `expresso simulate FILE CLIENTS [--seed N] [--spurious K] [--relay]`.
 
 ghost use Rattle.std.specs.Prelude.{◌≡◌, ◌≤◌, ◌+◌, [], ◌∷◌, All, IfOk};
 ghost use Rattle.mon_implicit.specs.Scripted.{FitsScripts};
@@ -14,7 +14,7 @@ use crate::input::{Input, input_of};
 use crate::placement::plan_of;
 use crate::status::Status;
 use crate::text::show_plan_and_log;
-use mon_command::Schedule;
+use mon_command::{PlanChoice, Schedule};
 use mon_explicit::FreeMonitor;
 use mon_io::{Files, Sink};
 use mon_simulate::{drawn, rounds};
@@ -41,17 +41,22 @@ fn run(free: &mut FreeMonitor, schedule: Schedule)
     }
 }
 
-/// The clients run on their monitor by the schedule, under a plan that it is compiled to. All memory is taken here.
-fn simulation(alloc: Global, input: Input, schedule: Schedule) -> Result<FreeMonitor, AllocError>
+/// The clients run on their monitor by the schedule, under the plan that is asked for. All memory is taken here.
+fn simulation(
+    alloc: Global,
+    input: Input,
+    schedule: Schedule,
+    choice: PlanChoice,
+) -> Result<FreeMonitor, AllocError>
     requires fits { FitsScripts input.monitor input.scripts }
     requires few { most_spurious schedule ≤ MOST_SPURIOUS }
     ensures system { IfOk result (λ free.
         free.system ≡ system_under input.monitor input.scripts free.system.plan) }
-    ensures simulation { IfOk result (λ free. IsSimulation
+    ensures simulation { IfOk result (λ free. IsSimulation choice
         (system_under input.monitor input.scripts free.system.plan) schedule free.log free.now) }
 {
     let Input { monitor, scripts } = input;
-    let plan = plan_of(alloc, &monitor)?;
+    let plan = plan_of(alloc, &monitor, choice)?;
     let mut free = FreeMonitor::open(alloc, monitor, plan, scripts, most_spurious(schedule))?;
     run(&mut free, schedule);
     Ok(free)
@@ -64,12 +69,13 @@ pub(crate) fn simulate_files<F: Files, S: Sink>(
     monitor: &str,
     clients: &str,
     schedule: Schedule,
+    choice: PlanChoice,
     files: &mut F,
     out: &mut S,
 ) -> Status
     requires files { All (F.may_read files.old) (monitor.now ∷ clients.now ∷ []) }
     requires few { most_spurious schedule ≤ MOST_SPURIOUS }
-    ensures ended { CommandEnds (simulate monitor.now clients.now schedule)
+    ensures ended { CommandEnds (simulate monitor.now clients.now schedule choice)
         (F.seen files.old) (F.seen files.new) result (S.seen out.old) (S.seen out.new) }
     ensures files { KeepsFiles (F.seen files.old) (F.seen files.new)
         (F.may_read files.old) (F.may_read files.new) }
@@ -78,7 +84,7 @@ pub(crate) fn simulate_files<F: Files, S: Sink>(
         Ok(input) => input,
         Err(status) => return status,
     };
-    match simulation(alloc, input, schedule) {
+    match simulation(alloc, input, schedule, choice) {
         Ok(free) => show_plan_and_log(&free, out),
         Err(AllocError) => Status::OutOfMemory,
     }

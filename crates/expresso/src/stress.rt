@@ -8,6 +8,7 @@ ghost use Rattle.expresso.specs.inner.Ranges.{AreWorkers};
 use crate::run::worked;
 use crate::status::Status;
 use crate::text::show_summary;
+use mon_command::PlanChoice;
 use mon_io::Sink;
 use mon_pool::Gate;
 use mon_stress::{LargeInput, every_large_run_ends_done, large_input};
@@ -32,7 +33,15 @@ pub(crate) fn stress<R: Threads + Wait + Sync, S: Sink, G: Gate>(
     let Ok(LargeInput { monitor, scripts }) = large_input(alloc, number) else {
         return Status::OutOfMemory;
     };
-    match worked(rt, alloc, monitor, scripts, workers, gate) {
+    match worked(
+        rt,
+        alloc,
+        monitor,
+        scripts,
+        workers,
+        PlanChoice::Placed,
+        gate,
+    ) {
         Ok(free) => show_summary(&free, out),
         Err(AllocError) => Status::OutOfMemory,
     }

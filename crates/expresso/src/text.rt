@@ -9,18 +9,21 @@ ghost use Rattle.mon_events.specs.Logs.{IsClosed};
 ghost use Rattle.mon_events.specs.PlanText.{plan_text};
 ghost use Rattle.mon_printer.specs.Canonical.{tree_text};
 ghost use Rattle.mon_text.specs.FaultText.{place_text, too_long_text, unread_text};
-ghost use Rattle.mon_text.specs.FaultText.{not_report_text, other_too_long_text};
+ghost use Rattle.mon_text.specs.FaultText.{not_plan_text, not_report_text, other_too_long_text};
 ghost use Rattle.mon_text.specs.LogText.{are_done};
 ghost use Rattle.mon_text.specs.TurnsText.{turns_text};
 ghost use Rattle.mon_text.specs.Laws.{plan_and_log_text};
 ghost use Rattle.mon_text.specs.SummaryText.{summary_text};
 ghost use Rattle.mon_recheck.specs.Reports.{placed_text};
 ghost use Rattle.mon_recheck.specs.Verdicts.{verdict_text};
+ghost use Rattle.mon_audit.specs.FindingText.{finding_text};
 ghost use Rattle.expresso.specs.Texts.{usage_text};
+ghost use Rattle.expresso.specs.inner.Auditing.{audit_status};
 ghost use Rattle.expresso.specs.inner.Ending.{IsWritten, ended};
 ghost use Rattle.expresso.specs.inner.Judging.{verdict_status};
 
 use crate::status::Status;
+use mon_audit::{Finding, write_finding};
 use mon_base::SourceFault;
 use mon_events::Plan;
 use mon_explicit::FreeMonitor;
@@ -57,12 +60,14 @@ pub(crate) fn show_usage<S: Sink>(out: &mut S) -> Status
             b"usage:\n",
             b"expresso check FILE\n",
             b"expresso turns FILE CLIENTS\n",
-            b"expresso compile FILE\n",
-            b"expresso simulate FILE CLIENTS [--seed N] [--spurious K]\n",
-            b"expresso run FILE CLIENTS [--workers N]\n",
+            b"expresso compile FILE [--relay]\n",
+            b"expresso simulate FILE CLIENTS [--seed N] [--spurious K] [--relay]\n",
+            b"expresso run FILE CLIENTS [--workers N] [--relay]\n",
             b"expresso stress N [--workers N]\n",
             b"expresso report FILE\n",
             b"expresso recheck FILE REPORT\n",
+            b"expresso block FILE CLIENTS\n",
+            b"expresso audit FILE PLAN\n",
         ],
         out,
     );
@@ -87,8 +92,8 @@ pub(crate) fn show_too_long<S: Sink>(file: &str, out: &mut S) -> Status
     finish(Status::Refused, outcome, out)
 }
 
-/// Writes the line of a report's file that is too long.
-pub(crate) fn show_report_too_long<S: Sink>(file: &str, out: &mut S) -> Status
+/// Writes the line of a file that is no monitor and no clients and is too long.
+pub(crate) fn show_other_too_long<S: Sink>(file: &str, out: &mut S) -> Status
     ensures { IsWritten Status.Refused (other_too_long_text file.now) result
         (S.seen out.old) (S.seen out.new) }
 {
@@ -102,6 +107,15 @@ pub(crate) fn show_not_report<S: Sink>(file: &str, out: &mut S) -> Status
         (S.seen out.old) (S.seen out.new) }
 {
     let outcome = write_fault(&Fault::NotReport { file }, out);
+    finish(Status::Refused, outcome, out)
+}
+
+/// Writes the line of a file that is no plan of its monitor.
+pub(crate) fn show_not_plan<S: Sink>(file: &str, out: &mut S) -> Status
+    ensures { IsWritten Status.Refused (not_plan_text file.now) result
+        (S.seen out.old) (S.seen out.new) }
+{
+    let outcome = write_fault(&Fault::NotPlan { file }, out);
     finish(Status::Refused, outcome, out)
 }
 
@@ -164,6 +178,32 @@ pub(crate) fn show_verdict<S: Sink>(verdict: Verdict, out: &mut S) -> Status
 {
     let outcome = write_verdict(&verdict, out);
     finish(verdict_status(verdict), outcome, out)
+}
+
+/// The status of a finding.
+fn audit_status(finding: Finding) -> Status
+    ensures { result ≡ audit_status finding }
+{
+    match finding {
+        Finding::Lawful => Status::Done,
+        Finding::Start { .. } => Status::Refused,
+        Finding::Kind { .. } => Status::Refused,
+        Finding::Unproved { .. } => Status::Refused,
+    }
+}
+
+/// Writes the line of what was found of a plan.
+pub(crate) fn show_finding<S: Sink>(
+    monitor: &Monitor,
+    plan: &Plan,
+    finding: Finding,
+    out: &mut S,
+) -> Status
+    ensures { IsWritten (audit_status finding) (finding_text monitor.now plan.now finding) result
+        (S.seen out.old) (S.seen out.new) }
+{
+    let outcome = write_finding(monitor, plan, &finding, out);
+    finish(audit_status(finding), outcome, out)
 }
 
 /// The status of a run.

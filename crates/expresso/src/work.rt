@@ -3,10 +3,12 @@
 ghost use Rattle.std.specs.Prelude.{◌≡◌, All, IfErr, IfOk, OnErr};
 ghost use Rattle.mon_command.specs.CommandLine.{files_of};
 ghost use Rattle.mon_command.specs.Commands.{command_meant};
-ghost use Rattle.expresso.specs.ProgramEnds.{HasWorkers, KeepsFiles};
+ghost use Rattle.expresso.specs.ProgramEnds.{HasThreads, KeepsFiles};
 ghost use Rattle.expresso.specs.inner.Ending.{CommandEnds};
 ghost use Rattle.expresso.specs.inner.Ranges.{IsInRange};
 
+use crate::audit::audit_files;
+use crate::block::block_files;
 use crate::check::check_file;
 use crate::compile::compile_file;
 use crate::recheck::recheck_files;
@@ -24,7 +26,7 @@ use std::sync::Wait;
 use std::thread::Threads;
 
 /// Does what a command asks for, and writes its text or the line of the first fault of its files. A command that runs
-/// in workers is handed back, with nothing done.
+/// clients in threads is handed back, with nothing done.
 pub(crate) fn work<'a, F: Files, S: Sink>(
     alloc: Global,
     command: Command<'a>,
@@ -36,7 +38,7 @@ pub(crate) fn work<'a, F: Files, S: Sink>(
     ensures ended { IfOk result (λ status. CommandEnds (command_meant command.entry)
         (F.seen files.old) (F.seen files.new) status (S.seen out.old) (S.seen out.new)) }
     ensures left { IfErr result (λ left. left ≡ command.entry) }
-    ensures workers { IfErr result (λ left. HasWorkers (command_meant left)) }
+    ensures threads { IfErr result (λ left. HasThreads (command_meant left)) }
     ensures unread { OnErr result (files.new ≡ files.old) }
     ensures silent { OnErr result (out.new ≡ out.old) }
     ensures files { KeepsFiles (F.seen files.old) (F.seen files.new)
@@ -45,22 +47,27 @@ pub(crate) fn work<'a, F: Files, S: Sink>(
     match command {
         Command::Check { monitor } => Ok(check_file(alloc, monitor, files, out)),
         Command::Turns { monitor, clients } => Ok(take_turns(alloc, monitor, clients, files, out)),
-        Command::Compile { monitor } => Ok(compile_file(alloc, monitor, files, out)),
+        Command::Compile { monitor, choice } => {
+            Ok(compile_file(alloc, monitor, choice, files, out))
+        }
         Command::Simulate {
             monitor,
             clients,
             schedule,
-        } => Ok(simulate_files(alloc, monitor, clients, schedule, files, out)),
+            choice,
+        } => Ok(simulate_files(alloc, monitor, clients, schedule, choice, files, out)),
         Command::Report { monitor } => Ok(report_file(alloc, monitor, files, out)),
         Command::Recheck { monitor, report } => {
             Ok(recheck_files(alloc, monitor, report, files, out))
         }
+        Command::Audit { monitor, plan } => Ok(audit_files(alloc, monitor, plan, files, out)),
         Command::Run { .. } => Err(command),
         Command::Stress { .. } => Err(command),
+        Command::Block { .. } => Err(command),
     }
 }
 
-/// Does what a command asks for that runs in workers.
+/// Does what a command asks for that runs clients in threads.
 pub(crate) fn work_in_threads<R: Threads + Wait + Sync, F: Files, S: Sink, G: Gate>(
     rt: &R,
     alloc: Global,
@@ -69,7 +76,7 @@ pub(crate) fn work_in_threads<R: Threads + Wait + Sync, F: Files, S: Sink, G: Ga
     out: &mut S,
     gate: &G,
 ) -> Status
-    requires workers { HasWorkers (command_meant command) }
+    requires threads { HasThreads (command_meant command) }
     requires files { All (F.may_read files.old) (files_of (command_meant command)) }
     requires range { IsInRange (command_meant command) }
     ensures ended { CommandEnds (command_meant command.entry)
@@ -82,8 +89,14 @@ pub(crate) fn work_in_threads<R: Threads + Wait + Sync, F: Files, S: Sink, G: Ga
             monitor,
             clients,
             workers,
-        } => run_files(rt, alloc, monitor, clients, workers, files, out, gate),
+            choice,
+        } => run_files(
+            rt, alloc, monitor, clients, workers, choice, files, out, gate,
+        ),
         Command::Stress { number, workers } => stress(rt, alloc, number, workers, out, gate),
+        Command::Block { monitor, clients } => {
+            block_files(rt, alloc, monitor, clients, files, out, gate)
+        }
         _ => unreachable!(),
     }
 }

@@ -4,10 +4,11 @@ use Rattle.std.proofs.lemmas.Option.{none-some, same_Some, option_and_then_some}
 use Rattle.std.proofs.lemmas.Slice.Eq.{bytes_eq-Decides}
 use Rattle.std.proofs.Math.Dec.{eqb-suc-zero}
 use Rattle.mon_base.specs.Limits.{MOST_SPURIOUS, WORKERS}
+use Rattle.mon_command.specs.declared.plan_choice.PlanChoice.{PlanChoice}
 use Rattle.mon_command.specs.declared.schedule.Schedule.{Schedule}
 use Rattle.mon_command.specs.declared.schedule.Schedule.TheVariants.{Rounds, Drawn}
-use Rattle.mon_command.specs.CommandLine.{Command, check, turns, compile, simulate, run, stress, report, recheck, Given, GREATEST_UNSIGNED, HasNoSchedule, IsSpurious, IsSchedule, IsWorkers, Asks}
-use Rattle.mon_command.specs.inner.Asked.{number_if, spurious_if, schedule_if, some_workers, workers_if, has_schedule, plain_if, stress_if, run_if, simulate_if, single_if, pair_if, command_of_values, command_if}
+use Rattle.mon_command.specs.CommandLine.{Command, check, turns, compile, simulate, run, stress, report, recheck, block, audit, Given, GREATEST_UNSIGNED, HasNoOptions, HasNoSchedule, IsSpurious, IsSchedule, IsWorkers, Asks, choice_of}
+use Rattle.mon_command.specs.inner.Asked.{number_if, spurious_if, schedule_if, some_workers, workers_if, has_schedule, has_settings, plain_if, compile_if, stress_if, run_if, simulate_if, single_if, pair_if, command_of_values, command_if}
 use Rattle.mon_command.proofs.Written.{chosen, cond_second, number_found, number_is}
 
 abbrev Text : Type 0
@@ -83,39 +84,42 @@ schedule_unused given (no_seed, no_spurious) = λ i. is_some (no_seed i) || is_s
 
 -- ---- each command is found
 
-abbrev HasNone : Given → Type 0
-HasNone given = HasNoSchedule given × (given.workers ≡ None)
-
-plain_found : (given : Given) (command : Command) → HasNone given → plain_if given command ≡ Some command
-plain_found given command (rounds, no_workers) =
+plain_found : (given : Given) (command : Command) → HasNoOptions given → plain_if given command ≡ Some command
+plain_found given command (rounds, no_workers, no_relay) =
     let unused = schedule_unused given rounds in
-    λ i. cond (unused i || is_some (no_workers i)) None (Some command)
+    λ i. cond ((unused i || is_some (no_workers i)) || no_relay i) None (Some command)
 
-simulate_found : (given : Given) (monitor clients : Text) (schedule : Schedule) → IsSchedule given.seed given.spurious schedule → given.workers ≡ None
-    → simulate_if given monitor clients ≡ Some (simulate monitor clients schedule)
-simulate_found given monitor clients schedule is no_workers =
+compile_found : (given : Given) (monitor : Text) (choice : PlanChoice) → HasNoSchedule given → given.workers ≡ None → choice_of given.relay ≡ choice
+    → compile_if given monitor ≡ Some (compile monitor choice)
+compile_found given monitor choice rounds no_workers chosen_is =
+    let unused = schedule_unused given rounds in
+    λ i. cond (unused i || is_some (no_workers i)) None (Some (compile monitor (chosen_is i)))
+
+simulate_found : (given : Given) (monitor clients : Text) (schedule : Schedule) (choice : PlanChoice) → IsSchedule given.seed given.spurious schedule → given.workers ≡ None → choice_of given.relay ≡ choice
+    → simulate_if given monitor clients ≡ Some (simulate monitor clients schedule choice)
+simulate_found given monitor clients schedule choice is no_workers chosen_is =
     let found = schedule_found given.seed given.spurious schedule is in
-    λ i. cond (is_some (no_workers i)) None (option_map (λ s. simulate monitor clients s) (found i))
+    λ i. cond (is_some (no_workers i)) None (option_map (λ s. simulate monitor clients s (chosen_is i)) (found i))
 
-run_found : (given : Given) (monitor clients : Text) (workers : ℕ) → HasNoSchedule given → IsWorkers given.workers workers
-    → run_if given monitor clients ≡ Some (run monitor clients workers)
-run_found given monitor clients workers rounds is =
+run_found : (given : Given) (monitor clients : Text) (workers : ℕ) (choice : PlanChoice) → HasNoSchedule given → IsWorkers given.workers workers → choice_of given.relay ≡ choice
+    → run_if given monitor clients ≡ Some (run monitor clients workers choice)
+run_found given monitor clients workers choice rounds is chosen_is =
     let unused = schedule_unused given rounds in
     let found = workers_found given.workers workers is in
-    λ i. cond (unused i) None (option_map (λ n. run monitor clients n) (found i))
+    λ i. cond (unused i) None (option_map (λ n. run monitor clients n (chosen_is i)) (found i))
 
-stress_found : (given : Given) (word : Text) (number workers : ℕ) → (number_if GREATEST_UNSIGNED word ≡ Some number) → HasNoSchedule given → IsWorkers given.workers workers
+stress_found : (given : Given) (word : Text) (number workers : ℕ) → (number_if GREATEST_UNSIGNED word ≡ Some number) → HasNoSchedule given → IsWorkers given.workers workers → given.relay ≡ false
     → stress_if given word ≡ Some (stress number workers)
-stress_found given word number workers large rounds is =
+stress_found given word number workers large rounds is no_relay =
     let unused = schedule_unused given rounds in
     let found = workers_found given.workers workers is in
-    λ i. cond (unused i) None (option_and_then (λ n. option_map (λ k. stress n k) (found i)) (large i))
+    λ i. cond (unused i || no_relay i) None (option_and_then (λ n. option_map (λ k. stress n k) (found i)) (large i))
 
 -- by the name alone
 single_named : Text → Given → Text → Option Command
 single_named name given value =
     cond (bytes_eq name (codes "check")) (plain_if given (check value))
-    (cond (bytes_eq name (codes "compile")) (plain_if given (compile value))
+    (cond (bytes_eq name (codes "compile")) (compile_if given value)
     (cond (bytes_eq name (codes "stress")) (stress_if given value)
     (cond (bytes_eq name (codes "report")) (plain_if given (report value)) None)))
 
@@ -124,7 +128,9 @@ pair_named name given monitor clients =
     cond (bytes_eq name (codes "turns")) (plain_if given (turns monitor clients))
     (cond (bytes_eq name (codes "simulate")) (simulate_if given monitor clients)
     (cond (bytes_eq name (codes "run")) (run_if given monitor clients)
-    (cond (bytes_eq name (codes "recheck")) (plain_if given (recheck monitor clients)) None)))
+    (cond (bytes_eq name (codes "recheck")) (plain_if given (recheck monitor clients))
+    (cond (bytes_eq name (codes "block")) (plain_if given (block monitor clients))
+    (cond (bytes_eq name (codes "audit")) (plain_if given (audit monitor clients)) None)))))
 
 single_found : (given : Given) (name value : Text) (command : Command) → given.command ≡ name → given.values ≡ value ∷ []
     → single_named name given value ≡ Some command → command_if given ≡ Some command
@@ -139,65 +145,82 @@ pair_found given name monitor clients command is values found = ap (command_of_v
 pub command_found : (given : Given) (command : Command) → Asks given command → command_if given ≡ Some command
 unfolding single_named pair_named
 command_found given (check m) asks = single_found given (codes "check") m (check m) asks.name asks.has_values (plain_found given (check m) asks.has_options)
-command_found given (compile m) asks = single_found given (codes "compile") m (compile m) asks.name asks.has_values (plain_found given (compile m) asks.has_options)
+command_found given (compile m p) asks =
+    let (rounds, no_workers, chosen_is) = asks.has_options in
+    single_found given (codes "compile") m (compile m p) asks.name asks.has_values (compile_found given m p rounds no_workers chosen_is)
 command_found given (report m) asks = single_found given (codes "report") m (report m) asks.name asks.has_values (plain_found given (report m) asks.has_options)
 command_found given (recheck m r) asks = pair_found given (codes "recheck") m r (recheck m r) asks.name asks.has_values (plain_found given (recheck m r) asks.has_options)
+command_found given (block m c) asks = pair_found given (codes "block") m c (block m c) asks.name asks.has_values (plain_found given (block m c) asks.has_options)
+command_found given (audit m p) asks = pair_found given (codes "audit") m p (audit m p) asks.name asks.has_values (plain_found given (audit m p) asks.has_options)
 command_found given (turns m c) asks = pair_found given (codes "turns") m c (turns m c) asks.name asks.has_values (plain_found given (turns m c) asks.has_options)
-command_found given (simulate m c s) asks =
-    let (is, no_workers) = asks.has_options in
-    pair_found given (codes "simulate") m c (simulate m c s) asks.name asks.has_values (simulate_found given m c s is no_workers)
-command_found given (run m c n) asks =
-    let (rounds, is) = asks.has_options in
-    pair_found given (codes "run") m c (run m c n) asks.name asks.has_values (run_found given m c n rounds is)
+command_found given (simulate m c s p) asks =
+    let (is, no_workers, chosen_is) = asks.has_options in
+    pair_found given (codes "simulate") m c (simulate m c s p) asks.name asks.has_values (simulate_found given m c s p is no_workers chosen_is)
+command_found given (run m c n p) asks =
+    let (rounds, is, chosen_is) = asks.has_options in
+    pair_found given (codes "run") m c (run m c n p) asks.name asks.has_values (run_found given m c n p rounds is chosen_is)
 command_found given (stress n k) asks =
     let (word, values, large) = asks.has_values in
-    let (rounds, is) = asks.has_options in
-    single_found given (codes "stress") word (stress n k) asks.name values (stress_found given word n k (number_found GREATEST_UNSIGNED word n large) rounds is)
+    let (rounds, is, no_relay) = asks.has_options in
+    single_found given (codes "stress") word (stress n k) asks.name values (stress_found given word n k (number_found GREATEST_UNSIGNED word n large) rounds is no_relay)
 
 -- ---- what is found is asked for
 
 named : (given : Given) (name : Text) → bytes_eq given.command name ≡ true → given.command ≡ name
 named given name e = (bytes_eq-Decides given.command name).0 e
 
-plain_is : (given : Given) (command found : Command) → plain_if given command ≡ Some found → HasNone given × (command ≡ found)
+plain_is : (given : Given) (command found : Command) → plain_if given command ≡ Some found → HasNoOptions given × (command ≡ found)
 plain_is given command found e =
-    let (unused, same) = cond_second (has_schedule given || is_some given.workers) (Some command) found e in
-    let (rounds, no_workers) = neither (has_schedule given) (is_some given.workers) unused in
-    ((no_schedule given rounds, none_given given.workers no_workers), same_Some command found same)
+    let (unused, same) = cond_second (has_settings given || given.relay) (Some command) found e in
+    let (settings, no_relay) = neither (has_settings given) given.relay unused in
+    let (rounds, no_workers) = neither (has_schedule given) (is_some given.workers) settings in
+    ((no_schedule given rounds, none_given given.workers no_workers, no_relay), same_Some command found same)
+
+compile_asks : (given : Given) (monitor : Text) (found : Command) → given.command ≡ codes "compile" → given.values ≡ monitor ∷ []
+    → compile_if given monitor ≡ Some found → Asks given found
+compile_asks given monitor found name values e =
+    let (settings, same) = cond_second (has_settings given) (Some (compile monitor (choice_of given.relay))) found e in
+    let (rounds, no_workers) = neither (has_schedule given) (is_some given.workers) settings in
+    subst (Asks given) (same_Some (compile monitor (choice_of given.relay)) found same) (record {
+      name = name;
+      has_values = values;
+      has_options = (no_schedule given rounds, none_given given.workers no_workers, refl);
+    })
 
 simulate_asks : (given : Given) (monitor clients : Text) (found : Command) → given.command ≡ codes "simulate" → given.values ≡ monitor ∷ clients ∷ []
     → simulate_if given monitor clients ≡ Some found → Asks given found
 simulate_asks given monitor clients found name values e =
-    let (unused, more) = cond_second (is_some given.workers) (option_map (λ s. simulate monitor clients s) (schedule_if given.seed given.spurious)) found e in
-    map_is (λ s. simulate monitor clients s) (schedule_if given.seed given.spurious) found more
+    let (unused, more) = cond_second (is_some given.workers) (option_map (λ s. simulate monitor clients s (choice_of given.relay)) (schedule_if given.seed given.spurious)) found e in
+    map_is (λ s. simulate monitor clients s (choice_of given.relay)) (schedule_if given.seed given.spurious) found more
     (λ schedule is same. subst (Asks given) same (record {
       name = name;
       has_values = values;
-      has_options = (schedule_is given.seed given.spurious schedule is, none_given given.workers unused);
+      has_options = (schedule_is given.seed given.spurious schedule is, none_given given.workers unused, refl);
     }))
 
 run_asks : (given : Given) (monitor clients : Text) (found : Command) → given.command ≡ codes "run" → given.values ≡ monitor ∷ clients ∷ []
     → run_if given monitor clients ≡ Some found → Asks given found
 run_asks given monitor clients found name values e =
-    let (unused, more) = cond_second (has_schedule given) (option_map (λ n. run monitor clients n) (workers_if given.workers)) found e in
-    map_is (λ n. run monitor clients n) (workers_if given.workers) found more
+    let (unused, more) = cond_second (has_schedule given) (option_map (λ n. run monitor clients n (choice_of given.relay)) (workers_if given.workers)) found e in
+    map_is (λ n. run monitor clients n (choice_of given.relay)) (workers_if given.workers) found more
     (λ workers is same. subst (Asks given) same (record {
       name = name;
       has_values = values;
-      has_options = (no_schedule given unused, workers_is given.workers workers is);
+      has_options = (no_schedule given unused, workers_is given.workers workers is, refl);
     }))
 
 stress_asks : (given : Given) (word : Text) (found : Command) → given.command ≡ codes "stress" → given.values ≡ word ∷ []
     → stress_if given word ≡ Some found → Asks given found
 stress_asks given word found name values e =
     let rest : ℕ → Option Command = λ n. option_map (λ k. stress n k) (workers_if given.workers) in
-    let (unused, more) = cond_second (has_schedule given) (option_and_then rest (number_if GREATEST_UNSIGNED word)) found e in
+    let (unused, more) = cond_second (has_schedule given || given.relay) (option_and_then rest (number_if GREATEST_UNSIGNED word)) found e in
+    let (rounds, no_relay) = neither (has_schedule given) given.relay unused in
     option_and_then_some rest (number_if GREATEST_UNSIGNED word) found more
     (λ number large made. map_is (λ k. stress number k) (workers_if given.workers) found made
     (λ workers is same. subst (Asks given) same (record {
       name = name;
       has_values = (word, values, number_is GREATEST_UNSIGNED word number large);
-      has_options = (no_schedule given unused, workers_is given.workers workers is);
+      has_options = (no_schedule given rounds, workers_is given.workers workers is, no_relay);
     })))
 
 single_asks : (given : Given) (value : Text) (found : Command) → given.values ≡ value ∷ [] → single_if given value ≡ Some found → Asks given found
@@ -207,9 +230,7 @@ single_asks given value found values e =
     let (unused, same) = plain_is given (check value) found made in
     subst (Asks given) same (record { name = named given (codes "check") is; has_values = values; has_options = unused }))
     (λ no more. chosen (bytes_eq given.command (codes "compile")) _ _ found more
-    (λ is made.
-    let (unused, same) = plain_is given (compile value) found made in
-    subst (Asks given) same (record { name = named given (codes "compile") is; has_values = values; has_options = unused }))
+    (λ is made. compile_asks given value found (named given (codes "compile") is) values made)
     (λ no_compile rest. chosen (bytes_eq given.command (codes "stress")) _ _ found rest
     (λ is made. stress_asks given value found (named given (codes "stress") is) values made)
     (λ no_stress others. chosen (bytes_eq given.command (codes "report")) _ _ found others
@@ -232,7 +253,15 @@ pair_asks given monitor clients found values e =
     (λ is made.
     let (unused, same) = plain_is given (recheck monitor clients) found made in
     subst (Asks given) same (record { name = named given (codes "recheck") is; has_values = values; has_options = unused }))
-    (λ no_recheck none. absurd (none-some found none)))))
+    (λ no_recheck later. chosen (bytes_eq given.command (codes "block")) _ _ found later
+    (λ is made.
+    let (unused, same) = plain_is given (block monitor clients) found made in
+    subst (Asks given) same (record { name = named given (codes "block") is; has_values = values; has_options = unused }))
+    (λ no_block last. chosen (bytes_eq given.command (codes "audit")) _ _ found last
+    (λ is made.
+    let (unused, same) = plain_is given (audit monitor clients) found made in
+    subst (Asks given) same (record { name = named given (codes "audit") is; has_values = values; has_options = unused }))
+    (λ no_audit none. absurd (none-some found none)))))))
 
 values_ask : (given : Given) (values : List Text) (found : Command) → given.values ≡ values → command_of_values given values ≡ Some found → Asks given found
 values_ask given [] found is e = absurd (none-some found e)

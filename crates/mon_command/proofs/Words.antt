@@ -1,12 +1,10 @@
 -- The words of a command.
-use Rattle.std.proofs.Common.{◌≡◌, ℕ, ◌≤◌, List, [], ◌∷◌, Option, Some, None, option_map, ap, sym, subst, ◌∙◌, arith}
+use Rattle.std.proofs.Common.{◌≡◌, ℕ, List, [], ◌∷◌, Option, Some, None, option_map, ap, sym, subst, ◌∙◌}
 use Rattle.std.specs.Prelude.{Result, Ok, Err, IfOk, ok_or}
 use Rattle.std.proofs.lemmas.Option.{none-some, same_Some}
 use Rattle.clap.specs.Words.{fault_of}
 use Rattle.clap.specs.declared.error.kind.ErrorKind.{ErrorKind}
-use Rattle.mon_base.specs.Limits.{MOST_SPURIOUS, WORKERS}
-use Rattle.mon_command.specs.declared.schedule.Schedule.TheVariants.{Drawn}
-use Rattle.mon_command.specs.CommandLine.{Command, simulate, run, stress, Given, IsGiven, IsSpurious, IsWorkers, Takes, TakesNone, program}
+use Rattle.mon_command.specs.CommandLine.{Command, Given, IsGiven, Takes, TakesNone, program}
 use Rattle.mon_command.specs.inner.Asked.{command_if}
 use Rattle.mon_command.proofs.Asking.{command_found, command_asks}
 
@@ -18,7 +16,8 @@ given_same words one other is also =
     let seed : one.seed ≡ other.seed = sym is.seed_is ∙ also.seed_is in
     let spurious : one.spurious ≡ other.spurious = sym is.spurious_is ∙ also.spurious_is in
     let workers : one.workers ≡ other.workers = sym is.workers_is ∙ also.workers_is in
-    λ i. record { command = command i; values = values i; seed = seed i; spurious = spurious i; workers = workers i }
+    let relay : one.relay ≡ other.relay = sym is.relay_is ∙ also.relay_is in
+    λ i. record { command = command i; values = values i; seed = seed i; spurious = spurious i; workers = workers i; relay = relay i }
 
 -- what words take is what is computed of what they give
 taken_found : (words : List (List ℕ)) (given : Given) (command : Command) → IsGiven words given → Takes words command → command_if given ≡ Some command
@@ -61,25 +60,3 @@ some_fault kind faults p q = cc
 
 pub refused : (words : List (List ℕ)) (kind : ErrorKind) → fault_of program words ≡ kind ∷ [] → TakesNone words
 refused words kind fault command (given, is, asks) = some_fault kind (fault_of program words) fault is.taken
-
--- ---- how much words may ask for
-
-few_asked : (word : Option (List ℕ)) (extra : ℕ) → IsSpurious word extra → extra ≤ MOST_SPURIOUS
-few_asked None extra is = omega (arith, is)
-few_asked (Some word) extra is = is.within
-
-some_asked : (word : Option (List ℕ)) (workers : ℕ) → IsWorkers word workers → (1 ≤ workers) × (workers ≤ WORKERS)
-some_asked None workers is = (omega (arith, is), omega (arith, is))
-some_asked (Some word) workers (is, some) = (some, is.within)
-
-pub few_spurious : (words : List (List ℕ)) (monitor clients : List ℕ) (seed extra : ℕ) → Takes words (simulate monitor clients (Drawn seed extra)) → extra ≤ MOST_SPURIOUS
-few_spurious words monitor clients seed extra (given, is, asks) =
-    let (schedule, no_workers) = asks.has_options in
-    let (word, seed_is, number, made) = schedule in
-    few_asked given.spurious extra made
-
-pub some_workers_run : (words : List (List ℕ)) (monitor clients : List ℕ) (workers : ℕ) → Takes words (run monitor clients workers) → (1 ≤ workers) × (workers ≤ WORKERS)
-some_workers_run words monitor clients workers (given, is, asks) = let (none, some) = asks.has_options in some_asked given.workers workers some
-
-pub some_workers_stress : (words : List (List ℕ)) (number workers : ℕ) → Takes words (stress number workers) → (1 ≤ workers) × (workers ≤ WORKERS)
-some_workers_stress words number workers (given, is, asks) = let (none, some) = asks.has_options in some_asked given.workers workers some

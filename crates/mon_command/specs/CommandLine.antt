@@ -1,13 +1,15 @@
 -- The command line: what its words give, and the command that they ask for.
-use Rattle.std.specs.Prelude.{◌≡◌, ◌<◌, ◌≤◌, ℕ, true, List, [], ◌∷◌, All, Option, Some, None, codes}
-use Rattle.std.specs.Prelude.{length, unwrap_or}
+use Rattle.std.specs.Prelude.{◌≡◌, ◌<◌, ◌≤◌, ℕ, Bool, true, false, List, [], ◌∷◌, All, Option, Some}
+use Rattle.std.specs.Prelude.{None, bytes_eq, codes, length, unwrap_or}
 use Rattle.clap.specs.Words.{App, Rule, Text, new_app, new_rule, with_rule, fault_of, matches_of}
 use Rattle.clap.specs.Words.{first_of, all_of}
 use Rattle.clap.specs.Lexer.{usize_max}
-use Rattle.clap.specs.declared.builder.action.ArgAction.TheVariants.{Set, Append}
+use Rattle.clap.specs.declared.builder.action.ArgAction.TheVariants.{Set, Append, SetTrue}
 use Rattle.mon_base.specs.Identifiers.{is_digit}
 use Rattle.mon_base.specs.Limits.{MOST_SPURIOUS, WORKERS}
 use Rattle.mon_tokens.specs.Words.{decimal_value}
+use Rattle.mon_command.specs.declared.plan_choice.PlanChoice.{PlanChoice}
+use Rattle.mon_command.specs.declared.plan_choice.PlanChoice.TheVariants.{Placed, Relayed}
 use Rattle.mon_command.specs.declared.schedule.Schedule.{Schedule}
 use Rattle.mon_command.specs.declared.schedule.Schedule.TheVariants.{Rounds, Drawn}
 
@@ -17,18 +19,23 @@ pub data Command : Type 0 where
   check : List ℕ → Command
   -- runs the clients of the second file on the monitor of the first
   turns : List ℕ → List ℕ → Command
-  -- compiles a monitor to a plan
-  compile : List ℕ → Command
-  -- runs them by sections by this schedule, under the plan that is placed for the monitor
-  simulate : List ℕ → List ℕ → Schedule → Command
-  -- runs them under that plan in so many workers
-  run : List ℕ → List ℕ → ℕ → Command
+  -- compiles a monitor to a plan, of which the choice says which one
+  compile : List ℕ → PlanChoice → Command
+  -- runs them by sections by this schedule, under such a plan of the monitor
+  simulate : List ℕ → List ℕ → Schedule → PlanChoice → Command
+  -- runs them under such a plan in so many workers
+  run : List ℕ → List ℕ → ℕ → PlanChoice → Command
   -- runs the large input of this number in so many workers
   stress : ℕ → ℕ → Command
   -- compiles a monitor to a plan with its certificates
   report : List ℕ → Command
   -- checks such a report, the second file, of the monitor of the first
   recheck : List ℕ → List ℕ → Command
+  -- runs the clients of the second file on the monitor of the first, under the plan that is placed
+  -- for it, by a caller for each client
+  block : List ℕ → List ℕ → Command
+  -- says whether a plan, the second file, is lawful for the monitor of the first
+  audit : List ℕ → List ℕ → Command
 
 -- ---- the arguments
 
@@ -47,11 +54,21 @@ values_rule = record (new_rule (codes "values")) {
 abbrev pub option_rule : Text → Rule
 option_rule name = record (new_rule name) { long = Some name; action = Some Set }
 
+-- an option without a text, as `--name`
+abbrev pub flag_rule : Text → Rule
+flag_rule name = record (new_rule name) { long = Some name; action = Some SetTrue }
+
 -- the command line, as `clap` defines it
 abbrev pub program : App
-program = with_rule (with_rule (with_rule (with_rule (with_rule (new_app (codes "expresso"))
-    command_rule) values_rule)
-    (option_rule (codes "seed"))) (option_rule (codes "spurious"))) (option_rule (codes "workers"))
+program = with_rule (with_rule (with_rule (with_rule (with_rule (with_rule
+    (new_app (codes "expresso")) command_rule) values_rule)
+    (option_rule (codes "seed"))) (option_rule (codes "spurious")))
+    (option_rule (codes "workers"))) (flag_rule (codes "relay"))
+
+-- a flag is used, of which `clap` gives this text: `true` where it is, else `false`
+abbrev pub is_used : Option Text → Bool
+is_used None = false
+is_used (Some text) = bytes_eq text (codes "true")
 
 -- what is given for each argument
 pub record Given : Type 0 where
@@ -60,6 +77,8 @@ pub record Given : Type 0 where
   pub seed : Option Text
   pub spurious : Option Text
   pub workers : Option Text
+  -- `--relay` is used
+  pub relay : Bool
 
 -- `clap` takes the words, the program's name first, and its matches are these
 pub record IsGiven (words : List Text) (given : Given) : Type 0 where
@@ -69,6 +88,7 @@ pub record IsGiven (words : List Text) (given : Given) : Type 0 where
   pub seed_is : first_of (codes "seed") (matches_of program words) ≡ given.seed
   pub spurious_is : first_of (codes "spurious") (matches_of program words) ≡ given.spurious
   pub workers_is : first_of (codes "workers") (matches_of program words) ≡ given.workers
+  pub relay_is : is_used (first_of (codes "relay") (matches_of program words)) ≡ given.relay
 
 -- ---- numbers
 
@@ -112,46 +132,64 @@ abbrev pub IsWorkers : Option Text → ℕ → Type 0
 IsWorkers None number = number ≡ DEFAULT_WORKERS
 IsWorkers (Some word) number = IsNumber WORKERS word number × (1 ≤ number)
 
+-- `--relay` asks for the plan with relayed signals
+abbrev pub choice_of : Bool → PlanChoice
+choice_of true = Relayed
+choice_of false = Placed
+
 -- ---- commands
 
 -- the word that names a command
 abbrev pub name_of : Command → Text
 name_of (check monitor) = codes "check"
 name_of (turns monitor clients) = codes "turns"
-name_of (compile monitor) = codes "compile"
-name_of (simulate monitor clients schedule) = codes "simulate"
-name_of (run monitor clients workers) = codes "run"
+name_of (compile monitor choice) = codes "compile"
+name_of (simulate monitor clients schedule choice) = codes "simulate"
+name_of (run monitor clients workers choice) = codes "run"
 name_of (stress number workers) = codes "stress"
 name_of (report monitor) = codes "report"
 name_of (recheck monitor report_file) = codes "recheck"
+name_of (block monitor clients) = codes "block"
+name_of (audit monitor plan_file) = codes "audit"
 
 -- the values are those of the command, as many as it has
 abbrev pub HasValues : List Text → Command → Type 0
 HasValues values (check monitor) = values ≡ monitor ∷ []
 HasValues values (turns monitor clients) = values ≡ monitor ∷ clients ∷ []
-HasValues values (compile monitor) = values ≡ monitor ∷ []
-HasValues values (simulate monitor clients schedule) = values ≡ monitor ∷ clients ∷ []
-HasValues values (run monitor clients workers) = values ≡ monitor ∷ clients ∷ []
+HasValues values (compile monitor choice) = values ≡ monitor ∷ []
+HasValues values (simulate monitor clients schedule choice) = values ≡ monitor ∷ clients ∷ []
+HasValues values (run monitor clients workers choice) = values ≡ monitor ∷ clients ∷ []
 HasValues values (stress number workers) =
     (word : Text) × (values ≡ word ∷ []) × IsNumber GREATEST_UNSIGNED word number
 HasValues values (report monitor) = values ≡ monitor ∷ []
 HasValues values (recheck monitor report_file) = values ≡ monitor ∷ report_file ∷ []
+HasValues values (block monitor clients) = values ≡ monitor ∷ clients ∷ []
+HasValues values (audit monitor plan_file) = values ≡ monitor ∷ plan_file ∷ []
 
 abbrev pub HasNoSchedule : Given → Type 0
 HasNoSchedule given = (given.seed ≡ None) × (given.spurious ≡ None)
 
--- the options are the command's own: a schedule for `simulate`, workers for `run` and `stress`
+abbrev pub HasNoOptions : Given → Type 0
+HasNoOptions given = HasNoSchedule given × (given.workers ≡ None) × (given.relay ≡ false)
+
+-- the options are the command's own: a schedule for `simulate`, workers for `run` and `stress`,
+-- `--relay` for `compile`, `simulate` and `run`
 abbrev pub HasOptions : Given → Command → Type 0
-HasOptions given (check monitor) = HasNoSchedule given × (given.workers ≡ None)
-HasOptions given (turns monitor clients) = HasNoSchedule given × (given.workers ≡ None)
-HasOptions given (compile monitor) = HasNoSchedule given × (given.workers ≡ None)
-HasOptions given (simulate monitor clients schedule) =
+HasOptions given (check monitor) = HasNoOptions given
+HasOptions given (turns monitor clients) = HasNoOptions given
+HasOptions given (compile monitor choice) =
+    HasNoSchedule given × (given.workers ≡ None) × (choice_of given.relay ≡ choice)
+HasOptions given (simulate monitor clients schedule choice) =
     IsSchedule given.seed given.spurious schedule × (given.workers ≡ None)
-HasOptions given (run monitor clients workers) =
-    HasNoSchedule given × IsWorkers given.workers workers
-HasOptions given (stress number workers) = HasNoSchedule given × IsWorkers given.workers workers
-HasOptions given (report monitor) = HasNoSchedule given × (given.workers ≡ None)
-HasOptions given (recheck monitor report_file) = HasNoSchedule given × (given.workers ≡ None)
+    × (choice_of given.relay ≡ choice)
+HasOptions given (run monitor clients workers choice) =
+    HasNoSchedule given × IsWorkers given.workers workers × (choice_of given.relay ≡ choice)
+HasOptions given (stress number workers) =
+    HasNoSchedule given × IsWorkers given.workers workers × (given.relay ≡ false)
+HasOptions given (report monitor) = HasNoOptions given
+HasOptions given (recheck monitor report_file) = HasNoOptions given
+HasOptions given (block monitor clients) = HasNoOptions given
+HasOptions given (audit monitor plan_file) = HasNoOptions given
 
 -- the arguments ask for the command
 pub record Asks (given : Given) (command : Command) : Type 0 where
@@ -173,12 +211,14 @@ TakesNone words = (command : Command) → Takes words command → ⊥
 abbrev pub files_of : Command → List (List ℕ)
 files_of (check monitor) = monitor ∷ []
 files_of (turns monitor clients) = monitor ∷ clients ∷ []
-files_of (compile monitor) = monitor ∷ []
-files_of (simulate monitor clients schedule) = monitor ∷ clients ∷ []
-files_of (run monitor clients workers) = monitor ∷ clients ∷ []
+files_of (compile monitor choice) = monitor ∷ []
+files_of (simulate monitor clients schedule choice) = monitor ∷ clients ∷ []
+files_of (run monitor clients workers choice) = monitor ∷ clients ∷ []
 files_of (stress number workers) = []
 files_of (report monitor) = monitor ∷ []
 files_of (recheck monitor report_file) = monitor ∷ report_file ∷ []
+files_of (block monitor clients) = monitor ∷ clients ∷ []
+files_of (audit monitor plan_file) = monitor ∷ plan_file ∷ []
 
 -- each file that the words name is one that may be read
 abbrev pub MayReadFiles : (List ℕ → Type 0) → List (List ℕ) → Type 0

@@ -1,8 +1,10 @@
 //! The arguments of the command line, as `clap` reads them.
 
-ghost use Rattle.std.specs.Prelude.{◌≡◌, [], false, IfOk, codes, map, string_bytes, unwrap_or};
+ghost use Rattle.std.specs.Prelude.{◌≡◌, [], false, IfOk, codes, map, option_map, string_bytes};
+ghost use Rattle.std.specs.Prelude.{unwrap_or};
 ghost use Rattle.clap.specs.Words.{FailsBy, all_of, app_of, fault_of, found_of, matches_of, rows_of, rule_of};
-ghost use Rattle.mon_command.specs.CommandLine.{IsGiven, command_rule, option_rule, program, values_rule};
+ghost use Rattle.mon_command.specs.CommandLine.{IsGiven, command_rule, flag_rule, is_used, option_rule};
+ghost use Rattle.mon_command.specs.CommandLine.{program, values_rule};
 ghost use Rattle.mon_command.specs.CommandLine.{Given as Arguments};
 ghost use Rattle.mon_command.specs.inner.Given.{given_meant};
 
@@ -19,6 +21,7 @@ pub(crate) struct Given<'a> {
     pub(crate) seed: Option<&'a str>,
     pub(crate) spurious: Option<&'a str>,
     pub(crate) workers: Option<&'a str>,
+    pub(crate) relay: bool,
 }
 
 /// What the words, the program's name first, give; `Usage` where `clap` refuses them or they ask for help.
@@ -49,7 +52,18 @@ pub(crate) fn given_of<'a>(alloc: Global, words: &'a [String]) -> Result<Given<'
         seed: matches.get_str("seed"),
         spurious: matches.get_str("spurious"),
         workers: matches.get_str("workers"),
+        relay: is_used(matches.get_str("relay")),
     })
+}
+
+/// Whether a flag is used, of which `clap` gives this text.
+fn is_used(text: Option<&str>) -> bool
+    ensures { result ≡ is_used (option_map (λ text. text.now) text.entry) }
+{
+    match text {
+        Some(text) => text == "true",
+        None => false,
+    }
 }
 
 /// What `clap` matches in the words.
@@ -82,7 +96,8 @@ fn program<'a>(alloc: Global) -> Result<clap::Command<'a>, AllocError>
         .arg(values_argument(alloc))?
         .arg(option(alloc, "seed"))?
         .arg(option(alloc, "spurious"))?
-        .arg(option(alloc, "workers"))
+        .arg(option(alloc, "workers"))?
+        .arg(flag(alloc, "relay"))
 }
 
 /// The command's name.
@@ -111,4 +126,12 @@ fn option<'a>(alloc: Global, name: &'a str) -> Arg<'a>
     ensures local { result.global ≡ false }
 {
     Arg::new(alloc, name).long(name).action(ArgAction::Set)
+}
+
+/// An option without a text.
+fn flag<'a>(alloc: Global, name: &'a str) -> Arg<'a>
+    ensures rule { rule_of result ≡ flag_rule name.now }
+    ensures local { result.global ≡ false }
+{
+    Arg::new(alloc, name).long(name).action(ArgAction::SetTrue)
 }

@@ -3,12 +3,14 @@
 ghost use Rattle.std.specs.Prelude.{◌≡◌, ◌≤◌, option_map};
 ghost use Rattle.mon_command.specs.Commands.{command_meant};
 ghost use Rattle.mon_command.specs.inner.Given.{given_meant};
-ghost use Rattle.mon_command.specs.inner.Asked.{command_if, has_schedule, pair_if, plain_if, run_if};
-ghost use Rattle.mon_command.specs.inner.Asked.{simulate_if, single_if, some_workers, stress_if, workers_if};
+ghost use Rattle.mon_command.specs.inner.Asked.{command_if, compile_if, has_schedule, has_settings};
+ghost use Rattle.mon_command.specs.inner.Asked.{pair_if, plain_if, run_if, simulate_if, single_if};
+ghost use Rattle.mon_command.specs.inner.Asked.{some_workers, stress_if, workers_if};
 
 use crate::arguments::Given;
 use crate::command::Command;
 use crate::numbers::number_of;
+use crate::plan_choice::choice_of;
 use crate::schedule::schedule_of;
 use mon_base::limits::WORKERS;
 
@@ -33,7 +35,7 @@ fn single_asked<'a>(given: &Given<'a>, value: &'a str) -> Option<Command<'a>>
     if given.command == "check" {
         plain_asked(given, Command::Check { monitor: value })
     } else if given.command == "compile" {
-        plain_asked(given, Command::Compile { monitor: value })
+        compile_asked(given, value)
     } else if given.command == "stress" {
         stress_asked(given, value)
     } else if given.command == "report" {
@@ -68,6 +70,22 @@ fn pair_asked<'a>(given: &Given<'a>, monitor: &'a str, other: &'a str) -> Option
                 report: other,
             },
         )
+    } else if given.command == "block" {
+        plain_asked(
+            given,
+            Command::Block {
+                monitor,
+                clients: other,
+            },
+        )
+    } else if given.command == "audit" {
+        plain_asked(
+            given,
+            Command::Audit {
+                monitor,
+                plan: other,
+            },
+        )
     } else {
         None
     }
@@ -78,11 +96,24 @@ fn plain_asked<'a>(given: &Given<'a>, command: Command<'a>) -> Option<Command<'a
     ensures { option_map command_meant result
         ≡ plain_if (given_meant given.now) (command_meant command.entry) }
 {
-    if has_schedule(given) || given.workers.is_some() {
+    if has_settings(given) || given.relay {
         None
     } else {
         Some(command)
     }
+}
+
+/// The compilation of a monitor.
+fn compile_asked<'a>(given: &Given<'a>, monitor: &'a str) -> Option<Command<'a>>
+    ensures { option_map command_meant result ≡ compile_if (given_meant given.now) monitor.now }
+{
+    if has_settings(given) {
+        return None;
+    }
+    Some(Command::Compile {
+        monitor,
+        choice: choice_of(given.relay),
+    })
 }
 
 /// A simulation, under the schedule that is asked for.
@@ -98,6 +129,7 @@ fn simulate_asked<'a>(given: &Given<'a>, monitor: &'a str, clients: &'a str) -> 
         monitor,
         clients,
         schedule,
+        choice: choice_of(given.relay),
     })
 }
 
@@ -114,6 +146,7 @@ fn run_asked<'a>(given: &Given<'a>, monitor: &'a str, clients: &'a str) -> Optio
         monitor,
         clients,
         workers,
+        choice: choice_of(given.relay),
     })
 }
 
@@ -121,7 +154,7 @@ fn run_asked<'a>(given: &Given<'a>, monitor: &'a str, clients: &'a str) -> Optio
 fn stress_asked<'a>(given: &Given<'a>, number: &'a str) -> Option<Command<'a>>
     ensures { option_map command_meant result ≡ stress_if (given_meant given.now) number.now }
 {
-    if has_schedule(given) {
+    if has_schedule(given) || given.relay {
         return None;
     }
     let number = number_of(number, u64::MAX)?;
@@ -134,6 +167,13 @@ fn has_schedule<'a>(given: &Given<'a>) -> bool
     ensures { result ≡ has_schedule (given_meant given.now) }
 {
     given.seed.is_some() || given.spurious.is_some()
+}
+
+/// Whether an option of the schedule or of the workers is used.
+fn has_settings<'a>(given: &Given<'a>) -> bool
+    ensures { result ≡ has_settings (given_meant given.now) }
+{
+    has_schedule(given) || given.workers.is_some()
 }
 
 /// The number of workers that is asked for.

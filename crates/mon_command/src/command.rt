@@ -6,6 +6,7 @@ ghost use Rattle.mon_command.specs.Commands.{command_meant};
 
 use crate::arguments::given_of;
 use crate::asked::command_asked;
+use crate::plan_choice::PlanChoice;
 use crate::schedule::Schedule;
 use std::alloc::Global;
 use thiserror::Error;
@@ -22,23 +23,26 @@ pub enum Command<'a> {
         monitor: &'a str,
         clients: &'a str,
     },
-    /// Compiles a monitor to a plan.
+    /// Compiles a monitor to the plan that is asked for.
     Compile {
         monitor: &'a str,
+        choice: PlanChoice,
     },
-    /// Runs the clients of a file on the monitor of another by sections, under the plan that is placed for it and a
+    /// Runs the clients of a file on the monitor of another by sections, under the plan that is asked for and a
     /// schedule.
     Simulate {
         monitor: &'a str,
         clients: &'a str,
         schedule: Schedule,
+        choice: PlanChoice,
     },
     /// Runs the clients of a file on the monitor of another in workers, from 1 to `WORKERS`, under the plan that is
-    /// placed for it.
+    /// asked for.
     Run {
         monitor: &'a str,
         clients: &'a str,
         workers: u32,
+        choice: PlanChoice,
     },
     /// Runs the large input of a number in workers, from 1 to `WORKERS`.
     Stress {
@@ -53,6 +57,17 @@ pub enum Command<'a> {
     Recheck {
         monitor: &'a str,
         report: &'a str,
+    },
+    /// Runs the clients of a file on the monitor of another by a caller for each client, under the plan that is placed for
+    /// it.
+    Block {
+        monitor: &'a str,
+        clients: &'a str,
+    },
+    /// Says whether a plan that is written by hand is lawful for the monitor of another file.
+    Audit {
+        monitor: &'a str,
+        plan: &'a str,
     },
 }
 

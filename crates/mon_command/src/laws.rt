@@ -1,7 +1,9 @@
 //! What follows from the definitions alone.
 
 ghost use Rattle.std.specs.Prelude.{◌≡◌, ℕ, List, [], ◌∷◌, codes};
-ghost use Rattle.mon_command.specs.CommandLine.{Command, Takes, TakesNone, check, run, DEFAULT_WORKERS};
+ghost use Rattle.mon_command.specs.CommandLine.{Command, Takes, TakesNone, check, compile, run};
+ghost use Rattle.mon_command.specs.CommandLine.{DEFAULT_WORKERS};
+ghost use Rattle.mon_command.specs.declared.plan_choice.PlanChoice.TheVariants.{Placed, Relayed};
 
 /// Words are at most one command.
 pub fn one_command()
@@ -10,18 +12,18 @@ pub fn one_command()
 {}
 
 /// What some words are: an option left out, before the values, as one word, twice, or without the other that it wants; `--`
-/// before a value; an asked help text; a number out of range.
+/// before a value; an asked help text; a number out of range; an option without a text, used and where it may not be.
 pub fn words_taken()
     ensures default_workers { Takes
         (codes "expresso" ∷ codes "run" ∷ codes "M" ∷ codes "C" ∷ [])
-        (run (codes "M") (codes "C") DEFAULT_WORKERS) }
+        (run (codes "M") (codes "C") DEFAULT_WORKERS Placed) }
     ensures options_first { Takes
         (codes "expresso" ∷ codes "run" ∷ codes "--workers" ∷ codes "2"
         ∷ codes "M" ∷ codes "C" ∷ [])
-        (run (codes "M") (codes "C") 2) }
+        (run (codes "M") (codes "C") 2 Placed) }
     ensures one_word { Takes
         (codes "expresso" ∷ codes "run" ∷ codes "M" ∷ codes "C" ∷ codes "--workers=2" ∷ [])
-        (run (codes "M") (codes "C") 2) }
+        (run (codes "M") (codes "C") 2 Placed) }
     ensures hyphen { Takes
         (codes "expresso" ∷ codes "check" ∷ codes "--" ∷ codes "-m" ∷ [])
         (check (codes "-m")) }
@@ -33,4 +35,9 @@ pub fn words_taken()
         ∷ codes "--spurious" ∷ codes "2" ∷ []) }
     ensures too_many { TakesNone (codes "expresso" ∷ codes "run" ∷ codes "M" ∷ codes "C"
         ∷ codes "--workers" ∷ codes "17" ∷ []) }
+    ensures relayed { Takes
+        (codes "expresso" ∷ codes "compile" ∷ codes "--relay" ∷ codes "M" ∷ [])
+        (compile (codes "M") Relayed) }
+    ensures no_relay { TakesNone (codes "expresso" ∷ codes "check" ∷ codes "M"
+        ∷ codes "--relay" ∷ []) }
 {}

@@ -61,6 +61,10 @@ unread_text file = codes "read fault: " ++ file ++ codes "\n"
 abbrev pub not_report_text : List ℕ → List ℕ
 not_report_text file = codes "refused: " ++ file ++ codes ": not a report\n"
 
+-- a file is no plan of the monitor
+abbrev pub not_plan_text : List ℕ → List ℕ
+not_plan_text file = codes "refused: " ++ file ++ codes ": not a plan\n"
+
 -- a file breaks a rule at an offset of its bytes
 abbrev pub place_text : List ℕ → List ℕ → SourceFault → List ℕ
 place_text file bytes fault =

@@ -29,6 +29,10 @@ pub enum Fault<'a> {
     NotReport {
         file: &'a str,
     },
+    /// It is no plan of the monitor.
+    NotPlan {
+        file: &'a str,
+    },
     /// It breaks a rule at an offset of its bytes.
     Place {
         file: &'a str,
@@ -59,6 +63,10 @@ pub fn write_fault<S: Sink>(fault: &Fault, out: &mut S) -> Result<(), SinkFailed
         Fault::Unread { file } => write_pieces(&[b"read fault: ", file.as_bytes(), b"\n"], out),
         Fault::NotReport { file } => write_pieces(
             &[b"refused: ", file.as_bytes(), b": not a report\n"],
+            out,
+        ),
+        Fault::NotPlan { file } => write_pieces(
+            &[b"refused: ", file.as_bytes(), b": not a plan\n"],
             out,
         ),
         Fault::Place { file, bytes, fault } => write_place(file, bytes, *fault, out),

@@ -3,7 +3,7 @@
 ghost use Rattle.std.specs.Prelude.{◌≤◌, IfOk, length};
 
 use super::asking::{Call, ROOM, asked, texts_of, two_files};
-use expresso::{Status, expresso, without_workers};
+use expresso::{Status, expresso, without_threads};
 use mon_io::{MemSink, StdSink};
 use mon_pool::OpenGate;
 use samples::clients::TWO;
@@ -30,17 +30,21 @@ const SIMULATE: &[&str] = &["expresso", "simulate", "m.mon", "c.cl"];
 
 const RUN: &[&str] = &["expresso", "run", "m.mon", "c.cl"];
 
+const BLOCK: &[&str] = &["expresso", "block", "m.mon", "c.cl"];
+
 const STRESS: &[&str] = &["expresso", "stress", "3"];
 
 const USAGE: &[u8] = b"usage:
 expresso check FILE
 expresso turns FILE CLIENTS
-expresso compile FILE
-expresso simulate FILE CLIENTS [--seed N] [--spurious K]
-expresso run FILE CLIENTS [--workers N]
+expresso compile FILE [--relay]
+expresso simulate FILE CLIENTS [--seed N] [--spurious K] [--relay]
+expresso run FILE CLIENTS [--workers N] [--relay]
 expresso stress N [--workers N]
 expresso report FILE
 expresso recheck FILE REPORT
+expresso block FILE CLIENTS
+expresso audit FILE PLAN
 ";
 
 const TWO_RUN: &[u8] = b"A.1 put() = -
@@ -141,16 +145,16 @@ fn the_text_of_each_status_reaches_standard_output(rt: HostRuntime) -> Result<()
     Ok(())
 }
 
-/// The status of a call that is given no runtime, or none where it runs in workers.
+/// The status of a call that is given no runtime, or none where it runs clients in threads.
 fn status_alone(alloc: Global, call: &Call<'_>) -> Result<Option<Status>, AllocError> {
     let words = texts_of(alloc, call.words)?;
     let mut files = two_files(alloc, call)?;
     let mut out = MemSink::open(alloc, ROOM, Vec::new(alloc))?;
-    Ok(without_workers(alloc, &words, &mut files, &mut out).ok())
+    Ok(without_threads(alloc, &words, &mut files, &mut out).ok())
 }
 
 #[test]
-fn only_run_and_stress_want_a_runtime(rt: HostRuntime) -> Result<(), Fail> {
+fn only_run_stress_and_block_want_a_runtime(rt: HostRuntime) -> Result<(), Fail> {
     let table = [
         (asked(CHECK, BUFFER, TWO), Some(Status::Done)),
         (asked(TURNS, BUFFER, TWO), Some(Status::Done)),
@@ -159,6 +163,7 @@ fn only_run_and_stress_want_a_runtime(rt: HostRuntime) -> Result<(), Fail> {
         (asked(ALONE, BUFFER, TWO), Some(Status::Usage)),
         (asked(RUN, BUFFER, TWO), None),
         (asked(STRESS, BUFFER, TWO), None),
+        (asked(BLOCK, BUFFER, TWO), None),
     ];
     for (call, status) in table {
         assert_eq!(rt; status_alone(rt.alloc(), &call)?, status);

@@ -45,18 +45,23 @@ fn each_command_is_taken(rt: HostRuntime) -> Result<(), Fail> {
         &["turns", "m", "c"],
         "Turns { monitor: \"m\", clients: \"c\" }",
     )?;
-    is(&rt, alloc, &["compile", "m"], "Compile { monitor: \"m\" }")?;
+    is(
+        &rt,
+        alloc,
+        &["compile", "m"],
+        "Compile { monitor: \"m\", choice: Placed }",
+    )?;
     is(
         &rt,
         alloc,
         &["simulate", "m", "c"],
-        "Simulate { monitor: \"m\", clients: \"c\", schedule: Rounds }",
+        "Simulate { monitor: \"m\", clients: \"c\", schedule: Rounds, choice: Placed }",
     )?;
     is(
         &rt,
         alloc,
         &["run", "m", "c"],
-        "Run { monitor: \"m\", clients: \"c\", workers: 4 }",
+        "Run { monitor: \"m\", clients: \"c\", workers: 4, choice: Placed }",
     )?;
     is(
         &rt,
@@ -71,13 +76,25 @@ fn each_command_is_taken(rt: HostRuntime) -> Result<(), Fail> {
         &["recheck", "m", "r"],
         "Recheck { monitor: \"m\", report: \"r\" }",
     )?;
+    is(
+        &rt,
+        alloc,
+        &["block", "m", "c"],
+        "Block { monitor: \"m\", clients: \"c\" }",
+    )?;
+    is(
+        &rt,
+        alloc,
+        &["audit", "m", "p"],
+        "Audit { monitor: \"m\", plan: \"p\" }",
+    )?;
     Ok(())
 }
 
 #[test]
 fn options_stand_anywhere(rt: HostRuntime) -> Result<(), Fail> {
     let alloc = rt.alloc();
-    let two = "Run { monitor: \"m\", clients: \"c\", workers: 2 }";
+    let two = "Run { monitor: \"m\", clients: \"c\", workers: 2, choice: Placed }";
     is(&rt, alloc, &["run", "m", "c", "--workers", "2"], two)?;
     is(&rt, alloc, &["run", "m", "c", "--workers=2"], two)?;
     is(&rt, alloc, &["run", "--workers", "2", "m", "c"], two)?;
@@ -98,13 +115,13 @@ fn options_stand_anywhere(rt: HostRuntime) -> Result<(), Fail> {
             "--seed=18446744073709551615",
             "c",
         ],
-        "Simulate { monitor: \"m\", clients: \"c\", schedule: Drawn { seed: 18446744073709551615, spurious: 16384 } }",
+        "Simulate { monitor: \"m\", clients: \"c\", schedule: Drawn { seed: 18446744073709551615, spurious: 16384 }, choice: Placed }",
     )?;
     is(
         &rt,
         alloc,
         &["simulate", "m", "c", "--seed", "0"],
-        "Simulate { monitor: \"m\", clients: \"c\", schedule: Drawn { seed: 0, spurious: 0 } }",
+        "Simulate { monitor: \"m\", clients: \"c\", schedule: Drawn { seed: 0, spurious: 0 }, choice: Placed }",
     )?;
     is(
         &rt,
@@ -128,6 +145,40 @@ fn options_stand_anywhere(rt: HostRuntime) -> Result<(), Fail> {
 }
 
 #[test]
+fn a_relayed_plan_is_asked_for(rt: HostRuntime) -> Result<(), Fail> {
+    let alloc = rt.alloc();
+    is(
+        &rt,
+        alloc,
+        &["compile", "--relay", "m"],
+        "Compile { monitor: \"m\", choice: Relayed }",
+    )?;
+    is(
+        &rt,
+        alloc,
+        &["simulate", "m", "c", "--seed", "0", "--relay"],
+        "Simulate { monitor: \"m\", clients: \"c\", schedule: Drawn { seed: 0, spurious: 0 }, choice: Relayed }",
+    )?;
+    is(
+        &rt,
+        alloc,
+        &["--relay", "run", "m", "c", "--workers", "2"],
+        "Run { monitor: \"m\", clients: \"c\", workers: 2, choice: Relayed }",
+    )?;
+    is_usage(&rt, alloc, &["check", "m", "--relay"])?;
+    is_usage(&rt, alloc, &["turns", "m", "c", "--relay"])?;
+    is_usage(&rt, alloc, &["report", "m", "--relay"])?;
+    is_usage(&rt, alloc, &["recheck", "m", "r", "--relay"])?;
+    is_usage(&rt, alloc, &["block", "m", "c", "--relay"])?;
+    is_usage(&rt, alloc, &["audit", "m", "p", "--relay"])?;
+    is_usage(&rt, alloc, &["stress", "3", "--relay"])?;
+    is_usage(&rt, alloc, &["compile", "m", "--relay=true"])?;
+    is_usage(&rt, alloc, &["compile", "m", "--relay", "--relay"])?;
+    is_usage(&rt, alloc, &["compile", "m", "--relayed"])?;
+    Ok(())
+}
+
+#[test]
 fn other_commands_and_values_are_refused(rt: HostRuntime) -> Result<(), Fail> {
     let alloc = rt.alloc();
     let none = Vec::new(alloc);
@@ -146,6 +197,8 @@ fn other_commands_and_values_are_refused(rt: HostRuntime) -> Result<(), Fail> {
     is_usage(&rt, alloc, &["check", "-m"])?;
     is_usage(&rt, alloc, &["report", "m", "r"])?;
     is_usage(&rt, alloc, &["recheck", "m"])?;
+    is_usage(&rt, alloc, &["block", "m"])?;
+    is_usage(&rt, alloc, &["audit", "m"])?;
     Ok(())
 }
 

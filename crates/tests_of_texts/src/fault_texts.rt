@@ -176,7 +176,7 @@ fn holds_a_front(alloc: Global, fault: &Fault, room: u64, line: &[u8]) -> Result
 }
 
 /// Faults, and the line of each.
-const LINES: [(Fault, &[u8]); 5] = [
+const LINES: [(Fault, &[u8]); 6] = [
     (
         Fault::Place {
             file: "m.mon",
@@ -200,6 +200,10 @@ const LINES: [(Fault, &[u8]); 5] = [
     (
         Fault::NotReport { file: "r.txt" },
         b"refused: r.txt: not a report\n",
+    ),
+    (
+        Fault::NotPlan { file: "p.txt" },
+        b"refused: p.txt: not a plan\n",
     ),
 ];
 

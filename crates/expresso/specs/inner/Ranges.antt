@@ -10,7 +10,7 @@ AreWorkers workers = (1 ≤ workers) × (workers ≤ WORKERS)
 
 -- no more workers and no more spurious wake-ups than there may be, and at least one worker
 abbrev pub IsInRange : Command → Type 0
-IsInRange (simulate monitor clients schedule) = most_spurious schedule ≤ MOST_SPURIOUS
-IsInRange (run monitor clients workers) = AreWorkers workers
+IsInRange (simulate monitor clients schedule choice) = most_spurious schedule ≤ MOST_SPURIOUS
+IsInRange (run monitor clients workers choice) = AreWorkers workers
 IsInRange (stress number workers) = AreWorkers workers
 IsInRange command = Unit {0}

@@ -9,8 +9,8 @@ use Rattle.mon_tokens.specs.Words.{decimal_value}
 use Rattle.mon_command.specs.declared.schedule.Schedule.{Schedule}
 use Rattle.mon_command.specs.declared.schedule.Schedule.TheVariants.{Rounds, Drawn}
 use Rattle.mon_command.specs.CommandLine.{Given, Command, check, turns, compile, simulate, run}
-use Rattle.mon_command.specs.CommandLine.{stress, report, recheck, GREATEST_UNSIGNED}
-use Rattle.mon_command.specs.CommandLine.{DEFAULT_WORKERS, MOST_DIGITS}
+use Rattle.mon_command.specs.CommandLine.{stress, report, recheck, block, audit}
+use Rattle.mon_command.specs.CommandLine.{GREATEST_UNSIGNED, DEFAULT_WORKERS, MOST_DIGITS, choice_of}
 
 -- 1 to `MOST_DIGITS` decimal digits
 abbrev pub is_written : List ℕ → Bool
@@ -47,29 +47,38 @@ workers_if (Some word) = option_and_then some_workers (number_if WORKERS word)
 abbrev pub has_schedule : Given → Bool
 has_schedule given = is_some given.seed || is_some given.spurious
 
+-- whether a schedule or workers are asked for
+abbrev pub has_settings : Given → Bool
+has_settings given = has_schedule given || is_some given.workers
+
 abbrev pub stress_if : Given → List ℕ → Option Command
-stress_if given word = cond (has_schedule given) None
+stress_if given word = cond (has_schedule given || given.relay) None
     (option_and_then (λ number. option_map (λ workers. stress number workers) (workers_if
     given.workers)) (number_if GREATEST_UNSIGNED word))
 
 abbrev pub run_if : Given → List ℕ → List ℕ → Option Command
 run_if given monitor clients = cond (has_schedule given) None
-    (option_map (λ workers. run monitor clients workers) (workers_if given.workers))
+    (option_map (λ workers. run monitor clients workers (choice_of given.relay))
+    (workers_if given.workers))
 
 abbrev pub simulate_if : Given → List ℕ → List ℕ → Option Command
 simulate_if given monitor clients = cond (is_some given.workers) None
-    (option_map (λ schedule. simulate monitor clients schedule)
+    (option_map (λ schedule. simulate monitor clients schedule (choice_of given.relay))
     (schedule_if given.seed given.spurious))
+
+abbrev pub compile_if : Given → List ℕ → Option Command
+compile_if given monitor =
+    cond (has_settings given) None (Some (compile monitor (choice_of given.relay)))
 
 -- a command that has no options
 abbrev pub plain_if : Given → Command → Option Command
-plain_if given command = cond (has_schedule given || is_some given.workers) None (Some command)
+plain_if given command = cond (has_settings given || given.relay) None (Some command)
 
 -- the command of one value
 abbrev pub single_if : Given → List ℕ → Option Command
 single_if given value =
     cond (bytes_eq given.command (codes "check")) (plain_if given (check value))
-    (cond (bytes_eq given.command (codes "compile")) (plain_if given (compile value))
+    (cond (bytes_eq given.command (codes "compile")) (compile_if given value)
     (cond (bytes_eq given.command (codes "stress")) (stress_if given value)
     (cond (bytes_eq given.command (codes "report")) (plain_if given (report value)) None)))
 
@@ -80,7 +89,9 @@ pair_if given monitor other =
     (cond (bytes_eq given.command (codes "simulate")) (simulate_if given monitor other)
     (cond (bytes_eq given.command (codes "run")) (run_if given monitor other)
     (cond (bytes_eq given.command (codes "recheck")) (plain_if given (recheck monitor other))
-    None)))
+    (cond (bytes_eq given.command (codes "block")) (plain_if given (block monitor other))
+    (cond (bytes_eq given.command (codes "audit")) (plain_if given (audit monitor other))
+    None)))))
 
 -- the command that these values ask for
 abbrev pub command_of_values : Given → List (List ℕ) → Option Command

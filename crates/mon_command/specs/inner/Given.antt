@@ -11,4 +11,5 @@ given_meant read = record {
   seed = option_map (λ word. word.now) read.seed;
   spurious = option_map (λ word. word.now) read.spurious;
   workers = option_map (λ word. word.now) read.workers;
+  relay = read.relay;
 }

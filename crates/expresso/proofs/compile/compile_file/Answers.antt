@@ -6,12 +6,12 @@ use Rattle.expresso.proofs.Outcomes.{written_since}
 use Rattle.expresso.proofs.compile.compile_file.Goals as goal
 
 pub returns-in-Err-clause-ended : goal.returns-in-Err-clause-ended
-returns-in-Err-clause-ended g c = c.in-Err.ensures.ended (compile c.args.file.now) (compile_works c.args.file.now)
+returns-in-Err-clause-ended g c = c.in-Err.ensures.ended (compile c.args.file.now c.args.choice) (compile_works c.args.file.now c.args.choice)
 
 pub returns-in-Ok-plan_of-clause-ended : goal.returns-in-Ok-plan_of-clause-ended
 returns-in-Ok-plan_of-clause-ended g c =
     let found = c.in-Ok.found in
     let plan = c.in-Ok-plan_of.plan in
-    compile_done c.args.file.now found.tree found.monitor plan
+    compile_done c.args.file.now c.args.choice found.tree found.monitor plan
     (g.F.Files.seen c.args.files.now) (g.F.Files.seen c.monitor_of.new.files) _ (g.S.Sink.seen c.args.out.now) _ c.in-Ok.ensures.holds c.in-Ok-plan_of.ensures c.in-Ok.ensures.quiet.steady
     (written_since Done (plan_text found.monitor plan) _ _ _ _ c.in-Ok.ensures.quiet.silent c.show_plan.ensures)

@@ -16,7 +16,7 @@ pub work_in_threads-requires-clause-files : goal.work_in_threads-requires-clause
 work_in_threads-requires-clause-files g c =
     let command = command_meant c.in-Err.command in
     let before : All (g.F.Files.may_read c.args.files.now) (files_of command) = c.requires command c.in-Err.ensures.taken in
-    let every : All (g.F.Files.may_read c.without_workers.new.files) (files_of command) = subst (λ files. All (g.F.Files.may_read files) (files_of command)) (sym c.in-Err.ensures.unread) before in
+    let every : All (g.F.Files.may_read c.without_threads.new.files) (files_of command) = subst (λ files. All (g.F.Files.may_read files) (files_of command)) (sym c.in-Err.ensures.unread) before in
     search (rules, every)
 
 -- the command ended from where the call began
@@ -27,7 +27,7 @@ worked g c =
     command_ended c.one_command.ensures (map (string_bytes {Z = Global}) c.args.words.now.items) command (g.F.Files.seen c.args.files.now) (g.F.Files.seen c.work_in_threads.new.files) c.work_in_threads.result
     (g.S.Sink.seen c.args.out.now) (g.S.Sink.seen c.work_in_threads.new.out) c.in-Err.ensures.taken
     (subst (λ files. CommandEnds command (g.F.Files.seen files) (g.F.Files.seen c.work_in_threads.new.files) c.work_in_threads.result (g.S.Sink.seen c.args.out.now) (g.S.Sink.seen c.work_in_threads.new.out)) c.in-Err.ensures.unread
-    (subst (λ out. CommandEnds command (g.F.Files.seen c.without_workers.new.files) (g.F.Files.seen c.work_in_threads.new.files) c.work_in_threads.result (g.S.Sink.seen out) (g.S.Sink.seen c.work_in_threads.new.out)) c.in-Err.ensures.silent
+    (subst (λ out. CommandEnds command (g.F.Files.seen c.without_threads.new.files) (g.F.Files.seen c.work_in_threads.new.files) c.work_in_threads.result (g.S.Sink.seen out) (g.S.Sink.seen c.work_in_threads.new.out)) c.in-Err.ensures.silent
     c.work_in_threads.ensures.ended))
 
 pub returns-in-Err-clause-ended : goal.returns-in-Err-clause-ended
@@ -40,5 +40,5 @@ returns-in-Err-clause-headline g c =
 
 pub returns-in-Ok-clause-headline : goal.returns-in-Ok-clause-headline
 returns-in-Ok-clause-headline g c =
-    headline_kept c.one_command.ensures (map (string_bytes {Z = Global}) c.args.words.now.items) (g.F.Files.seen c.args.files.now) (g.F.Files.seen c.without_workers.new.files) (g.S.Sink.seen c.args.out.now) (g.S.Sink.seen c.without_workers.new.out) c.in-Ok.status
+    headline_kept c.one_command.ensures (map (string_bytes {Z = Global}) c.args.words.now.items) (g.F.Files.seen c.args.files.now) (g.F.Files.seen c.without_threads.new.files) (g.S.Sink.seen c.args.out.now) (g.S.Sink.seen c.without_threads.new.out) c.in-Ok.status
     c.in-Ok.ensures.ended.answer

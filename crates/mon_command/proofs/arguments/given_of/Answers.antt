@@ -2,6 +2,7 @@ use Rattle.std.proofs.Common.{ap, sym, option_map, is_some, true≢false, unwrap
 use Rattle.clap.specs.Words.{Text, Row, found_of, first_of, first_value, all_of, rows_of}
 use Rattle.clap.specs.declared.parser.matches.ArgMatches.{ArgMatches}
 use Rattle.clap.proofs.WalkLemmas.{first_value-rows}
+use Rattle.mon_command.specs.CommandLine.{is_used}
 use Rattle.mon_command.proofs.arguments.given_of.Goals as goal
 
 abbrev text : Option (Bor Text) → Option Text
@@ -28,4 +29,5 @@ returns-clause-given c =
       seed_is = read m _ (codes "seed") c.get_str-2.result rows c.get_str-2.ensures;
       spurious_is = read m _ (codes "spurious") c.get_str-3.result rows c.get_str-3.ensures;
       workers_is = read m _ (codes "workers") c.get_str-4.result rows c.get_str-4.ensures;
+      relay_is = ap is_used (read m _ (codes "relay") c.get_str-5.result rows c.get_str-5.ensures) ∙ sym c.is_used.ensures;
     }

@@ -10,4 +10,5 @@ returns c =
     let valued = c.in_ok-arg-2.ensures.shape c.values_argument.ensures.local ∙ ap₂ with_rule named c.values_argument.ensures.rule in
     let seeded = c.in_ok-arg-3.ensures.shape c.option.ensures.local ∙ ap₂ with_rule valued c.option.ensures.rule in
     let woken = c.in_ok-arg-4.ensures.shape c.option-2.ensures.local ∙ ap₂ with_rule seeded c.option-2.ensures.rule in
-    IfOk-weaker c.arg-5.result _ _ (λ (r : Command) h. h.shape c.option-3.ensures.local ∙ ap₂ with_rule woken c.option-3.ensures.rule) c.arg-5.ensures
+    let worked = c.in_ok-arg-5.ensures.shape c.option-3.ensures.local ∙ ap₂ with_rule woken c.option-3.ensures.rule in
+    IfOk-weaker c.arg-6.result _ _ (λ (r : Command) h. h.shape c.flag.ensures.local ∙ ap₂ with_rule worked c.flag.ensures.rule) c.arg-6.ensures

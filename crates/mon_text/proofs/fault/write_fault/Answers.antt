@@ -1,6 +1,6 @@
 use Rattle.std.proofs.Common.{◌∙◌, ap, sym}
 use Rattle.mon_io.proofs.Writing.{wrote_same}
-use Rattle.mon_text.specs.FaultText.{too_long_text, other_too_long_text, unread_text, not_report_text}
+use Rattle.mon_text.specs.FaultText.{too_long_text, other_too_long_text, unread_text, not_report_text, not_plan_text}
 use Rattle.mon_text.specs.Faults.{fault_text}
 use Rattle.mon_text.proofs.fault.write_fault.Goals as goal
 
@@ -15,6 +15,10 @@ returns-in-OtherTooLong g c =
 pub returns-in-NotReport : goal.returns-in-NotReport
 returns-in-NotReport g c =
     wrote_same _ (ap not_report_text c.as_bytes-in-NotReport.ensures.value ∙ ap fault_text (sym c.in-NotReport.is)) c.write_pieces-in-NotReport.ensures
+
+pub returns-in-NotPlan : goal.returns-in-NotPlan
+returns-in-NotPlan g c =
+    wrote_same _ (ap not_plan_text c.as_bytes-in-NotPlan.ensures.value ∙ ap fault_text (sym c.in-NotPlan.is)) c.write_pieces-in-NotPlan.ensures
 
 pub returns-in-Unread : goal.returns-in-Unread
 returns-in-Unread g c =

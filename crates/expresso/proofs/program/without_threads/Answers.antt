@@ -5,7 +5,7 @@ use Rattle.mon_command.specs.CommandLine.{Takes, TakesNone, files_of}
 use Rattle.mon_command.specs.Commands.{command_meant}
 use Rattle.expresso.proofs.GivenWords.{none_of, taken_of}
 use Rattle.expresso.proofs.ProgramEnded.{each_ended, left_taken, no_words_ended, usage_ended}
-use Rattle.expresso.proofs.program.without_workers.Goals as goal
+use Rattle.expresso.proofs.program.without_threads.Goals as goal
 
 pub work-requires-clause-files : goal.work-requires-clause-files
 work-requires-clause-files g c =

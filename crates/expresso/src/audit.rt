@@ -1,0 +1,86 @@
+//! `expresso audit FILE PLAN`.
+
+ghost use Rattle.std.specs.Prelude.{[], ◌∷◌, All, IfOk};
+ghost use Rattle.mon_command.specs.CommandLine.{audit};
+ghost use Rattle.expresso.specs.ProgramEnds.{KeepsFiles};
+ghost use Rattle.expresso.specs.inner.Auditing.{IsAuditDone, IsFound, found_status, found_text};
+ghost use Rattle.expresso.specs.inner.Ending.{CommandEnds, IsWritten};
+
+use crate::input::open_both;
+use crate::reading::OTHER_BYTES;
+use crate::status::Status;
+use crate::text::{show_finding, show_not_plan, show_other_too_long};
+use mon_audit::{Finding, audit};
+use mon_events::Plan;
+use mon_io::{Files, Sink};
+use mon_monitor::Monitor;
+use mon_recheck::read_plan;
+use mon_syntax::derives_one_tree;
+use mon_tokens::one_spelling;
+use std::alloc::{AllocError, Global};
+
+/// A plan, and what was found of it.
+#[derive(Debug, Drop)]
+pub(crate) struct Found {
+    pub plan: Plan,
+    pub finding: Finding,
+}
+
+/// Reads both files, the monitor first, asks whether the plan of the second is lawful, and writes that it is, or the
+/// line of the first fault.
+pub(crate) fn audit_files<F: Files, S: Sink>(
+    alloc: Global,
+    monitor: &str,
+    plan: &str,
+    files: &mut F,
+    out: &mut S,
+) -> Status
+    requires files { All (F.may_read files.old) (monitor.now ∷ plan.now ∷ []) }
+    ensures ended { CommandEnds (audit monitor.now plan.now)
+        (F.seen files.old) (F.seen files.new) result (S.seen out.old) (S.seen out.new) }
+    ensures files { KeepsFiles (F.seen files.old) (F.seen files.new)
+        (F.may_read files.old) (F.may_read files.new) }
+{
+    one_spelling();
+    derives_one_tree();
+    let opened = match open_both(alloc, monitor, plan, OTHER_BYTES as u64, files, out) {
+        Ok(opened) => opened,
+        Err(status) => return status,
+    };
+    judge(alloc, plan, &opened.bytes, &opened.found.monitor, out)
+}
+
+/// Writes what is to be said of the bytes of a plan's file.
+fn judge<S: Sink>(alloc: Global, file: &str, bytes: &[u8], monitor: &Monitor, out: &mut S) -> Status
+    ensures { IsAuditDone monitor.now file.now bytes.now result (S.seen out.old) (S.seen out.new) }
+{
+    if bytes.len() > OTHER_BYTES {
+        return show_other_too_long(file, out);
+    }
+    match audited(alloc, monitor, bytes) {
+        Ok(found) => show_found(monitor, file, &found, out),
+        Err(AllocError) => Status::OutOfMemory,
+    }
+}
+
+/// Writes the line of what was found, and where nothing was that the file is no plan.
+fn show_found<S: Sink>(monitor: &Monitor, file: &str, found: &Option<Found>, out: &mut S) -> Status
+    ensures { IsWritten (found_status found.now) (found_text monitor.now file.now found.now) result
+        (S.seen out.old) (S.seen out.new) }
+{
+    match found {
+        Some(found) => show_finding(monitor, &found.plan, found.finding, out),
+        None => show_not_plan(file, out),
+    }
+}
+
+/// The plan that bytes are with what is found of it, and nothing where they are none. It fails only for want of memory.
+fn audited(alloc: Global, monitor: &Monitor, bytes: &[u8]) -> Result<Option<Found>, AllocError>
+    ensures { IfOk result (IsFound monitor.now bytes.now) }
+{
+    let Some(plan) = read_plan(alloc, monitor, bytes)? else {
+        return Ok(None);
+    };
+    let finding = audit(alloc, monitor, &plan)?;
+    Ok(Some(Found { plan, finding }))
+}

@@ -1,0 +1,74 @@
+//! `expresso block FILE CLIENTS`.
+
+ghost use Rattle.std.specs.Prelude.{◌≡◌, [], ◌∷◌, All, IfOk};
+ghost use Rattle.mon_command.specs.CommandLine.{block};
+ghost use Rattle.mon_command.specs.declared.plan_choice.PlanChoice.TheVariants.{Placed};
+ghost use Rattle.mon_implicit.specs.Scripted.{FitsScripts};
+ghost use Rattle.mon_explicit.specs.Sections.{spurious_in};
+ghost use Rattle.mon_events.specs.Configurations.{system_under};
+ghost use Rattle.expresso.specs.PlacedRuns.{IsPlacedRun};
+ghost use Rattle.expresso.specs.ProgramEnds.{KeepsFiles};
+ghost use Rattle.expresso.specs.inner.Ending.{CommandEnds};
+
+use crate::input::{Input, input_of};
+use crate::placement::plan_of;
+use crate::status::Status;
+use crate::text::show_plan_and_log;
+use mon_call::run_callers;
+use mon_command::PlanChoice;
+use mon_explicit::FreeMonitor;
+use mon_implicit::Scripts;
+use mon_io::{Files, Sink};
+use mon_monitor::Monitor;
+use mon_pool::Gate;
+use std::alloc::{AllocError, Global};
+use std::sync::Wait;
+use std::thread::Threads;
+
+/// A caller for each client runs it on their monitor to the end, under the plan that the monitor is compiled to. All
+/// memory is taken here.
+fn called<R: Threads + Wait + Sync, G: Gate>(
+    rt: &R,
+    alloc: Global,
+    monitor: Monitor,
+    scripts: Scripts,
+    gate: &G,
+) -> Result<FreeMonitor, AllocError>
+    requires fits { FitsScripts monitor scripts }
+    ensures system { IfOk result (λ free.
+        free.system ≡ system_under monitor scripts free.system.plan) }
+    ensures placed { IfOk result (λ free. IsPlacedRun Placed
+        (system_under monitor scripts free.system.plan) free.log free.now) }
+    ensures unprompted { IfOk result (λ free. spurious_in free.log ≡ 0) }
+{
+    let plan = plan_of(alloc, &monitor, PlanChoice::Placed)?;
+    let free = FreeMonitor::open(alloc, monitor, plan, scripts, 0)?;
+    run_callers(rt, alloc, free, gate)
+}
+
+/// Reads both files, the monitor first, has a caller for each client run it on the monitor in a thread of its own, and
+/// writes the plan and the log, or the line of the first fault.
+pub(crate) fn block_files<R: Threads + Wait + Sync, F: Files, S: Sink, G: Gate>(
+    rt: &R,
+    alloc: Global,
+    monitor: &str,
+    clients: &str,
+    files: &mut F,
+    out: &mut S,
+    gate: &G,
+) -> Status
+    requires { All (F.may_read files.old) (monitor.now ∷ clients.now ∷ []) }
+    ensures ended { CommandEnds (block monitor.now clients.now)
+        (F.seen files.old) (F.seen files.new) result (S.seen out.old) (S.seen out.new) }
+    ensures files { KeepsFiles (F.seen files.old) (F.seen files.new)
+        (F.may_read files.old) (F.may_read files.new) }
+{
+    let Input { monitor, scripts } = match input_of(alloc, monitor, clients, files, out) {
+        Ok(input) => input,
+        Err(status) => return status,
+    };
+    match called(rt, alloc, monitor, scripts, gate) {
+        Ok(free) => show_plan_and_log(&free, out),
+        Err(AllocError) => Status::OutOfMemory,
+    }
+}
