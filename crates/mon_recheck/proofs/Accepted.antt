@@ -1,7 +1,7 @@
 -- A plan whose certificates were checked is lawful.
-use Rattle.std.proofs.Common.{◌≡◌, ℕ, ◌+◌, ◌-◌, ◌<◌, ◌≤◌, true, false, List, [], ◌++◌, map, length, Option, Some, None, inl, refl, sym, ap, subst, ◌∙◌, arith}
-use Rattle.std.specs.Prelude.{All, IsSomeAnd, slice_get, unwrap_or}
-use Rattle.std.specs.List.{flat_map, enumerate_from, range_with_len, zip}
+use Rattle.std.proofs.Common.{◌≡◌, ℕ, ◌+◌, ◌<◌, true, List, [], ◌++◌, map, length, Option, Some, None, inl, refl, sym, ap, subst, ◌∙◌, arith}
+use Rattle.std.specs.Prelude.{All, IsSomeAnd, unwrap_or}
+use Rattle.std.specs.List.{flat_map, enumerate_from, zip}
 use Rattle.std.proofs.lemmas.Option.{slice_get_within}
 use Rattle.mon_cert.specs.declared.cert.Cert.{Cert}
 use Rattle.mon_monitor.specs.declared.candidate.Candidate.{Candidate}
@@ -15,7 +15,7 @@ use Rattle.mon_monitor.specs.Triples.{Keeps}
 use Rattle.mon_events.specs.declared.plan.CondKind.{CondKind}
 use Rattle.mon_events.specs.declared.plan.Note.{Note}
 use Rattle.mon_events.specs.declared.plan.Plan.{Plan}
-use Rattle.mon_events.specs.Plans.{IsLawful, has_note, notes_at}
+use Rattle.mon_events.specs.Plans.{has_note, notes_at}
 use Rattle.mon_wp.specs.Limits.{is_query_within}
 use Rattle.mon_prune.specs.Invariants.{keeps_claims}
 use Rattle.mon_place.specs.Backing.{HasCertificate, IsBacked, backed_claims, block_numbers, kind_claims, unnoted_claims, untested_claims}

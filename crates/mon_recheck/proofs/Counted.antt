@@ -1,5 +1,5 @@
 -- How many candidates a monitor has at most.
-use Rattle.std.proofs.Common.{◌≡◌, ◌==◌, ℕ, ◌+◌, ◌*◌, ◌≤◌, Bool, true, false, not, cond, ℤ, pos, List, [], ◌∷◌, ◌++◌, map, take, length, length-append, refl, arith}
+use Rattle.std.proofs.Common.{◌≡◌, ◌==◌, ℕ, ◌+◌, ◌*◌, ◌≤◌, Bool, true, false, not, cond, ℤ, pos, List, [], ◌∷◌, map, length, length-append, refl, arith}
 use Rattle.std.specs.List.{filter, flat_map}
 use Rattle.std.proofs.lemmas.List.{length-map, length-take}
 use Rattle.mon_base.specs.declared.kind.Kind.{Kind}

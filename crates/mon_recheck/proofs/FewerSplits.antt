@@ -1,5 +1,5 @@
 -- A formula without lone parts has fewer splits than cubes, and a negated query no more.
-use Rattle.std.proofs.Common.{◌≡◌, ℕ, zero, suc, ◌+◌, ◌*◌, ◌<◌, ◌≤◌, max, sum, Bool, true, false, ◌&&◌, List, [], ◌∷◌, ◌++◌, map, length, refl, sym, ap, subst, ◌∙◌, arith}
+use Rattle.std.proofs.Common.{◌≡◌, ℕ, zero, suc, ◌+◌, ◌*◌, ◌<◌, ◌≤◌, max, sum, Bool, true, ◌&&◌, List, [], ◌∷◌, ◌++◌, map, length, refl, sym, ap, subst, ◌∙◌, arith}
 use Rattle.std.specs.List.{list_all}
 use Rattle.std.proofs.lemmas.Bool.{and_parts}
 use Rattle.std.proofs.lemmas.List.Sums.{sum_by-cons}
@@ -11,7 +11,6 @@ use Rattle.mon_linear.specs.declared.formula.Formula.TheFolds.{ind-Formula, map-
 use Rattle.mon_linear.specs.Measures.{cubes_layer, cubes_of, product}
 use Rattle.mon_wp.specs.NegatedQueries.{query_of_parts, some_part}
 use Rattle.mon_recheck.specs.Splits.{any_splits, greatest, has_no_lone_part, is_not_one, lone_layer, splits_layer, splits_of}
-use Rattle.mon_recheck.proofs.LoneParts.{both_hold}
 
 -- ---- numbers
 

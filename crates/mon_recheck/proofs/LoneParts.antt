@@ -1,9 +1,9 @@
 -- What is made of formulas without lone parts has none, but for the any of a negated query.
-use Rattle.std.proofs.Common.{◌≡◌, ◌==◌, ℕ, Bool, true, false, cond, ◌&&◌, List, [], ◌∷◌, ◌++◌, map, Option, Some, None, refl, sym, ap, subst, ◌∙◌}
-use Rattle.std.specs.Prelude.{All, slice_get, ◌-◌}
+use Rattle.std.proofs.Common.{◌≡◌, ◌==◌, ℕ, Bool, true, false, cond, ◌&&◌, List, [], ◌∷◌, map, Option, Some, None, refl, sym, ap, subst, ◌∙◌}
+use Rattle.std.specs.Prelude.{slice_get, ◌-◌}
 use Rattle.std.specs.List.{flat_map, list_all}
 use Rattle.std.proofs.lemmas.Bool.{and_parts}
-use Rattle.std.proofs.lemmas.List.Folds.{list_all-append, list_all-map}
+use Rattle.std.proofs.lemmas.List.Folds.{list_all-append}
 use Rattle.mon_linear.specs.declared.formula.Formula.{Formula}
 use Rattle.mon_linear.specs.declared.formula.Formula.TheVariants as formulas
 use Rattle.mon_linear.specs.declared.formula.Formula.TheOpen.{Formula-F, Row, Flag, All as Every, Any as Some_of}
@@ -31,7 +31,7 @@ use Rattle.mon_monitor.specs.Queries.{block_guard, for_waiting, guard_in_block, 
 use Rattle.mon_wp.specs.declared.step.Step.{Step}
 use Rattle.mon_wp.specs.declared.step.Step.TheVariants as steps
 use Rattle.mon_wp.specs.NegatedQueries.{both_of, part_before, path_part}
-use Rattle.mon_wp.specs.Paths.{assuming, body_paths, branch_paths, continued, joined, paths_step, statement_paths}
+use Rattle.mon_wp.specs.Paths.{assuming, body_paths, continued, joined, paths_step, statement_paths}
 use Rattle.mon_recheck.specs.Splits.{HasNoLoneParts, has_no_lone_part, has_no_lone_part_inside, is_block_without_lone_part, is_not_one, lone_layer, lone_step}
 use Rattle.mon_recheck.proofs.Pairs.{all_at}
 

@@ -1,5 +1,5 @@
 -- The printed report of a placed plan is read again, and accepted, where no claim of the monitor is hard.
-use Rattle.std.proofs.Common.{◌≡◌, ℕ, suc, ◌≤◌, true, false, List, length, map, Option, Some, None, inl, inr, refl, sym, ap, subst, ◌∙◌, arith}
+use Rattle.std.proofs.Common.{◌≡◌, suc, ◌≤◌, true, List, length, map, Option, Some, None, inl, inr, sym, ap, subst, arith}
 use Rattle.std.specs.Prelude.{All}
 use Rattle.std.proofs.lemmas.Bool.{and_parts, cases_Bool, leb-true}
 use Rattle.std.proofs.lemmas.List.Elements.{All-map}
@@ -19,15 +19,15 @@ use Rattle.mon_prune.specs.Hardness.{HasNoHardClaim}
 use Rattle.mon_prune.specs.Hardness.IsHard.{beyond_limits}
 use Rattle.mon_place.specs.declared.placed.PlacedPlan.{PlacedPlan}
 use Rattle.mon_place.specs.declared.placed.Proof.{Proof}
-use Rattle.mon_place.specs.Backing.{Certifies, backed_claims}
+use Rattle.mon_place.specs.Backing.{Certifies}
 use Rattle.mon_place.proofs.Lists.{all_mapped}
 use Rattle.mon_recheck.specs.declared.report.Report.{Report}
 use Rattle.mon_recheck.specs.declared.report.Verdict.{Verdict}
 use Rattle.mon_recheck.specs.declared.report.Verdict.TheVariants as verdicts
 use Rattle.mon_recheck.specs.EasyPlacements.{IsEasyPlacement}
-use Rattle.mon_recheck.specs.Nesting.{HasTypedNumbers, IsNested}
+use Rattle.mon_recheck.specs.Nesting.{HasTypedNumbers}
 use Rattle.mon_recheck.specs.Readings.{IsReadable, IsReportRead}
-use Rattle.mon_recheck.specs.Reports.{IsReport, placed_text, report_of, report_text}
+use Rattle.mon_recheck.specs.Reports.{placed_text, report_of}
 use Rattle.mon_recheck.specs.Splits.{HasNoLoneParts, splits_of}
 use Rattle.mon_recheck.specs.Verdicts.{IsLawfulAtSight, IsVerdict}
 use Rattle.mon_recheck.proofs.FewerSplits.{query_splits}

@@ -1,26 +1,22 @@
 -- The lines of a report's proofs, read. Bytes: 107 is `k`, 112 `p`.
-use Rattle.std.proofs.Common.{◌≡◌, ℕ, ◌+◌, ◌<◌, ◌≤◌, Bool, true, false, List, [], ◌∷◌, ◌++◌, length, get_or, Option, Some, None, Result, Ok, Err, codes, refl, sym, ap, subst, ◌∙◌, append_assoc, append-nil, arith}
-use Rattle.std.specs.Prelude.{All, IfOk, IfSome, IsSomeAnd, MatchOption, slice_get}
+use Rattle.std.proofs.Common.{◌≡◌, ℕ, ◌+◌, ◌<◌, ◌≤◌, List, [], ◌∷◌, ◌++◌, length, get_or, Option, Some, None, Result, Ok, Err, codes, refl, sym, ap, subst, ◌∙◌, append_assoc, append-nil, arith}
+use Rattle.std.specs.Prelude.{IfOk, MatchOption}
 use Rattle.std.specs.Borrow.{Bor}
-use Rattle.std.specs.List.{flat_map, zip}
 use Rattle.std.specs.declared.alloc.AllocError.{AllocError}
 use Rattle.std.proofs.lemmas.List.{append_cancel_left}
 use Rattle.mon_cert.specs.declared.cert.Cert.{Cert}
 use Rattle.mon_cert.specs.CertText.{cert_text}
-use Rattle.mon_monitor.specs.declared.candidate.Candidate.{Candidate}
-use Rattle.mon_monitor.specs.declared.candidate.Candidate.TheVariants as candidates
 use Rattle.mon_monitor.specs.declared.claim.Claim.{Claim}
-use Rattle.mon_monitor.specs.declared.monitor.Field.{Field}
 use Rattle.mon_monitor.specs.MonitorParts.{MonitorParts}
 use Rattle.mon_events.specs.declared.plan.Plan.{Plan}
-use Rattle.mon_events.specs.PlanText.{candidate_text, field_name, flag_mark, plan_text}
+use Rattle.mon_events.specs.PlanText.{plan_text}
 use Rattle.mon_place.specs.Backing.{backed_claims}
 use Rattle.mon_text.proofs.Cuts.{same_first}
 use Rattle.mon_recheck.specs.declared.report.Report.{Report}
 use Rattle.mon_recheck.specs.Nesting.{IsRead}
 use Rattle.mon_recheck.specs.Readings.{IsReadable, IsReportRead}
-use Rattle.mon_recheck.specs.Reports.{IsPlanOf, IsReport, claim_text, proof_text, proofs_text, report_text}
-use Rattle.mon_recheck.specs.inner.Reading.{Anything, AreFor, IsAfter, IsAfterKept, IsFront, IsNoFront, IsWithProofs, lines_of}
+use Rattle.mon_recheck.specs.Reports.{IsPlanOf, claim_text, proof_text, proofs_text}
+use Rattle.mon_recheck.specs.inner.Reading.{Anything, AreFor, IsAfterKept, IsFront, IsNoFront, IsWithProofs}
 use Rattle.mon_recheck.proofs.Fronts.{AreGoing, Found, going_end, going_more, going_none}
 
 -- ---- the line of a proof

@@ -1,5 +1,5 @@
 -- What is seen of a plan without a proof, and the tests of it.
-use Rattle.std.proofs.Common.{◌≡◌, ℕ, ◌+◌, ◌-◌, ◌<◌, ◌≤◌, Bool, true, false, not, ◌&&◌, ◌||◌, List, [], ◌∷◌, length, get_or, take, Option, Some, None, refl, sym, ap, subst, ◌∙◌, arith}
+use Rattle.std.proofs.Common.{◌≡◌, ℕ, ◌+◌, ◌-◌, ◌<◌, Bool, true, false, not, ◌&&◌, ◌||◌, List, [], length, get_or, take, Option, Some, None, refl, sym, ap, subst, ◌∙◌, arith}
 use Rattle.std.specs.Prelude.{All, slice_get, unwrap_or}
 use Rattle.std.specs.Option.{option_map_or}
 use Rattle.std.proofs.lemmas.Slice.Zip.{length-zip}
@@ -16,7 +16,7 @@ use Rattle.mon_events.specs.declared.plan.CondKind.{CondKind}
 use Rattle.mon_events.specs.declared.plan.CondKind.TheVariants as kinds
 use Rattle.mon_events.specs.declared.plan.Note.{Note}
 use Rattle.mon_events.specs.declared.plan.Plan.{Plan}
-use Rattle.mon_events.specs.Plans.{EachNoteOn, IsCondition, IsUntestedBroadcast, WakesAll, condition_kind, notes_at}
+use Rattle.mon_events.specs.Plans.{EachNoteOn, IsCondition, IsUntestedBroadcast, condition_kind, notes_at}
 use Rattle.mon_recheck.specs.Reports.{AreNotesOf, IsOnCondition, IsPlanOf}
 use Rattle.mon_recheck.specs.Verdicts.{IsLawfulAtSight}
 use Rattle.mon_recheck.specs.inner.Sight.{AreKindsSuited, AreListsSuited, AreNotesSuited, is_broadcast, is_broadcast_at, is_kind_suited, is_note_suited, is_test_suited, is_way_suited}

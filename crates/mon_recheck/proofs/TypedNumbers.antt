@@ -1,10 +1,10 @@
 -- The numbers of a certificate, by its form.
-use Rattle.std.proofs.Common.{◌≡◌, ℕ, suc, ◌<◌, ◌≤◌, ◌^◌, max, List, [], ◌∷◌, length, sym, ap, subst, ◌∙◌, arith}
+use Rattle.std.proofs.Common.{◌≡◌, ℕ, suc, ◌<◌, ◌^◌, max, List, [], ◌∷◌, length, sym, subst, ◌∙◌}
 use Rattle.std.specs.Prelude.{All}
 use Rattle.std.proofs.lemmas.List.Elements.{All-nil, All-cons, All-head, All-tail, All-weaker}
 use Rattle.std.proofs.Math.Nat.{le-max_left, le-max_right}
 use Rattle.mon_cert.specs.declared.cert.Combine.{Combine}
-use Rattle.mon_cert.specs.declared.cert.Cert.{Cert, out-Cert}
+use Rattle.mon_cert.specs.declared.cert.Cert.{Cert}
 use Rattle.mon_cert.specs.declared.cert.Cert.TheOpen.{Cert-F}
 use Rattle.mon_cert.specs.declared.cert.Cert.TheOpen as layers
 use Rattle.mon_cert.specs.declared.cert.Cert.TheVariants.{Split, Clash, Chain, rolls-Split, rolls-Clash, rolls-Chain}

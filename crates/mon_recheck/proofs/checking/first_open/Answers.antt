@@ -1,4 +1,4 @@
-use Rattle.std.proofs.Common.{rules, refl, arith}
+use Rattle.std.proofs.Common.{rules, refl}
 use Rattle.mon_recheck.proofs.Answered.{all_checked, checked_more, first_here}
 use Rattle.mon_recheck.proofs.checking.first_open.Goals as goal
 

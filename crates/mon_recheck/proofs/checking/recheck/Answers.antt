@@ -1,6 +1,5 @@
-use Rattle.std.proofs.Common.{◌≡◌, true, ℕ, List, length, All, sym, ap, subst, ◌∙◌}
+use Rattle.std.proofs.Common.{◌≡◌, true, ℕ, length, All, sym, ap, subst, ◌∙◌}
 use Rattle.std.specs.List.{list_all, zip}
-use Rattle.mon_monitor.specs.declared.claim.Claim.{Claim}
 use Rattle.mon_monitor.specs.Candidates.{candidates_of}
 use Rattle.mon_wp.specs.Expressible.{is_expressible}
 use Rattle.mon_prune.proofs.SomeOf.{some_pass}

@@ -2,7 +2,6 @@ use Rattle.std.proofs.Common.{◌≡◌, ◌+◌, List, [], ◌∷◌, ◌++◌,
 use Rattle.mon_cert.specs.declared.cert.Cert.{Cert}
 use Rattle.mon_recheck.specs.Readings.{IsReadable}
 use Rattle.mon_recheck.specs.Reports.{proof_text}
-use Rattle.mon_recheck.specs.inner.Reading.{Anything}
 use Rattle.mon_recheck.proofs.Fronts.{AreGoing, at_none, at_some}
 use Rattle.mon_recheck.proofs.ReportParts.{proofs_end, proofs_more, proofs_stop}
 use Rattle.mon_recheck.proofs.report_reading.read_proofs.Goals as goal
