@@ -7,6 +7,7 @@ pub mod MonitorFiles
 pub mod ClientFiles
 pub mod ReportFiles
 pub mod PlanFiles
+pub mod PrintedReports
 pub mod Texts
 pub mod Answers
 pub mod Headline
