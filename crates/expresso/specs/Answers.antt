@@ -279,12 +279,15 @@ abbrev pub IsAuditRefusal : (List ℕ → Option (List ℕ)) → List ℕ → Li
 IsAuditRefusal held monitor plan_file text =
     IsMonitorRefusal held monitor text ⊎ IsPlanRefusal held monitor plan_file text
 
+-- the line that refuses a file of the command; `stress` has no files
 abbrev pub IsRefusedText : (List ℕ → Option (List ℕ)) → Command → List ℕ → Type 0
 IsRefusedText held (check file) text = IsMonitorRefusal held file text
 IsRefusedText held (turns monitor clients) text = IsRunRefusal held monitor clients text
 IsRefusedText held (compile file choice) text = IsMonitorRefusal held file text
-IsRefusedText held (simulate monitor clients schedule choice) text = IsRunRefusal held monitor clients text
-IsRefusedText held (run monitor clients workers choice) text = IsRunRefusal held monitor clients text
+IsRefusedText held (simulate monitor clients schedule choice) text =
+    IsRunRefusal held monitor clients text
+IsRefusedText held (run monitor clients workers choice) text =
+    IsRunRefusal held monitor clients text
 IsRefusedText held (stress number workers) text = ⊥
 IsRefusedText held (report file) text = IsMonitorRefusal held file text
 IsRefusedText held (recheck monitor report_file) text =
@@ -378,8 +381,8 @@ RejectsReport held monitor_file report_file =
     × ((tree : MonitorTree) (monitor : MonitorParts) (own : Report)
     → IsAccepted monitor_bytes tree monitor → IsRechecked report_bytes monitor own → ⊥)
 
--- the two files tell their bytes: a monitor's, and those of a plan of which nothing may be found but
--- that it is lawful
+-- the two files tell their bytes: a monitor's, and those of a plan of which nothing may be found
+-- but that it is lawful
 abbrev pub AcceptsPlan : (List ℕ → Option (List ℕ)) → List ℕ → List ℕ → Type 0
 AcceptsPlan held monitor_file plan_file =
     (monitor_bytes : List ℕ) × (plan_bytes : List ℕ) × (tree : MonitorTree)

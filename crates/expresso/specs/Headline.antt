@@ -29,8 +29,8 @@ use Rattle.expresso.specs.MonitorFiles.{IsAccepted}
 use Rattle.expresso.specs.ClientFiles.{AreAccepted}
 use Rattle.expresso.specs.Placements.{chosen_of}
 
--- What the text of `run` or `block` says of the bytes of the two files, with the plan that was asked for and
--- the status that it comes with.
+-- What the text of `run` or `block` says of the bytes of the two files, with the plan that was
+-- asked for and the status that it comes with.
 pub record IsHeadlineText (choice : PlanChoice) (monitor_bytes clients_bytes : List ℕ)
     (status : Status) (text : List ℕ) : Type 0 where
   pub tree : MonitorTree

@@ -1,4 +1,4 @@
--- Plan files: which hold a plan of a monitor, what is found of it, and which line refuses the others.
+-- Plan files: which hold a plan of a monitor, what is found of it, and which line refuses others.
 use Rattle.std.specs.Prelude.{◌≡◌, ◌<◌, ◌≤◌, ◌⊎◌, ℕ, List, Some, None, length}
 use Rattle.mon_monitor.specs.MonitorParts.{MonitorParts}
 use Rattle.mon_events.specs.declared.plan.Plan.{Plan}

@@ -10,7 +10,8 @@ use Rattle.mon_command.specs.declared.schedule.Schedule.{Schedule}
 use Rattle.mon_command.specs.declared.schedule.Schedule.TheVariants.{Rounds, Drawn}
 use Rattle.mon_command.specs.CommandLine.{Given, Command, check, turns, compile, simulate, run}
 use Rattle.mon_command.specs.CommandLine.{stress, report, recheck, block, audit}
-use Rattle.mon_command.specs.CommandLine.{GREATEST_UNSIGNED, DEFAULT_WORKERS, MOST_DIGITS, choice_of}
+use Rattle.mon_command.specs.CommandLine.{GREATEST_UNSIGNED, DEFAULT_WORKERS, MOST_DIGITS}
+use Rattle.mon_command.specs.CommandLine.{choice_of}
 
 -- 1 to `MOST_DIGITS` decimal digits
 abbrev pub is_written : List ℕ → Bool
