@@ -1,6 +1,6 @@
 -- How `report` and `recheck` end.
 use Rattle.std.proofs.Common.{◌≡◌, ℕ, ◌<◌, ◌≤◌, true, false, List, [], ◌∷◌, length, Option, Some, None, map, refl, sym, ap, subst, ◌∙◌, inl, inr, arith}
-use Rattle.std.specs.Prelude.{IfSome, IsSomeAnd, slice_get}
+use Rattle.std.specs.Prelude.{All, IfSome, IsSomeAnd, slice_get}
 use Rattle.std.proofs.lemmas.Bool.{true≢false}
 use Rattle.mon_io.specs.Outside.{FilesSeen, SinkSeen, IsRead}
 use Rattle.mon_tree.specs.declared.tree.MonitorTree.{MonitorTree}
@@ -16,6 +16,7 @@ use Rattle.mon_text.specs.FaultText.{not_report_text, other_too_long_text}
 use Rattle.mon_recheck.specs.declared.report.Report.{Report}
 use Rattle.mon_recheck.specs.declared.report.Verdict.{Verdict}
 use Rattle.mon_recheck.specs.declared.report.Verdict.TheVariants as verdicts
+use Rattle.mon_recheck.specs.Nesting.{HasTypedNumbers}
 use Rattle.mon_recheck.specs.Readings.{IsReportRead}
 use Rattle.mon_recheck.specs.Reports.{IsReport, placed_text, proofs_of, report_of, report_text}
 use Rattle.mon_recheck.specs.Verdicts.{AreChecked, IsOpen, IsProof, IsVerdict, verdict_text}
@@ -47,10 +48,10 @@ PlacedTexts = (monitor : MonitorParts) (placed : PlacedPlan) → map (λ proof. 
 
 pub report_done : PlacedTexts → (file : List ℕ) (tree : MonitorTree) (monitor : MonitorParts) (placed : PlacedPlan) (files files_now : FilesSeen) (result : Status) (out out_now : SinkSeen)
     → HoldsMonitor files.held file tree monitor → IsPlacement monitor placed.plan → AreProofs monitor placed.plan.kept (backed_claims monitor placed.plan) placed.proofs
-    → files_now.faults ≡ files.faults → IsWritten statuses.Done (placed_text monitor placed) result out out_now → CommandEnds (report file) files files_now result out out_now
-report_done texts file tree monitor placed files files_now result out out_now holds placement proofs steady written =
+    → All (λ proof. HasTypedNumbers proof.cert) placed.proofs → files_now.faults ≡ files.faults → IsWritten statuses.Done (placed_text monitor placed) result out out_now → CommandEnds (report file) files files_now result out out_now
+report_done texts file tree monitor placed files files_now result out out_now holds placement proofs typed steady written =
     work_ended (report file) files files_now (placed_text monitor placed) result out out_now true
-    (record { tree = tree; monitor = monitor; placed = placed; holds = holds; placement = placement; proofs = proofs; printed = texts monitor placed proofs.claims })
+    (record { tree = tree; monitor = monitor; placed = placed; holds = holds; placement = placement; proofs = proofs; typed = typed; printed = texts monitor placed proofs.claims })
     (no_rejection files.held file tree monitor holds) steady written
 
 -- ---- `recheck`

@@ -23,3 +23,5 @@ pub mod Ranges
 pub mod GivenWords
 pub mod ProgramEnded
 pub mod Keeping
+pub mod FileParts
+pub mod Rechecked

@@ -1,5 +1,6 @@
 -- What the program answers.
-use Rattle.std.specs.Prelude.{◌≡◌, ◌<◌, ◌⊎◌, ℕ, List, Any, Option, Some, IfSome, codes}
+use Rattle.std.specs.Prelude.{◌≡◌, ◌<◌, ◌⊎◌, ℕ, List, All, Any, Option, Some, IfSome}
+use Rattle.std.specs.Prelude.{codes}
 use Rattle.std.specs.Io.KnownBytes.{Appends}
 use Rattle.mon_io.specs.Outside.{FilesSeen, SinkSeen, AppendsFront, Rises}
 use Rattle.mon_tree.specs.declared.tree.MonitorTree.{MonitorTree}
@@ -38,6 +39,7 @@ use Rattle.expresso.specs.ReportFiles.{IsReportRefusalLine}
 use Rattle.mon_place.specs.declared.placed.PlacedPlan.{PlacedPlan}
 use Rattle.mon_place.specs.Backing.{AreProofs, backed_claims}
 use Rattle.mon_recheck.specs.declared.report.Report.{Report}
+use Rattle.mon_recheck.specs.Nesting.{HasTypedNumbers}
 use Rattle.mon_recheck.specs.Reports.{report_of, report_text}
 use Rattle.expresso.specs.Texts.{usage_text}
 
@@ -130,7 +132,7 @@ pub record IsStressText (number : ℕ) (text : List ℕ) : Type 0 where
   pub printed : text ≡ codes "calls 16384\ndone\nstate count=0\n"
 
 -- the text of the report of a plan that the monitor of the file is compiled to, which has one
--- certificate for each claim that the plan rests on
+-- certificate for each claim that the plan rests on, with numbers of their types
 pub record IsReportText (held : List ℕ → Option (List ℕ)) (file text : List ℕ) : Type 0 where
   pub tree : MonitorTree
   pub monitor : MonitorParts
@@ -138,6 +140,7 @@ pub record IsReportText (held : List ℕ → Option (List ℕ)) (file text : Lis
   pub holds : HoldsMonitor held file tree monitor
   pub placement : IsPlacement monitor placed.plan
   pub proofs : AreProofs monitor placed.plan.kept (backed_claims monitor placed.plan) placed.proofs
+  pub typed : All (λ proof. HasTypedNumbers proof.cert) placed.proofs
   pub printed : text ≡ report_text monitor (report_of placed)
 
 -- the line that accepts the report of the second file, of the monitor of the first

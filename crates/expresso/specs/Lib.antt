@@ -6,6 +6,7 @@ pub mod FirstFaults
 pub mod MonitorFiles
 pub mod ClientFiles
 pub mod ReportFiles
+pub mod PrintedReports
 pub mod Texts
 pub mod Answers
 pub mod Headline

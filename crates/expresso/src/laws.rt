@@ -1,6 +1,6 @@
 //! What follows from the definitions alone.
 
-ghost use Rattle.std.specs.Prelude.{◌≡◌, ℕ, List};
+ghost use Rattle.std.specs.Prelude.{◌≡◌, ℕ, List, Option, length};
 ghost use Rattle.mon_tree.specs.declared.tree.MonitorTree.{MonitorTree};
 ghost use Rattle.mon_monitor.specs.MonitorParts.{MonitorParts};
 ghost use Rattle.mon_implicit.specs.declared.script.Client.{Client};
@@ -9,13 +9,20 @@ ghost use Rattle.mon_events.specs.declared.plan.Plan.{Plan};
 ghost use Rattle.mon_events.specs.Configurations.{System, Configuration, system_under};
 ghost use Rattle.mon_prune.specs.Hardness.{IsSmall};
 ghost use Rattle.mon_text.specs.Laws.{plan_and_log_text};
+ghost use Rattle.mon_recheck.specs.declared.report.Verdict.TheVariants.{Accepted};
+ghost use Rattle.mon_recheck.specs.Splits.{HasNoLoneParts};
+ghost use Rattle.mon_recheck.specs.Verdicts.{verdict_text};
+ghost use Rattle.mon_command.specs.CommandLine.{recheck};
 ghost use Rattle.mon_command.specs.declared.schedule.Schedule.{Schedule};
+ghost use Rattle.expresso.specs.Answers.{IsDoneText, IsRefusedText};
 ghost use Rattle.expresso.specs.MonitorFiles.{IsAccepted};
 ghost use Rattle.expresso.specs.ClientFiles.{AreAccepted};
 ghost use Rattle.expresso.specs.Placements.{IsPlacement};
+ghost use Rattle.expresso.specs.PrintedReports.{IsPrintedReport};
 ghost use Rattle.expresso.specs.Simulations.{IsSimulation};
 
 use mon_place::one_exact_plan;
+use mon_recheck::printed_reports_are_accepted;
 use mon_simulate::{one_drawn_log, one_log_by_rounds};
 use mon_syntax::derives_one_tree;
 use mon_tokens::one_spelling;
@@ -70,4 +77,28 @@ pub fn one_simulated_text()
     one_exact_plan();
     one_log_by_rounds();
     one_drawn_log();
+}
+
+/// No formula of an accepted file's monitor has an all or an any of exactly one part.
+pub fn accepted_monitors_have_no_lone_part()
+    ensures { (bytes : List ℕ) (tree : MonitorTree) (monitor : MonitorParts)
+        → IsAccepted bytes tree monitor → HasNoLoneParts monitor }
+{}
+
+/// What `report` printed of a monitor without a hard claim is never refused by `recheck`, which prints that it accepts
+/// as many claims as were proved.
+pub fn printed_reports_are_rechecked()
+    ensures refusals { (held later : List ℕ → Option (List ℕ))
+        (file report_file text line : List ℕ)
+        → IsPrintedReport held later file report_file text
+        → IsRefusedText later (recheck file report_file) line → ⊥ }
+    ensures lines { (held later : List ℕ → Option (List ℕ))
+        (file report_file text line : List ℕ)
+        (is : IsPrintedReport held later file report_file text)
+        → IsDoneText later (recheck file report_file) line
+        → line ≡ verdict_text (Accepted (length is.printed.placed.proofs)) }
+{
+    one_spelling();
+    derives_one_tree();
+    printed_reports_are_accepted();
 }

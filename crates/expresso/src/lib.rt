@@ -9,7 +9,8 @@
 //! Its clause `headline` is `specs/Headline`: what `run` promises. `specs/ProgramEnds` says what every call promises,
 //! `specs/Answers` what each command prints, and `specs/Exit` which number stands for a [`Status`]. [`without_workers`]
 //! does what needs no threads, with no runtime: so it returns. That bytes stand for one monitor and one list of clients,
-//! and that a schedule has one simulation, which for a small monitor has one text, are the laws of `laws`.
+//! that a schedule has one simulation, which for a small monitor has one text, and that `recheck` accepts what `report`
+//! printed of such a monitor, are the laws of `laws`.
 #![tactic(auto)]
 
 mod check;
@@ -31,6 +32,9 @@ mod text;
 mod turns;
 mod work;
 
-pub use laws::{accepts_one_client_list, accepts_one_monitor, one_simulated_text, one_simulation};
+pub use laws::{
+    accepted_monitors_have_no_lone_part, accepts_one_client_list, accepts_one_monitor,
+    one_simulated_text, one_simulation, printed_reports_are_rechecked,
+};
 pub use program::{expresso, without_workers};
 pub use status::{Status, exit_status};

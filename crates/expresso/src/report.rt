@@ -9,7 +9,7 @@ use crate::placement::placed_of;
 use crate::status::Status;
 use crate::text::show_report;
 use mon_io::{Files, Sink};
-use mon_recheck::placed_text_is_report_text;
+use mon_recheck::{placed_text_is_report_text, read_numbers};
 use std::alloc::{AllocError, Global};
 
 /// Compiles a monitor file and writes the plan with a certificate of each claim that it rests on, or the line of its
@@ -32,7 +32,10 @@ pub(crate) fn report_file<F: Files, S: Sink>(
         Err(status) => return status,
     };
     match placed_of(alloc, &found.monitor) {
-        Ok(placed) => show_report(&found.monitor, &placed, out),
+        Ok(placed) => {
+            read_numbers(&placed);
+            show_report(&found.monitor, &placed, out)
+        }
         Err(AllocError) => Status::OutOfMemory,
     }
 }

@@ -14,6 +14,6 @@ returns-in-Ok-placed_of-clause-ended g c =
     let found = c.in-Ok.found in
     let placed = c.in-Ok-placed_of.placed in
     report_done c.placed_text_is_report_text.ensures.text c.args.file.now found.tree found.monitor placed
-    (g.F.Files.seen c.args.files.now) (g.F.Files.seen c.monitor_of.new.files) _ (g.S.Sink.seen c.args.out.now) _ c.in-Ok.ensures.holds c.in-Ok-placed_of.ensures.placement c.in-Ok-placed_of.ensures.proofs
+    (g.F.Files.seen c.args.files.now) (g.F.Files.seen c.monitor_of.new.files) _ (g.S.Sink.seen c.args.out.now) _ c.in-Ok.ensures.holds c.in-Ok-placed_of.ensures.placement c.in-Ok-placed_of.ensures.proofs c.read_numbers.ensures
     c.in-Ok.ensures.quiet.steady
     (written_since Done (placed_text found.monitor placed) _ _ _ _ c.in-Ok.ensures.quiet.silent c.show_report.ensures)
