@@ -23,8 +23,6 @@ use Rattle.mon_tree.specs.declared.tree.Op.TheVariants as ops
 use Rattle.mon_tree.specs.declared.tree.Decl.{Decl}
 use Rattle.mon_tree.specs.declared.tree.Expr.{Expr}
 use Rattle.mon_tree.specs.declared.tree.Expr.TheVariants as exprs
-use Rattle.mon_tree.specs.declared.tree.Factor.{Factor}
-use Rattle.mon_tree.specs.declared.tree.Addend.{Addend}
 use Rattle.mon_tree.specs.declared.tree.StmtTree.{StmtTree}
 use Rattle.mon_tree.specs.declared.tree.StmtTree.TheVariants as statements
 use Rattle.mon_tree.specs.declared.tree.StmtTree.TheOpen as layers
@@ -39,10 +37,10 @@ use Rattle.mon_forms.specs.Forms.{Form, linear_of}
 use Rattle.mon_forms.specs.Scope.{entry_named, scope_of}
 use Rattle.mon_forms.specs.Sense.{Sense, comparison_formula, entry_formula, formula_in, meaning_formula, sense, truth_formula}
 use Rattle.mon_forms.proofs.SenseLayers.{sense-Number, sense-Truth, sense-Named, sense-Minus, sense-Not, sense-Product, sense-Sum, sense-Compare, sense-Both, sense-Either}
-use Rattle.mon_syntax.specs.Grammar.{Rule, Each, OneOrMore, ◌⌢◌, IsMark, IsUnary, IsAtom, IsOpened, IsExpression, IsDisjunction, IsConjunction, IsComparison, IsSum, IsProduct, IsFactor, IsAddend, IsStatement, IsSimple, IsIf, IsElse, IsBlock, IsGuarded, IsMethod, IsMonitorFile, IsDeclaration, IsLocal, AreInputs, either, both}
+use Rattle.mon_syntax.specs.Grammar.{Rule, Each, OneOrMore, ◌⌢◌, IsMark, IsUnary, IsAtom, IsOpened, IsExpression, IsDisjunction, IsConjunction, IsComparison, IsSum, IsProduct, IsStatement, IsSimple, IsIf, IsElse, IsBlock, IsGuarded, IsMethod, IsMonitorFile, either, both}
 use Rattle.mon_tokens.specs.declared.token.TokenKind.TheVariants as kinds
 use Rattle.mon_types.specs.Typed.{AreBlocksOf, AreConditions, IsPlaced, IsTyped, PlacedBlock, assignment, blocks_from, condition_of, placed_in, set_of, statement_of, statement_of_step}
-use Rattle.mon_recheck.specs.Splits.{HasNoLoneParts, has_no_lone_part, has_no_lone_part_inside, is_block_without_lone_part, is_not_one, lone_layer, lone_step}
+use Rattle.mon_recheck.specs.Splits.{HasNoLoneParts, has_no_lone_part, has_no_lone_part_inside, is_block_without_lone_part, lone_layer, lone_step}
 use Rattle.mon_recheck.proofs.LoneParts.{both_hold, flag_fine, negation_same, none_fine, row_fine}
 
 -- ---- formulas by their form

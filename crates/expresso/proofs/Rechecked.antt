@@ -1,6 +1,6 @@
 -- What `report` printed of a monitor without a hard claim is accepted by `recheck`.
-use Rattle.std.proofs.Common.{◌≡◌, ◌≤◌, ℕ, List, length, map, Option, Some, None, refl, sym, ap, subst, ◌∙◌, arith, inl, inr}
-use Rattle.std.specs.Prelude.{IfSome, unwrap_or}
+use Rattle.std.proofs.Common.{◌≡◌, ◌≤◌, ℕ, List, length, Option, Some, None, sym, ap, subst, ◌∙◌, arith, inl, inr}
+use Rattle.std.specs.Prelude.{unwrap_or}
 use Rattle.std.proofs.lemmas.List.{length-map}
 use Rattle.mon_tree.specs.declared.tree.MonitorTree.{MonitorTree}
 use Rattle.mon_tokens.specs.Words.{words}
@@ -20,7 +20,7 @@ use Rattle.mon_recheck.specs.Verdicts.{IsVerdict, verdict_text}
 use Rattle.mon_recheck.proofs.PlacedTexts.{placed_lines}
 use Rattle.expresso.specs.MonitorFiles.{IsAccepted}
 use Rattle.expresso.specs.ReportFiles.{IsAcceptance, IsAcceptanceLine, IsReportRefusalLine}
-use Rattle.expresso.specs.Answers.{HoldsBytes, HoldsMonitor, IsMonitorRefusal, IsRecheckRefusal, IsRecheckText, IsReportText}
+use Rattle.expresso.specs.Answers.{HoldsMonitor, IsMonitorRefusal, IsRecheckRefusal, IsRecheckText, IsReportText}
 use Rattle.expresso.specs.PrintedReports.{IsPrintedReport}
 use Rattle.expresso.proofs.FileParts.{typed_fine}
 use Rattle.expresso.proofs.FirstFaults.{OneSpelling, NoSpelling, OneTree, no_line}
