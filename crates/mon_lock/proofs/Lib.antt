@@ -10,3 +10,5 @@ pub mod Gathering
 pub mod Readiness
 pub mod Crossing
 pub mod Systems
+pub mod Ending
+pub mod Standings

@@ -68,7 +68,7 @@ closed_section system log before entry next closed (waited client place begun lo
 closed_section system log before entry next closed (refused client place goes reply state begun locked ran last free begins locks refuses unlocks) = closed_begins system client place before begun closed begins
 closed_section system log before entry next closed (replied client place goes woken reply state begun locked ran notified last free begins locks runs notes unlocks are) = closed_begins system client place before begun closed begins
 
-not_spurious : (system : System) (log : List Entry) (before : Configuration) (entry : Entry)
+pub not_spurious : (system : System) (log : List Entry) (before : Configuration) (entry : Entry)
     (next : Configuration) → IsSection system log before entry next
     → is_spurious_entry entry ≡ false
 not_spurious system log before entry next (waited client place begun locked last free begins locks waits) = refl

@@ -2,6 +2,7 @@
 use Rattle.std.specs.Prelude.{◌≡◌, ◌==◌, ◌<◌, ◌≤◌, ◌⊎◌, ◌↔◌, ℕ, List, length, count_by}
 use Rattle.std.specs.List.{All, Contains, flat_map}
 use Rattle.mon_events.specs.declared.log.Entry.{Entry}
+use Rattle.mon_events.specs.Logs.{IsClosed}
 use Rattle.mon_explicit.specs.Sections.{FreeMachine}
 use Rattle.mon_lock.specs.declared.receipt.Receipt.{Receipt}
 use Rattle.mon_lock.specs.declared.view.Knowledge.{Knowledge}
@@ -33,3 +34,7 @@ abbrev pub AreInOrder : List Receipt → Type 0
 AreInOrder receipts =
     (one other : Receipt) → Contains receipts one → Contains receipts other
     → (one.ticket < other.ticket) ↔ (one.place < other.place)
+
+-- the monitor was closed when the pass last held the lock
+abbrev pub KnowsClosed : PassView → Type 0
+KnowsClosed pass = IsClosed pass.known.front.system pass.known.front.now

@@ -1,4 +1,5 @@
 pub mod Growth
 pub mod Passes
+pub mod Standings
 pub mod Closing
 pub mod inner

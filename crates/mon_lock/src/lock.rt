@@ -6,6 +6,7 @@ ghost use Rattle.mon_explicit.specs.Sections.{FreeMachine, HasEnded, HoldsAlways
 ghost use Rattle.mon_explicit.specs.Sections.{MadeSection};
 ghost use Rattle.mon_lock.specs.declared.view.Stage.TheVariants.{Idle, Waiting, Holding};
 ghost use Rattle.mon_lock.specs.Passes.{IsKnown, Looks, SectionsShared, observed};
+ghost use Rattle.mon_lock.specs.Standings.{StandsAs};
 ghost use Rattle.mon_lock.specs.inner.Queueing.{IsIdle, one_less, one_part, together, view};
 ghost use Rattle.mon_lock.specs.inner.Steps.{told};
 ghost use Rattle.mon_lock.specs.inner.Turns.{HasMonitor, IsHolding, IsMade, IsNotMade};
@@ -16,6 +17,7 @@ use super::receipt::Receipt;
 use super::rule::{
     Board, COUNT, Call, Draw, MACHINE, NEXT, Observe, OnePart, Publish, Release, SERVING, Seat,
 };
+use super::standing::{Standing, standing_of};
 use crossbeam_utils::Backoff;
 use mon_explicit::{NotReady, Section};
 use std::sync::Wait;
@@ -38,6 +40,13 @@ pub struct Lock {
 #[derive(Clone, Copy)]
 pub struct Look {
     pub closed: bool,
+    pub entries: u64,
+}
+
+/// How a client stands, as is found by whoever has the turn.
+#[derive(Clone, Copy)]
+pub struct Stand {
+    pub standing: Standing,
     pub entries: u64,
 }
 
@@ -254,6 +263,40 @@ impl Lock {
         let entries = self.entries(seat);
         self.unlock(seat);
         Look { closed, entries }
+    }
+
+    /// How a client stands in the monitor that the seat has.
+    fn standing_now(&self, seat: &mut Seat, client: u32) -> Standing
+        requires own { seat.old.table_id ≡ self.now.board.shared.table_id }
+        requires turn { HasMonitor seat.old.me }
+        requires client { client < length seat.old.me.0.known.front.system.clients }
+        ensures own { seat.new.table_id ≡ seat.old.table_id }
+        ensures same { seat.new.me ≡ seat.old.me }
+        ensures standing { StandsAs seat.old.me.0.known.front client result }
+    {
+        standing_of(seat.slot_mut(&self.board.shared, MACHINE), client)
+    }
+
+    /// A look at how a client stands, from no ticket to no ticket.
+    pub fn stand<R: Wait>(&self, rt: &R, seat: &mut Seat, client: u32) -> Stand
+        requires own { seat.old.table_id ≡ self.now.board.shared.table_id }
+        requires idle { IsIdle seat.old.me }
+        requires live { 0 < seat.old.me.0.parts }
+        requires known { IsKnown seat.old.me.0.known }
+        requires client { client < length seat.old.me.0.known.front.system.clients }
+        ensures own { seat.new.table_id ≡ seat.old.table_id }
+        ensures idle { IsIdle seat.new.me }
+        ensures parts { seat.new.me.0.parts ≡ seat.old.me.0.parts }
+        ensures looks { Looks seat.old.me.0.known seat.new.me.0.known }
+        ensures standing { StandsAs seat.new.me.0.known.front client result.standing }
+        ensures entries { result.entries ≡ seat.new.me.0.known.seen }
+        ensures known { IsKnown seat.new.me.0.known }
+    {
+        self.lock(rt, seat);
+        let standing = self.standing_now(seat, client);
+        let entries = self.entries(seat);
+        self.unlock(seat);
+        Stand { standing, entries }
     }
 
     /// How long the log is, with no wait.

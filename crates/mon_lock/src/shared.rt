@@ -7,6 +7,7 @@ ghost use Rattle.mon_events.specs.Logs.{IsClosed};
 ghost use Rattle.mon_explicit.specs.Sections.{FreeMachine, HasEnded, HoldsAlways};
 ghost use Rattle.mon_lock.specs.Growth.{Follows};
 ghost use Rattle.mon_lock.specs.Passes.{IsKnown, Looks, SectionsShared, newly_known, observed};
+ghost use Rattle.mon_lock.specs.Standings.{StandsAs};
 ghost use Rattle.mon_lock.specs.Closing.{AreInOrder, Covers, HaveOneEach, receipts_of};
 ghost use Rattle.mon_lock.specs.inner.Queueing.{IsIdle};
 
@@ -14,6 +15,7 @@ use super::lock::Lock;
 use super::pass::Pass;
 use super::receipt::Receipt;
 use super::rule::Seat;
+use super::standing::Standing;
 use mon_explicit::{FreeMonitor, NotReady};
 use std::alloc::{AllocError, Global};
 use std::marker::Model;
@@ -109,6 +111,20 @@ impl SharedMonitor {
         let look = self.lock.look(rt, &mut pass.seat);
         pass.seen = look.entries;
         look.closed
+    }
+
+    /// How a client stands, when the ticket that this call draws is served. It takes no memory.
+    pub fn standing<R: Wait>(&self, rt: &R, pass: &mut Pass, client: u32) -> Standing
+        requires own { pass.old.lock ≡ self.now.lock }
+        requires client { client < length pass.old.known.front.system.clients }
+        ensures own { pass.new.lock ≡ pass.old.lock }
+        ensures looks { Looks pass.old.known pass.new.known }
+        ensures standing { StandsAs pass.new.known.front client result }
+        ensures always { IsKnown pass.new.known }
+    {
+        let found = self.lock.stand(rt, &mut pass.seat, client);
+        pass.seen = found.entries;
+        found.standing
     }
 
     /// How long the log was at a moment of this call. It never waits, whoever has the lock, and takes no memory.

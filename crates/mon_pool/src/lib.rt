@@ -8,13 +8,12 @@
 #![tactic(auto)]
 
 mod crew;
-mod gate;
 mod hints;
 mod pool;
 mod roster;
 mod shop;
 mod worker;
 
-pub use gate::{Gate, OpenGate};
+pub use mon_lock::{Gate, OpenGate};
 pub use mon_queue::{QueuePass, ReadyQueue, Ticket};
 pub use pool::run_pool;

@@ -5,9 +5,8 @@ ghost use Rattle.mon_queue.specs.Tickets.{new_pass};
 ghost use Rattle.mon_pool.specs.inner.Workers.{HasFinished, IsPlace, IsWorker, KnowsClosed};
 
 use super::shop::Shop;
-use crate::gate::Gate;
 use crossbeam_utils::Backoff;
-use mon_lock::Pass;
+use mon_lock::{Gate, Pass};
 use mon_queue::QueuePass;
 use std::sync::Wait;
 use std::thread;

@@ -1,7 +1,7 @@
 -- What a worker keeps between two turns, and what it knows when it ends.
 use Rattle.std.specs.Prelude.{◌≡◌, []}
-use Rattle.mon_events.specs.Logs.{IsClosed}
 use Rattle.mon_lock.specs.Passes.{PassView}
+pub use Rattle.mon_lock.specs.Closing.{KnowsClosed}
 use Rattle.mon_pool.specs.declared.shop.Shop.{Shop}
 use Rattle.mon_pool.specs.declared.worker.Worker.{Worker}
 
@@ -15,10 +15,6 @@ pub record IsWorker (shop : Shop) (worker : Worker) : Type 0 where
   pub place : IsPlace shop worker.place
   pub queue : worker.tickets.queue ≡ shop.queue
   pub idle : worker.tickets.tickets ≡ []
-
--- the monitor was closed when the pass last held the lock
-abbrev pub KnowsClosed : PassView → Type 0
-KnowsClosed pass = IsClosed pass.known.front.system pass.known.front.now
 
 -- a worker that ends was told that the monitor is closed
 pub record HasFinished (shop : Shop) (worker : Worker) : Type 0 where
