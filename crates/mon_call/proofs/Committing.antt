@@ -1,8 +1,8 @@
 -- What a call that blocks comes to, by its sections and looks.
 use Rattle.std.proofs.Common.{◌≡◌, ℕ, ◌≤◌, ◌+◌, List, [], ◌∷◌, ◌++◌, length, Option, Some, None, Result, Ok, Err, false, true, true≢false, refl, sym, ap, ◌∙◌, subst, arith, length-append}
-use Rattle.std.specs.Prelude.{MatchOption}
+use Rattle.std.specs.Prelude.{MatchOption, All}
 use Rattle.std.proofs.lemmas.List.{append_assoc, append-nil}
-use Rattle.std.proofs.lemmas.List.Elements.{All-nil, All-cons, All-append}
+use Rattle.std.proofs.lemmas.List.Elements.{All-nil, All-cons, All-append, All-weaker}
 use Rattle.mon_events.specs.declared.log.Entry.{Entry}
 use Rattle.mon_events.specs.declared.log.Outcome.{Outcome}
 use Rattle.mon_events.specs.declared.log.Outcome.TheVariants as outcomes
@@ -24,12 +24,21 @@ use Rattle.mon_call.specs.inner.Attempts.{end_of, replied_by, reply_in, reply_of
 
 -- ---- what is known grows
 
+-- the receipts stand after what was seen before
+abbrev pub Later : Knowledge → Receipt → Type 0
+Later k receipt = k.seen ≤ receipt.place
+
 adds_none : (k : Knowledge) → Adds [] k k
-adds_none k = record { receipts = sym (append-nil k.receipts); front = follows_same k.front; seen = omega arith; looks = omega arith; joined = refl }
+adds_none k = record { receipts = sym (append-nil k.receipts); later = All-nil (Later k); front = follows_same k.front; seen = omega arith; looks = omega arith; joined = refl }
+
+later_still : (a b : Knowledge) → a.seen ≤ b.seen → (xs : List Receipt) → All (Later b) xs → All (Later a) xs
+later_still a b seen xs later =
+    All-weaker (Later b) (Later a) (λ receipt at. let p : a.seen ≤ b.seen = seen in let q : b.seen ≤ receipt.place = at in omega arith) xs later
 
 adds_on : (xs ys : List Receipt) (a b c : Knowledge) → Adds xs a b → Adds ys b c → Adds (xs ++ ys) a c
 adds_on xs ys a b c f g = record {
   receipts = g.receipts ∙ (ap (λ l. l ++ ys) f.receipts ∙ append_assoc a.receipts xs ys);
+  later = All-append (Later a) xs ys f.later (later_still a b f.seen ys g.later);
   front = follows_on a.front b.front c.front f.front g.front;
   seen = (let p = f.seen in let q = g.seen in omega arith);
   looks = (let p = f.looks in let q = g.looks in omega arith);
@@ -90,6 +99,7 @@ attempts_on client a b c (Some end) f g = commits_on client a b c end f g
 look_adds : (a b : Knowledge) → Looks a b → Adds [] a b
 look_adds a b l = subst (Adds [] a) (sym l.known) record {
   receipts = sym (append-nil a.receipts);
+  later = All-nil (Later a);
   front = l.reaches.front;
   seen = l.reaches.seen;
   looks = omega arith;
@@ -142,6 +152,7 @@ module _ (client : ℕ) (a b : Knowledge) (told : Receipt) (m : MadeShared clien
   made_adds : Adds (m.receipt ∷ []) a b
   made_adds = subst (Adds (m.receipt ∷ []) a) (sym m.known) record {
     receipts = refl;
+    later = All-cons (Later a) m.receipt [] (let p = m.reaches.seen in let q = m.made.place in omega arith) (All-nil (Later a));
     front = follows_on a.front m.found m.next m.reaches.front (section_follows client m.found m.next (record { place = m.receipt.place; entry = m.receipt.entry }) m.made);
     seen = (let p = m.reaches.seen in let q = longer in omega arith);
     looks = omega arith;

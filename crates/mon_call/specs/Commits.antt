@@ -29,9 +29,11 @@ IsReplyTo client receipt =
     × ((reply : Reply) × (woken : ℕ) × (receipt.entry.outcome ≡ outcomes.Replies reply woken))
 
 -- What a caller knows has grown: by these receipts, one for each section that the call made, and by
--- what it saw of the monitor. What was joined into it stays.
+-- what it saw of the monitor. These sections stand after all that it had seen. What was joined into
+-- it stays.
 pub record Adds (made : List Receipt) (before after : Knowledge) : Type 0 where
   pub receipts : after.receipts ≡ before.receipts ++ made
+  pub later : All (λ receipt. before.seen ≤ receipt.place) made
   pub front : Follows before.front after.front
   pub seen : before.seen ≤ after.seen
   pub looks : before.looks ≤ after.looks

@@ -1,4 +1,4 @@
-//! Runs whose workers pass a gate that holds some of its calls until others have come: only workers that run side by side,
+//! Runs whose workers or callers pass a gate that holds some of its calls until others have come: only workers that run side by side,
 //! take clients of any number, are as many as were asked for, and each make sections come through.
 
 use super::asking::{Call, answers_through, asked, begins_and_ends};
@@ -102,6 +102,23 @@ fn two_workers_run_side_by_side(rt: HostRuntime) -> Result<(), Fail> {
     let clients = b"client A { add(); } client B { add(); }";
     let end = b"\ndone\nstate count=2\n";
     begins_and_ends(&rt, by_two(LEVEL, clients), &gate, Status::Done, (b"", end))?;
+    assert!(rt; gate.holds.all_ended(2));
+    Ok(())
+}
+
+const BLOCK: &[&str] = &["expresso", "block", "m.mon", "c.cl"];
+
+#[test]
+fn two_callers_run_side_by_side(rt: HostRuntime) -> Result<(), Fail> {
+    let gate = Meeting {
+        first: AtomicU64::new(0),
+        second: AtomicU64::new(0),
+        holds: Holds::new(),
+    };
+    let clients = b"client A { add(); } client B { add(); }";
+    let end = b"\ndone\nstate count=2\n";
+    let call = asked(BLOCK, LEVEL, clients);
+    begins_and_ends(&rt, call, &gate, Status::Done, (b"", end))?;
     assert!(rt; gate.holds.all_ended(2));
     Ok(())
 }
