@@ -112,24 +112,15 @@ fn is_wanted(call: &Call, outcome: &Outcome, text: &[u8]) -> bool {
     outcome.status == call.status && outcome.text.as_slice() == text
 }
 
-/// The most writes of a call that are made to fail, one after the other.
-const MOST_FAULTS: u64 = 256;
-
-/// The write that is made to fail after this one: of the first eight each, and then about one in eight of those before.
-fn write_after(number: u64) -> u64 {
-    number.saturating_add(1 + number / 8)
-}
-
-/// Makes the call with its first write failing, then with a later one, and so on to a number at which none fails. Each
-/// fault must leave some of the first bytes of the text, and not all.
+/// Makes the call with its first write failing, then with its second, and so on to the first number at which none fails.
+/// Each fault must leave some of the first bytes of the text, and not all.
 fn write_difference(
     rt: &(impl Threads + Wait + Sync + AllocGlobal),
     call: &Call,
     files: &[File],
     text: &[u8],
 ) -> Result<Option<String>, AllocError> {
-    let mut number: u64 = 1;
-    for _ in 0..MOST_FAULTS {
+    for number in 1..=(text.len() as u64).saturating_add(1) {
         let devices = Devices {
             failing_write: Some(number),
             ..SOUND
@@ -143,9 +134,8 @@ fn write_difference(
                 "where write {number} fails: no front of the text"
             )?));
         }
-        number = write_after(number);
     }
-    Ok(Some(String::from_str(rt.alloc(), "each write fails")?))
+    Ok(Some(String::from_str(rt.alloc(), "more writes than bytes")?))
 }
 
 /// Whether a write fault left some of the first bytes of a text, and not all.

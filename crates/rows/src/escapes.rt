@@ -7,7 +7,7 @@
 ghost use Rattle.std.specs.Prelude.{◌<◌, IfOk};
 
 use crate::calls::File;
-use anyhow::{Result, bail};
+use anyhow::{Error, Result, anyhow};
 use std::alloc::Global;
 
 /// Where a line stands, and which texts it may name.
@@ -16,6 +16,16 @@ pub(crate) struct Scope<'a> {
     pub(crate) alloc: Global,
     pub(crate) texts: &'a [File],
     pub(crate) line: u64,
+}
+
+/// What is wrong with a line, by its number.
+pub(crate) fn fault(line: u64, what: &str) -> Error {
+    anyhow!("{line}: {what}")
+}
+
+/// The same of a name that stands in the line.
+pub(crate) fn fault_of(line: u64, what: &str, name: &str) -> Error {
+    anyhow!("{line}: {what} {name}")
 }
 
 /// Appends the text of this name.
@@ -27,7 +37,7 @@ pub(crate) fn append_text(scope: Scope<'_>, out: &mut Vec<u8>, name: &[u8]) -> R
         }
     }
     let name = String::from_utf8_lossy(scope.alloc, name)?;
-    bail!("{}: no text {name}", scope.line);
+    Err(fault_of(scope.line, "no text", name.as_str()))
 }
 
 /// Appends what a line writes with escapes, in the copy of this number.
@@ -66,7 +76,7 @@ fn append_escape(scope: Scope<'_>, out: &mut Vec<u8>, piece: &[u8], copy: u64) -
             out.extend_from_slice(meant(scope, *letter)?)?;
             out.extend_from_slice(rest)?;
         }
-        [] => bail!("{}: nothing behind a backslash", scope.line),
+        [] => return Err(fault(scope.line, "nothing behind a backslash")),
     }
     Ok(())
 }
@@ -74,7 +84,7 @@ fn append_escape(scope: Scope<'_>, out: &mut Vec<u8>, piece: &[u8], copy: u64) -
 /// Appends the text whose name ends at `)`, and what stands behind it.
 fn append_named(scope: Scope<'_>, out: &mut Vec<u8>, piece: &[u8]) -> Result<()> {
     let Some(end) = piece.iter().position(|byte| *byte == b')') else {
-        bail!("{}: no ) behind a name", scope.line);
+        return Err(fault(scope.line, "no ) behind a name"));
     };
     let (name, rest) = piece.split_at(end);
     append_text(scope, out, name)?;
@@ -90,7 +100,7 @@ fn meant(scope: Scope<'_>, letter: u8) -> Result<&'static [u8]> {
         b't' => Ok(b"\t"),
         b's' => Ok(b" "),
         b'e' => Ok(b""),
-        _ => bail!("{}: no such escape", scope.line),
+        _ => Err(fault(scope.line, "no such escape")),
     }
 }
 
@@ -101,6 +111,6 @@ fn digit(scope: Scope<'_>, digit: u8) -> Result<u8>
     match digit {
         b'0'..=b'9' => Ok(digit - b'0'),
         b'a'..=b'f' => Ok(digit - b'a' + 10),
-        _ => bail!("{}: no hexadecimal digit", scope.line),
+        _ => Err(fault(scope.line, "no hexadecimal digit")),
     }
 }

@@ -24,9 +24,9 @@
 //! ```
 
 use crate::calls::{Call, File, Wanted};
-use crate::escapes::{Scope, append_escaped, append_text};
+use crate::escapes::{Scope, append_escaped, append_text, fault, fault_of};
 use crate::rows::{Row, Step};
-use anyhow::{Result, bail};
+use anyhow::Result;
 use expresso::Status;
 use std::alloc::{AllocError, Global};
 
@@ -117,7 +117,7 @@ fn add_line(alloc: Global, items: &mut Vec<Item>, line: u64, text: String) -> Re
     }
     match items.last_mut() {
         Some(item) => item.parts.push(Part { line, text })?,
-        None => bail!("{line}: a text of nothing"),
+        None => return Err(fault(line, "a text of nothing")),
     }
     Ok(())
 }
@@ -141,7 +141,7 @@ fn add_item(alloc: Global, file: &str, item: &Item, table: &mut Table) -> Result
         "file" => add_file(alloc, item, rest, table),
         "$" => add_words(alloc, item.line, rest, table),
         "status" => add_call(alloc, item, rest, table),
-        _ => bail!("{}: no line begins with {key}", item.line),
+        _ => Err(fault_of(item.line, "no line begins with", key)),
     }
 }
 
@@ -160,7 +160,7 @@ fn add_text(alloc: Global, item: &Item, rest: &str, table: &mut Table) -> Result
         .iter()
         .any(|other| other.name.as_str() == text.name.as_str())
     {
-        bail!("{}: there is a text {} already", item.line, text.name);
+        return Err(fault_of(item.line, "one more text", text.name.as_str()));
     }
     table.texts.push(text)?;
     Ok(())
@@ -169,7 +169,7 @@ fn add_text(alloc: Global, item: &Item, rest: &str, table: &mut Table) -> Result
 fn add_row(alloc: Global, file: &str, line: u64, name: &str, table: &mut Table) -> Result<()> {
     end_row(table, line)?;
     if table.rows.iter().any(|other| other.name.as_str() == name) {
-        bail!("{line}: there is a row {name} already");
+        return Err(fault_of(line, "one more row", name));
     }
     table.asked = None;
     table.rows.push(Row {
@@ -184,7 +184,11 @@ fn add_row(alloc: Global, file: &str, line: u64, name: &str, table: &mut Table) 
 fn end_row(table: &Table, line: u64) -> Result<()> {
     match table.rows.last() {
         Some(row) if !matches!(row.steps.last(), Some(Step::Call(_))) => {
-            bail!("{line}: the row {} wants nothing at its end", row.name)
+            Err(fault_of(
+                line,
+                "nothing is wanted at the end of row",
+                row.name.as_str(),
+            ))
         }
         _ => Ok(()),
     }
@@ -193,7 +197,7 @@ fn end_row(table: &Table, line: u64) -> Result<()> {
 fn add_step(table: &mut Table, line: u64, step: Step) -> Result<()> {
     match table.rows.last_mut() {
         Some(row) => row.steps.push(step)?,
-        None => bail!("{line}: no row"),
+        None => return Err(fault(line, "no row")),
     }
     Ok(())
 }
@@ -245,7 +249,7 @@ fn append_part(scope: Scope<'_>, out: &mut Vec<u8>, part: &str) -> Result<()> {
         "bytes" => append_escaped(scope, out, rest.as_bytes(), 0)?,
         "repeat" => append_copies(scope, out, rest)?,
         "fill" => fill(scope, out, rest)?,
-        _ => bail!("{}: lines are left out of a status, and once", scope.line),
+        _ => return Err(fault(scope.line, "lines are left out of a status, and once")),
     }
     Ok(())
 }
@@ -253,7 +257,7 @@ fn append_part(scope: Scope<'_>, out: &mut Vec<u8>, part: &str) -> Result<()> {
 fn number_of(scope: Scope<'_>, digits: &str) -> Result<u64> {
     match digits.parse::<u64>() {
         Ok(number) => Ok(number),
-        Err(_) => bail!("{}: {digits} is no number", scope.line),
+        Err(_) => Err(fault_of(scope.line, "no number:", digits)),
     }
 }
 
@@ -272,7 +276,7 @@ fn fill(scope: Scope<'_>, out: &mut Vec<u8>, rest: &str) -> Result<()> {
     append_escaped(scope, &mut filling, text.as_bytes(), 0)?;
     match filling.as_slice() {
         [byte] if out.len() <= length => out.resize(length, *byte)?,
-        _ => bail!("{}: one byte fills a shorter text", scope.line),
+        _ => return Err(fault(scope.line, "one byte fills a shorter text")),
     }
     Ok(())
 }
@@ -300,17 +304,17 @@ fn word_of(scope: Scope<'_>, word: &str) -> Result<String> {
     append_escaped(scope, &mut bytes, word.as_bytes(), 0)?;
     match String::from_utf8(bytes) {
         Ok(word) => Ok(word),
-        Err(_) => bail!("{}: a word is no text", scope.line),
+        Err(_) => Err(fault(scope.line, "a word is no text")),
     }
 }
 
 fn add_call(alloc: Global, item: &Item, rest: &str, table: &mut Table) -> Result<()> {
     let (name, begun) = named_of(rest);
     let Some(status) = status_of(name) else {
-        bail!("{}: no status {name}", item.line);
+        return Err(fault_of(item.line, "no status", name));
     };
     let Some(asked) = &table.asked else {
-        bail!("{}: no command line", item.line);
+        return Err(fault(item.line, "no command line"));
     };
     let call = Call {
         line: item.line,
