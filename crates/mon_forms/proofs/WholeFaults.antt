@@ -1,7 +1,7 @@
 -- Faults of whole expressions from those of their parts.
-use Rattle.std.proofs.Common.{◌≡◌, ℕ, zero, suc, ◌+◌, ◌<◌, Bool, true, false, pos, neg_ℤ, List, [], ◌∷◌, ◌++◌, length, get_or, map, drop, Option, Some, None, Result, Ok, Err, IfOk, refl, sym, ap, subst, ◌∙◌, arith, add-one}
+use Rattle.std.proofs.Common.{◌≡◌, ℕ, zero, suc, ◌+◌, ◌<◌, Bool, true, false, pos, neg_ℤ, List, [], ◌∷◌, ◌++◌, length, get_or, map, drop, Option, Some, None, Result, Ok, Err, IfOk, refl, sym, ap, subst, ◌∙◌, append_assoc, arith, add-one}
 use Rattle.std.specs.Prelude.{if◌then◌else◌, ◌||◌}
-use Rattle.std.specs.List.{All, flat_map}
+use Rattle.std.specs.List.{All, flat_map, fold}
 use Rattle.std.specs.Option.{option_or}
 use Rattle.std.proofs.lemmas.List.{append-nil}
 use Rattle.mon_tree.specs.declared.tree.Op.{Op}
@@ -63,6 +63,28 @@ of_factors of scope (factor ∷ rest) = ap (λ more. of (sense scope factor.of) 
 of_parts : (of : Sense → List SourceFault) (scope : List Entry) (parts : List Expr) → flat_map of (map (sense scope) parts) ≡ flat_map (λ part. of (sense scope part)) parts
 of_parts of scope [] = refl
 of_parts of scope (part ∷ parts) = ap (λ more. of (sense scope part) ++ more) (of_parts of scope parts)
+
+-- parts that are wrong, as a fold gathers them
+least_fold : {X : Type 0} (of : X → List SourceFault) (these : List SourceFault) (xs : List X) → fold (λ found x. earlier_of found (least (of x))) (least these) xs ≡ least (these ++ flat_map of xs)
+least_fold of these [] = ap least (sym (append-nil these))
+least_fold of these (x ∷ xs) =
+    ap (λ found. fold (λ one x. earlier_of one (least (of x))) found xs) (sym (least_append order these (of x)))
+    ∙ least_fold of (these ++ of x) xs
+    ∙ ap least (append_assoc these (of x) (flat_map of xs))
+
+pub wrong_parts : {X : Type 0} (of : X → List SourceFault) (parts : List X) (wrong : Option SourceFault)
+    → wrong ≡ fold (λ found x. earlier_of found (least (of x))) None parts
+    → wrong ≡ least (flat_map of parts)
+wrong_parts of parts wrong is = is ∙ least_fold of [] parts
+
+pub wrong_first : {X : Type 0} (of : X → List SourceFault) (first : List SourceFault) (rest : List X) (one wrong : Option SourceFault)
+    → one ≡ least first
+    → wrong ≡ fold (λ found x. earlier_of found (least (of x))) one rest
+    → wrong ≡ earlier_of (least first) (least (flat_map of rest))
+wrong_first of first rest one wrong one_is is =
+    is ∙ ap (λ start. fold (λ found x. earlier_of found (least (of x))) start rest) one_is
+    ∙ least_fold of first rest
+    ∙ least_append order first (flat_map of rest)
 
 -- ---- what is least of all, where the code has found what is broken by parts and which parts are wrong
 
@@ -178,10 +200,8 @@ pub whole_none : {E : Type 0} (broken wrong : Option SourceFault) (every : Optio
 whole_none broken wrong every whole (Ok fault) none is h = h ∙ sym (is ∙ ap (λ first. option_or first (least whole)) (sym none))
 whole_none broken wrong every whole (Err error) none is h = h
 
-pub whole_none_each : {E Y : Type 0} (broken wrong : Option SourceFault) (every : Y → Option SourceFault) (whole : List SourceFault) (r : Result (Option SourceFault) E) → None ≡ option_or broken wrong → ((y : Y) → every y ≡ combined broken wrong whole)
-    → IfOk r (λ fault. fault ≡ least whole) → IfOk r (λ fault. (y : Y) → fault ≡ every y)
-whole_none_each broken wrong every whole (Ok fault) none is h = λ y. h ∙ sym (is y ∙ ap (λ first. option_or first (least whole)) (sym none))
-whole_none_each broken wrong every whole (Err error) none is h = h
+pub whole_last : (broken wrong every fault : Option SourceFault) (whole : List SourceFault) → None ≡ option_or broken wrong → every ≡ combined broken wrong whole → fault ≡ least whole → fault ≡ every
+whole_last broken wrong every fault whole none is h = h ∙ sym (is ∙ ap (λ first. option_or first (least whole)) (sym none))
 
 -- ---- parts that break no rule and are int
 

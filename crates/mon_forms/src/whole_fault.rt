@@ -6,7 +6,7 @@ ghost use Rattle.mon_base.specs.SourceFaults.{least};
 ghost use Rattle.mon_forms.specs.Forms.{is_constant, is_limited};
 ghost use Rattle.mon_forms.specs.Making.{IsInt, has_small_numbers};
 ghost use Rattle.mon_forms.specs.Sense.{faults_in, large_form, sense, wrong_type};
-ghost use Rattle.mon_forms.specs.inner.Parts.{IsFirstOfBoth, IsFirstOfComparison, IsFirstOfEither, IsFirstOfNot, IsFirstOfProduct, IsFirstOfSum, broken_from, broken_product, faults_in_parts, first_in_product, first_in_sides, first_in_sum, large_difference, large_opposite, large_sum, wrong_addends, wrong_factors, wrong_parts};
+ghost use Rattle.mon_forms.specs.inner.Parts.{IsFirstOfBoth, IsFirstOfComparison, IsFirstOfEither, IsFirstOfNot, IsFirstOfProduct, IsFirstOfSum, broken_from, faults_in_parts, first_in_product, first_in_sides, first_in_sum};
 
 use crate::finding::{first_place, is_other, kind_of};
 use crate::form::Flat;
@@ -28,10 +28,12 @@ pub(crate) fn fault_of_minus(
     requires part { part ≡ least (faults_in scope.now of.now) }
     ensures { IfOk result (λ fault. fault ≡ least (faults_in scope.now (exprs.Minus at of.now))) }
 {
-    match part.or(wrong_type(scope, Kind::Int, of)) {
-        Some(fault) => Ok(Some(fault)),
-        None => large_opposite(alloc, scope, at, of),
+    if let Some(fault) = part.or(wrong_type(scope, Kind::Int, of)) {
+        return Ok(Some(fault));
     }
+    let mut opposite = flat_of(alloc, scope, of)?;
+    opposite.scale(-1);
+    Ok(large_form(at, &opposite))
 }
 
 /// Of the negation of a condition.
@@ -58,14 +60,16 @@ pub(crate) fn fault_of_product(
     requires part { part ≡ first_in_product scope.now first.now rest.now }
     ensures { IfOk result (IsFirstOfProduct scope.now first.now rest.now) }
 {
-    let wrong = earlier_of(
-        wrong_type(scope, Kind::Int, first),
-        wrong_factor(scope, rest),
-    );
-    match part.or(wrong) {
-        Some(fault) => Ok(Some(fault)),
-        None => fault_of_factors(alloc, scope, first, rest),
+    let wrong = rest
+        .iter()
+        .fold(wrong_type(scope, Kind::Int, first), |fault, factor| {
+            earlier_of(fault, wrong_type(scope, Kind::Int, &factor.of))
+        });
+    if let Some(fault) = part.or(wrong) {
+        return Ok(Some(fault));
     }
+    let start = flat_of(alloc, scope, first)?;
+    fault_of_factors(alloc, scope, first_place(first), start, rest)
 }
 
 /// Of a sum.
@@ -80,14 +84,17 @@ pub(crate) fn fault_of_sum(
     requires part { part ≡ first_in_sum scope.now first.now rest.now }
     ensures { IfOk result (IsFirstOfSum scope.now first.now rest.now) }
 {
-    let wrong = earlier_of(
-        wrong_type(scope, Kind::Int, first),
-        wrong_addend(scope, rest),
-    );
-    match part.or(wrong) {
-        Some(fault) => Ok(Some(fault)),
-        None => large_sum(alloc, scope, first, rest),
+    let wrong = rest
+        .iter()
+        .fold(wrong_type(scope, Kind::Int, first), |fault, addend| {
+            earlier_of(fault, wrong_type(scope, Kind::Int, &addend.of))
+        });
+    if let Some(fault) = part.or(wrong) {
+        return Ok(Some(fault));
     }
+    let start = flat_of(alloc, scope, first)?;
+    let sum = add_all(alloc, scope, start, rest)?;
+    Ok(large_form(first_place(first), &sum))
 }
 
 /// Of a comparison.
@@ -106,10 +113,11 @@ pub(crate) fn fault_of_comparison(
         wrong_type(scope, Kind::Int, left),
         wrong_type(scope, Kind::Int, right),
     );
-    match part.or(wrong) {
-        Some(fault) => Ok(Some(fault)),
-        None => large_difference(alloc, scope, left, right),
+    if let Some(fault) = part.or(wrong) {
+        return Ok(Some(fault));
     }
+    let difference = difference(alloc, scope, left, right)?;
+    Ok(large_form(first_place(left), &difference))
 }
 
 /// Of parts that are joined by `and` or by `or`.
@@ -122,7 +130,10 @@ pub(crate) fn fault_of_parts(
     ensures both { IsFirstOfBoth scope.now parts.now result }
     ensures either { IsFirstOfEither scope.now parts.now result }
 {
-    part.or(wrong_part(scope, parts))
+    let wrong = parts.iter().fold(None, |fault, part| {
+        earlier_of(fault, wrong_type(scope, Kind::Bool, part))
+    });
+    part.or(wrong)
 }
 
 /// A fault at an expression that is of a kind other than the wanted one.
@@ -139,36 +150,6 @@ pub fn wrong_type(scope: &[Entry], wanted: Kind, part: &Expr) -> Option<SourceFa
     }
 }
 
-fn wrong_factor(scope: &[Entry], factors: &[Factor]) -> Option<SourceFault>
-    ensures { result ≡ least (wrong_factors scope.now factors.now) }
-{
-    let mut fault = None;
-    for factor in factors {
-        fault = earlier_of(fault, wrong_type(scope, Kind::Int, &factor.of));
-    }
-    fault
-}
-
-fn wrong_addend(scope: &[Entry], addends: &[Addend]) -> Option<SourceFault>
-    ensures { result ≡ least (wrong_addends scope.now addends.now) }
-{
-    let mut fault = None;
-    for addend in addends {
-        fault = earlier_of(fault, wrong_type(scope, Kind::Int, &addend.of));
-    }
-    fault
-}
-
-fn wrong_part(scope: &[Entry], parts: &[Expr]) -> Option<SourceFault>
-    ensures { result ≡ least (wrong_parts scope.now parts.now) }
-{
-    let mut fault = None;
-    for part in parts {
-        fault = earlier_of(fault, wrong_type(scope, Kind::Bool, part));
-    }
-    fault
-}
-
 fn large_form(at: u32, flat: &Flat) -> Option<SourceFault>
     ensures { result ≡ least (large_form at flat.now) }
 {
@@ -182,70 +163,9 @@ fn large_form(at: u32, flat: &Flat) -> Option<SourceFault>
     }
 }
 
-fn large_opposite(
-    alloc: Global,
-    scope: &[Entry],
-    at: u32,
-    of: &Expr,
-) -> Result<Option<SourceFault>, AllocError>
-    requires numbers { IsTrue (has_small_numbers scope.now) }
-    requires of { IsInt scope.now of.now }
-    ensures { IfOk result (λ fault. fault ≡ least (large_opposite scope.now at of.now)) }
-{
-    let mut flat = flat_of(alloc, scope, of)?;
-    flat.scale(-1);
-    Ok(large_form(at, &flat))
-}
-
-fn large_sum(
-    alloc: Global,
-    scope: &[Entry],
-    first: &Expr,
-    rest: &[Addend],
-) -> Result<Option<SourceFault>, AllocError>
-    requires numbers { IsTrue (has_small_numbers scope.now) }
-    requires first { IsInt scope.now first.now }
-    requires rest { All (λ addend. IsInt scope.now addend.of) rest.now }
-    ensures { IfOk result (λ fault. fault ≡ least (large_sum scope.now first.now rest.now)) }
-{
-    let start = flat_of(alloc, scope, first)?;
-    let sum = add_all(alloc, scope, start, rest)?;
-    Ok(large_form(first_place(first), &sum))
-}
-
-fn large_difference(
-    alloc: Global,
-    scope: &[Entry],
-    left: &Expr,
-    right: &Expr,
-) -> Result<Option<SourceFault>, AllocError>
-    requires numbers { IsTrue (has_small_numbers scope.now) }
-    requires left { IsInt scope.now left.now }
-    requires right { IsInt scope.now right.now }
-    ensures { IfOk result (λ fault. fault ≡ least (large_difference scope.now left.now right.now)) }
-{
-    let form = difference(alloc, scope, left, right)?;
-    Ok(large_form(first_place(left), &form))
-}
-
-fn fault_of_factors(
-    alloc: Global,
-    scope: &[Entry],
-    first: &Expr,
-    rest: &[Factor],
-) -> Result<Option<SourceFault>, AllocError>
-    requires numbers { IsTrue (has_small_numbers scope.now) }
-    requires first { IsInt scope.now first.now }
-    requires rest { All (λ factor. IsInt scope.now factor.of) rest.now }
-    ensures { IfOk result (λ fault. fault ≡ least (broken_product scope.now first.now rest.now)) }
-{
-    let start = flat_of(alloc, scope, first)?;
-    fault_of_product_from(alloc, scope, first_place(first), start, rest)
-}
-
 /// From left to right: of the product before a `*` and the factor after it one is constant, and their product
 /// is not too large.
-fn fault_of_product_from(
+fn fault_of_factors(
     alloc: Global,
     scope: &[Entry],
     at: u32,

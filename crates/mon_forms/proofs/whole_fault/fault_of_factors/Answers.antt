@@ -1,8 +1,17 @@
-use Rattle.mon_forms.proofs.WholeFaults.{int_limited, product_same}
+use Rattle.mon_forms.proofs.WholeFaults.{goes_on, int_at_index, int_limited, too_large}
+use Rattle.std.proofs.Common.{sym, ap, ◌∙◌}
+use Rattle.mon_tree.specs.declared.tree.Factor.{Factor}
+use Rattle.mon_base.specs.SourceFaults.{least}
 use Rattle.mon_forms.proofs.whole_fault.fault_of_factors.Goals as goal
 
-pub fault_of_product_from-requires-clause-limited : goal.fault_of_product_from-requires-clause-limited
-fault_of_product_from-requires-clause-limited c = int_limited c.args.scope.now c.args.first.now c.in_ok-start.start c.requires.numbers c.requires.first c.in_ok-start.ensures
+pub multiply-product-requires-clause-right : goal.multiply-product-requires-clause-right
+multiply-product-requires-clause-right c = int_limited c.args.scope.now c.factor-item.result.of c.in_ok-next.next c.requires.numbers (int_at_index c.args.scope.now (λ (factor : Factor). factor.of) c.args.rest.now c.loop-factor.factor-index c.factor-item.result c.factor-item.is c.loop-factor-test.true c.requires.rest) c.in_ok-next.ensures
 
-pub returns : goal.returns
-returns c = product_same c.first_place.result _ c.in_ok-start.start _ _ c.fault_of_product_from.result (c.first_place.ensures c.args.scope.now) c.in_ok-start.ensures c.fault_of_product_from.ensures
+pub returns-then-not-is_limited : goal.returns-then-not-is_limited
+returns-then-not-is_limited c = sym (ap least c.loop-factor.invariant.same ∙ too_large c.args.scope.now c.args.at c.loop-factor.product c.in_ok-next.next c.multiply-product.result c.args.rest.now c.loop-factor.factor-index c.factor-item.result c.factor-item.is c.loop-factor-test.true c.in_ok-next.ensures (sym c.is_linear.ensures ∙ c.if-not-is_linear.false) c.multiply-product.ensures (sym c.is_limited.ensures ∙ c.if-not-is_limited.true))
+
+pub loop-factor-preserved : goal.loop-factor-preserved
+loop-factor-preserved c = record {
+  limited = sym c.is_limited.ensures ∙ c.if-not-is_limited.false;
+  same = c.loop-factor.invariant.same ∙ goes_on c.args.scope.now c.args.at c.loop-factor.product c.in_ok-next.next c.multiply-product.result c.args.rest.now c.loop-factor.factor-index c.factor-item.result c.factor-item.is c.loop-factor-test.true c.in_ok-next.ensures (sym c.is_linear.ensures ∙ c.if-not-is_linear.false) c.multiply-product.ensures (sym c.is_limited.ensures ∙ c.if-not-is_limited.false);
+}

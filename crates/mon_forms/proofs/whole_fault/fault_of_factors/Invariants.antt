@@ -3,7 +3,7 @@ use Rattle.mon_forms.specs.Forms.{is_limited}
 use Rattle.mon_forms.specs.inner.Parts.{factor_sense}
 use Rattle.mon_forms.specs.Sense.{product_faults}
 use Rattle.mon_forms.proofs.WholeFaults.{from_factor}
-use Rattle.mon_forms.proofs.whole_fault.fault_of_product_from.Given as goal
+use Rattle.mon_forms.proofs.whole_fault.fault_of_factors.Given as goal
 
 abbrev pub invariant-loop-factor : goal.invariant-loop-factor
 invariant-loop-factor l = record {
