@@ -153,7 +153,7 @@ edges_fit literals edges each = each_weaker (IsRowEdge literals) IsEdge (λ edge
 -- ---- heights as numbers
 
 -- The variables stand as high as their vertices above the vertex 0.
-abbrev standing : (ℕ → ℤ) → Valuation → Valuation
+abbrev pub standing : (ℕ → ℤ) → Valuation → Valuation
 standing height v = record { number = λ place. height (suc place) -ℤ height 0; flag = v.flag }
 
 stands_at : (height : ℕ → ℤ) (v : Valuation) (vertex : ℕ) → number_at (standing height v) (variable_of vertex) ≡ height vertex -ℤ height 0
@@ -180,7 +180,7 @@ constant_row v row is sane = let low : int_lt (pos 0) row.constant ≡ false = (
     at_most : (c : ℤ) → int_lt (pos 0) c ≡ false → (pos 0 +ℤ c) ≤ℤ pos 0
     at_most c h = grind (arith, ints)
 
-literals_hold : (height : ℕ → ℤ) (v : Valuation) (edges : List Edge) (literals : List Literal) → Each (IsFitting height) edges → HaveNoAbsurd literals → Each (IsCovered edges) literals → Each (LiteralHolds (standing height v)) literals
+pub literals_hold : (height : ℕ → ℤ) (v : Valuation) (edges : List Edge) (literals : List Literal) → Each (IsFitting height) edges → HaveNoAbsurd literals → Each (IsCovered edges) literals → Each (LiteralHolds (standing height v)) literals
 literals_hold height v edges [] fits sane covers = tt
 literals_hold height v edges (Flag place truth ∷ literals) fits sane covers = (tt, literals_hold height v edges literals fits sane.1 covers.1)
 literals_hold height v edges (Row form ∷ literals) fits sane covers = (by_cover covers.0, literals_hold height v edges literals fits sane.1 covers.1)

@@ -9,7 +9,7 @@ use Rattle.mon_solve.specs.declared.paths.Edge.{Edge}
 use Rattle.mon_solve.specs.declared.paths.Reached.{Reached}
 use Rattle.mon_solve.specs.declared.paths.Relaxed.TheVariants.{Same, Higher}
 use Rattle.mon_solve.specs.inner.Different.{Among, Different}
-use Rattle.mon_solve.specs.inner.Paths.{found_at, height_at, path_at, is_of, comes_from, with_reached, IsEdge, AreEdges, starts, weight_of, Leads, IsCycle, IsPath, IsReached, IsFitting, gap, room_below, IsHigher, Passes, Relaxes}
+use Rattle.mon_solve.specs.inner.Paths.{found_at, height_at, path_at, is_of, comes_from, with_reached, IsEdge, AreEdges, starts, weight_of, Leads, IsCycle, IsPath, IsReached, IsFitting, gap, room_below, IsHigher, Passes, Relaxes, AreHigh}
 use Rattle.mon_elim.proofs.Different.{Among as AmongAll, Different as AllDifferent, at_most_among}
 use Rattle.mon_elim.proofs.RowLemmas.{each_push, each_weaker}
 use Rattle.mon_solve.proofs.LiteralLemmas.{position_none, take_whole}
@@ -349,6 +349,9 @@ all_fit edges i before now higher h e going = subst (λ (some : List Edge). Goin
 
 pub some_rose : (edges some : List Edge) (before now : List Reached) (higher : Bool) → higher ≡ true → Going edges some before now higher → Relaxes edges before now Higher
 some_rose edges some before now higher e going = subst (Going edges some before now) e going
+
+pub high_now : (edges : List Edge) (before now : List Reached) → IsReached edges before → Relaxes edges before now Same → AreHigh edges now
+high_now edges before now is relaxed = subst (AreHigh edges) (sym relaxed.0) (record { paths = is; fitting = relaxed.1 })
 
 -- ---- one edge
 

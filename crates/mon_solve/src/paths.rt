@@ -1,6 +1,6 @@
 //! Longest paths in the graph of difference rows, and its cycles of positive weight.
 
-ghost use Rattle.std.specs.Prelude.{◌≡◌, ◌∷◌, ◌^◌, ◌+ℤ◌, IfOk};
+ghost use Rattle.std.specs.Prelude.{◌≡◌, [], ◌∷◌, ◌^◌, ◌+ℤ◌, IfOk};
 ghost use Rattle.std.specs.List.{position};
 ghost use Rattle.mon_linear.specs.LightCubes.{IsWithin};
 ghost use Rattle.mon_solve.specs.inner.Different.{Among};
@@ -39,7 +39,7 @@ pub(crate) enum Relaxed {
 }
 
 /// How high the vertex is known to stand.
-fn height_of(reached: &[Reached], vertex: u64) -> i128
+pub(crate) fn height_of(reached: &[Reached], vertex: u64) -> i128
     ensures { result ≡ height_at reached.now vertex }
 {
     for one in reached {
@@ -165,15 +165,19 @@ fn relax_all(
     Ok(Relaxed::Same)
 }
 
-/// A cycle of positive weight, or the vertices can stand as high as the edges ask (Bellman's and Ford's
-/// method: Cormen, Leiserson, Rivest and Stein, "Introduction to Algorithms", on difference constraints).
-pub(crate) fn positive_cycle(alloc: Global, edges: &[Edge]) -> Result<Option<Vec<Edge>>, AllocError>
-    requires { AreEdges edges.now }
-    ensures { IfOk result (EndsSearch edges.now) }
+/// A cycle of positive weight, or the vertices stand as high as the edges ask, where none was reached before (Bellman's
+/// and Ford's method: Cormen, Leiserson, Rivest and Stein, "Introduction to Algorithms", on difference constraints).
+pub(crate) fn positive_cycle(
+    alloc: Global,
+    edges: &[Edge],
+    reached: &mut Vec<Reached>,
+) -> Result<Option<Vec<Edge>>, AllocError>
+    requires edges { AreEdges edges.now }
+    requires none { reached.now.items ≡ [] }
+    ensures { IfOk result (EndsSearch edges.now reached.new.items) }
 {
-    let mut reached = Vec::new(alloc);
     loop {
-        match relax_all(alloc, edges, &mut reached)? {
+        match relax_all(alloc, edges, reached)? {
             Relaxed::Same => return Ok(None),
             Relaxed::Higher => {}
             Relaxed::Closed(cycle) => return Ok(Some(cycle)),

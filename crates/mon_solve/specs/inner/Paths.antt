@@ -135,6 +135,11 @@ pub record HaveHeights (edges : List Edge) : Type 0 where
   pub height : ℕ → ℤ
   pub fitting : Each (IsFitting height) edges
 
-abbrev pub EndsSearch : List Edge → Option (Vec Edge Global) → Type 0
-EndsSearch edges None = HaveHeights edges
-EndsSearch edges (Some cycle) = IsCycle edges cycle.items
+-- Each vertex is reached, and stands high enough.
+pub record AreHigh (edges : List Edge) (reached : List Reached) : Type 0 where
+  pub paths : IsReached edges reached
+  pub fitting : Each (IsFitting (height_at reached)) edges
+
+abbrev pub EndsSearch : List Edge → List Reached → Option (Vec Edge Global) → Type 0
+EndsSearch edges reached None = AreHigh edges reached
+EndsSearch edges reached (Some cycle) = IsCycle edges cycle.items

@@ -3,14 +3,14 @@ use Rattle.mon_cert.specs.declared.cert.Combine.{Combine}
 use Rattle.mon_cert.specs.Refutes.{chain_closes, row_of}
 use Rattle.mon_solve.specs.declared.paths.Edge.{Edge}
 use Rattle.mon_solve.specs.inner.Differences.{chain_of}
-use Rattle.mon_solve.specs.inner.Paths.{HaveHeights, IsCycle}
+use Rattle.mon_solve.specs.inner.Paths.{height_at, HaveHeights, IsCycle}
 use Rattle.mon_solve.proofs.CycleLemmas.{cycle_closes}
 use Rattle.mon_solve.proofs.EdgeLemmas.{heights_hold}
 use Rattle.mon_solve.proofs.closing.difference_chain.Goals as goal
 
 pub returns-in_default : goal.returns-in_default
 returns-in_default c =
-    heights_hold c.args.literals.now c.in_ok-edges.edges.items c.in_ok-edges.ensures c.requires.sane (subst HaveHeights c.deref.ensures.value (rw c.in_default.is at c.in_ok-cycle.ensures))
+    heights_hold c.args.literals.now c.in_ok-edges.edges.items c.in_ok-edges.ensures c.requires.sane (subst HaveHeights c.deref.ensures.value (record { height = height_at c.positive_cycle.new.reached.items; fitting = (rw c.in_default.is at c.in_ok-cycle.ensures).fitting }))
 
 pub returns : goal.returns
 returns c =
