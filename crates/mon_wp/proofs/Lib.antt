@@ -2,16 +2,16 @@ mod BodyParts
 mod StepNodes
 mod StepParts
 mod BlockPaths
-mod BodyStates
-mod Fitting
+pub mod BodyStates
+pub mod Fitting
 mod FormRanges
 mod Guards
 mod Negating
 mod Parts
 mod PathNumbers
-mod PathTruth
+pub mod PathTruth
 mod PathsMade
-mod QueryLaws
+pub mod QueryLaws
 mod WaitingForms
 mod WaitingGuards
 mod UnreadGuards

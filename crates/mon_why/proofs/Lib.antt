@@ -1,0 +1,5 @@
+mod Valuations
+mod Bodies
+mod Wide
+mod Things
+mod Shown

@@ -1,0 +1,5 @@
+pub mod Things
+pub mod Changes
+pub mod WideNumbers
+pub mod Reasons
+pub mod inner
