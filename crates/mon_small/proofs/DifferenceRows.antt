@@ -28,7 +28,7 @@ row_differs form =
 pub flag_differs : (place : ℕ) (is : Bool) → has_difference_rows (formulas.Flag place is) ≡ true
 flag_differs place is = ap (list_all is_difference) (ap rows_of (sym (formulas.rolls-Flag place is)) ∙ fold-roll-Formula (List Linear) rows_layer (formula_layers.Flag place is))
 
-parts_differ : (parts : List Formula) → list_all is_difference (flat_map (λ rows. rows) (map rows_of parts)) ≡ list_all has_difference_rows parts
+pub parts_differ : (parts : List Formula) → list_all is_difference (flat_map (λ rows. rows) (map rows_of parts)) ≡ list_all has_difference_rows parts
 parts_differ [] = refl
 parts_differ (part ∷ parts) =
     list_all-append is_difference (rows_of part) (flat_map (λ rows. rows) (map rows_of parts)) ∙ ap (λ more. has_difference_rows part && more) (parts_differ parts)

@@ -1,2 +1,5 @@
 mod DifferenceRows
+mod ShownReasons
+mod SimpleQueries
+mod SimpleRows
 mod Smallness

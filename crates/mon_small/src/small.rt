@@ -138,9 +138,8 @@ fn are_plain_blocks(alloc: Global, monitor: &Monitor, all: &[Candidate]) -> Resu
 
 /// Whether the monitor is told to be small, so that its plan is exact. It is exactly where all
 /// blocks are simple, and the query of each claim that is asked of it is negated, with all
-/// candidates kept, within the limits to a formula of few cubes and of difference rows alone. So
-/// some small monitors are not told: a query with another row need not be hard. It fails only for
-/// want of memory.
+/// candidates kept, within the limits to a formula of few cubes and of difference rows alone. Each
+/// small monitor is told so, by `small_monitors_are_plain`. It fails only for want of memory.
 pub fn is_small(alloc: Global, monitor: &Monitor) -> Result<bool, AllocError>
     ensures plain { IfOk result (λ answer. IsTrue answer ↔ IsPlain monitor.now) }
     ensures small { IfOk result (λ answer. IsTrue answer → IsSmall monitor.now) }
