@@ -1,5 +1,5 @@
 -- What the steps tell whoever makes them.
-use Rattle.std.proofs.Common.{◌≡◌, ◌≢◌, ℕ, ◌%◌, ◌^◌, [], ◌∷◌, eqb, eq-eqb, ne_eqb, length, refl, sym, ap, ◌∙◌, subst, Ok, Err}
+use Rattle.std.proofs.Common.{◌≡◌, ◌≢◌, ◌↔◌, ◌==◌, ℕ, ◌+◌, ◌-◌, ◌<◌, ◌%◌, ◌^◌, [], ◌∷◌, eq-eqb, ne_eqb, length, refl, sym, ap, ◌∙◌, subst, Ok, Err, arith}
 use Rattle.std.specs.Prelude.{Result, MatchResult}
 use mathlib.Core.Logic.{dite}
 use native.Mathlib.Decide.{ℕ_discrete}
@@ -18,10 +18,15 @@ use Rattle.mon_lock.specs.inner.Turns.{HasMonitor, IsHolding, IsMade, IsNotMade,
 use Rattle.mon_lock.proofs.Readiness.{made_works, section_follows}
 use Rattle.mon_lock.proofs.Knowing.{known_looked, known_receipted}
 
-pub turn_comes : (ticket found t : ℕ) (m n : Me FreeMachine View) → ticket ≡ t % 2 ^ 64 → (found ≡ t % 2 ^ 64 → HasTurn t m n) × (found ≢ t % 2 ^ 64 → n ≡ m) → TurnComes ticket m n (eqb found ticket)
-turn_comes ticket found t m n is told = dite (ℕ_discrete found ticket)
-    (λ same. subst (TurnComes ticket m n) (sym (eq-eqb found ticket same)) (t, is, told.0 (same ∙ is)))
-    (λ other. subst (TurnComes ticket m n) (sym (ne_eqb found ticket other)) (told.1 (λ same. other (same ∙ sym is))))
+-- a ticket is no further away than the one that is served just where it is that one
+pub distance_zero : (ticket found : ℕ) → ticket < 2 ^ 64 → found < 2 ^ 64 → ((ticket + (2 ^ 64 - found)) % 2 ^ 64 ≡ 0) ↔ (found ≡ ticket)
+distance_zero ticket found below below' = (λ none. omega arith, λ same. omega arith)
+
+pub turn_comes : (ticket found distance t : ℕ) (m n : Me FreeMachine View) → ticket ≡ t % 2 ^ 64 → (distance ≡ 0) ↔ (found ≡ ticket)
+    → (found ≡ t % 2 ^ 64 → HasTurn t m n) × (found ≢ t % 2 ^ 64 → n ≡ m) → TurnComes ticket m n (distance == 0)
+turn_comes ticket found distance t m n is near told = dite (ℕ_discrete distance 0)
+    (λ none. subst (TurnComes ticket m n) (sym (eq-eqb distance 0 none)) (t, is, told.0 (near.0 none ∙ is)))
+    (λ some. subst (TurnComes ticket m n) (sym (ne_eqb distance 0 some)) (told.1 (λ same. some (near.1 (same ∙ sym is)))))
 
 -- what is so once the turn has come
 pub record TurnGives (number : ℕ) (me next : Me FreeMachine View) : Type 0 where

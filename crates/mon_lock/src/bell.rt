@@ -4,6 +4,9 @@
 //! how often the bell was rung, *before* it looks once more which ticket is served. Whoever serves the next ticket does so
 //! *before* it looks for sleepers at that ticket's bell. So the seat sees its ticket served, and stays awake; or else it is
 //! seen, and the bell is rung after it read how often: it then does not fall asleep, or is woken.
+//!
+//! A bell is also rung when its ticket comes near: a seat that is woken then has its processor when its turn comes. No
+//! wake-up rests on that.
 
 use crossbeam_utils::CachePadded;
 use std::alloc::{AllocError, Global};

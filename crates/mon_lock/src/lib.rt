@@ -12,6 +12,7 @@ mod ends;
 mod gate;
 mod lock;
 mod pass;
+mod patience;
 mod receipt;
 mod rule;
 mod shared;

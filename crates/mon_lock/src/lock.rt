@@ -1,6 +1,6 @@
 //! The lock: a queue by tickets, a slot for the monitor, and the log's length.
 
-ghost use Rattle.std.specs.Prelude.{◌≡◌, ◌<◌, ◌≤◌, ◌%◌, ◌^◌, ◌∷◌, [], ◌↔◌, ℕ, IsTrue, MatchResult, length};
+ghost use Rattle.std.specs.Prelude.{◌≡◌, ◌==◌, ◌<◌, ◌≤◌, ◌%◌, ◌^◌, ◌∷◌, [], ◌↔◌, ℕ, IsTrue, MatchResult, length};
 ghost use Rattle.mon_events.specs.Logs.{IsClosed};
 ghost use Rattle.mon_explicit.specs.Sections.{FreeMachine, HasEnded, HoldsAlways};
 ghost use Rattle.mon_explicit.specs.Sections.{MadeSection};
@@ -13,18 +13,14 @@ ghost use Rattle.mon_lock.specs.inner.Turns.{HasMonitor, IsHolding, IsMade, IsNo
 ghost use Rattle.mon_lock.specs.inner.Turns.{IsWaiting, MakesShared, TurnComes, TurnIsHere};
 
 use super::bell::Bells;
+use super::patience::{NEAR, Patience};
 use super::receipt::Receipt;
 use super::rule::{
     Board, COUNT, Call, Draw, MACHINE, NEXT, Observe, OnePart, Publish, Release, SERVING, Seat,
 };
 use super::standing::{Standing, standing_of};
-use crossbeam_utils::Backoff;
 use mon_explicit::{NotReady, Section};
 use std::sync::Wait;
-
-/// How many pauses, longer and longer, a seat makes between looks at the served ticket before it sleeps. It never yields in
-/// between: a seat that yields gets its processor back too late for its turn, where there are more threads than processors.
-const PAUSES: u32 = 6;
 
 /// The words, the slot and the rule that they keep; and the bells, which tell nothing and only save a wait its processor.
 #[derive(Drop)]
@@ -62,15 +58,15 @@ impl Lock {
         self.board.shared.fetch_add::<Draw>(seat, NEXT, 1)
     }
 
-    /// Whether the ticket is served. Then the seat has the turn, and the monitor; else nothing changes.
-    fn call(&self, seat: &mut Seat, ticket: u64) -> bool
+    /// How many tickets are to be served before this one. At 0 the seat has the turn, and the monitor; else nothing changes.
+    fn call(&self, seat: &mut Seat, ticket: u64) -> u64
         requires own { seat.old.table_id ≡ self.now.board.shared.table_id }
         requires waits { (t : ℕ) × (ticket ≡ t % 2 ^ 64) × (seat.old.me.0.stage ≡ Waiting t) }
         requires live { 0 < seat.old.me.0.parts }
         ensures own { seat.new.table_id ≡ seat.old.table_id }
-        ensures turn { TurnComes ticket seat.old.me seat.new.me result }
+        ensures turn { TurnComes ticket seat.old.me seat.new.me (result == 0) }
     {
-        self.board.shared.load::<Call>(seat, SERVING) == ticket
+        ticket.wrapping_sub(self.board.shared.load::<Call>(seat, SERVING))
     }
 
     /// Sleeps until the ticket's bell is rung, unless the ticket is served: then the seat has the turn, and the monitor.
@@ -83,7 +79,7 @@ impl Lock {
     {
         let bell = self.bells.of(ticket);
         let rung = bell.enter();
-        let comes = self.call(seat, ticket);
+        let comes = self.call(seat, ticket) == 0;
         if !comes {
             bell.sleep(rt, rung);
         }
@@ -91,7 +87,7 @@ impl Lock {
         comes
     }
 
-    /// Waits until the ticket is served. It looks a few times, and then sleeps between looks.
+    /// Waits until the ticket is served. It spins as long as its turn may come soon, and else sleeps between looks.
     fn wait<R: Wait>(&self, rt: &R, seat: &mut Seat, ticket: u64)
         requires own { seat.old.table_id ≡ self.now.board.shared.table_id }
         requires waits { (t : ℕ) × (ticket ≡ t % 2 ^ 64) × (seat.old.me.0.stage ≡ Waiting t) }
@@ -99,16 +95,13 @@ impl Lock {
         ensures own { seat.new.table_id ≡ seat.old.table_id }
         ensures turn { TurnIsHere ticket seat.old.me seat.new.me }
     {
-        let backoff = Backoff::new();
-        let mut pauses = 0;
+        let mut patience = Patience::new();
         for _ in rt.forever() {
-            if self.call(seat, ticket) {
+            let distance = self.call(seat, ticket);
+            if distance == 0 {
                 return;
             }
-            if pauses < PAUSES {
-                pauses += 1;
-                backoff.spin();
-            } else if self.sleep(rt, seat, ticket) {
+            if !patience.spins(distance) && self.sleep(rt, seat, ticket) {
                 return;
             }
         }
@@ -186,7 +179,8 @@ impl Lock {
         }
     }
 
-    /// Gives the monitor back, serves the next ticket, and rings its bell.
+    /// Gives the monitor back, serves the next ticket, and rings its bell, and that of the ticket which comes near: so
+    /// who has it is awake when it is served.
     fn unlock(&self, seat: &mut Seat)
         requires own { seat.old.table_id ≡ self.now.board.shared.table_id }
         requires turn { HasMonitor seat.old.me }
@@ -197,6 +191,7 @@ impl Lock {
     {
         let served = self.board.shared.fetch_add::<Release>(seat, SERVING, 1);
         self.bells.ring(served.wrapping_add(1));
+        self.bells.ring(served.wrapping_add(1 + NEAR));
     }
 
     /// A section, from no ticket to no ticket.
