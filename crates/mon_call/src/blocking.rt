@@ -65,8 +65,8 @@ impl BlockingMonitor {
     }
 
     /// Makes sections of a client, until one replies or none can be made. It blocks while the client waits, and takes no
-    /// memory. One caller at a time may call for a client. `Over` comes only where the client has no call left, and
-    /// `Stalled` only where the monitor is closed and the client has a call left.
+    /// memory. A caller is used by one thread at a time; callers call side by side. `Over` comes only where the client has
+    /// no call left, and `Stalled` only where the monitor is closed and the client has a call left.
     pub fn commit<R: Wait>(&self, rt: &R, caller: &mut Caller, client: u32) -> CommitEnd
         requires own { caller.old.lock ≡ self.now.lock }
         requires client { client < length caller.old.known.front.system.clients }
