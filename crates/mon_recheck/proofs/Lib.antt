@@ -20,3 +20,5 @@ pub mod LoneParts
 mod Nested
 mod PrintedReports
 mod TypedNumbers
+mod ProofLines
+mod NumberedLines

@@ -5,3 +5,4 @@ pub mod inner
 pub mod EasyPlacements
 pub mod Nesting
 pub mod Splits
+pub mod Lines

@@ -229,11 +229,7 @@ fn row<'a>(bytes: &'a [u8]) -> Option<(u32, &'a [u8])>
     ensures { IsRead later_number (IsBelow (2 ^ 32)) bytes.now result }
 {
     let (number, rest) = later_number(bytes)?;
-    if number <= u32::MAX as u128 {
-        Some((number as u32, rest))
-    } else {
-        None
-    }
+    Some((u32::try_from(number).ok()?, rest))
 }
 
 /// A blank and how many come.
@@ -241,11 +237,7 @@ fn count<'a>(bytes: &'a [u8]) -> Option<(u64, &'a [u8])>
     ensures { IsRead later_number (IsBelow (2 ^ 64)) bytes.now result }
 {
     let (number, rest) = later_number(bytes)?;
-    if number <= u64::MAX as u128 {
-        Some((number as u64, rest))
-    } else {
-        None
-    }
+    Some((u64::try_from(number).ok()?, rest))
 }
 
 /// A blank and a number.
@@ -277,11 +269,7 @@ fn from_zero<'a>(bytes: &'a [u8]) -> Option<(i128, &'a [u8])>
     ensures { IsRead signed_decimal IsFromZero bytes.now result }
 {
     let (number, rest) = number(bytes)?;
-    if number <= i128::MAX as u128 {
-        Some((number as i128, rest))
-    } else {
-        None
-    }
+    Some((i128::try_from(number).ok()?, rest))
 }
 
 /// A factor below zero, after its sign.

@@ -1,6 +1,7 @@
 //! What follows from the definitions alone.
 
-ghost use Rattle.std.specs.Prelude.{◌≡◌, ◌<◌, ◌≤◌, suc, true, length, map, List, Option, Some};
+ghost use Rattle.std.specs.Prelude.{◌≡◌, ◌<◌, ◌≤◌, ℕ, suc, ◌+◌, true, length, map, List, Option};
+ghost use Rattle.std.specs.Prelude.{Some, slice_get};
 ghost use Rattle.mon_linear.specs.declared.formula.Formula.{Formula};
 ghost use Rattle.mon_linear.specs.Measures.{cubes_of};
 ghost use Rattle.mon_cert.specs.declared.cert.Cert.{Cert};
@@ -9,7 +10,9 @@ ghost use Rattle.mon_monitor.specs.declared.candidate.Candidate.{Candidate};
 ghost use Rattle.mon_monitor.specs.declared.claim.Claim.{Claim};
 ghost use Rattle.mon_monitor.specs.MonitorParts.{MonitorParts, IsMonitor};
 ghost use Rattle.mon_monitor.specs.Queries.{query_of};
+ghost use Rattle.mon_events.specs.declared.plan.Plan.{Plan};
 ghost use Rattle.mon_events.specs.Plans.{FitsPlan, IsLawful};
+ghost use Rattle.mon_events.specs.PlanText.{plan_text};
 ghost use Rattle.mon_wp.specs.NegatedQueries.{negated_query};
 ghost use Rattle.mon_prune.specs.Hardness.{HasNoHardClaim};
 ghost use Rattle.mon_place.specs.declared.placed.PlacedPlan.{PlacedPlan};
@@ -18,11 +21,13 @@ ghost use Rattle.mon_recheck.specs.declared.report.Report.{Report};
 ghost use Rattle.mon_recheck.specs.declared.report.Verdict.{Verdict};
 ghost use Rattle.mon_recheck.specs.declared.report.Verdict.TheVariants.{Accepted};
 ghost use Rattle.mon_recheck.specs.EasyPlacements.{IsEasyPlacement};
+ghost use Rattle.mon_recheck.specs.Lines.{IsLineOf, lines_in};
 ghost use Rattle.mon_recheck.specs.Nesting.{HasTypedNumbers, IsNested};
 ghost use Rattle.mon_recheck.specs.Readings.{IsReportRead};
-ghost use Rattle.mon_recheck.specs.Reports.{IsReport, placed_text, report_of, report_text};
+ghost use Rattle.mon_recheck.specs.Reports.{IsPlanOf, IsReport, placed_text, proof_text};
+ghost use Rattle.mon_recheck.specs.Reports.{proofs_of, report_of, report_text};
 ghost use Rattle.mon_recheck.specs.Splits.{HasNoLoneParts, has_no_lone_part, splits_of};
-ghost use Rattle.mon_recheck.specs.Verdicts.{IsVerdict};
+ghost use Rattle.mon_recheck.specs.Verdicts.{IsOpen, IsUnproved, IsVerdict, plan_lines};
 
 use mon_wp::fewer_kept_are_no_harder;
 
@@ -86,3 +91,25 @@ pub fn printed_reports_are_accepted()
 {
     fewer_kept_are_no_harder();
 }
+
+/// The text of a plan has as many lines as [`recheck`] counts for it: one for its name, and one for
+/// each kept candidate, condition and block. In the text of a report, the claim at each place stands
+/// after them, on a line of its own. So on the line that a verdict names stands a claim that isn't
+/// proved there.
+///
+/// [`recheck`]: super::recheck
+pub fn report_lines_are_numbered()
+    ensures plan { (monitor : MonitorParts) (plan : Plan)
+        → IsMonitor monitor → IsPlanOf monitor plan
+        → lines_in (plan_text monitor plan) ≡ plan_lines monitor plan }
+    ensures claims { (monitor : MonitorParts) (report : Report) (place : ℕ) (one : Claim × Cert)
+        → IsMonitor monitor → IsReport monitor report
+        → slice_get (proofs_of monitor report) place ≡ Some one
+        → IsLineOf (report_text monitor report) (plan_lines monitor report.plan + (place + 1))
+        (proof_text monitor one.0 one.1) }
+    ensures unproved { (monitor : MonitorParts) (report : Report) (line : ℕ)
+        → IsMonitor monitor → IsReport monitor report → IsUnproved monitor report line
+        → (one : Claim × Cert)
+        × IsLineOf (report_text monitor report) line (proof_text monitor one.0 one.1)
+        × IsOpen monitor report.plan.kept one }
+{}

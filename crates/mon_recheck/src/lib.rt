@@ -2,7 +2,8 @@
 //! without a prover.
 //!
 //! [`read_plan`] and [`read_report`] read such texts (`specs/Readings`), and [`recheck`] says
-//! whether the plan of a [`Report`] is lawful by its certificates alone (`specs/Verdicts`).
+//! whether the plan of a [`Report`] is lawful by its certificates alone (`specs/Verdicts`). A claim
+//! that isn't proved is named by its line in the report's text (`specs/Lines`, `laws`).
 //! [`write_report`] writes the report of a plan that was placed (`specs/Reports`), and
 //! [`write_verdict`] the line of what a check says. Where no claim of the monitor is hard, what was
 //! written of a placed plan is read again as its report, and accepted (`laws`): its certificates nest
@@ -31,7 +32,7 @@ pub use checking::recheck;
 pub use claims::{claims_of, has_note};
 pub use laws::{
     certificates_nest_by_splits, easy_reports_are_accepted, placed_text_is_report_text,
-    printed_reports_are_accepted, splits_are_few,
+    printed_reports_are_accepted, report_lines_are_numbered, splits_are_few,
 };
 pub use making::report_of;
 pub use plan_reading::read_plan;

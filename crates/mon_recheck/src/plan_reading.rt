@@ -29,7 +29,9 @@ pub fn read_plan(alloc: Global, monitor: &Monitor, bytes: &[u8]) -> Result<Optio
 
 /// The plan, where nothing is left after it.
 fn whole(plan: Plan, rest: &[u8]) -> Option<Plan>
-    ensures { MatchOption result (rest.now ≡ [] → ⊥) (λ read. (read ≡ plan) × (rest.now ≡ [])) }
+    ensures { MatchOption result
+        (rest.now ≡ [] → ⊥)
+        (λ read. (read ≡ plan) × (rest.now ≡ [])) }
 {
     if rest.is_empty() { Some(plan) } else { None }
 }

@@ -1,6 +1,6 @@
 //! Texts in memory, as they are written.
 
-ghost use Rattle.std.specs.Prelude.{◌≡◌, ◌++◌, IfOk, codes};
+ghost use Rattle.std.specs.Prelude.{◌≡◌, ◌++◌, [], IfOk, codes};
 ghost use Rattle.mon_printer.specs.Canonical.{expression_text};
 ghost use Rattle.mon_events.specs.PlanText.{block_name};
 ghost use Rattle.mon_recheck.specs.Reports.{claim_text};
@@ -17,6 +17,18 @@ use std::alloc::{AllocError, Global};
 struct Kept {
     bytes: Vec<u8>,
     faults: u64,
+}
+
+impl Kept {
+    fn new(alloc: Global) -> Kept
+        ensures bytes { result.bytes.items ≡ [] }
+        ensures faults { result.faults ≡ 0 }
+    {
+        Kept {
+            bytes: Vec::new(alloc),
+            faults: 0,
+        }
+    }
 }
 
 impl Sink for Kept {
@@ -43,14 +55,9 @@ impl Sink for Kept {
 pub(crate) fn shown_text(alloc: Global, expression: &Expr) -> Result<Vec<u8>, AllocError>
     ensures { IfOk result (λ text. text.items ≡ expression_text expression.now) }
 {
-    let mut out = Kept {
-        bytes: Vec::new(alloc),
-        faults: 0,
-    };
-    match write_around(&[], expression, b"", &mut out) {
-        Ok(()) => Ok(out.bytes),
-        Err(SinkFailed) => Err(AllocError),
-    }
+    let mut out = Kept::new(alloc);
+    write_around(&[], expression, b"", &mut out).map_err(|_| AllocError)?;
+    Ok(out.bytes)
 }
 
 /// What stands in a block's line before its notes: `block put: `.
@@ -62,14 +69,9 @@ pub(crate) fn block_head(
     ensures { IfOk result (λ text. text.items
         ≡ codes "block " ++ block_name monitor.now block ++ codes ": ") }
 {
-    let mut out = Kept {
-        bytes: Vec::new(alloc),
-        faults: 0,
-    };
-    match write_named(b"block ", monitor, block, b": ", &mut out) {
-        Ok(()) => Ok(out.bytes),
-        Err(SinkFailed) => Err(AllocError),
-    }
+    let mut out = Kept::new(alloc);
+    write_named(b"block ", monitor, block, b": ", &mut out).map_err(|_| AllocError)?;
+    Ok(out.bytes)
 }
 
 /// What stands in a proof's line before the certificate: `proof none put 2: `.
@@ -81,12 +83,7 @@ pub(crate) fn claim_head(
     ensures { IfOk result (λ text. text.items
         ≡ codes "proof " ++ claim_text monitor.now claim ++ codes ": ") }
 {
-    let mut out = Kept {
-        bytes: Vec::new(alloc),
-        faults: 0,
-    };
-    match write_claim_head(monitor, claim, &mut out) {
-        Ok(()) => Ok(out.bytes),
-        Err(SinkFailed) => Err(AllocError),
-    }
+    let mut out = Kept::new(alloc);
+    write_claim_head(monitor, claim, &mut out).map_err(|_| AllocError)?;
+    Ok(out.bytes)
 }
