@@ -103,6 +103,7 @@ expresso report FILE
 expresso recheck FILE REPORT
 expresso block FILE CLIENTS
 expresso audit FILE PLAN
+expresso explain FILE
 """
 
 SUMMARY = b"calls 16384\ndone\nstate count=0\n"

@@ -13,10 +13,11 @@ MOST_INPUTS = 6  # the locals stand after them
 OWN, WAITING = 16, 32  # first places: of a block's inputs, and of those of a client that waits
 
 # a field is its name, variable and start; a statement is (variable, value) or (if, then, else);
-# `waiting` is the guard at the inputs and locals of a client that waits, and `failing` its negation
+# `waiting` is the guard at the inputs and locals of a client that waits, and `failing` its negation;
+# `own` and `others` are the inputs and locals of a block and of such a client, with their variables
 Monitor = namedtuple("Monitor", "name fields blocks conditions")
-Block = namedtuple("Block", "name guard body condition")
-Condition = namedtuple("Condition", "guard waiting failing reads_inputs shown")
+Block = namedtuple("Block", "name guard body condition own")
+Condition = namedtuple("Condition", "guard waiting failing reads_inputs shown others")
 
 
 # ---- expressions: the signs of each level, and what a sign makes of two forms
@@ -108,28 +109,30 @@ def read_method(monitor, line, lines, scope):
     inputs, own_locals, blocks = re.findall(r"(\w+) (\w+)", inputs), [], []
     while lines[-1].startswith("local "):
         own_locals.append(lines.pop().split(" ")[1:3])
-    own, others = ({**scope, **variables(inputs, first),
-                    **variables(own_locals, first + MOST_INPUTS)} for first in (OWN, WAITING))
+    own, others = (variables(inputs, first) | variables(own_locals, first + MOST_INPUTS)
+                   for first in (OWN, WAITING))
+    inside, outside = scope | own, scope | others
     while lines[-1].startswith("waituntil "):
         shown = re.match(r"waituntil \((.*)\) {", lines.pop())[1]
-        blocks.append((shown, read(shown, own), read(shown, others), read_body(lines, own)[0]))
+        blocks.append((shown, read(shown, inside), read(shown, outside),
+                       read_body(lines, inside)[0]))
     for number, (shown, guard, waiting, body) in enumerate(blocks, 1):
-        condition = condition_of(monitor, shown, guard, waiting)
+        condition = condition_of(monitor, shown, guard, waiting, others)
         numbered = f"{name}.{number}" if len(blocks) > 1 else name
-        monitor.blocks.append(Block(numbered, guard, body, condition))
+        monitor.blocks.append(Block(numbered, guard, body, condition, own))
 
 
 def variables(declared, first):
     return {name: variable(kind, first + k) for k, (kind, name) in enumerate(declared)}
 
 
-def condition_of(monitor, shown, guard, waiting):
+def condition_of(monitor, shown, guard, waiting, others):
     """The number of the condition of the blocks with this guard."""
     guards = [condition.guard for condition in monitor.conditions]
     if guard not in guards:
         guards.append(guard)
         monitor.conditions.append(
-            Condition(guard, waiting, negation(waiting), waiting != guard, shown))
+            Condition(guard, waiting, negation(waiting), waiting != guard, shown, others))
     return guards.index(guard) + 1
 
 

@@ -1,9 +1,11 @@
 #!/usr/bin/env bash
 # Has the report of each monitor of the program, and changed ones, judged by the program and by the
 # second reader, tools/recheck.py. Fails where they differ, or where a whole report isn't accepted.
+# Then each state that `explain` shows of the monitor is checked by tools/reasons.py.
 cd "$(dirname "$0")/../crates/expresso_cli" || exit 1
 program=$PWD/out/expresso_cli
 reader=$PWD/../../tools/recheck.py
+reasons=$PWD/../../tools/reasons.py
 made=$(mktemp -d) || exit 1
 trap 'rm -rf "$made"' EXIT
 
@@ -14,6 +16,19 @@ judge() {
     theirs=$("$reader" "$made/monitor" "$2"; echo "status $?")
     if [ "$ours" != "$theirs" ] || { [ "$1" != - ] && [ "${ours##* }" != "$1" ]; }; then
         printf '%s\n' "$monitor, ${2##*/} report:" "$ours" "the second reader:" "$theirs"
+        exit 1
+    fi
+}
+
+# explain: the states that are shown hold, and with a line missing the text is refused
+explain() {
+    "$program" explain "$monitor" >"$made/explained" || exit 1
+    sed '$d' "$made/explained" >"$made/shorter"
+    if ! "$reasons" "$made/monitor" "$made/explained" >>"$made/counted"; then
+        echo "$monitor: what explain shows is refused by the second reader"
+        exit 1
+    elif "$reasons" "$made/monitor" "$made/shorter" >"$made/refused"; then
+        echo "$monitor: the second reader takes reasons of which one is missing"
         exit 1
     fi
 }
@@ -29,6 +44,8 @@ for monitor in data/*.mon data/derived/*.mon; do
     judge 1 "$made/shorter"
     judge - "$made/emptied"
     judge - "$made/shifted"
+    explain
     count=$((count + 1))
 done
-echo "both readers agree on the reports of $count monitors"
+echo "both readers agree on the reports of $count monitors; of their reasons" \
+    "$(awk '{ shown += $1; undecided += $3 } END { print shown " are shown and " undecided " not decided" }' "$made/counted")"

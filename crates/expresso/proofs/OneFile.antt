@@ -14,8 +14,11 @@ use Rattle.expresso.specs.declared.status.Status.{Status}
 use Rattle.expresso.specs.declared.status.Status.TheVariants as statuses
 use Rattle.expresso.specs.declared.monitor_file.MonitorFile.{MonitorFile}
 use Rattle.mon_command.specs.declared.plan_choice.PlanChoice.{PlanChoice}
-use Rattle.mon_command.specs.CommandLine.{Command, check, compile, report}
+use Rattle.mon_command.specs.CommandLine.{Command, check, compile, report, explain}
+use Rattle.mon_why.specs.declared.reason.Reason.{Reason}
 use Rattle.expresso.specs.Placements.{IsChosen}
+use Rattle.expresso.specs.Texts.{explained_text}
+use Rattle.expresso.specs.inner.Explaining.{IsExplained}
 use Rattle.expresso.specs.FirstFaults.{IsRefusalLine}
 use Rattle.expresso.specs.MonitorFiles.{IsAccepted, IsFirstOfMonitor}
 use Rattle.expresso.specs.Answers.{AcceptsMonitor, HoldsMonitor, IsUnreadText, RejectsMonitor}
@@ -36,6 +39,9 @@ compile_works file choice = record { files = refl; refused = λ held text is. is
 
 pub report_works : (file : List ℕ) → WorksOn (report file) file []
 report_works file = record { files = refl; refused = λ held text is. is; accepted = λ held is. is }
+
+pub explain_works : (file : List ℕ) → WorksOn (explain file) file []
+explain_works file = record { files = refl; refused = λ held text is. is; accepted = λ held is. is }
 
 -- ---- the file has no bytes
 
@@ -111,4 +117,12 @@ pub compile_done : (file : List ℕ) (choice : PlanChoice) (tree : MonitorTree) 
 compile_done file choice tree monitor plan files files_now result out out_now holds chosen steady written =
     work_ended (compile file choice) files files_now (plan_text monitor plan) result out out_now true
     (record { tree = tree; monitor = monitor; plan = plan; holds = holds; chosen = chosen; printed = refl })
+    (no_rejection files.held file tree monitor holds) steady written
+
+pub explain_done : (file : List ℕ) (tree : MonitorTree) (monitor : MonitorParts) (plan : Plan) (reasons : List Reason) (files files_now : FilesSeen) (result : Status) (out out_now : SinkSeen)
+    → HoldsMonitor files.held file tree monitor → IsExplained monitor plan reasons → files_now.faults ≡ files.faults
+    → IsWritten statuses.Done (explained_text tree monitor plan reasons) result out out_now → CommandEnds (explain file) files files_now result out out_now
+explain_done file tree monitor plan reasons files files_now result out out_now holds explained steady written =
+    work_ended (explain file) files files_now (explained_text tree monitor plan reasons) result out out_now true
+    (record { tree = tree; monitor = monitor; plan = plan; reasons = reasons; holds = holds; placement = explained.placement; things = explained.things; each = explained.each; printed = refl })
     (no_rejection files.held file tree monitor holds) steady written

@@ -1,5 +1,5 @@
 -- What the program answers.
-use Rattle.std.specs.Prelude.{◌≡◌, ◌<◌, ◌⊎◌, ℕ, List, All, Any, Option, Some, IfSome}
+use Rattle.std.specs.Prelude.{◌≡◌, ◌<◌, ◌⊎◌, ℕ, List, All, Any, map, Option, Some, IfSome}
 use Rattle.std.specs.Prelude.{codes}
 use Rattle.std.specs.Io.KnownBytes.{Appends}
 use Rattle.mon_io.specs.Outside.{FilesSeen, SinkSeen, AppendsFront, Rises}
@@ -24,7 +24,7 @@ use Rattle.mon_command.specs.declared.plan_choice.PlanChoice.{PlanChoice}
 use Rattle.mon_command.specs.declared.plan_choice.PlanChoice.TheVariants.{Placed}
 use Rattle.mon_command.specs.declared.schedule.Schedule.{Schedule}
 use Rattle.mon_command.specs.CommandLine.{Command, check, turns, compile, simulate, run, stress}
-use Rattle.mon_command.specs.CommandLine.{report, recheck, block, audit}
+use Rattle.mon_command.specs.CommandLine.{report, recheck, block, audit, explain}
 use Rattle.mon_command.specs.CommandLine.{Takes, TakesNone, files_of}
 use Rattle.mon_stress.specs.LargeInput.{buffer_of, capacity_of, producers_and_consumers}
 use Rattle.expresso.specs.Placements.{IsChosen, IsPlacement}
@@ -44,7 +44,10 @@ use Rattle.mon_place.specs.Backing.{AreProofs, backed_claims}
 use Rattle.mon_recheck.specs.declared.report.Report.{Report}
 use Rattle.mon_recheck.specs.Nesting.{HasTypedNumbers}
 use Rattle.mon_recheck.specs.Reports.{report_of, report_text}
-use Rattle.expresso.specs.Texts.{usage_text}
+use Rattle.mon_why.specs.declared.reason.Reason.{Reason}
+use Rattle.mon_why.specs.Reasons.{IsReason}
+use Rattle.mon_why.specs.Things.{things_of}
+use Rattle.expresso.specs.Texts.{explained_text, usage_text}
 
 -- the bytes are those held by a name, where they are told
 abbrev pub HoldsBytes : (List ℕ → Option (List ℕ)) → List ℕ → List ℕ → Type 0
@@ -183,6 +186,19 @@ pub record IsAuditText (held : List ℕ
   pub told : HoldsBytes held plan_file bytes
   pub line : IsLawfulLine monitor bytes text
 
+-- the text of a plan that the monitor of the file is compiled to, and why each thing stands in it
+-- that costs something
+pub record IsExplainText (held : List ℕ → Option (List ℕ)) (file text : List ℕ) : Type 0 where
+  pub tree : MonitorTree
+  pub monitor : MonitorParts
+  pub plan : Plan
+  pub reasons : List Reason
+  pub holds : HoldsMonitor held file tree monitor
+  pub placement : IsPlacement monitor plan
+  pub things : map (λ reason. reason.thing) reasons ≡ things_of monitor plan
+  pub each : All (IsReason monitor plan) reasons
+  pub printed : text ≡ explained_text tree monitor plan reasons
+
 -- the text of a command whose work is done; of `turns`, `simulate`, `run` and `block`, that no
 -- client has a call left
 abbrev pub IsDoneText : (List ℕ → Option (List ℕ)) → Command → List ℕ → Type 0
@@ -202,6 +218,7 @@ IsDoneText held (report file) text = IsReportText held file text
 IsDoneText held (recheck monitor report_file) text = IsRecheckText held monitor report_file text
 IsDoneText held (block monitor clients) text = IsFinishedRunText held monitor clients Placed text
 IsDoneText held (audit monitor plan_file) text = IsAuditText held monitor plan_file text
+IsDoneText held (explain file) text = IsExplainText held file text
 
 -- the text of `turns`, `simulate`, `run` or `block` where some client has a call left; no other
 -- command stalls
@@ -223,6 +240,7 @@ IsStalledText held (recheck monitor report_file) text = ⊥
 IsStalledText held (block monitor clients) text =
     IsStalledRunText held monitor clients Placed text
 IsStalledText held (audit monitor plan_file) text = ⊥
+IsStalledText held (explain file) text = ⊥
 
 -- ---- refusals
 
@@ -294,6 +312,7 @@ IsRefusedText held (recheck monitor report_file) text =
     IsRecheckRefusal held monitor report_file text
 IsRefusedText held (block monitor clients) text = IsRunRefusal held monitor clients text
 IsRefusedText held (audit monitor plan_file) text = IsAuditRefusal held monitor plan_file text
+IsRefusedText held (explain file) text = IsMonitorRefusal held file text
 
 -- a read fault's line that names one of the command's files; which of them, no clause says
 abbrev pub IsUnreadText : Command → List ℕ → Type 0
@@ -410,6 +429,7 @@ AcceptsFiles held (report file) = AcceptsMonitor held file
 AcceptsFiles held (recheck monitor report_file) = AcceptsReport held monitor report_file
 AcceptsFiles held (block monitor clients) = AcceptsRun held monitor clients
 AcceptsFiles held (audit monitor plan_file) = AcceptsPlan held monitor plan_file
+AcceptsFiles held (explain file) = AcceptsMonitor held file
 
 -- they tell their bytes, and one of them is not accepted
 abbrev pub RejectsFiles : (List ℕ → Option (List ℕ)) → Command → Type 0
@@ -423,6 +443,7 @@ RejectsFiles held (report file) = RejectsMonitor held file
 RejectsFiles held (recheck monitor report_file) = RejectsReport held monitor report_file
 RejectsFiles held (block monitor clients) = RejectsRun held monitor clients
 RejectsFiles held (audit monitor plan_file) = RejectsPlan held monitor plan_file
+RejectsFiles held (explain file) = RejectsMonitor held file
 
 -- the words are a command's whose files are accepted; or one of them is not
 abbrev pub Accepts : (List ℕ → Option (List ℕ)) → List (List ℕ) → Type 0

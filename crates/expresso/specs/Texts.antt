@@ -1,7 +1,13 @@
 -- What the program itself prints. Plans are texts of `mon_events`; runs, logs, summaries and faults
 -- of `mon_text`; canonical forms of `mon_printer`; reports and verdicts of `mon_recheck`;
--- findings of `mon_audit`.
+-- findings of `mon_audit`; reasons of `mon_reasons`.
 use Rattle.std.specs.Prelude.{ℕ, List, ◌++◌, codes}
+use Rattle.mon_tree.specs.declared.tree.MonitorTree.{MonitorTree}
+use Rattle.mon_monitor.specs.MonitorParts.{MonitorParts}
+use Rattle.mon_events.specs.declared.plan.Plan.{Plan}
+use Rattle.mon_events.specs.PlanText.{plan_text}
+use Rattle.mon_why.specs.declared.reason.Reason.{Reason}
+use Rattle.mon_reasons.specs.ReasonText.{reasons_text}
 
 abbrev pub usage_text : List ℕ
 usage_text =
@@ -16,3 +22,9 @@ usage_text =
     ++ codes "expresso recheck FILE REPORT\n"
     ++ codes "expresso block FILE CLIENTS\n"
     ++ codes "expresso audit FILE PLAN\n"
+    ++ codes "expresso explain FILE\n"
+
+-- a plan, and why each thing stands in it that costs something
+abbrev pub explained_text : MonitorTree → MonitorParts → Plan → List Reason → List ℕ
+explained_text tree monitor plan reasons =
+    plan_text monitor plan ++ reasons_text tree monitor reasons

@@ -1,5 +1,6 @@
 pub mod Auditing
 pub mod Ending
+pub mod Explaining
 pub mod Input
 pub mod Judging
 pub mod Ranges

@@ -9,13 +9,14 @@ ghost use Rattle.expresso.specs.inner.Ending.{CommandEnds, IsWritten};
 use crate::input::open_both;
 use crate::reading::OTHER_BYTES;
 use crate::status::Status;
-use crate::text::{show_finding, show_not_plan, show_other_too_long};
+use crate::text::{show_fault, show_finding};
 use mon_audit::{Finding, audit};
 use mon_events::Plan;
 use mon_io::{Files, Sink};
 use mon_monitor::Monitor;
 use mon_recheck::read_plan;
 use mon_syntax::derives_one_tree;
+use mon_text::Fault;
 use mon_tokens::one_spelling;
 use std::alloc::{AllocError, Global};
 
@@ -55,7 +56,7 @@ fn judge<S: Sink>(alloc: Global, file: &str, bytes: &[u8], monitor: &Monitor, ou
     ensures { IsAuditDone monitor.now file.now bytes.now result (S.seen out.old) (S.seen out.new) }
 {
     if bytes.len() > OTHER_BYTES {
-        return show_other_too_long(file, out);
+        return show_fault(&Fault::OtherTooLong { file }, out);
     }
     match audited(alloc, monitor, bytes) {
         Ok(found) => show_found(monitor, file, &found, out),
@@ -70,7 +71,7 @@ fn show_found<S: Sink>(monitor: &Monitor, file: &str, found: &Option<Found>, out
 {
     match found {
         Some(found) => show_finding(monitor, &found.plan, found.finding, out),
-        None => show_not_plan(file, out),
+        None => show_fault(&Fault::NotPlan { file }, out),
     }
 }
 

@@ -15,13 +15,14 @@ use crate::client_file::read_clients;
 use crate::monitor_file::{MonitorFile, read_monitor};
 use crate::reading::bytes_of;
 use crate::status::Status;
-use crate::text::{show_fault, show_too_long};
+use crate::text::show_fault;
 use mon_base::SourceError;
 use mon_base::limits::FILE_BYTES;
 use mon_implicit::Scripts;
 use mon_io::{Files, Sink};
 use mon_monitor::Monitor;
 use mon_syntax::derives_one_tree;
+use mon_text::Fault;
 use mon_tokens::one_spelling;
 use std::alloc::Global;
 
@@ -40,11 +41,14 @@ fn monitor_in<S: Sink>(
         status (S.seen out.old) (S.seen out.new)) }
 {
     if bytes.len() > FILE_BYTES {
-        return Err(show_too_long(file, out));
+        return Err(show_fault(&Fault::TooLong { file }, out));
     }
     match read_monitor(alloc, bytes) {
         Ok(found) => Ok(found),
-        Err(SourceError::Fault(fault)) => Err(show_fault(file, bytes, fault, out)),
+        Err(SourceError::Fault(fault)) => Err(show_fault(
+            &Fault::Place { file, bytes, fault },
+            out,
+        )),
         Err(SourceError::OutOfMemory) => Err(Status::OutOfMemory),
     }
 }
@@ -66,11 +70,14 @@ fn scripts_in<S: Sink>(
         status (S.seen out.old) (S.seen out.new)) }
 {
     if bytes.len() > FILE_BYTES {
-        return Err(show_too_long(file, out));
+        return Err(show_fault(&Fault::TooLong { file }, out));
     }
     match read_clients(alloc, bytes, monitor) {
         Ok(scripts) => Ok(scripts),
-        Err(SourceError::Fault(fault)) => Err(show_fault(file, bytes, fault, out)),
+        Err(SourceError::Fault(fault)) => Err(show_fault(
+            &Fault::Place { file, bytes, fault },
+            out,
+        )),
         Err(SourceError::OutOfMemory) => Err(Status::OutOfMemory),
     }
 }

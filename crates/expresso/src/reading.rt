@@ -6,8 +6,9 @@ ghost use Rattle.expresso.specs.ProgramEnds.{KeepsFiles};
 ghost use Rattle.expresso.specs.inner.Ending.{IsQuiet, IsUnread};
 
 use crate::status::Status;
-use crate::text::show_unread;
+use crate::text::show_fault;
 use mon_io::{FileFault, Files, Sink};
+use mon_text::Fault;
 use std::alloc::Global;
 
 /// The most bytes of a file that is no monitor and no clients. Definitions give it the same name and number
@@ -35,7 +36,7 @@ pub(crate) fn bytes_of<F: Files, S: Sink>(
 {
     match files.read_up_to(alloc, file, most) {
         Ok(bytes) => Ok(bytes),
-        Err(FileFault::Failed) => Err(show_unread(file, out)),
+        Err(FileFault::Failed) => Err(show_fault(&Fault::Unread { file }, out)),
         Err(FileFault::OutOfMemory) => Err(Status::OutOfMemory),
     }
 }

@@ -9,11 +9,12 @@ ghost use Rattle.expresso.specs.inner.Judging.{IsFinding, IsJudged, finding_stat
 use crate::input::open_both;
 use crate::reading::OTHER_BYTES;
 use crate::status::Status;
-use crate::text::{show_not_report, show_other_too_long, show_verdict};
+use crate::text::{show_fault, show_verdict};
 use mon_io::{Files, Sink};
 use mon_monitor::Monitor;
 use mon_recheck::{Verdict, read_report, recheck};
 use mon_syntax::derives_one_tree;
+use mon_text::Fault;
 use mon_tokens::one_spelling;
 use std::alloc::{AllocError, Global};
 
@@ -46,7 +47,7 @@ fn judge<S: Sink>(alloc: Global, file: &str, bytes: &[u8], monitor: &Monitor, ou
     ensures { IsJudged monitor.now file.now bytes.now result (S.seen out.old) (S.seen out.new) }
 {
     if bytes.len() > OTHER_BYTES {
-        return show_other_too_long(file, out);
+        return show_fault(&Fault::OtherTooLong { file }, out);
     }
     match finding(alloc, monitor, bytes) {
         Ok(found) => show_finding(file, found, out),
@@ -61,7 +62,7 @@ fn show_finding<S: Sink>(file: &str, found: Option<Verdict>, out: &mut S) -> Sta
 {
     match found {
         Some(verdict) => show_verdict(verdict, out),
-        None => show_not_report(file, out),
+        None => show_fault(&Fault::NotReport { file }, out),
     }
 }
 

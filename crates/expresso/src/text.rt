@@ -8,8 +8,7 @@ ghost use Rattle.mon_events.specs.Configurations.{situation_of};
 ghost use Rattle.mon_events.specs.Logs.{IsClosed};
 ghost use Rattle.mon_events.specs.PlanText.{plan_text};
 ghost use Rattle.mon_printer.specs.Canonical.{tree_text};
-ghost use Rattle.mon_text.specs.FaultText.{place_text, too_long_text, unread_text};
-ghost use Rattle.mon_text.specs.FaultText.{not_plan_text, not_report_text, other_too_long_text};
+ghost use Rattle.mon_text.specs.Faults.{fault_text};
 ghost use Rattle.mon_text.specs.LogText.{are_done};
 ghost use Rattle.mon_text.specs.TurnsText.{turns_text};
 ghost use Rattle.mon_text.specs.Laws.{plan_and_log_text};
@@ -17,14 +16,14 @@ ghost use Rattle.mon_text.specs.SummaryText.{summary_text};
 ghost use Rattle.mon_recheck.specs.Reports.{placed_text};
 ghost use Rattle.mon_recheck.specs.Verdicts.{verdict_text};
 ghost use Rattle.mon_audit.specs.FindingText.{finding_text};
-ghost use Rattle.expresso.specs.Texts.{usage_text};
+ghost use Rattle.expresso.specs.Texts.{explained_text, usage_text};
 ghost use Rattle.expresso.specs.inner.Auditing.{audit_status};
-ghost use Rattle.expresso.specs.inner.Ending.{IsWritten, ended};
+ghost use Rattle.expresso.specs.inner.Ending.{IsWritten, ended, fault_status};
 ghost use Rattle.expresso.specs.inner.Judging.{verdict_status};
 
+use crate::explain::Explanation;
 use crate::status::Status;
 use mon_audit::{Finding, write_finding};
-use mon_base::SourceFault;
 use mon_events::Plan;
 use mon_explicit::FreeMonitor;
 use mon_implicit::{Scripts, Turns};
@@ -32,6 +31,7 @@ use mon_io::{Sink, SinkFailed, write_pieces};
 use mon_monitor::Monitor;
 use mon_place::PlacedPlan;
 use mon_printer::print_monitor;
+use mon_reasons::write_reasons;
 use mon_recheck::{Verdict, write_report, write_verdict};
 use mon_text::{Fault, are_done, write_fault, write_log, write_plan, write_summary, write_turns};
 use mon_tree::MonitorTree;
@@ -68,69 +68,34 @@ pub(crate) fn show_usage<S: Sink>(out: &mut S) -> Status
             b"expresso recheck FILE REPORT\n",
             b"expresso block FILE CLIENTS\n",
             b"expresso audit FILE PLAN\n",
+            b"expresso explain FILE\n",
         ],
         out,
     );
     finish(Status::Usage, outcome, out)
 }
 
-/// Writes the line of a file that couldn't be read.
-pub(crate) fn show_unread<S: Sink>(file: &str, out: &mut S) -> Status
-    ensures { IsWritten Status.ReadFault (unread_text file.now) result
-        (S.seen out.old) (S.seen out.new) }
+/// The status of a fault of a file.
+fn fault_status(fault: &Fault) -> Status
+    ensures { result ≡ fault_status fault.now }
 {
-    let outcome = write_fault(&Fault::Unread { file }, out);
-    finish(Status::ReadFault, outcome, out)
+    match fault {
+        Fault::Unread { .. } => Status::ReadFault,
+        Fault::TooLong { .. } => Status::Refused,
+        Fault::OtherTooLong { .. } => Status::Refused,
+        Fault::NotReport { .. } => Status::Refused,
+        Fault::NotPlan { .. } => Status::Refused,
+        Fault::Place { .. } => Status::Refused,
+    }
 }
 
-/// Writes the line of a file that is too long.
-pub(crate) fn show_too_long<S: Sink>(file: &str, out: &mut S) -> Status
-    ensures { IsWritten Status.Refused (too_long_text file.now) result
+/// Writes the line of a fault of a file.
+pub(crate) fn show_fault<S: Sink>(fault: &Fault, out: &mut S) -> Status
+    ensures { IsWritten (fault_status fault.now) (fault_text fault.now) result
         (S.seen out.old) (S.seen out.new) }
 {
-    let outcome = write_fault(&Fault::TooLong { file }, out);
-    finish(Status::Refused, outcome, out)
-}
-
-/// Writes the line of a file that is no monitor and no clients and is too long.
-pub(crate) fn show_other_too_long<S: Sink>(file: &str, out: &mut S) -> Status
-    ensures { IsWritten Status.Refused (other_too_long_text file.now) result
-        (S.seen out.old) (S.seen out.new) }
-{
-    let outcome = write_fault(&Fault::OtherTooLong { file }, out);
-    finish(Status::Refused, outcome, out)
-}
-
-/// Writes the line of a file that is no report of its monitor.
-pub(crate) fn show_not_report<S: Sink>(file: &str, out: &mut S) -> Status
-    ensures { IsWritten Status.Refused (not_report_text file.now) result
-        (S.seen out.old) (S.seen out.new) }
-{
-    let outcome = write_fault(&Fault::NotReport { file }, out);
-    finish(Status::Refused, outcome, out)
-}
-
-/// Writes the line of a file that is no plan of its monitor.
-pub(crate) fn show_not_plan<S: Sink>(file: &str, out: &mut S) -> Status
-    ensures { IsWritten Status.Refused (not_plan_text file.now) result
-        (S.seen out.old) (S.seen out.new) }
-{
-    let outcome = write_fault(&Fault::NotPlan { file }, out);
-    finish(Status::Refused, outcome, out)
-}
-
-/// Writes the line of a file's fault, with its place.
-pub(crate) fn show_fault<S: Sink>(
-    file: &str,
-    bytes: &[u8],
-    fault: SourceFault,
-    out: &mut S,
-) -> Status
-    ensures { IsWritten Status.Refused (place_text file.now bytes.now fault) result
-        (S.seen out.old) (S.seen out.new) }
-{
-    let outcome = write_fault(&Fault::Place { file, bytes, fault }, out);
-    finish(Status::Refused, outcome, out)
+    let outcome = write_fault(fault, out);
+    finish(fault_status(fault), outcome, out)
 }
 
 /// Writes the canonical form of a tree.
@@ -158,6 +123,34 @@ pub(crate) fn show_report<S: Sink>(monitor: &Monitor, placed: &PlacedPlan, out: 
 {
     let outcome = write_report(monitor, placed, out);
     finish(Status::Done, outcome, out)
+}
+
+/// Writes a plan, and why each thing stands in it that costs something.
+pub(crate) fn show_explanation<S: Sink>(
+    tree: &MonitorTree,
+    monitor: &Monitor,
+    explanation: &Explanation,
+    out: &mut S,
+) -> Status
+    ensures { IsWritten Status.Done (explained_text tree.now monitor.now explanation.now.plan
+        explanation.now.reasons.items) result (S.seen out.old) (S.seen out.new) }
+{
+    let outcome = write_explanation(tree, monitor, explanation, out);
+    finish(Status::Done, outcome, out)
+}
+
+/// Writes the plan, and then the reasons.
+fn write_explanation<S: Sink>(
+    tree: &MonitorTree,
+    monitor: &Monitor,
+    explanation: &Explanation,
+    out: &mut S,
+) -> Result<(), SinkFailed>
+    ensures { Wrote (S.seen out.old) (S.seen out.new) result (explained_text tree.now monitor.now
+        explanation.now.plan explanation.now.reasons.items) }
+{
+    write_plan(monitor, &explanation.plan, out)?;
+    write_reasons(tree, monitor, explanation.reasons.as_slice(), out)
 }
 
 /// The status of a verdict.

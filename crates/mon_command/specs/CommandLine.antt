@@ -36,6 +36,8 @@ pub data Command : Type 0 where
   block : List ℕ → List ℕ → Command
   -- says whether a plan, the second file, is lawful for the monitor of the first
   audit : List ℕ → List ℕ → Command
+  -- compiles a monitor to a plan, and shows why each thing stands that costs something
+  explain : List ℕ → Command
 
 -- ---- the arguments
 
@@ -151,6 +153,7 @@ name_of (report monitor) = codes "report"
 name_of (recheck monitor report_file) = codes "recheck"
 name_of (block monitor clients) = codes "block"
 name_of (audit monitor plan_file) = codes "audit"
+name_of (explain monitor) = codes "explain"
 
 -- the values are those of the command, as many as it has
 abbrev pub HasValues : List Text → Command → Type 0
@@ -165,6 +168,7 @@ HasValues values (report monitor) = values ≡ monitor ∷ []
 HasValues values (recheck monitor report_file) = values ≡ monitor ∷ report_file ∷ []
 HasValues values (block monitor clients) = values ≡ monitor ∷ clients ∷ []
 HasValues values (audit monitor plan_file) = values ≡ monitor ∷ plan_file ∷ []
+HasValues values (explain monitor) = values ≡ monitor ∷ []
 
 abbrev pub HasNoSchedule : Given → Type 0
 HasNoSchedule given = (given.seed ≡ None) × (given.spurious ≡ None)
@@ -190,6 +194,7 @@ HasOptions given (report monitor) = HasNoOptions given
 HasOptions given (recheck monitor report_file) = HasNoOptions given
 HasOptions given (block monitor clients) = HasNoOptions given
 HasOptions given (audit monitor plan_file) = HasNoOptions given
+HasOptions given (explain monitor) = HasNoOptions given
 
 -- the arguments ask for the command
 pub record Asks (given : Given) (command : Command) : Type 0 where
@@ -219,6 +224,7 @@ files_of (report monitor) = monitor ∷ []
 files_of (recheck monitor report_file) = monitor ∷ report_file ∷ []
 files_of (block monitor clients) = monitor ∷ clients ∷ []
 files_of (audit monitor plan_file) = monitor ∷ plan_file ∷ []
+files_of (explain monitor) = monitor ∷ []
 
 -- each file that the words name is one that may be read
 abbrev pub MayReadFiles : (List ℕ → Type 0) → List (List ℕ) → Type 0

@@ -2,7 +2,7 @@
 use Rattle.mon_command.specs.declared.command.Command.{Command as Words}
 use Rattle.mon_command.specs.declared.command.Command.TheVariants as read
 use Rattle.mon_command.specs.CommandLine.{Command, check, turns, compile, simulate, run, stress}
-use Rattle.mon_command.specs.CommandLine.{report, recheck, block, audit}
+use Rattle.mon_command.specs.CommandLine.{report, recheck, block, audit, explain}
 
 -- the command that one of the code stands for
 abbrev pub command_meant : Words → Command
@@ -18,3 +18,4 @@ command_meant (read.Report monitor) = report monitor.now
 command_meant (read.Recheck monitor report_file) = recheck monitor.now report_file.now
 command_meant (read.Block monitor clients) = block monitor.now clients.now
 command_meant (read.Audit monitor plan_file) = audit monitor.now plan_file.now
+command_meant (read.Explain monitor) = explain monitor.now

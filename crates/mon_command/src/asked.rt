@@ -40,6 +40,8 @@ fn single_asked<'a>(given: &Given<'a>, value: &'a str) -> Option<Command<'a>>
         stress_asked(given, value)
     } else if given.command == "report" {
         plain_asked(given, Command::Report { monitor: value })
+    } else if given.command == "explain" {
+        plain_asked(given, Command::Explain { monitor: value })
     } else {
         None
     }

@@ -69,6 +69,10 @@ pub enum Command<'a> {
         monitor: &'a str,
         plan: &'a str,
     },
+    /// Compiles a monitor to a plan, with a state that shows why each thing stands that costs something.
+    Explain {
+        monitor: &'a str,
+    },
 }
 
 /// Why words gave no command.

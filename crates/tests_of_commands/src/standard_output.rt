@@ -45,6 +45,7 @@ expresso report FILE
 expresso recheck FILE REPORT
 expresso block FILE CLIENTS
 expresso audit FILE PLAN
+expresso explain FILE
 ";
 
 const TWO_RUN: &[u8] = b"A.1 put() = -

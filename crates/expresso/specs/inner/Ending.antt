@@ -2,6 +2,8 @@
 use Rattle.std.specs.Prelude.{◌≡◌, ◌<◌, ◌≤◌, ◌⊎◌, ℕ, Bool, true, false, List}
 use Rattle.std.specs.Io.KnownBytes.{Appends}
 use Rattle.mon_io.specs.Outside.{FilesSeen, SinkSeen, Rises}
+use Rattle.mon_text.specs.declared.fault.Fault.{Fault}
+use Rattle.mon_text.specs.declared.fault.Fault.TheVariants as faults
 use Rattle.mon_text.specs.FaultText.{unread_text}
 use Rattle.expresso.specs.declared.status.Status.{Status}
 use Rattle.expresso.specs.declared.status.Status.TheVariants as statuses
@@ -53,6 +55,11 @@ IsTurnedAway IsLine status out out_now =
 abbrev pub ended : Bool → Status
 ended true = statuses.Done
 ended false = statuses.Stalled
+
+-- the status of a fault of a file
+abbrev pub fault_status : Fault → Status
+fault_status (faults.Unread file) = statuses.ReadFault
+fault_status fault = statuses.Refused
 
 -- the whole text of a command's status
 abbrev pub IsCommandText : Command → FilesSeen → FilesSeen → Status → List ℕ → Type 0

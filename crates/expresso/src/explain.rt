@@ -1,0 +1,57 @@
+//! `expresso explain FILE`.
+
+ghost use Rattle.std.specs.Prelude.{IfOk};
+ghost use Rattle.mon_command.specs.CommandLine.{explain};
+ghost use Rattle.expresso.specs.ProgramEnds.{KeepsFiles};
+ghost use Rattle.expresso.specs.inner.Ending.{CommandEnds};
+ghost use Rattle.expresso.specs.inner.Explaining.{IsExplained};
+
+use crate::input::monitor_of;
+use crate::placement::placed_of;
+use crate::status::Status;
+use crate::text::show_explanation;
+use mon_events::Plan;
+use mon_io::{Files, Sink};
+use mon_monitor::Monitor;
+use mon_why::{Reason, reasons};
+use std::alloc::{AllocError, Global};
+
+/// A plan that a monitor is compiled to, and why each thing in it stands that costs something.
+#[derive(Debug, Drop)]
+pub(crate) struct Explanation {
+    pub plan: Plan,
+    pub reasons: Vec<Reason>,
+}
+
+/// Compiles a monitor file and writes the plan, with a state that shows why each thing stands that costs something, or
+/// the line of its first fault.
+pub(crate) fn explain_file<F: Files, S: Sink>(
+    alloc: Global,
+    file: &str,
+    files: &mut F,
+    out: &mut S,
+) -> Status
+    requires { F.may_read files.old file.now }
+    ensures ended { CommandEnds (explain file.now)
+        (F.seen files.old) (F.seen files.new) result (S.seen out.old) (S.seen out.new) }
+    ensures files { KeepsFiles (F.seen files.old) (F.seen files.new)
+        (F.may_read files.old) (F.may_read files.new) }
+{
+    let found = match monitor_of(alloc, file, files, out) {
+        Ok(found) => found,
+        Err(status) => return status,
+    };
+    match explanation_of(alloc, &found.monitor) {
+        Ok(explanation) => show_explanation(&found.tree, &found.monitor, &explanation, out),
+        Err(AllocError) => Status::OutOfMemory,
+    }
+}
+
+/// The plan of a monitor with its reasons. It fails only for want of memory.
+fn explanation_of(alloc: Global, monitor: &Monitor) -> Result<Explanation, AllocError>
+    ensures { IfOk result (λ found. IsExplained monitor.now found.plan found.reasons.items) }
+{
+    let plan = placed_of(alloc, monitor)?.plan;
+    let reasons = reasons(alloc, monitor, &plan)?;
+    Ok(Explanation { plan, reasons })
+}

@@ -1,0 +1,126 @@
+#!/usr/bin/env python3
+"""`tools/reasons.py MONITOR EXPLAINED` checks each state that `expresso explain` shows.
+
+It shares no code with the product. MONITOR is in canonical form, as `expresso check` prints it. It
+prints how many states it checked and how many reasons are not decided.
+"""
+
+import pathlib
+import re
+import sys
+
+sys.dont_write_bytecode = True
+from formulas import CONSTANT, Formula  # noqa: E402
+from monitors import read_monitor  # noqa: E402
+from recheck import expect, read_plan  # noqa: E402
+
+VALUE = r"(?:-?[1-9][0-9]*|0|true|false)"
+BEYOND = " numbers beyond 128 bits"
+GIVEN = rf"(?:\((\w+={VALUE}(?: \w+={VALUE})*)\))?"
+
+
+# ---- what costs something, in order: the words of its line, and for each block that it may be about
+# the hypotheses of the triple that would spare it, and what should be true after the block
+def things_of(monitor, kept, kinds, notes):
+    facts, conditions = [fact for _, fact in kept], list(enumerate(monitor.conditions, 1))
+    noted = [(w, q, on[q][1]) for w, on in zip(monitor.blocks, notes) for q in on]
+    for w, q, _ in noted:
+        p = monitor.conditions[q - 1]
+        yield f"{w.name}{{own}} {q}{{others}}", [(w, p, facts + [w.guard, p.failing], p.failing)]
+    for (q, p), kind in zip(conditions, kinds):
+        if kind == "broadcast" and not p.reads_inputs:
+            yield f"{q} broadcast {{block}}{{own}}", [
+                (w, p, facts + [p.waiting], p.failing) for w in monitor.blocks if w.condition == q]
+    for w, q, tested in noted:
+        p = monitor.conditions[q - 1]
+        if tested:
+            yield f"{w.name}{{own}} {q}{{others}} tested", [
+                (w, p, facts + [w.guard, p.failing], p.waiting)]
+
+
+# ---- states: from places to numbers and truths
+def is_true(formula, state):
+    if formula.kind == "row":
+        return value_of(formula.value, state) <= 0
+    if formula.kind == "flag":
+        place, truth = formula.value
+        return state[place] is truth
+    return (all if formula.kind == "all" else any)(is_true(part, state) for part in formula.value)
+
+
+def value_of(form, state):
+    return sum(times * (1 if at == CONSTANT else state[at]) for at, times in form.items())
+
+
+def place_of(variable):
+    return variable.value[0] if isinstance(variable, Formula) else next(iter(variable))
+
+
+def after(body, state):
+    for statement in body:
+        if len(statement) == 3:
+            when, then, other = statement
+            state = after(then if is_true(when, state) else other, state)
+        else:
+            to, value = statement
+            held = is_true if isinstance(value, Formula) else value_of
+            state = state | {place_of(to): held(value, state)}
+    return state
+
+
+def read_values(text, variables):
+    """The values of these variables, by their places; each is named once, in order."""
+    pairs = [pair.split("=") for pair in text.removeprefix(" ").split(" ")] if text else []
+    expect([name for name, _ in pairs] == [name for name, _ in variables])
+    values = {}
+    for (_, value), (_, variable) in zip(pairs, variables):
+        is_flag = isinstance(variable, Formula)
+        expect((value in ("true", "false")) == is_flag)
+        values[place_of(variable)] = value == "true" if is_flag else int(value)
+    return values
+
+
+# ---- lines
+def check(monitor, line, words, cases):
+    """Whether the line shows a state; that a state it shows is one at which the triple fails."""
+    given = {"own": GIVEN, "others": GIVEN, "block": r"([\w.]+)"}
+    head = re.escape(words).replace(r"\{", "{").replace(r"\}", "}").format(**given)
+    if re.fullmatch("why " + re.sub(r"\{\w+\}", "", words).strip() + ": not decided", line):
+        return False
+    shown = re.fullmatch(f"why {head}:(| .*) to(| .*)", line)
+    expect(shown)
+    *heads, first, last = shown.groups()
+    if " broadcast " in words:
+        cases, heads = [case for case in cases if case[0].name == heads[0]], heads[1:] + [None]
+    (block, condition, hyps, post), (own, others) = cases[0], heads
+    fields = [(name, variable) for name, variable, _ in monitor.fields]
+    state = read_values(first, fields)
+    state |= read_values(own, list(block.own.items()))
+    state |= read_values(others, list(condition.others.items()) if condition.reads_inputs else [])
+    ended = after(block.body, state)
+    expect(all(is_true(fact, state) for fact in hyps) and not is_true(post, ended))
+    if last != BEYOND:
+        values = read_values(last, fields)
+        expect(values == {place: ended[place] for place in values})
+    return True
+
+
+def main(monitor, explained):
+    sys.setrecursionlimit(10 ** 6)
+    monitor = read_monitor(pathlib.Path(monitor).read_text("ascii"))
+    text = pathlib.Path(explained).read_text("ascii")
+    try:
+        expect(text.endswith("\n"))
+        lines = text.split("\n")[-2::-1]
+        plan = read_plan(monitor, lines)
+        shown = [check(monitor, lines.pop(), *thing) for thing in things_of(monitor, *plan)]
+        expect(not lines)
+    except (LookupError, ValueError) as fault:
+        print(f"refused: {explained}: {fault}")
+        return 1
+    print(f"{shown.count(True)} shown, {shown.count(False)} not decided")
+    return 0
+
+
+if __name__ == "__main__":
+    sys.exit(main(*sys.argv[1:]))
