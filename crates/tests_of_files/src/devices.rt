@@ -1,11 +1,7 @@
-//! Files and sinks in memory, and the files of the system.
+//! The files of the system, and a sink in memory for which there is no memory.
 
-use mon_base::Name;
-use mon_io::{
-    FileFault, Files, MemFile, MemFiles, MemSink, RealFiles, Sink, SinkFailed, write_whole,
-};
-use mon_list::Seq;
-use std::alloc::{AllocError, Global};
+use mon_io::{FileFault, Files, MemSink, RealFiles};
+use std::alloc::Global;
 use std::test::Fail;
 use std::{env, fs, process};
 
@@ -19,93 +15,6 @@ fn read<F: Files>(
     requires { F.may_read files.old name.now }
 {
     files.read_up_to(alloc, name, limit)
-}
-
-fn mem_file(alloc: Global, name: &[u8], bytes: &[u8]) -> Result<MemFile, AllocError> {
-    Ok(MemFile {
-        name: Name::of(Vec::from_slice(alloc, name)?),
-        bytes: Seq::of(Vec::from_slice(alloc, bytes)?),
-    })
-}
-
-#[test]
-fn files_in_memory_fail_at_a_listed_call_and_at_a_name_not_held(
-    rt: HostRuntime,
-) -> Result<(), Fail> {
-    let first = mem_file(rt.alloc(), b"a", b"first")?;
-    let second = mem_file(rt.alloc(), b"a", b"second")?;
-    let held = vec![in rt.alloc(); first, second]?;
-    let mut files = MemFiles::open(held, vec![in rt.alloc(); 2]?);
-    assert_eq!(rt;
-        read(&mut files, rt.alloc(), "a", 5)?.as_slice(),
-        b"first".as_slice()
-    );
-    assert_eq!(rt;
-        read(&mut files, rt.alloc(), "a", 5),
-        Err(FileFault::Failed),
-        "call 2 is listed"
-    );
-    assert_eq!(rt;
-        read(&mut files, rt.alloc(), "a", 2)?.as_slice(),
-        b"fir".as_slice()
-    );
-    assert_eq!(rt;
-        read(&mut files, rt.alloc(), "b", 5),
-        Err(FileFault::Failed),
-        "not held"
-    );
-    assert_eq!(rt; files.faults(), 2);
-    Ok(())
-}
-
-/// A write of a whole text, of whose clauses tests need none.
-pub(crate) fn whole<S: Sink>(sink: &mut S, bytes: &[u8]) -> Result<(), SinkFailed> {
-    write_whole(sink, bytes)
-}
-
-/// A write.
-pub(crate) fn part<S: Sink>(sink: &mut S, bytes: &[u8]) -> Result<usize, SinkFailed> {
-    sink.write(bytes)
-}
-
-/// A flush.
-pub(crate) fn flushed<S: Sink>(sink: &mut S) -> Result<(), SinkFailed> {
-    sink.flush()
-}
-
-/// A sink that takes ten bytes, and fails at its second call where that is listed.
-fn ten_bytes(alloc: Global, fails: bool) -> Result<MemSink, AllocError> {
-    let mut failing = Vec::new(alloc);
-    if fails {
-        failing.push(2)?;
-    }
-    MemSink::open(alloc, 10, failing)
-}
-
-#[test]
-fn a_sink_in_memory_takes_what_fits_and_then_fails(rt: HostRuntime) -> Result<(), Fail> {
-    let mut sink = ten_bytes(rt.alloc(), false)?;
-    assert_eq!(rt; whole(&mut sink, b"0123456"), Ok(()));
-    assert_eq!(rt; whole(&mut sink, b"789abc"), Err(SinkFailed));
-    assert_eq!(rt; sink.bytes(), b"0123456789".as_slice());
-    assert_eq!(rt;
-        part(&mut sink, b""),
-        Ok(0),
-        "an empty piece fits a full sink"
-    );
-    assert_eq!(rt; flushed(&mut sink), Ok(()), "nothing is kept");
-    assert_eq!(rt; sink.faults(), 1);
-    Ok(())
-}
-
-#[test]
-fn a_sink_in_memory_fails_at_a_listed_call(rt: HostRuntime) -> Result<(), Fail> {
-    let mut sink = ten_bytes(rt.alloc(), true)?;
-    assert_eq!(rt; part(&mut sink, b"ab"), Ok(2));
-    assert_eq!(rt; part(&mut sink, b"cd"), Err(SinkFailed));
-    assert_eq!(rt; part(&mut sink, b"ef"), Ok(2));
-    assert_eq!(rt; sink.bytes(), b"abef".as_slice());
-    Ok(())
 }
 
 #[test]

@@ -1,25 +1,12 @@
-//! Tests of what stands between a file's bytes and its tree: devices, tokens, both grammars and the canonical forms.
+//! Tests of devices, and of the canonical form of client files. Which tokens and files there are, and how monitors are
+//! printed, is said by the rows of the crate `rows`.
 //!
 //! There are only tests. What they ask for was taken by hand from the rules of the two languages.
 #![tactic(auto)]
 
 #[cfg(test)]
-mod client_files;
-#[cfg(test)]
 mod devices;
-#[cfg(test)]
-mod levels;
-#[cfg(test)]
-mod monitors;
-#[cfg(test)]
-mod places;
 #[cfg(test)]
 mod printing;
 #[cfg(test)]
-mod reading;
-#[cfg(test)]
 mod standard_output;
-#[cfg(test)]
-mod tokens;
-#[cfg(test)]
-mod trees;

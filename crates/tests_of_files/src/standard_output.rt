@@ -2,14 +2,28 @@
 
 ghost use Rattle.std.specs.Prelude.{◌≤◌, IfOk, length};
 
-use super::devices::{flushed, part, whole};
-use mon_io::{SinkFailed, StdSink};
+use mon_io::{Sink, SinkFailed, StdSink, write_whole};
 use std::alloc::Global;
 use std::cell::{Cell, RefCell};
 use std::fmt::Display;
 use std::io;
 use std::io::Print;
 use std::test::Fail;
+
+/// A write of a whole text, of whose clauses tests need none.
+fn whole<S: Sink>(sink: &mut S, bytes: &[u8]) -> Result<(), SinkFailed> {
+    write_whole(sink, bytes)
+}
+
+/// A write.
+fn part<S: Sink>(sink: &mut S, bytes: &[u8]) -> Result<usize, SinkFailed> {
+    sink.write(bytes)
+}
+
+/// A flush.
+fn flushed<S: Sink>(sink: &mut S) -> Result<(), SinkFailed> {
+    sink.flush()
+}
 
 /// A standard output that keeps what it is given, three bytes at a time, and fails at one write.
 #[derive(Drop)]

@@ -1,8 +1,9 @@
-//! What the prover refutes.
+//! What the prover refutes that no monitor file says: many levels, and rows in many places.
 
-use super::shapes::{Shape, level, made, nested, of_all_pairs};
+use super::shapes::{Shape, all_of, made};
 use mon_cert::{Cert, accepts};
 use mon_linear::{Formula, MOST_NODES, nodes};
+use mon_list::Seq;
 use mon_solve::refute;
 use std::alloc::{AllocError, Global};
 use std::test::Fail;
@@ -18,81 +19,6 @@ fn is_refuted(alloc: Global, formula: &Formula) -> Result<bool, AllocError> {
     }
 }
 
-/// Whether `refute` finds one of the formula that is told.
-fn refutes(alloc: Global, shape: &Shape) -> Result<bool, Fail> {
-    let formula = made(alloc, shape)?;
-    Ok(is_refuted(alloc, &formula)?)
-}
-
-#[test]
-fn a_flag_cannot_be_true_and_false(rt: HostRuntime) -> Result<(), Fail> {
-    for (other, refuted) in [(0, true), (1, false)] {
-        let flags = [Shape::Flag(0, true), Shape::Flag(other, false)];
-        assert_eq!(rt;
-            refutes(rt.alloc(), &Shape::All(&flags))?,
-            refuted,
-            "of {other}"
-        );
-    }
-    Ok(())
-}
-
-#[test]
-fn no_part_and_no_number_above_0_hold_nowhere(rt: HostRuntime) -> Result<(), Fail> {
-    for (shape, refuted) in [
-        (Shape::Any(&[]), true),
-        (Shape::Row(&[], 1), true),
-        (Shape::Row(&[], 0), false),
-        (Shape::All(&[]), false),
-    ] {
-        assert_eq!(rt; refutes(rt.alloc(), &shape)?, refuted);
-    }
-    Ok(())
-}
-
-#[test]
-fn a_cycle_is_refuted_where_its_sum_is_above_0(rt: HostRuntime) -> Result<(), Fail> {
-    for (first, refuted) in [(0, false), (1, true)] {
-        let rows = [
-            Shape::Row(&[(0, 1), (1, -1)], first),
-            Shape::Row(&[(1, 1), (2, -1)], 0),
-            Shape::Row(&[(0, -1), (2, 1)], 0),
-        ];
-        assert_eq!(rt;
-            refutes(rt.alloc(), &Shape::All(&rows))?,
-            refuted,
-            "from {first}"
-        );
-    }
-    Ok(())
-}
-
-#[test]
-fn two_rows_are_refuted_where_they_face_each_other(rt: HostRuntime) -> Result<(), Fail> {
-    let row = Shape::Row(&[(0, 1), (1, -1)], 1);
-    let facing = Shape::Row(&[(0, -1), (1, 1)], 0);
-    let alike = Shape::Row(&[(0, 1), (1, -1)], 0);
-    assert!(rt; refutes(rt.alloc(), &Shape::All(&[row, facing]))?);
-    assert!(rt; !refutes(rt.alloc(), &Shape::All(&[row, alike]))?);
-    assert!(rt; !refutes(rt.alloc(), &row)?);
-    Ok(())
-}
-
-#[test]
-fn rows_that_are_no_difference_rows_are_tried(rt: HostRuntime) -> Result<(), Fail> {
-    let sums = [
-        Shape::Row(&[(0, 1), (1, 1)], -4),
-        Shape::Row(&[(0, -1), (1, -1)], 5),
-    ];
-    assert!(rt; refutes(rt.alloc(), &Shape::All(&sums))?);
-    let multiples = [
-        Shape::Row(&[(0, 2), (1, 3)], -4),
-        Shape::Row(&[(0, -4), (1, -6)], 9),
-    ];
-    assert!(rt; refutes(rt.alloc(), &Shape::All(&multiples))?);
-    Ok(())
-}
-
 /// How many sums the chain has that refutes the formula, and none where no chain does.
 fn sums_made(alloc: Global, formula: &Formula) -> Result<Option<usize>, AllocError> {
     if nodes(formula) > MOST_NODES {
@@ -104,56 +30,89 @@ fn sums_made(alloc: Global, formula: &Formula) -> Result<Option<usize>, AllocErr
     }
 }
 
+/// The same of all of these parts.
+fn sums_of(alloc: Global, parts: &[Shape]) -> Result<Option<usize>, Fail> {
+    let formula = all_of(alloc, parts)?;
+    Ok(sums_made(alloc, &formula)?)
+}
+
+/// Three rows that add up to 1, among others and a flag.
+const SIX: [Shape; 6] = [
+    Shape::Row(&[(0, 2), (1, -3)], 0),
+    Shape::Row(&[(0, 1), (1, 1)], -100),
+    Shape::Row(&[(0, -1), (1, -2)], -100),
+    Shape::Flag(0, true),
+    Shape::Row(&[(1, 3), (2, -2)], 0),
+    Shape::Row(&[(0, -2), (2, 2)], 1),
+];
+
 #[test]
 fn only_sums_that_are_needed_are_kept(rt: HostRuntime) -> Result<(), Fail> {
-    let rows = [
-        Shape::Row(&[(0, 2), (1, -3)], 0),
-        Shape::Row(&[(0, 1), (1, 1)], -100),
-        Shape::Row(&[(0, -1), (1, -2)], -100),
-        Shape::Flag(0, true),
-        Shape::Row(&[(1, 3), (2, -2)], 0),
-        Shape::Row(&[(0, -2), (2, 2)], 1),
-    ];
-    let formula = made(rt.alloc(), &Shape::All(&rows))?;
-    assert!(rt; is_refuted(rt.alloc(), &formula)?);
-    assert_eq!(rt; sums_made(rt.alloc(), &formula)?, Some(2));
+    assert_eq!(rt; sums_of(rt.alloc(), &SIX)?, Some(2));
     Ok(())
 }
 
-#[test]
-fn each_part_of_an_any_is_looked_at(rt: HostRuntime) -> Result<(), Fail> {
-    for (last, refuted) in [(1, true), (0, false)] {
-        let choice = [Shape::Flag(0, false), Shape::Row(&[(0, -1), (1, 1)], last)];
-        let parts = [
-            Shape::Any(&choice),
-            Shape::Flag(0, true),
-            Shape::Row(&[(0, 1), (1, -1)], 0),
-        ];
-        assert_eq!(rt;
-            refutes(rt.alloc(), &Shape::All(&parts))?,
-            refuted,
-            "with {last}"
-        );
+/// All, or any, of one part.
+fn level(alloc: Global, part: Formula, of_all: bool) -> Result<Formula, AllocError> {
+    let parts = Seq::of(Vec::from_array(alloc, [part])?);
+    if of_all {
+        Ok(Formula::All(parts))
+    } else {
+        Ok(Formula::Any(parts))
     }
-    Ok(())
+}
+
+/// A formula in so many alls, or anys, of one part.
+fn levels(alloc: Global, part: Formula, count: u32, of_all: bool) -> Result<Formula, AllocError> {
+    let mut formula = part;
+    for _ in 0..count {
+        formula = level(alloc, formula, of_all)?;
+    }
+    Ok(formula)
+}
+
+/// Whether a false row is refuted in so many levels of anys, and these in so many of alls.
+fn is_level_refuted(alloc: Global, anys: u32, alls: u32) -> Result<bool, Fail> {
+    let row = made(alloc, &Shape::Row(&[], 1))?;
+    let choices = levels(alloc, row, anys, false)?;
+    let formula = levels(alloc, choices, alls, true)?;
+    Ok(is_refuted(alloc, &formula)?)
 }
 
 #[test]
 fn a_thousand_levels_are_answered(rt: HostRuntime) -> Result<(), Fail> {
-    let mut formula = nested(rt.alloc(), &Shape::Row(&[], 1), 1_000, false)?;
-    assert!(rt; is_refuted(rt.alloc(), &formula)?);
-    for _ in 0..1_000 {
-        formula = level(rt.alloc(), formula, true)?;
-    }
-    assert!(rt; is_refuted(rt.alloc(), &formula)?);
+    assert!(rt; is_level_refuted(rt.alloc(), 1_000, 0)?);
+    assert!(rt; is_level_refuted(rt.alloc(), 1_000, 1_000)?);
     Ok(())
+}
+
+/// The rows by which the place's variable and that of each place before are at most one another.
+fn push_pairs(alloc: Global, rows: &mut Vec<Formula>, place: u32, first: i128) -> Result<(), Fail> {
+    for other in 0..place {
+        rows.push(made(alloc, &Shape::Row(&[(other, 1), (place, -1)], first))?)?;
+        rows.push(made(alloc, &Shape::Row(&[(other, -1), (place, 1)], 0))?)?;
+    }
+    Ok(())
+}
+
+/// By each row the variable of one of so many places is at most another's, and in a pair's first row this much less.
+fn of_all_pairs(alloc: Global, places: u32, first: i128) -> Result<Formula, Fail> {
+    let mut rows = Vec::new(alloc);
+    for place in 0..places {
+        push_pairs(alloc, &mut rows, place, first)?;
+    }
+    Ok(Formula::All(Seq::of(rows)))
+}
+
+/// Whether rows of 66 places are refuted, which are this much less in a pair's first row.
+fn are_pairs_refuted(alloc: Global, first: i128) -> Result<bool, Fail> {
+    let formula = of_all_pairs(alloc, 66, first)?;
+    Ok(is_refuted(alloc, &formula)?)
 }
 
 #[test]
 fn many_places_and_rows_are_decided(rt: HostRuntime) -> Result<(), Fail> {
-    for (first, refuted) in [(0, false), (1, true)] {
-        let formula = of_all_pairs(rt.alloc(), 66, first)?;
-        assert_eq!(rt; is_refuted(rt.alloc(), &formula)?, refuted, "with {first}");
-    }
+    assert!(rt; !are_pairs_refuted(rt.alloc(), 0)?);
+    assert!(rt; are_pairs_refuted(rt.alloc(), 1)?);
     Ok(())
 }

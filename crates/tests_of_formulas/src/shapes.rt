@@ -11,22 +11,18 @@ use std::alloc::{AllocError, Global};
 use std::test::Fail;
 
 /// `2^95`
-pub(crate) const BOUND: i128 = 1 << 95;
+const BOUND: i128 = 1 << 95;
 
-/// A formula told by plain data.
+/// A part of a formula told by plain data.
 #[derive(Clone, Copy)]
 pub(crate) enum Shape<'a> {
     /// So many times the variables of these places, and this constant, add up to at most 0.
     Row(&'a [(u32, i128)], i128),
     /// The truth value at the place is this one.
     Flag(u32, bool),
-    /// Each part holds.
-    All(&'a [Shape<'a>]),
-    /// Some part holds.
-    Any(&'a [Shape<'a>]),
 }
 
-pub(crate) fn term(place: u32, times: i128) -> Term {
+fn term(place: u32, times: i128) -> Term {
     Term { place, times }
 }
 
@@ -110,7 +106,6 @@ pub(crate) fn form(alloc: Global, terms: &[(u32, i128)], constant: i128) -> Resu
 }
 
 /// The formula that is told.
-#[cycle(made)]
 pub(crate) fn made(alloc: Global, shape: &Shape) -> Result<Formula, Fail> {
     match shape {
         Shape::Row(terms, constant) => Ok(Formula::Row(form(alloc, terms, *constant)?)),
@@ -118,58 +113,14 @@ pub(crate) fn made(alloc: Global, shape: &Shape) -> Result<Formula, Fail> {
             place: *place,
             is: *is,
         }),
-        Shape::All(parts) => Ok(Formula::All(Seq::of(made_parts(alloc, parts)?))),
-        Shape::Any(parts) => Ok(Formula::Any(Seq::of(made_parts(alloc, parts)?))),
     }
 }
 
-#[cycle(made)]
-fn made_parts(alloc: Global, shapes: &[Shape]) -> Result<Vec<Formula>, Fail> {
+/// All of these parts.
+pub(crate) fn all_of(alloc: Global, shapes: &[Shape]) -> Result<Formula, Fail> {
     let mut parts = Vec::new(alloc);
     for shape in shapes {
         parts.push(made(alloc, shape)?)?;
     }
-    Ok(parts)
-}
-
-/// The rows by which the place's variable and that of each place before are at most one another.
-fn push_pairs(alloc: Global, rows: &mut Vec<Formula>, place: u32, first: i128) -> Result<(), Fail> {
-    for other in 0..place {
-        rows.push(made(alloc, &Shape::Row(&[(other, 1), (place, -1)], first))?)?;
-        rows.push(made(alloc, &Shape::Row(&[(other, -1), (place, 1)], 0))?)?;
-    }
-    Ok(())
-}
-
-/// By each row the variable of one of so many places is at most another's, and in a pair's first row this much less.
-pub(crate) fn of_all_pairs(alloc: Global, places: u32, first: i128) -> Result<Formula, Fail> {
-    let mut rows = Vec::new(alloc);
-    for place in 0..places {
-        push_pairs(alloc, &mut rows, place, first)?;
-    }
-    Ok(Formula::All(Seq::of(rows)))
-}
-
-/// The formula in so many alls, or anys, of one part.
-pub(crate) fn nested(
-    alloc: Global,
-    inner: &Shape,
-    levels: u32,
-    of_all: bool,
-) -> Result<Formula, Fail> {
-    let mut formula = made(alloc, inner)?;
-    for _ in 0..levels {
-        formula = level(alloc, formula, of_all)?;
-    }
-    Ok(formula)
-}
-
-/// All, or any, of one part.
-pub(crate) fn level(alloc: Global, part: Formula, of_all: bool) -> Result<Formula, AllocError> {
-    let parts = Seq::of(Vec::from_array(alloc, [part])?);
-    if of_all {
-        Ok(Formula::All(parts))
-    } else {
-        Ok(Formula::Any(parts))
-    }
+    Ok(Formula::All(Seq::of(parts)))
 }

@@ -1,8 +1,7 @@
-//! Tests of the crates that run monitors: scripts, steps of the implicit machine, plans, events, sections,
-//! schedules, and the large input.
+//! Tests of single events and sections, which no command makes alone, and of the large input. What the runs of whole
+//! schedules are is said by the rows of the crate `rows`.
 //!
-//! There are only tests. The answers were worked out by hand from the rules of the machines; those of drawn schedules
-//! are of a model in another language.
+//! There are only tests. The answers were worked out by hand from the rules of the machines.
 #![tactic(auto)]
 
 #[cfg(test)]
@@ -10,16 +9,6 @@ mod events;
 #[cfg(test)]
 mod large;
 #[cfg(test)]
-mod machine;
-#[cfg(test)]
-mod plans;
-#[cfg(test)]
 mod reading;
-#[cfg(test)]
-mod room;
-#[cfg(test)]
-mod schedules;
-#[cfg(test)]
-mod scripts;
 #[cfg(test)]
 mod sections;

@@ -1,51 +1,14 @@
-//! Sections on the lock and clients that are read from texts, by a plan that was worked out by hand.
+//! What a section and a spurious wake-up answer, of a client of the lock that waits.
 
 ghost use Rattle.std.specs.Prelude.{◌≡◌, length};
 
-use super::reading::{clients_of, fitting_plan, monitor_of};
-use mon_events::{CondKind, Entry, Outcome};
+use super::reading::{clients_of, monitor_of};
+use mon_events::{Entry, Outcome, Plan};
 use mon_explicit::{FreeMonitor, NotReady, Section, SpuriousFault};
-use mon_implicit::Reply;
 use samples::monitors::LOCK;
-use samples::plans::signal;
 use std::alloc::Global;
 use std::process::Abort;
 use std::test::Fail;
-
-/// Thirty-one clients that wait for the lock to be held, and one that takes it as often.
-const MANY: &[u8] = b"client a { release(); }
-client b { release(); }
-client c { release(); }
-client d { release(); }
-client e { release(); }
-client f { release(); }
-client g { release(); }
-client h { release(); }
-client i { release(); }
-client j { release(); }
-client k { release(); }
-client l { release(); }
-client m { release(); }
-client n { release(); }
-client o { release(); }
-client p { release(); }
-client q { release(); }
-client r { release(); }
-client s { release(); }
-client t { release(); }
-client u { release(); }
-client v { release(); }
-client w { release(); }
-client x { release(); }
-client y { release(); }
-client z { release(); }
-client aa { release(); }
-client ab { release(); }
-client ac { release(); }
-client ad { release(); }
-client ae { release(); }
-client Z { repeat 31 { acquire(); } }
-";
 
 /// A monitor, and how many clients it has.
 #[derive(Drop)]
@@ -65,14 +28,6 @@ impl Running {
         }
     }
 
-    /// What came of a section that was made.
-    fn outcome(&mut self, client: u32) -> Option<Outcome> {
-        match self.section(client)? {
-            Ok(section) => Some(section.entry.outcome),
-            Err(NotReady { entries: _ }) => None,
-        }
-    }
-
     /// Wakes a client by nothing, where there is one of this number.
     fn spurious(&mut self, client: u32) -> Option<Result<(), SpuriousFault>> {
         if client < self.clients {
@@ -83,13 +38,11 @@ impl Running {
     }
 }
 
-/// The lock at the start, with its clients, whose blocks signal each other's condition.
+/// The lock at the start, with these clients and one spurious entry to come.
 fn started(alloc: Global, clients: &[u8]) -> Result<Running, Fail> {
     let monitor = monitor_of(alloc, LOCK)?;
     let scripts = clients_of(alloc, clients, &monitor)?;
-    let kinds = [CondKind::Signal, CondKind::Signal];
-    let notes = [Some(signal(2, false)), Some(signal(1, false))];
-    let plan = fitting_plan(alloc, &monitor, &kinds, &notes)?;
+    let plan = Plan::everyone(alloc, &monitor)?;
     let clients = scripts.clients().len() as u32;
     let free = FreeMonitor::open(alloc, monitor, plan, scripts, 1)?;
     Ok(Running { free, clients })
@@ -164,47 +117,4 @@ fn a_client_that_waits_is_woken_by_nothing_once(rt: HostRuntime) -> Result<(), F
         Check::Length(3),
     ];
     meets(&rt, b"client A { release(); }", &checks)
-}
-
-/// A reply without a value, of a call that woke these clients.
-fn replied(woken: u32) -> Option<Outcome> {
-    Some(Outcome::Replies {
-        reply: Reply::Unit,
-        woken,
-    })
-}
-
-impl Running {
-    /// The first client, from the last one of 31 down, whose section is not one that waits.
-    fn first_that_goes_on(&mut self) -> Option<u32> {
-        for place in 0..31 {
-            if self.outcome(30 - place) != Some(Outcome::Waits) {
-                return Some(30 - place);
-            }
-        }
-        None
-    }
-
-    /// The first client, from the last one of 31 down, that a section of the last client does not wake alone, or whose
-    /// own section does not reply then.
-    fn first_left_behind(&mut self) -> Option<u32> {
-        for place in 0..31 {
-            let next = 30 - place;
-            if self.outcome(31) != replied(1 << next) || self.outcome(next) != replied(0) {
-                return Some(next);
-            }
-        }
-        None
-    }
-}
-
-#[test]
-fn clients_that_wait_leave_in_the_order_in_which_they_came(rt: HostRuntime) -> Result<(), Fail> {
-    let mut running = started(rt.alloc(), MANY)?;
-    let going = running.first_that_goes_on();
-    assert_eq!(rt; going, None);
-    let left = running.first_left_behind();
-    assert_eq!(rt; left, None);
-    assert!(rt; running.free.closed());
-    Ok(())
 }

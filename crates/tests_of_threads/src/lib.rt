@@ -1,12 +1,10 @@
-//! Tests of what threads share: what may cross threads, tickets of the ready queue, two passes of a monitor in turn, the
-//! receipts of four threads against the closed log, and the log's length as it is observed while another thread makes a
-//! section.
+//! Tests of what threads share: tickets of the ready queue, two passes of a monitor in turn, and the log's length as it is
+//! observed while another thread makes a section. Runs of many threads are rows of the crate `rows`, and tests of
+//! commands.
 //!
 //! There are only tests.
 #![tactic(auto)]
 
-#[cfg(test)]
-mod crossing;
 #[cfg(test)]
 mod meeting;
 #[cfg(test)]
@@ -15,7 +13,5 @@ mod observing;
 mod opening;
 #[cfg(test)]
 mod sharing;
-#[cfg(test)]
-mod threading;
 #[cfg(test)]
 mod tickets;

@@ -88,20 +88,3 @@ fn a_ticket_goes_to_another_pass_when_it_is_put_back(rt: HostRuntime) -> Result<
     assert!(rt; handing.after == Some(0));
     Ok(())
 }
-
-#[test]
-fn a_queue_for_no_clients_is_empty(rt: HostRuntime) -> Result<(), Fail> {
-    let (queue, mut passes) = ReadyQueue::open(rt.alloc(), 0, 1)?;
-    let Some(mut pass) = passes.pop() else {
-        return Ok(());
-    };
-    assert!(rt; queue.take(&rt, &mut pass).is_none());
-    Ok(())
-}
-
-#[test]
-fn a_queue_ends_with_all_its_passes(rt: HostRuntime) -> Result<(), Fail> {
-    let (queue, passes) = ReadyQueue::open(rt.alloc(), 3, 2)?;
-    queue.close(passes);
-    Ok(())
-}
