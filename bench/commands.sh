@@ -1,6 +1,6 @@
 #!/usr/bin/env bash
-# Measures the program's commands on generated files of 4,096, 16,384 and 65,536 bytes, `compile` on monitors that are
-# hard to compile, `run` on a buffer with 32 clients and 16,384 calls, and a monitor of 64 blocks: median wall time, instructions as callgrind
+# Measures the program's commands on generated files of 4,096, 16,384 and 65,536 bytes, `compile` and `explain` on monitors
+# that are hard to compile, `run` on a buffer with 32 clients and 16,384 calls, and a monitor of 64 blocks: median wall time, instructions as callgrind
 # counts them, and peak memory. With more than one worker the instructions vary with the schedule, and are not counted.
 #
 #   bench/commands.sh          builds the program, and measures
@@ -45,6 +45,7 @@ done
 for name in rounds deep flags wide numbers; do
   "$here/hard.py" "$name" >"$work/$name.mon"
   measure compile "$name.mon" - "$work/$name.mon"
+  measure explain "$name.mon" - "$work/$name.mon"
 done
 
 for clients in sides in-turn; do

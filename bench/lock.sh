@@ -22,10 +22,16 @@ openings=3
 
 # The crates of the repository on which these stand, and these.
 stands_on() {
-  for name in "$@"; do
-    echo "$name"
-    sed -n "s/^$name://p" "$root/crates.txt" | tr ' ' '\n' | sed -n '/^mon_/p'
-  done | sort -u
+  local known more
+  more=$(printf '%s\n' "$@" | sort -u)
+  while [ "$more" != "${known:-}" ]; do
+    known=$more
+    more=$(for name in $known; do
+      echo "$name"
+      sed -n "s/^$name://p" "$root/crates.txt" | tr ' ' '\n' | sed -n '/^mon_/p'
+    done | sort -u)
+  done
+  echo "$known"
 }
 
 # Writes the program that is measured.

@@ -3,6 +3,7 @@
 
   measure.py single ROUNDS COMMAND [--instructions]   prints: milliseconds instructions peak_kib
   measure.py pair ROUNDS OURS PEER                    prints: ours_ms peer_ms ratio ours_kib peer_kib
+  measure.py times ROUNDS OURS.. PEER                 prints: ours_ms.. peer_ms ratio..
   measure.py rates ROUNDS OURS.. PEER                 prints: ours_a_second.. peer_a_second ratio..
 
 A command is one word for the shell's quoting, as 'out/expresso_cli check a.mon'. Each number is the median of the
@@ -100,6 +101,14 @@ def pair(rounds, ours, peer):
     return f"{mine:.1f} {theirs:.1f} {mine / theirs:.2f} {memory}"
 
 
+def times(rounds, *commands):
+    """The row of commands that are timed alone, whatever they print. The last is the peer."""
+    runs = interleaved(rounds, *commands)
+    medians = [statistics.median(one[0] for one in column) for column in zip(*runs)]
+    ratios = [mine / medians[-1] for mine in medians[:-1]]
+    return " ".join([f"{median:.1f}" for median in medians] + [f"{ratio:.2f}" for ratio in ratios])
+
+
 def rate(output):
     """Sections a second, over all lines of an output."""
     counts = [(int(made), int(spent)) for made, spent in RATE.findall(output)]
@@ -123,6 +132,8 @@ def main(words):
             print(single(int(rounds), shlex.split(command), bool(flags)))
         case ["pair", rounds, ours, peer]:
             print(pair(int(rounds), shlex.split(ours), shlex.split(peer)))
+        case ["times", rounds, _, _, *_]:
+            print(times(int(rounds), *map(shlex.split, words[2:])))
         case ["rates", rounds, _, _, *_]:
             print(rates(int(rounds), *map(shlex.split, words[2:])))
         case _:
