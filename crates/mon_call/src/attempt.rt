@@ -54,7 +54,9 @@ fn make_section<R: Wait>(
         (λ receipt. HasReplied client caller.old.known caller.new.known receipt) }
     ensures always { IsKnown caller.new.known }
 {
+    let door = parkers.enter(rt);
     let made = monitor.section(rt, caller, client);
+    drop(door);
     tell_woken(rt, parkers, made);
     reply_of(made)
 }
@@ -117,7 +119,10 @@ fn tell_closed<R: Wait>(rt: &R, monitor: &SharedMonitor, parkers: &Parkers, call
     ensures looks { Looks caller.old.known caller.new.known }
     ensures always { IsKnown caller.new.known }
 {
-    if monitor.is_closed(rt, caller) {
+    let door = parkers.enter(rt);
+    let closed = monitor.is_closed(rt, caller);
+    drop(door);
+    if closed {
         parkers.unpark_all(rt);
     }
 }
@@ -138,7 +143,9 @@ fn look<R: Wait>(
         (λ end. Commits client caller.old.known caller.new.known end) }
     ensures always { IsKnown caller.new.known }
 {
+    let door = parkers.enter(rt);
     let standing = monitor.standing(rt, caller, client);
+    drop(door);
     tell_standing(rt, parkers, client, standing);
     end_of(standing, caller.seen())
 }

@@ -7,7 +7,7 @@
 use mon_explicit::Entry;
 use mon_implicit::Scripts;
 use std::alloc::{AllocError, Global};
-use std::sync::{Condvar, Mutex, Wait};
+use std::sync::{Condvar, Mutex, MutexGuard, Wait};
 
 /// A client's token, on which its caller sleeps, and how many calls the client has.
 #[derive(Drop)]
@@ -42,10 +42,15 @@ impl Parker {
     }
 }
 
-/// The parkers of all clients.
+/// The parkers of all clients, and the door ahead of the monitor.
+///
+/// Whoever asks the monitor for something goes through the door, so that one seat at a time has a ticket of its lock. Else
+/// most callers would sleep there until their tickets are served, and each be woken in turn, where the door leaves the
+/// monitor to a caller that is awake.
 #[derive(Drop)]
 pub struct Parkers {
     clients: Vec<Parker>,
+    door: Mutex<()>,
 }
 
 impl Parkers {
@@ -55,7 +60,15 @@ impl Parkers {
         for client in scripts.clients() {
             clients.push(Parker::new(client.calls.items().len()))?;
         }
-        Ok(Parkers { clients })
+        Ok(Parkers {
+            clients,
+            door: Mutex::new(()),
+        })
+    }
+
+    /// Waits until nobody else is behind the door.
+    pub fn enter<R: Wait>(&self, rt: &R) -> MutexGuard<'_, ()> {
+        self.door.lock(rt)
     }
 
     /// Sleeps until someone unparks the client, or did so since its caller last slept.
