@@ -1,0 +1,10 @@
+pub mod Letters
+pub mod Apart
+pub mod NoKeywords
+pub mod Reading
+pub mod Meanings
+pub mod OddNames
+pub mod Spellings
+pub mod Tries
+pub mod TryTexts
+pub mod Written

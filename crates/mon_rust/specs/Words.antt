@@ -1,0 +1,31 @@
+-- The words that have a meaning in Rust, or in an emitted module.
+use Rattle.std.specs.Prelude.{ℕ, List, [], ◌∷◌, codes}
+
+-- the keywords of all editions, and those that are reserved
+abbrev pub KEYWORDS : List (List ℕ)
+KEYWORDS =
+    codes "as" ∷ codes "break" ∷ codes "const" ∷ codes "continue" ∷ codes "crate" ∷ codes "else" ∷
+    codes "enum" ∷ codes "extern" ∷ codes "false" ∷ codes "fn" ∷ codes "for" ∷ codes "if" ∷
+    codes "impl" ∷ codes "in" ∷ codes "let" ∷ codes "loop" ∷ codes "match" ∷ codes "mod" ∷
+    codes "move" ∷ codes "mut" ∷ codes "pub" ∷ codes "ref" ∷ codes "return" ∷ codes "self" ∷
+    codes "Self" ∷ codes "static" ∷ codes "struct" ∷ codes "super" ∷ codes "trait" ∷ codes "true" ∷
+    codes "type" ∷ codes "unsafe" ∷ codes "use" ∷ codes "where" ∷ codes "while" ∷ codes "async" ∷
+    codes "await" ∷ codes "dyn" ∷ codes "abstract" ∷ codes "become" ∷ codes "box" ∷ codes "do" ∷
+    codes "final" ∷ codes "gen" ∷ codes "macro" ∷ codes "override" ∷ codes "priv" ∷ codes "try" ∷
+    codes "typeof" ∷ codes "unsized" ∷ codes "virtual" ∷ codes "yield" ∷ []
+
+-- other types of a module
+abbrev pub TYPE_WORDS : List (List ℕ)
+TYPE_WORDS =
+    codes "State" ∷ codes "Overflow" ∷ codes "Mutex" ∷ codes "MutexGuard" ∷ codes "Condvar" ∷
+    codes "PoisonError" ∷ codes "Default" ∷ codes "Result" ∷ codes "Option" ∷ []
+
+-- the other function of a monitor's type
+abbrev pub MEMBER_WORDS : List (List ℕ)
+MEMBER_WORDS = codes "new" ∷ []
+
+-- what else is named in the methods of a module
+abbrev pub INPUT_WORDS : List (List ℕ)
+INPUT_WORDS =
+    codes "state" ∷ codes "next" ∷ codes "answer" ∷ codes "lock" ∷ codes "wait" ∷ codes "narrow" ∷
+    codes "drop" ∷ codes "Ok" ∷ codes "Err" ∷ codes "Some" ∷ codes "None" ∷ codes "Overflow" ∷ []
