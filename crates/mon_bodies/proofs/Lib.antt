@@ -1,0 +1,6 @@
+pub mod TakenTexts
+pub mod GuardTexts
+pub mod Depths
+pub mod StatementTexts
+pub mod Turns
+pub mod BodyTexts

@@ -1,0 +1,6 @@
+pub mod Blocks
+pub mod Guards
+pub mod Statements
+pub mod Traces
+pub mod Bodies
+pub mod inner

@@ -1,0 +1,19 @@
+//! The functions of the state in the Rust module of a monitor.
+//!
+//! Each block of a method has a function that runs its body, and where it waits one that tests its
+//! guard: [`write_body`] and [`write_guard`] write them, as `specs/Bodies` and `specs/Guards` say.
+//! A body stops at the first value that needs more than 64 bits, and then nothing is changed: where
+//! a field may be assigned before, it works on a copy of the state (`specs/Traces`). [`fails`] says
+//! whether a body may stop. The other calls write parts that methods have too (`specs/Blocks`).
+#![tactic(auto)]
+
+mod blocks;
+mod bodies;
+mod depth;
+mod guards;
+mod statements;
+mod traces;
+
+pub use blocks::{kind_bytes, kind_declared, lending_bytes, write_block_name, write_parameters};
+pub use bodies::{fails, write_arrow, write_body};
+pub use guards::write_guard;
