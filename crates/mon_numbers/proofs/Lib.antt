@@ -1,0 +1,15 @@
+pub mod Short
+pub mod Atoms
+pub mod Running
+pub mod Fields
+pub mod Traced
+pub mod Endings
+pub mod Steps
+pub mod Bounds
+pub mod Worked
+pub mod SumLengths
+pub mod Wide
+pub mod FileWords
+pub mod ShortSums
+pub mod Expressions
+pub mod Starts
