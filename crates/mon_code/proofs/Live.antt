@@ -98,7 +98,7 @@ fits_each monitor (notes ∷ all) fits =
 
 -- ---- the notes of a block
 
-notes_live : (monitor : MonitorParts) (plan : Plan) (block : ℕ) → notes_at (live_plan monitor plan) block ≡ heard_notes monitor (notes_at plan block)
+pub notes_live : (monitor : MonitorParts) (plan : Plan) (block : ℕ) → notes_at (live_plan monitor plan) block ≡ heard_notes monitor (notes_at plan block)
 notes_live monitor plan block = ap (λ (found : Option (List Note)). unwrap_or found []) (slice_get-map (heard_notes monitor) plan.notes block) ∙ by (slice_get plan.notes block)
   where
     by : (found : Option (List Note)) → unwrap_or (option_map (heard_notes monitor) found) [] ≡ heard_notes monitor (unwrap_or found [])

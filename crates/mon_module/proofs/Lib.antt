@@ -1,0 +1,9 @@
+mod Numbered
+mod Choices
+mod Lookups
+mod Arguments
+mod Runs
+mod Blocks
+mod Wakes
+mod Tests
+mod Functions

@@ -1,0 +1,15 @@
+use Rattle.std.proofs.Common.{codes, [], rules, ◌+◌}
+use Rattle.mon_code.specs.Code.{is_always}
+use Rattle.mon_io.proofs.Writing.{wrote_same}
+use Rattle.mon_module.proofs.Choices.{no_text, yes_text}
+use Rattle.mon_module.specs.Conditions.{around_name}
+use Rattle.mon_module.specs.Sources.{seen}
+use Rattle.mon_module.proofs.module.write_condition_start.Goals as goal
+
+pub returns-then-is_always : goal.returns-then-is_always
+returns-then-is_always g c =
+    wrote_same _ (yes_text (is_always c.args.which.now.guard) _ [] (around_name (seen c.args.source.now) (codes "            ") (c.args.place + 1) (codes ": Condvar::new(),\n")) c.is_always.ensures c.if-is_always.true) (search rules)
+
+pub returns : goal.returns
+returns g c =
+    wrote_same _ (no_text (is_always c.args.which.now.guard) _ [] (around_name (seen c.args.source.now) (codes "            ") (c.args.place + 1) (codes ": Condvar::new(),\n")) c.is_always.ensures c.if-is_always.false) c.write_around_name.ensures
