@@ -6,6 +6,7 @@ pub mod Knowing
 pub mod Stepping
 pub mod Seating
 pub mod Calling
+pub mod Waiters
 pub mod Gathering
 pub mod Readiness
 pub mod Crossing

@@ -3,10 +3,10 @@ use Rattle.std.proofs.Common.{◌≡◌, ◌≢◌, ℕ, zero, suc, ◌+◌, ◌
 use Rattle.std.proofs.lemmas.List.{append-nil}
 use Rattle.std.proofs.lemmas.List.Elements.{All-nil}
 use mathlib.Core.Logic.{dite}
-use mathlib.Core.Option.{some, some-injective, some-ne-none}
+use mathlib.Core.Option.{none, some, some-injective, some-ne-none}
 use native.Mathlib.Decide.{dec_le}
 use lib.ListN.{get_elem?}
-use Rattle.atomic_table.specs.Table.{Splits, Joins, opening, Final, Seen}
+use Rattle.atomic_table.specs.Table.{step, Enters, Splits, Joins, opening, Final, Seen}
 use Rattle.atomic_table.proofs.Lists.{at_snoc, at_longer, set_else}
 use Rattle.mon_explicit.specs.Sections.{FreeMachine, HoldsAlways}
 use Rattle.mon_lock.specs.declared.receipt.Receipt.{Receipt}
@@ -18,6 +18,7 @@ use Rattle.mon_lock.specs.Passes.{IsKnown, newly_known}
 use Rattle.mon_lock.specs.Closing.{times}
 use Rattle.mon_lock.specs.inner.Queueing.{ticket_of, holds, queued, total, AreInTurn, Agrees, Fits, AreApart, IsFree, IsTaken, Kept, merged, one_less, one_part, together, spent, newcomer}
 use Rattle.mon_lock.specs.inner.Ends.{EndsWith}
+use Rattle.mon_lock.specs.inner.Steps.{Came}
 use Rattle.mon_lock.proofs.Growing.{follows_same}
 use Rattle.mon_lock.proofs.Receipts.{times_before, times_after, times_once}
 use Rattle.mon_lock.proofs.Merging.{times_merged}
@@ -96,6 +97,35 @@ module _ (key : Terms) where
         queue = queue_stays r.served r.drawn (vs ++ u ∷ []) s.views back on (let p = total_same in_queue s.views id v w at refl in let z = total_snoc in_queue vs u in omega arith) r.queue;
         lock = lock_stays r.served r.limit r.top s.homes (vs ++ u ∷ []) s.views back on r.lock;
       }
+
+  -- ---- a seat comes that has no part
+
+  pub spares : (slots : ℕ) → Enters (Kept key) slots 1 (λ n w. Came (step slots 1 0 0 none) (newcomer key, []) n (w, []))
+  spares slots s r _ _ =
+      let u : View = spent in let vs : List View = s.views in
+      let back : Within (vs ++ u ∷ []) vs = λ j e t p has. ⊎_elim (λ q. q) (λ (same : u ≡ e). absurd (idle_has e.stage t (ap (λ (y : View). y.stage) (sym same)) has)) (at_snoc vs u e j p) in
+      let on : Within vs (vs ++ u ∷ []) = λ j e t p has. at_longer vs (u ∷ []) j e p in (
+        u,
+        record {
+          top = r.top;
+          history = r.history;
+          limit = r.limit;
+          served = r.served;
+          drawn = r.drawn;
+          words = r.words;
+          few = r.few;
+          whole = (let q = r.whole in let z = total_snoc parts vs u in omega arith);
+          made = r.made;
+          receipts = λ place. let q = r.receipts place in let z = total_snoc (claim place) vs u in omega arith;
+          each = λ j e p. ⊎_elim
+              (r.each j e)
+              (λ (same : u ≡ e). subst (Fits r.served r.drawn r.history r.top) same (record { known = λ p. absurd (omega arith); joined = λ _. refl; ticket = λ t has. absurd (some-ne-none t (sym has)) }))
+              (at_snoc vs u e j p);
+          queue = queue_stays r.served r.drawn (vs ++ u ∷ []) vs back on (let z = total_snoc in_queue vs u in omega arith) r.queue;
+          lock = lock_stays r.served r.limit r.top s.homes (vs ++ u ∷ []) vs back on r.lock;
+        },
+        tt,
+      )
 
   -- ---- two seats become one
 

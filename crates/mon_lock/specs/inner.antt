@@ -5,3 +5,4 @@ pub mod Turns
 pub mod Standing
 pub mod Ends
 pub mod Gathered
+pub mod Lending

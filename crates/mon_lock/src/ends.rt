@@ -9,6 +9,7 @@ ghost use Rattle.mon_lock.specs.inner.Ends.{EndsWith};
 ghost use Rattle.mon_lock.specs.inner.Gathered.{Gathered};
 
 use super::bell::Bells;
+use super::lent::Letters;
 use super::lock::Lock;
 use super::pass::Pass;
 use super::rule::{MACHINE, Seat};
@@ -37,7 +38,15 @@ impl Lock {
         let mut slots = Vec::with_capacity(alloc, 1)?;
         slots.push_reserved(free);
         match Table::new(alloc, &[0, 0, count], slots, &terms) {
-            Ok((board, seat)) => Ok((Lock { board, bells }, seat)),
+            Ok((board, seat)) => {
+                let letters = Letters::open(alloc, &seat)?;
+                let lock = Lock {
+                    board,
+                    bells,
+                    letters,
+                };
+                Ok((lock, seat))
+            }
             Err(_refused) => Err(AllocError),
         }
     }
@@ -63,7 +72,11 @@ impl Lock {
         requires all { seat.me.0.parts ≡ self.board.shared.key.passes }
         ensures { EndsWith self.board.shared.key.start.value seat.me.0.known result }
     {
-        let Lock { board, bells: _ } = self;
+        let Lock {
+            board,
+            bells: _,
+            letters: _,
+        } = self;
         let mut closed = board.close_with(seat);
         let free = closed.take(MACHINE);
         closed.free();

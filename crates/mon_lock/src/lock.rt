@@ -13,6 +13,7 @@ ghost use Rattle.mon_lock.specs.inner.Turns.{HasMonitor, IsHolding, IsMade, IsNo
 ghost use Rattle.mon_lock.specs.inner.Turns.{IsWaiting, MakesShared, TurnComes, TurnIsHere};
 
 use super::bell::Bells;
+use super::lent::Letters;
 use super::patience::{NEAR, Patience};
 use super::receipt::Receipt;
 use super::rule::{
@@ -27,6 +28,8 @@ use std::sync::Wait;
 pub struct Lock {
     pub board: Board,
     pub bells: Bells,
+    pub letters: Letters,
+    ghost letters_are: { letters.about.value.table_id ≡ board.shared.table_id },
     ghost words: { board.shared.table_id.words ≡ 3 },
     ghost slots: { board.shared.table_id.slots ≡ 1 },
     ghost some_pass: { 0 < board.shared.key.passes },
@@ -48,7 +51,7 @@ pub struct Stand {
 
 impl Lock {
     /// Draws a ticket.
-    fn draw(&self, seat: &mut Seat) -> u64
+    pub fn draw(&self, seat: &mut Seat) -> u64
         requires own { seat.old.table_id ≡ self.now.board.shared.table_id }
         requires idle { IsIdle seat.old.me }
         requires live { 0 < seat.old.me.0.parts }
@@ -59,7 +62,7 @@ impl Lock {
     }
 
     /// How many tickets are to be served before this one. At 0 the seat has the turn, and the monitor; else nothing changes.
-    fn call(&self, seat: &mut Seat, ticket: u64) -> u64
+    pub fn call(&self, seat: &mut Seat, ticket: u64) -> u64
         requires own { seat.old.table_id ≡ self.now.board.shared.table_id }
         requires waits { (t : ℕ) × (ticket ≡ t % 2 ^ 64) × (seat.old.me.0.stage ≡ Waiting t) }
         requires live { 0 < seat.old.me.0.parts }
@@ -88,7 +91,7 @@ impl Lock {
     }
 
     /// Waits until the ticket is served. It spins as long as its turn may come soon, and else sleeps between looks.
-    fn wait<R: Wait>(&self, rt: &R, seat: &mut Seat, ticket: u64)
+    pub fn wait<R: Wait>(&self, rt: &R, seat: &mut Seat, ticket: u64)
         requires own { seat.old.table_id ≡ self.now.board.shared.table_id }
         requires waits { (t : ℕ) × (ticket ≡ t % 2 ^ 64) × (seat.old.me.0.stage ≡ Waiting t) }
         requires live { 0 < seat.old.me.0.parts }
@@ -155,7 +158,7 @@ impl Lock {
     }
 
     /// Makes a section on the monitor that the seat has, and counts it.
-    fn make(&self, seat: &mut Seat, client: u32, ticket: u64) -> Result<Receipt, NotReady>
+    pub fn make(&self, seat: &mut Seat, client: u32, ticket: u64) -> Result<Receipt, NotReady>
         requires own { seat.old.table_id ≡ self.now.board.shared.table_id }
         requires turn { IsHolding ticket seat.old.me }
         requires known { IsKnown seat.old.me.0.known }
@@ -181,7 +184,7 @@ impl Lock {
 
     /// Gives the monitor back, serves the next ticket, and rings its bell, and that of the ticket which comes near: so
     /// who has it is awake when it is served.
-    fn unlock(&self, seat: &mut Seat)
+    pub fn unlock(&self, seat: &mut Seat)
         requires own { seat.old.table_id ≡ self.now.board.shared.table_id }
         requires turn { HasMonitor seat.old.me }
         ensures own { seat.new.table_id ≡ seat.old.table_id }
@@ -207,10 +210,7 @@ impl Lock {
         ensures made { SectionsShared client seat.old.me.0.known seat.new.me.0.known result }
         ensures known { IsKnown seat.new.me.0.known }
     {
-        let ticket = self.lock(rt, seat);
-        let result = self.make(seat, client, ticket);
-        self.unlock(seat);
-        result
+        self.request(rt, seat, client)
     }
 
     /// Whether the monitor that the seat has is closed.

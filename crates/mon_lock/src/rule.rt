@@ -70,6 +70,15 @@ impl Play<FreeMonitor, View> for Observe {
     ghost then = { Observed };
 }
 
+/// A seat comes that has no part of the right to close.
+pub struct Spare;
+
+impl Play<FreeMonitor, View> for Spare {
+    ghost use Rattle.mon_lock.specs.inner.Steps.{Came};
+
+    ghost then = { Came };
+}
+
 /// One part of the right to close goes to a new seat, or comes back.
 pub struct OnePart;
 

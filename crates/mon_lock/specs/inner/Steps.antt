@@ -58,3 +58,7 @@ pub record Observed (step : Step FreeMachine) (me : Me FreeMachine View) (found 
     (next : Me FreeMachine View) : Type 0 where
   pub now : next ≡ (view me.0.stage me.0.parts (observed me.0.known found), me.1)
   pub seen : me.0.known.seen ≤ found
+
+-- nothing is told to a seat that stands for one that is lent
+abbrev pub Came : Step FreeMachine → Me FreeMachine View → ℕ → Me FreeMachine View → Type 0
+Came step me found next = Unit {0}

@@ -1,0 +1,37 @@
+-- Who has a part in a letter.
+use Rattle.std.specs.Prelude.{◌≡◌, ◌+◌, [], ◌∷◌, None}
+use Rattle.mon_desk.specs.declared.cell.Cell.{Cell}
+use Rattle.mon_desk.specs.declared.letter.Part.TheVariants.{Posted, Serving}
+use Rattle.mon_desk.specs.declared.letter.Mail.{Mail}
+use Rattle.mon_desk.specs.declared.letter.Task.{Task}
+use Rattle.mon_desk.specs.declared.letter.Miss.{Miss}
+use Rattle.mon_desk.specs.inner.Cells.{view}
+
+module _ {A T K E : Type 0} where
+  -- what the cell was opened about
+  abbrev pub about_of : Cell A T K E → K
+  about_of cell = cell.board.shared.key
+
+  -- the mail is that of this letter, which was posted in this cell
+  abbrev pub IsMailOf : Cell A T K E → Mail A T K → A → Type 0
+  IsMailOf cell mail letter =
+      (mail.seat.table_id ≡ cell.board.shared.table_id)
+      × (mail.seat.me ≡ (view (about_of cell) (Posted letter) mail.seat.me.0.misses, []))
+
+  -- The mail is still that of this letter. One step more found the letter otherwise than it wanted
+  -- it.
+  abbrev pub IsKeptIn : Cell A T K E → Mail A T K → Mail A T K → A → Type 0
+  IsKeptIn cell before after letter =
+      IsMailOf cell after letter × (after.seat.me.0.misses ≡ before.seat.me.0.misses + 1)
+
+  -- the task is to answer this letter, which was taken from this cell
+  abbrev pub IsTaskOf : Cell A T K E → Task A T K → A → Type 0
+  IsTaskOf cell task letter =
+      (task.seat.table_id ≡ cell.board.shared.table_id)
+      × (task.seat.me
+      ≡ (view (about_of cell) (Serving letter) task.seat.me.0.misses, (0, None) ∷ []))
+
+  -- one step of a seat found this cell otherwise than it wanted it
+  abbrev pub IsMissOf : Cell A T K E → Miss A T K → Type 0
+  IsMissOf cell miss =
+      (miss.seat.table_id ≡ cell.board.shared.table_id) × (miss.seat.me.0.misses ≡ 1)
