@@ -34,6 +34,11 @@ impl Roster {
         }
     }
 
+    /// Whether there is one worker alone.
+    pub fn is_alone(&self) -> bool {
+        self.alone
+    }
+
     /// An awake worker goes to its gate, where it may be held.
     pub fn go_to_gate(&self) {
         if self.alone {

@@ -1,6 +1,6 @@
 //! A worker, and what it does at its turns.
 
-ghost use Rattle.std.specs.Prelude.{◌≡◌, ◌<◌, IsTrue};
+ghost use Rattle.std.specs.Prelude.{◌≡◌, ◌<◌, IfSome, IsTrue};
 ghost use Rattle.mon_queue.specs.Tickets.{new_pass};
 ghost use Rattle.mon_pool.specs.inner.Workers.{HasFinished, IsPlace, IsWorker, KnowsClosed};
 
@@ -12,12 +12,14 @@ use std::sync::Wait;
 use std::thread;
 use std::thread::Threads;
 
-/// A worker: its passes, and how many sections it has made.
+/// A worker: its passes, how many sections it has made, and the client that it tries next where it
+/// works alone.
 #[derive(Drop)]
 pub struct Worker {
     pub place: Pass,
     pub tickets: QueuePass,
     pub sections: u64,
+    pub next: u32,
 }
 
 impl Worker {
@@ -33,6 +35,7 @@ impl Worker {
             place,
             tickets,
             sections: 0,
+            next: 0,
         }
     }
 
@@ -48,6 +51,7 @@ impl Worker {
             place,
             tickets: _,
             sections: _,
+            next: _,
         } = self;
         place
     }
@@ -76,7 +80,7 @@ pub fn work<R: Threads + Wait + Sync, G: Gate>(rt: &R, shop: &Shop, gate: &G, wo
     let mut idle = 0u32;
     let mut crowded = 0u32;
     for _ in rt.forever() {
-        match take_turn(rt, shop, gate, worker) {
+        match next_turn(rt, shop, gate, worker) {
             Turn::Made => {
                 backoff.reset();
                 idle = 0;
@@ -116,6 +120,43 @@ fn make_way<R: Wait>(rt: &R, shop: &Shop, crowded: u32) -> u32 {
         thread::yield_now();
     }
     doublings + 1
+}
+
+/// Tries a section of the next client: the one whose ticket is the queue's first. A worker that is
+/// alone goes round the clients without the queue, in the same order, since nobody else has a ticket.
+fn next_turn<R: Threads + Wait + Sync, G: Gate>(
+    rt: &R,
+    shop: &Shop,
+    gate: &G,
+    worker: &mut Worker,
+) -> Turn
+    requires own { IsWorker shop.now worker.old }
+    ensures own { IsWorker shop.now worker.new }
+{
+    if !shop.roster.is_alone() {
+        return take_turn(rt, shop, gate, worker);
+    }
+    let Some(client) = next_of(&mut worker.next, shop.clients) else {
+        return Turn::Idle;
+    };
+    gate.before(rt, client, worker.sections);
+    let turn = try_client(rt, shop, &mut worker.place, client);
+    if turn == Turn::Made {
+        worker.sections = worker.sections.saturating_add(1);
+    }
+    turn
+}
+
+/// The client whose turn it is, of so many that go round; then it is the next one's.
+fn next_of(next: &mut u32, clients: u32) -> Option<u32>
+    ensures { IfSome result (λ client. client < clients) }
+{
+    let client = if *next < clients { *next } else { 0 };
+    if client >= clients {
+        return None;
+    }
+    *next = client + 1;
+    Some(client)
 }
 
 /// Takes a ticket, tries a section of its client, and puts it back.
