@@ -1,4 +1,5 @@
-//! One attempt of a call that blocks: a section, and where it doesn't reply a look at how the client stands.
+//! One attempt of a call that blocks: a section, and where it doesn't reply a look at how the
+//! client stands.
 
 ghost use Rattle.std.specs.Prelude.{◌≡◌, ◌<◌, ℕ, MatchOption, length};
 ghost use Rattle.mon_lock.specs.declared.receipt.Receipt.{Receipt};
@@ -13,8 +14,8 @@ use mon_explicit::{NotReady, Outcome};
 use mon_lock::{Pass, Receipt, SharedMonitor, Standing};
 use std::sync::Wait;
 
-/// Makes a section of the client, and looks how the client stands where it gave no reply. A client that waits is parked.
-/// Nothing is answered where the caller should try again.
+/// Makes a section of the client, and looks how the client stands where it gave no reply. A client
+/// that waits is parked. Nothing is answered where the caller should try again.
 pub fn attempt<R: Wait>(
     rt: &R,
     monitor: &SharedMonitor,
@@ -38,7 +39,8 @@ pub fn attempt<R: Wait>(
     }
 }
 
-/// Makes a section of the client, and unparks the clients that it woke. The receipt is answered of a reply.
+/// Makes a section of the client, and unparks the clients that it woke. Where the client waits, and
+/// not all clients rest, its caller sleeps until it is woken. The receipt is answered of a reply.
 #[tactic(auto, using(crate::proofs::Committing::section_ends))]
 fn make_section<R: Wait>(
     rt: &R,
@@ -54,19 +56,26 @@ fn make_section<R: Wait>(
         (λ receipt. HasReplied client caller.old.known caller.new.known receipt) }
     ensures always { IsKnown caller.new.known }
 {
-    let door = parkers.enter(rt);
+    parkers.enter(rt);
     let made = monitor.section(rt, caller, client);
-    drop(door);
-    tell_woken(rt, parkers, made);
+    parkers.note(made);
+    parkers.leave();
+    tell_made(rt, parkers, made);
     reply_of(made)
 }
 
-/// Unparks the clients that a section woke.
-fn tell_woken<R: Wait>(rt: &R, parkers: &Parkers, made: Result<Receipt, NotReady>) {
-    if let Ok(receipt) = made {
-        if let Outcome::Replies { reply: _, woken } = receipt.entry.outcome {
-            parkers.unpark(rt, woken);
+/// Unparks the clients that a section woke, or parks the caller of a client that waits, unless all
+/// rest.
+fn tell_made<R: Wait>(rt: &R, parkers: &Parkers, made: Result<Receipt, NotReady>) {
+    let Ok(receipt) = made else { return };
+    match receipt.entry.outcome {
+        Outcome::Replies { reply: _, woken } => parkers.unpark(woken),
+        Outcome::Waits => {
+            if !parkers.all_rest() {
+                parkers.park(rt, receipt.entry.client);
+            }
         }
+        Outcome::Spurious => {}
     }
 }
 
@@ -119,16 +128,17 @@ fn tell_closed<R: Wait>(rt: &R, monitor: &SharedMonitor, parkers: &Parkers, call
     ensures looks { Looks caller.old.known caller.new.known }
     ensures always { IsKnown caller.new.known }
 {
-    let door = parkers.enter(rt);
+    parkers.enter(rt);
     let closed = monitor.is_closed(rt, caller);
-    drop(door);
+    parkers.leave();
     if closed {
-        parkers.unpark_all(rt);
+        parkers.unpark_all();
     }
 }
 
-/// Looks how the client stands. A client that waits is parked, and where it is stalled all clients are unparked.
-#[tactic(auto, using(crate::proofs::Committing::look_ends))]
+/// Looks how the client stands, unless it was woken since it waited. A client that waits is parked,
+/// and where it is stalled all clients are unparked.
+#[tactic(auto, using(crate::proofs::Committing::look_ends, crate::proofs::Committing::waited_none))]
 fn look<R: Wait>(
     rt: &R,
     monitor: &SharedMonitor,
@@ -138,14 +148,18 @@ fn look<R: Wait>(
 ) -> Option<CommitEnd>
     requires own { caller.old.lock ≡ monitor.now.lock }
     requires client { client < length caller.old.known.front.system.clients }
+    requires always { IsKnown caller.old.known }
     ensures own { caller.new.lock ≡ caller.old.lock }
     ensures looks { MatchOption result (HasWaited client caller.old.known caller.new.known)
         (λ end. Commits client caller.old.known caller.new.known end) }
     ensures always { IsKnown caller.new.known }
 {
-    let door = parkers.enter(rt);
+    if !parkers.rests(client) {
+        return None;
+    }
+    parkers.enter(rt);
     let standing = monitor.standing(rt, caller, client);
-    drop(door);
+    parkers.leave();
     tell_standing(rt, parkers, client, standing);
     end_of(standing, caller.seen())
 }
@@ -154,7 +168,7 @@ fn look<R: Wait>(
 fn tell_standing<R: Wait>(rt: &R, parkers: &Parkers, client: u32, standing: Standing) {
     match standing {
         Standing::Waits => parkers.park(rt, client),
-        Standing::Stalled => parkers.unpark_all(rt),
+        Standing::Stalled => parkers.unpark_all(),
         _ => {}
     }
 }

@@ -59,7 +59,7 @@ impl BlockingMonitor {
         ensures always { IfOk result (λ made. HoldsAlways free) }
     {
         let clients = free.scripts().clients().len() as u32;
-        let parkers = Parkers::open(alloc, free.scripts())?;
+        let parkers = Parkers::open(alloc, &free)?;
         let (monitor, callers) = SharedMonitor::open(alloc, free, clients.max(1))?;
         Ok((BlockingMonitor { monitor, parkers }, callers))
     }

@@ -11,6 +11,7 @@ mod blocking;
 mod callers;
 mod commit_end;
 mod crew;
+mod door;
 mod hall;
 mod parkers;
 

@@ -1,19 +1,32 @@
 //! Parkers: a caller whose client waits sleeps until someone says that the client was woken.
 //!
-//! A token is only a hint: what a caller answers comes from the lock alone, and no clause rests on a token. No caller is
-//! left parked. Who wakes a client sets its token *after* the section that woke it. So a caller that saw its client wait
-//! before that section finds the token set when it parks, or is woken; and one that looked after it saw the client woken.
+//! A token is only a hint: what a caller answers comes from the lock alone, and no clause rests on
+//! a token. No caller is left parked. Who wakes a client sets its token *after* the section that
+//! woke it. So a caller that saw its client wait before that section finds the token set when it
+//! parks, or is woken; and one that looked after it saw the client woken.
+//!
+//! Whether all clients rest is known behind the door, by a bit for each. A bit is set where its
+//! client waits, and may be set where it is in its last call. So a caller whose client waits need
+//! not look at the monitor before it parks, unless all bits are set: as long as one isn't, the
+//! monitor isn't closed, and whoever closes it finds all of them set.
 
-use mon_explicit::Entry;
-use mon_implicit::Scripts;
+use super::door::Door;
+use mon_explicit::{Entry, FreeMonitor, NotReady, Outcome};
+use mon_lock::Receipt;
 use std::alloc::{AllocError, Global};
-use std::sync::{Condvar, Mutex, MutexGuard, Wait};
+use std::sync::Wait;
+use std::sync::atomic::{AtomicU64, Ordering};
+
+/// A token that isn't set.
+const UNSET: u64 = 0;
+
+/// A token that is set.
+const SET: u64 = 1;
 
 /// A client's token, on which its caller sleeps, and how many calls the client has.
 #[derive(Drop)]
 struct Parker {
-    token: Mutex<bool>,
-    set: Condvar,
+    token: AtomicU64,
     calls: usize,
 }
 
@@ -21,54 +34,105 @@ impl Parker {
     /// A parker whose token isn't set.
     fn new(calls: usize) -> Parker {
         Parker {
-            token: Mutex::new(false),
-            set: Condvar::new(),
+            token: AtomicU64::new(UNSET),
             calls,
         }
     }
 
     /// Sleeps until the token is set, and clears it.
     fn park<R: Wait>(&self, rt: &R) {
-        let mut token = self
-            .set
-            .wait_while(rt, self.token.lock(rt), |token| !*token);
-        *token = false;
+        for _ in rt.forever() {
+            if self.token.swap(UNSET, Ordering::SeqCst) == SET {
+                return;
+            }
+            self.token.park(rt, UNSET as u32);
+        }
+        unreachable!()
     }
 
-    /// Sets the token, and wakes who sleeps on it.
-    fn unpark<R: Wait>(&self, rt: &R) {
-        *self.token.lock(rt) = true;
-        self.set.notify_all();
+    /// Sets the token, and wakes all who sleep on it: several callers may call for one client.
+    fn unpark(&self) {
+        self.token.store(SET, Ordering::SeqCst);
+        self.token.wake_all();
     }
 }
 
-/// The parkers of all clients, and the door ahead of the monitor.
+/// The parkers of all clients, and the door ahead of the monitor, behind which stand the bits of
+/// clients that rest.
 ///
-/// Whoever asks the monitor for something goes through the door, so that one seat at a time has a ticket of its lock. Else
-/// most callers would sleep there until their tickets are served, and each be woken in turn, where the door leaves the
-/// monitor to a caller that is awake.
+/// Whoever asks the monitor for something goes through the door, so that one seat at a time has a
+/// ticket of its lock. Else most callers would sleep there until their tickets are served, and each
+/// be woken in turn, where the door leaves the monitor to a caller that is awake.
 #[derive(Drop)]
 pub struct Parkers {
     clients: Vec<Parker>,
-    door: Mutex<()>,
+    door: Door,
+    resting: AtomicU64,
 }
 
 impl Parkers {
     /// A parker for each client. It fails only for want of memory.
-    pub fn open(alloc: Global, scripts: &Scripts) -> Result<Parkers, AllocError> {
+    pub fn open(alloc: Global, free: &FreeMonitor) -> Result<Parkers, AllocError> {
         let mut clients = Vec::new(alloc);
-        for client in scripts.clients() {
+        for client in free.scripts().clients() {
             clients.push(Parker::new(client.calls.items().len()))?;
         }
         Ok(Parkers {
             clients,
-            door: Mutex::new(()),
+            door: Door::new(),
+            resting: AtomicU64::new(u64::from(resting_at_first(free))),
         })
     }
 
     /// Waits until nobody else is behind the door.
-    pub fn enter<R: Wait>(&self, rt: &R) -> MutexGuard<'_, ()> {
-        self.door.lock(rt)
+    pub fn enter<R: Wait>(&self, rt: &R) {
+        self.door.enter(rt);
+    }
+
+    /// Leaves the door.
+    pub fn leave(&self) {
+        self.door.leave();
+    }
+
+    /// Notes who rests after a section, behind the door.
+    pub fn note(&self, made: Result<Receipt, NotReady>) {
+        if let Ok(receipt) = made {
+            let resting = self.resting_after(self.resting(), &receipt.entry);
+            self.resting.store(u64::from(resting), Ordering::SeqCst);
+        }
+    }
+
+    /// Whether a client rests, as far as is known. One that doesn't was not seen to wait, or was
+    /// woken since.
+    pub fn rests(&self, client: u32) -> bool {
+        self.resting() & bit_of(client) != 0
+    }
+
+    /// Whether all clients rest, as far as is known. Where the monitor is closed, all do.
+    pub fn all_rest(&self) -> bool {
+        self.resting().count_ones() as usize >= self.clients.len()
+    }
+
+    /// The bits of clients that rest.
+    fn resting(&self) -> u32 {
+        (self.resting.load(Ordering::SeqCst) & u64::from(u32::MAX)) as u32
+    }
+
+    /// The bits of clients that rest, after a section.
+    fn resting_after(&self, before: u32, entry: &Entry) -> u32 {
+        let bit = bit_of(entry.client);
+        match entry.outcome {
+            Outcome::Replies { reply: _, woken } => {
+                let others = before & !bit & !woken;
+                if self.is_of_last_call(entry) {
+                    others | bit
+                } else {
+                    others
+                }
+            }
+            Outcome::Waits => before | bit,
+            Outcome::Spurious => before & !bit,
+        }
     }
 
     /// Sleeps until someone unparks the client, or did so since its caller last slept.
@@ -79,11 +143,11 @@ impl Parkers {
     }
 
     /// Unparks the clients whose bits are set.
-    pub fn unpark<R: Wait>(&self, rt: &R, woken: u32) {
+    pub fn unpark(&self, woken: u32) {
         let mut left = woken;
         for _client in 0..woken.count_ones() {
             if let Some(parker) = self.clients.get(left.trailing_zeros() as usize) {
-                parker.unpark(rt);
+                parker.unpark();
             }
             // The lowest bit is done.
             left &= left.wrapping_sub(1);
@@ -91,18 +155,35 @@ impl Parkers {
     }
 
     /// Unparks all clients.
-    pub fn unpark_all<R: Wait>(&self, rt: &R) {
+    pub fn unpark_all(&self) {
         for parker in &self.clients {
-            parker.unpark(rt);
+            parker.unpark();
         }
     }
 
-    /// Whether a reply is of its client's last call. After any other reply that client has a call left, so the monitor
-    /// isn't closed.
+    /// Whether a reply is of its client's last call. After any other reply that client has a call
+    /// left, so the monitor isn't closed.
     pub fn is_of_last_call(&self, entry: &Entry) -> bool {
         match self.clients.get(entry.client as usize) {
             Some(parker) => entry.call as usize >= parker.calls,
             None => true,
         }
     }
+}
+
+/// The bit of a client.
+fn bit_of(client: u32) -> u32 {
+    1u32.wrapping_shl(client)
+}
+
+/// The bits of clients that can make no section.
+fn resting_at_first(free: &FreeMonitor) -> u32 {
+    let clients = free.scripts().clients().len() as u32;
+    let mut resting = 0u32;
+    for client in 0..clients {
+        if !free.is_ready(client) {
+            resting |= bit_of(client);
+        }
+    }
+    resting
 }
