@@ -10,13 +10,19 @@ use Rattle.mon_monitor.specs.MonitorParts.{MonitorParts}
 use Rattle.mon_events.specs.declared.plan.Plan.{Plan}
 use Rattle.mon_events.specs.PlanText.{plan_text}
 use Rattle.mon_text.specs.FaultText.{unread_text}
+use Rattle.mon_code.specs.Laws.{PrintedCodeLosesNone}
+use Rattle.mon_numbers.specs.Laws.{PrintedBodiesStep, PrintedNumbersAreWide}
+use Rattle.mon_module.specs.Modules.{rust_text}
 use Rattle.expresso.specs.declared.status.Status.{Status}
 use Rattle.expresso.specs.declared.status.Status.TheVariants as statuses
 use Rattle.expresso.specs.declared.monitor_file.MonitorFile.{MonitorFile}
 use Rattle.mon_command.specs.declared.plan_choice.PlanChoice.{PlanChoice}
-use Rattle.mon_command.specs.CommandLine.{Command, check, compile, report, explain}
+use Rattle.mon_command.specs.declared.plan_choice.PlanChoice.TheVariants.{Placed}
+use Rattle.mon_command.specs.CommandLine.{Command, check, compile, report, explain, emit}
 use Rattle.mon_why.specs.declared.reason.Reason.{Reason}
-use Rattle.expresso.specs.Placements.{IsChosen}
+use Rattle.expresso.specs.Placements.{IsChosen, IsPlacement}
+use Rattle.expresso.specs.MonitorFiles.{IsAccepted}
+use Rattle.expresso.specs.PrintedPrograms.{BodiesStep, IsSound, NumbersStayWide, ThreadsLoseNone}
 use Rattle.expresso.specs.Texts.{explained_text}
 use Rattle.expresso.specs.inner.Explaining.{IsExplained}
 use Rattle.expresso.specs.FirstFaults.{IsRefusalLine}
@@ -42,6 +48,9 @@ report_works file = record { files = refl; refused = λ held text is. is; accept
 
 pub explain_works : (file : List ℕ) → WorksOn (explain file) file []
 explain_works file = record { files = refl; refused = λ held text is. is; accepted = λ held is. is }
+
+pub emit_works : (file : List ℕ) → WorksOn (emit file) file []
+emit_works file = record { files = refl; refused = λ held text is. is; accepted = λ held is. is }
 
 -- ---- the file has no bytes
 
@@ -125,4 +134,43 @@ pub explain_done : (file : List ℕ) (tree : MonitorTree) (monitor : MonitorPart
 explain_done file tree monitor plan reasons files files_now result out out_now holds explained steady written =
     work_ended (explain file) files files_now (explained_text tree monitor plan reasons) result out out_now true
     (record { tree = tree; monitor = monitor; plan = plan; reasons = reasons; holds = holds; placement = explained.placement; things = explained.things; each = explained.each; printed = refl })
+    (no_rejection files.held file tree monitor holds) steady written
+
+placed_plan : (monitor : MonitorParts) (plan : Plan) → IsChosen Placed monitor plan → IsPlacement monitor plan
+placed_plan monitor plan chosen = subst (IsPlacement monitor) (sym chosen.is) chosen.placement
+
+-- under a plan that a monitor is compiled to, threads lose no wake-up by the printed code
+threads_lose_none : PrintedCodeLosesNone → (monitor : MonitorParts) (plan : Plan) → IsPlacement monitor plan → ThreadsLoseNone monitor plan
+threads_lose_none law monitor plan placement = λ clients last fits leads. law monitor plan clients last placement.is fits placement.fits placement.lawful leads
+
+-- what is so of the program and of the printed bodies, by the laws
+pub record PrintedLaws : Type 0 where
+  pub threads : PrintedCodeLosesNone
+  pub bodies : PrintedBodiesStep
+  pub wide : PrintedNumbersAreWide
+
+bodies_step : PrintedBodiesStep → (bytes : List ℕ) (tree : MonitorTree) (monitor : MonitorParts) → IsAccepted bytes tree monitor → BodiesStep tree monitor
+bodies_step law bytes tree monitor accepted = λ index placed block state inputs at held short short_arguments short_locals.
+    law tree monitor index placed block state inputs accepted.unbroken accepted.typed at held short short_arguments short_locals
+
+numbers_stay_wide : PrintedNumbersAreWide → (bytes : List ℕ) (tree : MonitorTree) (monitor : MonitorParts) → IsAccepted bytes tree monitor → NumbersStayWide tree
+numbers_stay_wide law bytes tree monitor accepted = λ index placed arguments memory at short short_state short_locals.
+    law tree index placed arguments memory
+    (record { bytes = bytes; tokens = accepted.tokens; short = accepted.short; spelled = accepted.spelled; derived = accepted.derived })
+    accepted.unbroken at short short_state short_locals
+
+is_sound : PrintedLaws → (bytes : List ℕ) (tree : MonitorTree) (monitor : MonitorParts) (plan : Plan) → IsAccepted bytes tree monitor → IsPlacement monitor plan → IsSound tree monitor plan
+is_sound laws bytes tree monitor plan accepted placement = record {
+  threads = threads_lose_none laws.threads monitor plan placement;
+  bodies = bodies_step laws.bodies bytes tree monitor accepted;
+  wide = numbers_stay_wide laws.wide bytes tree monitor accepted;
+}
+
+pub emit_done : PrintedLaws → (file : List ℕ) (tree : MonitorTree) (monitor : MonitorParts) (plan : Plan) (files files_now : FilesSeen) (result : Status) (out out_now : SinkSeen)
+    → HoldsMonitor files.held file tree monitor → IsChosen Placed monitor plan → files_now.faults ≡ files.faults
+    → IsWritten statuses.Done (rust_text tree monitor plan) result out out_now → CommandEnds (emit file) files files_now result out out_now
+emit_done laws file tree monitor plan files files_now result out out_now holds chosen steady written =
+    let placement = placed_plan monitor plan chosen in
+    work_ended (emit file) files files_now (rust_text tree monitor plan) result out out_now true
+    (record { tree = tree; monitor = monitor; plan = plan; holds = holds; placement = placement; sound = is_sound laws holds.bytes tree monitor plan holds.accepted placement; printed = refl })
     (no_rejection files.held file tree monitor holds) steady written

@@ -24,7 +24,7 @@ use Rattle.mon_command.specs.declared.plan_choice.PlanChoice.{PlanChoice}
 use Rattle.mon_command.specs.declared.plan_choice.PlanChoice.TheVariants.{Placed}
 use Rattle.mon_command.specs.declared.schedule.Schedule.{Schedule}
 use Rattle.mon_command.specs.CommandLine.{Command, check, turns, compile, simulate, run, stress}
-use Rattle.mon_command.specs.CommandLine.{report, recheck, block, audit, explain}
+use Rattle.mon_command.specs.CommandLine.{report, recheck, block, audit, explain, emit}
 use Rattle.mon_command.specs.CommandLine.{Takes, TakesNone, files_of}
 use Rattle.mon_stress.specs.LargeInput.{buffer_of, capacity_of, producers_and_consumers}
 use Rattle.expresso.specs.Placements.{IsChosen, IsPlacement}
@@ -47,6 +47,8 @@ use Rattle.mon_recheck.specs.Reports.{report_of, report_text}
 use Rattle.mon_why.specs.declared.reason.Reason.{Reason}
 use Rattle.mon_why.specs.Reasons.{IsReason}
 use Rattle.mon_why.specs.Things.{things_of}
+use Rattle.mon_module.specs.Modules.{rust_text}
+use Rattle.expresso.specs.PrintedPrograms.{IsSound}
 use Rattle.expresso.specs.Texts.{explained_text, usage_text}
 
 -- the bytes are those held by a name, where they are told
@@ -199,6 +201,18 @@ pub record IsExplainText (held : List ℕ → Option (List ℕ)) (file text : Li
   pub each : All (IsReason monitor plan) reasons
   pub printed : text ≡ explained_text tree monitor plan reasons
 
+-- the text of the Rust module of the monitor of the file, under a plan that it is compiled to: what
+-- threads do by the code of that plan is a run of the monitor, no wake-up is lost, and each printed
+-- body does the step of its block
+pub record IsEmitText (held : List ℕ → Option (List ℕ)) (file text : List ℕ) : Type 0 where
+  pub tree : MonitorTree
+  pub monitor : MonitorParts
+  pub plan : Plan
+  pub holds : HoldsMonitor held file tree monitor
+  pub placement : IsPlacement monitor plan
+  pub sound : IsSound tree monitor plan
+  pub printed : text ≡ rust_text tree monitor plan
+
 -- the text of a command whose work is done; of `turns`, `simulate`, `run` and `block`, that no
 -- client has a call left
 abbrev pub IsDoneText : (List ℕ → Option (List ℕ)) → Command → List ℕ → Type 0
@@ -219,6 +233,7 @@ IsDoneText held (recheck monitor report_file) text = IsRecheckText held monitor 
 IsDoneText held (block monitor clients) text = IsFinishedRunText held monitor clients Placed text
 IsDoneText held (audit monitor plan_file) text = IsAuditText held monitor plan_file text
 IsDoneText held (explain file) text = IsExplainText held file text
+IsDoneText held (emit file) text = IsEmitText held file text
 
 -- the text of `turns`, `simulate`, `run` or `block` where some client has a call left; no other
 -- command stalls
@@ -241,6 +256,7 @@ IsStalledText held (block monitor clients) text =
     IsStalledRunText held monitor clients Placed text
 IsStalledText held (audit monitor plan_file) text = ⊥
 IsStalledText held (explain file) text = ⊥
+IsStalledText held (emit file) text = ⊥
 
 -- ---- refusals
 
@@ -313,6 +329,7 @@ IsRefusedText held (recheck monitor report_file) text =
 IsRefusedText held (block monitor clients) text = IsRunRefusal held monitor clients text
 IsRefusedText held (audit monitor plan_file) text = IsAuditRefusal held monitor plan_file text
 IsRefusedText held (explain file) text = IsMonitorRefusal held file text
+IsRefusedText held (emit file) text = IsMonitorRefusal held file text
 
 -- a read fault's line that names one of the command's files; which of them, no clause says
 abbrev pub IsUnreadText : Command → List ℕ → Type 0
@@ -430,6 +447,7 @@ AcceptsFiles held (recheck monitor report_file) = AcceptsReport held monitor rep
 AcceptsFiles held (block monitor clients) = AcceptsRun held monitor clients
 AcceptsFiles held (audit monitor plan_file) = AcceptsPlan held monitor plan_file
 AcceptsFiles held (explain file) = AcceptsMonitor held file
+AcceptsFiles held (emit file) = AcceptsMonitor held file
 
 -- they tell their bytes, and one of them is not accepted
 abbrev pub RejectsFiles : (List ℕ → Option (List ℕ)) → Command → Type 0
@@ -444,6 +462,7 @@ RejectsFiles held (recheck monitor report_file) = RejectsReport held monitor rep
 RejectsFiles held (block monitor clients) = RejectsRun held monitor clients
 RejectsFiles held (audit monitor plan_file) = RejectsPlan held monitor plan_file
 RejectsFiles held (explain file) = RejectsMonitor held file
+RejectsFiles held (emit file) = RejectsMonitor held file
 
 -- the words are a command's whose files are accepted; or one of them is not
 abbrev pub Accepts : (List ℕ → Option (List ℕ)) → List (List ℕ) → Type 0

@@ -8,6 +8,7 @@ pub mod ClientFiles
 pub mod ReportFiles
 pub mod PlanFiles
 pub mod PrintedReports
+pub mod PrintedPrograms
 pub mod Texts
 pub mod Answers
 pub mod Headline

@@ -1,6 +1,6 @@
 -- What the program itself prints. Plans are texts of `mon_events`; runs, logs, summaries and faults
 -- of `mon_text`; canonical forms of `mon_printer`; reports and verdicts of `mon_recheck`;
--- findings of `mon_audit`; reasons of `mon_reasons`.
+-- findings of `mon_audit`; reasons of `mon_reasons`; modules of `mon_module`.
 use Rattle.std.specs.Prelude.{ℕ, List, ◌++◌, codes}
 use Rattle.mon_tree.specs.declared.tree.MonitorTree.{MonitorTree}
 use Rattle.mon_monitor.specs.MonitorParts.{MonitorParts}
@@ -23,6 +23,7 @@ usage_text =
     ++ codes "expresso block FILE CLIENTS\n"
     ++ codes "expresso audit FILE PLAN\n"
     ++ codes "expresso explain FILE\n"
+    ++ codes "expresso emit FILE\n"
 
 -- a plan, and why each thing stands in it that costs something
 abbrev pub explained_text : MonitorTree → MonitorParts → Plan → List Reason → List ℕ

@@ -27,7 +27,8 @@ use std::thread::Threads;
 /// `report FILE` writes the plan and, for each claim that it rests on, a line with a certificate; `recheck FILE REPORT`
 /// checks such a report again, by its certificates alone, and writes whether it is accepted. `audit FILE PLAN` writes
 /// whether a plan that was written by hand is lawful, or what it lacks. `explain FILE` writes the plan and, for each thing
-/// in it that costs something, a state that shows why it stands.
+/// in it that costs something, a state that shows why it stands. `emit FILE` writes a Rust module of the monitor under
+/// the plan, whose methods threads call.
 ///
 /// With `--relay` beside `run`, `compile` or `simulate` the plan is that one with its signals relayed.
 ///
@@ -63,8 +64,8 @@ pub fn expresso<R: Threads + Wait + Sync, F: Files, S: Sink, G: Gate>(
 }
 
 /// The program but for `run`, `stress` and `block`: what `check`, `turns`, `compile`, `simulate`, `report`, `recheck`,
-/// `audit` and `explain` do, and what comes of other words. It starts no thread and waits for none, so it returns. A command that runs
-/// clients in threads is handed back, with nothing read and nothing written.
+/// `audit`, `explain` and `emit` do, and what comes of other words. It starts no thread and waits for none, so it
+/// returns. A command that runs clients in threads is handed back, with nothing read and nothing written.
 pub fn without_threads<'a, F: Files, S: Sink>(
     alloc: Global,
     words: &'a Vec<String>,

@@ -16,6 +16,7 @@ ghost use Rattle.mon_text.specs.SummaryText.{summary_text};
 ghost use Rattle.mon_recheck.specs.Reports.{placed_text};
 ghost use Rattle.mon_recheck.specs.Verdicts.{verdict_text};
 ghost use Rattle.mon_audit.specs.FindingText.{finding_text};
+ghost use Rattle.mon_module.specs.Modules.{rust_text};
 ghost use Rattle.expresso.specs.Texts.{explained_text, usage_text};
 ghost use Rattle.expresso.specs.inner.Auditing.{audit_status};
 ghost use Rattle.expresso.specs.inner.Ending.{IsWritten, ended, fault_status};
@@ -28,6 +29,7 @@ use mon_events::Plan;
 use mon_explicit::FreeMonitor;
 use mon_implicit::{Scripts, Turns};
 use mon_io::{Sink, SinkFailed, write_pieces};
+use mon_module::write_rust;
 use mon_monitor::Monitor;
 use mon_place::PlacedPlan;
 use mon_printer::print_monitor;
@@ -69,6 +71,7 @@ pub(crate) fn show_usage<S: Sink>(out: &mut S) -> Status
             b"expresso block FILE CLIENTS\n",
             b"expresso audit FILE PLAN\n",
             b"expresso explain FILE\n",
+            b"expresso emit FILE\n",
         ],
         out,
     );
@@ -151,6 +154,20 @@ fn write_explanation<S: Sink>(
 {
     write_plan(monitor, &explanation.plan, out)?;
     write_reasons(tree, monitor, explanation.reasons.as_slice(), out)
+}
+
+/// Writes the Rust module of a monitor under a plan.
+pub(crate) fn show_module<S: Sink>(
+    tree: &MonitorTree,
+    monitor: &Monitor,
+    plan: &Plan,
+    out: &mut S,
+) -> Status
+    ensures { IsWritten Status.Done (rust_text tree.now monitor.now plan.now) result
+        (S.seen out.old) (S.seen out.new) }
+{
+    let outcome = write_rust(tree, monitor, plan, out);
+    finish(Status::Done, outcome, out)
 }
 
 /// The status of a verdict.

@@ -11,6 +11,7 @@ use crate::audit::audit_files;
 use crate::block::block_files;
 use crate::check::check_file;
 use crate::compile::compile_file;
+use crate::emit::emit_file;
 use crate::explain::explain_file;
 use crate::recheck::recheck_files;
 use crate::report::report_file;
@@ -63,6 +64,7 @@ pub(crate) fn work<'a, F: Files, S: Sink>(
         }
         Command::Audit { monitor, plan } => Ok(audit_files(alloc, monitor, plan, files, out)),
         Command::Explain { monitor } => Ok(explain_file(alloc, monitor, files, out)),
+        Command::Emit { monitor } => Ok(emit_file(alloc, monitor, files, out)),
         Command::Run { .. } => Err(command),
         Command::Stress { .. } => Err(command),
         Command::Block { .. } => Err(command),

@@ -7,7 +7,7 @@ use Rattle.mon_base.specs.Limits.{MOST_SPURIOUS, WORKERS}
 use Rattle.mon_command.specs.declared.plan_choice.PlanChoice.{PlanChoice}
 use Rattle.mon_command.specs.declared.schedule.Schedule.{Schedule}
 use Rattle.mon_command.specs.declared.schedule.Schedule.TheVariants.{Rounds, Drawn}
-use Rattle.mon_command.specs.CommandLine.{Command, check, turns, compile, simulate, run, stress, report, recheck, block, audit, explain, Given, GREATEST_UNSIGNED, HasNoOptions, HasNoSchedule, IsSpurious, IsSchedule, IsWorkers, Asks, choice_of}
+use Rattle.mon_command.specs.CommandLine.{Command, check, turns, compile, simulate, run, stress, report, recheck, block, audit, explain, emit, Given, GREATEST_UNSIGNED, HasNoOptions, HasNoSchedule, IsSpurious, IsSchedule, IsWorkers, Asks, choice_of}
 use Rattle.mon_command.specs.inner.Asked.{number_if, spurious_if, schedule_if, some_workers, workers_if, has_schedule, has_settings, plain_if, compile_if, stress_if, run_if, simulate_if, single_if, pair_if, command_of_values, command_if}
 use Rattle.mon_command.proofs.Written.{chosen, cond_second, number_found, number_is}
 
@@ -122,7 +122,8 @@ single_named name given value =
     (cond (bytes_eq name (codes "compile")) (compile_if given value)
     (cond (bytes_eq name (codes "stress")) (stress_if given value)
     (cond (bytes_eq name (codes "report")) (plain_if given (report value))
-    (cond (bytes_eq name (codes "explain")) (plain_if given (explain value)) None))))
+    (cond (bytes_eq name (codes "explain")) (plain_if given (explain value))
+    (cond (bytes_eq name (codes "emit")) (plain_if given (emit value)) None)))))
 
 pair_named : Text → Given → Text → Text → Option Command
 pair_named name given monitor clients =
@@ -151,6 +152,7 @@ command_found given (compile m p) asks =
     single_found given (codes "compile") m (compile m p) asks.name asks.has_values (compile_found given m p rounds no_workers chosen_is)
 command_found given (report m) asks = single_found given (codes "report") m (report m) asks.name asks.has_values (plain_found given (report m) asks.has_options)
 command_found given (explain m) asks = single_found given (codes "explain") m (explain m) asks.name asks.has_values (plain_found given (explain m) asks.has_options)
+command_found given (emit m) asks = single_found given (codes "emit") m (emit m) asks.name asks.has_values (plain_found given (emit m) asks.has_options)
 command_found given (recheck m r) asks = pair_found given (codes "recheck") m r (recheck m r) asks.name asks.has_values (plain_found given (recheck m r) asks.has_options)
 command_found given (block m c) asks = pair_found given (codes "block") m c (block m c) asks.name asks.has_values (plain_found given (block m c) asks.has_options)
 command_found given (audit m p) asks = pair_found given (codes "audit") m p (audit m p) asks.name asks.has_values (plain_found given (audit m p) asks.has_options)
@@ -239,11 +241,15 @@ single_asks given value found values e =
     (λ is made.
     let (unused, same) = plain_is given (report value) found made in
     subst (Asks given) same (record { name = named given (codes "report") is; has_values = values; has_options = unused }))
-    (λ no_report last. chosen (bytes_eq given.command (codes "explain")) _ _ found last
+    (λ no_report later. chosen (bytes_eq given.command (codes "explain")) _ _ found later
     (λ is made.
     let (unused, same) = plain_is given (explain value) found made in
     subst (Asks given) same (record { name = named given (codes "explain") is; has_values = values; has_options = unused }))
-    (λ no_explain none. absurd (none-some found none))))))
+    (λ no_explain last. chosen (bytes_eq given.command (codes "emit")) _ _ found last
+    (λ is made.
+    let (unused, same) = plain_is given (emit value) found made in
+    subst (Asks given) same (record { name = named given (codes "emit") is; has_values = values; has_options = unused }))
+    (λ no_emit none. absurd (none-some found none)))))))
 
 pair_asks : (given : Given) (monitor clients : Text) (found : Command) → given.values ≡ monitor ∷ clients ∷ [] → pair_if given monitor clients ≡ Some found → Asks given found
 pair_asks given monitor clients found values e =

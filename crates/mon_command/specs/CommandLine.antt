@@ -38,6 +38,8 @@ pub data Command : Type 0 where
   audit : List ℕ → List ℕ → Command
   -- compiles a monitor to a plan, and shows why each thing stands that costs something
   explain : List ℕ → Command
+  -- compiles a monitor to a plan, and prints it under that plan as a module of Rust
+  emit : List ℕ → Command
 
 -- ---- the arguments
 
@@ -154,6 +156,7 @@ name_of (recheck monitor report_file) = codes "recheck"
 name_of (block monitor clients) = codes "block"
 name_of (audit monitor plan_file) = codes "audit"
 name_of (explain monitor) = codes "explain"
+name_of (emit monitor) = codes "emit"
 
 -- the values are those of the command, as many as it has
 abbrev pub HasValues : List Text → Command → Type 0
@@ -169,6 +172,7 @@ HasValues values (recheck monitor report_file) = values ≡ monitor ∷ report_f
 HasValues values (block monitor clients) = values ≡ monitor ∷ clients ∷ []
 HasValues values (audit monitor plan_file) = values ≡ monitor ∷ plan_file ∷ []
 HasValues values (explain monitor) = values ≡ monitor ∷ []
+HasValues values (emit monitor) = values ≡ monitor ∷ []
 
 abbrev pub HasNoSchedule : Given → Type 0
 HasNoSchedule given = (given.seed ≡ None) × (given.spurious ≡ None)
@@ -195,6 +199,7 @@ HasOptions given (recheck monitor report_file) = HasNoOptions given
 HasOptions given (block monitor clients) = HasNoOptions given
 HasOptions given (audit monitor plan_file) = HasNoOptions given
 HasOptions given (explain monitor) = HasNoOptions given
+HasOptions given (emit monitor) = HasNoOptions given
 
 -- the arguments ask for the command
 pub record Asks (given : Given) (command : Command) : Type 0 where
@@ -225,6 +230,7 @@ files_of (recheck monitor report_file) = monitor ∷ report_file ∷ []
 files_of (block monitor clients) = monitor ∷ clients ∷ []
 files_of (audit monitor plan_file) = monitor ∷ plan_file ∷ []
 files_of (explain monitor) = monitor ∷ []
+files_of (emit monitor) = monitor ∷ []
 
 -- each file that the words name is one that may be read
 abbrev pub MayReadFiles : (List ℕ → Type 0) → List (List ℕ) → Type 0

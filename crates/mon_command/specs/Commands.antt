@@ -2,7 +2,7 @@
 use Rattle.mon_command.specs.declared.command.Command.{Command as Words}
 use Rattle.mon_command.specs.declared.command.Command.TheVariants as read
 use Rattle.mon_command.specs.CommandLine.{Command, check, turns, compile, simulate, run, stress}
-use Rattle.mon_command.specs.CommandLine.{report, recheck, block, audit, explain}
+use Rattle.mon_command.specs.CommandLine.{report, recheck, block, audit, explain, emit}
 
 -- the command that one of the code stands for
 abbrev pub command_meant : Words → Command
@@ -19,3 +19,4 @@ command_meant (read.Recheck monitor report_file) = recheck monitor.now report_fi
 command_meant (read.Block monitor clients) = block monitor.now clients.now
 command_meant (read.Audit monitor plan_file) = audit monitor.now plan_file.now
 command_meant (read.Explain monitor) = explain monitor.now
+command_meant (read.Emit monitor) = emit monitor.now

@@ -42,6 +42,8 @@ fn single_asked<'a>(given: &Given<'a>, value: &'a str) -> Option<Command<'a>>
         plain_asked(given, Command::Report { monitor: value })
     } else if given.command == "explain" {
         plain_asked(given, Command::Explain { monitor: value })
+    } else if given.command == "emit" {
+        plain_asked(given, Command::Emit { monitor: value })
     } else {
         None
     }

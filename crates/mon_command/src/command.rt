@@ -73,6 +73,10 @@ pub enum Command<'a> {
     Explain {
         monitor: &'a str,
     },
+    /// Compiles a monitor to a plan, and prints it under that plan as a module of Rust.
+    Emit {
+        monitor: &'a str,
+    },
 }
 
 /// Why words gave no command.

@@ -46,6 +46,7 @@ expresso recheck FILE REPORT
 expresso block FILE CLIENTS
 expresso audit FILE PLAN
 expresso explain FILE
+expresso emit FILE
 ";
 
 const TWO_RUN: &[u8] = b"A.1 put() = -

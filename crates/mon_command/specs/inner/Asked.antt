@@ -9,7 +9,7 @@ use Rattle.mon_tokens.specs.Words.{decimal_value}
 use Rattle.mon_command.specs.declared.schedule.Schedule.{Schedule}
 use Rattle.mon_command.specs.declared.schedule.Schedule.TheVariants.{Rounds, Drawn}
 use Rattle.mon_command.specs.CommandLine.{Given, Command, check, turns, compile, simulate, run}
-use Rattle.mon_command.specs.CommandLine.{stress, report, recheck, block, audit, explain}
+use Rattle.mon_command.specs.CommandLine.{stress, report, recheck, block, audit, explain, emit}
 use Rattle.mon_command.specs.CommandLine.{GREATEST_UNSIGNED, DEFAULT_WORKERS, MOST_DIGITS}
 use Rattle.mon_command.specs.CommandLine.{choice_of}
 
@@ -82,7 +82,8 @@ single_if given value =
     (cond (bytes_eq given.command (codes "compile")) (compile_if given value)
     (cond (bytes_eq given.command (codes "stress")) (stress_if given value)
     (cond (bytes_eq given.command (codes "report")) (plain_if given (report value))
-    (cond (bytes_eq given.command (codes "explain")) (plain_if given (explain value)) None))))
+    (cond (bytes_eq given.command (codes "explain")) (plain_if given (explain value))
+    (cond (bytes_eq given.command (codes "emit")) (plain_if given (emit value)) None)))))
 
 -- the command of two values
 abbrev pub pair_if : Given → List ℕ → List ℕ → Option Command

@@ -1,0 +1,258 @@
+// Made by `expresso emit`. Change the monitor, and not this file.
+
+use std::sync::{Condvar, Mutex, MutexGuard, PoisonError};
+
+/// The monitor `Account`. Threads share it by reference. A call waits for its guard, unless it tries.
+#[allow(dead_code, non_camel_case_types, clippy::upper_case_acronyms)]
+pub struct Account {
+    state: Mutex<State>,
+    /// For calls that wait until `!frozen`.
+    can_deposit: Condvar,
+    /// For calls that wait until `amount <= balance && !frozen`.
+    can_withdraw: Condvar,
+    /// For calls that wait until `frozen`.
+    can_thaw: Condvar,
+}
+
+#[rustfmt::skip]
+#[allow(dead_code, clippy::style)]
+impl Account {
+    pub const LIMIT: i64 = 1000;
+
+    /// The monitor at its start.
+    #[must_use]
+    pub const fn new() -> Self {
+        Self {
+            state: Mutex::new(State::START),
+            can_deposit: Condvar::new(),
+            can_withdraw: Condvar::new(),
+            can_thaw: Condvar::new(),
+        }
+    }
+
+    /// Waits until `!frozen`.
+    ///
+    /// Wakes all calls that wait until `amount <= balance && !frozen`.
+    ///
+    /// # Errors
+    ///
+    /// [`Overflow`] where a number would leave 64 bits. Then nothing changes.
+    pub fn deposit(&self, amount: i64) -> Result<i64, Overflow> {
+        let mut state = lock(&self.state);
+        while !state.can_deposit() {
+            state = wait(&self.can_deposit, state);
+        }
+        let Ok(answer) = state.run_deposit(amount) else {
+            self.can_deposit.notify_one();
+            return Err(Overflow);
+        };
+        drop(state);
+        self.can_withdraw.notify_all();
+        Ok(answer)
+    }
+
+    /// Answers `None` where `!frozen` is false.
+    ///
+    /// Wakes all calls that wait until `amount <= balance && !frozen`.
+    ///
+    /// # Errors
+    ///
+    /// [`Overflow`] where a number would leave 64 bits. Then nothing changes.
+    pub fn try_deposit(&self, amount: i64) -> Result<Option<i64>, Overflow> {
+        let mut state = lock(&self.state);
+        if !state.can_deposit() {
+            return Ok(None);
+        }
+        let Ok(answer) = state.run_deposit(amount) else {
+            self.can_deposit.notify_one();
+            return Err(Overflow);
+        };
+        drop(state);
+        self.can_withdraw.notify_all();
+        Ok(Some(answer))
+    }
+
+    /// Waits until `amount <= balance && !frozen`.
+    ///
+    /// Wakes all calls that wait until `amount <= balance && !frozen`.
+    /// Wakes one call that waits until `frozen`, where that now holds.
+    ///
+    /// # Errors
+    ///
+    /// [`Overflow`] where a number would leave 64 bits. Then nothing changes.
+    pub fn withdraw(&self, amount: i64) -> Result<i64, Overflow> {
+        let mut state = lock(&self.state);
+        while !state.can_withdraw(amount) {
+            state = wait(&self.can_withdraw, state);
+        }
+        let Ok(answer) = state.run_withdraw(amount) else {
+            self.can_withdraw.notify_one();
+            return Err(Overflow);
+        };
+        if state.can_thaw() {
+            self.can_thaw.notify_one();
+        }
+        drop(state);
+        self.can_withdraw.notify_all();
+        Ok(answer)
+    }
+
+    /// Answers `None` where `amount <= balance && !frozen` is false.
+    ///
+    /// Wakes all calls that wait until `amount <= balance && !frozen`.
+    /// Wakes one call that waits until `frozen`, where that now holds.
+    ///
+    /// # Errors
+    ///
+    /// [`Overflow`] where a number would leave 64 bits. Then nothing changes.
+    pub fn try_withdraw(&self, amount: i64) -> Result<Option<i64>, Overflow> {
+        let mut state = lock(&self.state);
+        if !state.can_withdraw(amount) {
+            return Ok(None);
+        }
+        let Ok(answer) = state.run_withdraw(amount) else {
+            self.can_withdraw.notify_one();
+            return Err(Overflow);
+        };
+        if state.can_thaw() {
+            self.can_thaw.notify_one();
+        }
+        drop(state);
+        self.can_withdraw.notify_all();
+        Ok(Some(answer))
+    }
+
+    /// Waits until `frozen`.
+    ///
+    /// Wakes all calls that wait until `!frozen`.
+    /// Wakes all calls that wait until `amount <= balance && !frozen`.
+    pub fn thaw(&self) {
+        let mut state = lock(&self.state);
+        while !state.can_thaw() {
+            state = wait(&self.can_thaw, state);
+        }
+        state.run_thaw();
+        drop(state);
+        self.can_deposit.notify_all();
+        self.can_withdraw.notify_all();
+    }
+
+    /// Answers `None` where `frozen` is false.
+    ///
+    /// Wakes all calls that wait until `!frozen`.
+    /// Wakes all calls that wait until `amount <= balance && !frozen`.
+    pub fn try_thaw(&self) -> Option<()> {
+        let mut state = lock(&self.state);
+        if !state.can_thaw() {
+            return None;
+        }
+        state.run_thaw();
+        drop(state);
+        self.can_deposit.notify_all();
+        self.can_withdraw.notify_all();
+        Some(())
+    }
+}
+
+impl Default for Account {
+    fn default() -> Self {
+        Self::new()
+    }
+}
+
+impl std::fmt::Debug for Account {
+    fn fmt(&self, f: &mut std::fmt::Formatter<'_>) -> std::fmt::Result {
+        let state = *self
+            .state
+            .lock()
+            .unwrap_or_else(std::sync::PoisonError::into_inner);
+        f.debug_struct(std::any::type_name::<Self>())
+            .field("state", &state)
+            .finish_non_exhaustive()
+    }
+}
+
+/// The fields of the monitor.
+#[derive(Clone, Copy, Debug)]
+#[allow(dead_code)]
+struct State {
+    balance: i64,
+    rejected: i64,
+    frozen: bool,
+}
+
+// The guards and bodies, with expressions as the monitor has them.
+#[rustfmt::skip]
+#[allow(unused, unused_comparisons, clippy::all, clippy::pedantic)]
+impl State {
+    const START: Self = Self {
+        balance: 0,
+        rejected: 0,
+        frozen: false,
+    };
+
+    fn can_deposit(&self) -> bool {
+        !self.frozen
+    }
+
+    fn run_deposit(&mut self, amount: i64) -> Result<i64, Overflow> {
+        if amount > 0 {
+            self.balance = narrow(i128::from(self.balance) + i128::from(amount))?;
+        } else {
+            self.rejected = narrow(i128::from(self.rejected) + 1)?;
+        }
+        Ok(self.balance)
+    }
+
+    fn can_withdraw(&self, amount: i64) -> bool {
+        amount <= self.balance && !self.frozen
+    }
+
+    fn run_withdraw(&mut self, amount: i64) -> Result<i64, Overflow> {
+        let mut next = *self;
+        next.balance = narrow(i128::from(next.balance) - i128::from(amount))?;
+        if 2 * i128::from(amount) > i128::from(Account::LIMIT) {
+            next.frozen = true;
+        }
+        let answer = narrow(i128::from(next.balance) - i128::from(Account::LIMIT))?;
+        *self = next;
+        Ok(answer)
+    }
+
+    fn can_thaw(&self) -> bool {
+        self.frozen
+    }
+
+    fn run_thaw(&mut self) {
+        self.frozen = false;
+    }
+}
+
+/// Locks the state. Nothing panics while it is locked, so there is no poison to heed.
+fn lock(state: &Mutex<State>) -> MutexGuard<'_, State> {
+    state.lock().unwrap_or_else(PoisonError::into_inner)
+}
+
+/// Gives the lock back and waits on the condition, in one step, and takes the lock again.
+fn wait<'a>(condition: &Condvar, state: MutexGuard<'a, State>) -> MutexGuard<'a, State> {
+    condition
+        .wait(state)
+        .unwrap_or_else(PoisonError::into_inner)
+}
+
+/// A number would have left 64 bits.
+#[derive(Clone, Copy, Debug, PartialEq, Eq)]
+pub struct Overflow;
+
+impl std::fmt::Display for Overflow {
+    fn fmt(&self, f: &mut std::fmt::Formatter<'_>) -> std::fmt::Result {
+        f.write_str("a number would leave 64 bits")
+    }
+}
+
+impl std::error::Error for Overflow {}
+
+/// The number, where it has 64 bits.
+fn narrow(number: i128) -> Result<i64, Overflow> {
+    i64::try_from(number).map_err(|_| Overflow)
+}

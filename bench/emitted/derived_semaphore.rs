@@ -1,0 +1,287 @@
+// Made by `expresso emit`. Change the monitor, and not this file.
+
+use std::sync::{Condvar, Mutex, MutexGuard, PoisonError};
+
+/// The monitor `Semaphore`. Threads share it by reference. A call waits for its guard, unless it tries.
+#[allow(dead_code, non_camel_case_types, clippy::upper_case_acronyms)]
+pub struct Semaphore {
+    state: Mutex<State>,
+    /// For calls that wait until `free > 0`.
+    can_take_all: Condvar,
+    /// For calls that wait until `free >= 2`.
+    can_take_two: Condvar,
+    /// For calls that wait until `free < LIMIT`.
+    can_give: Condvar,
+}
+
+#[rustfmt::skip]
+#[allow(dead_code, clippy::style)]
+impl Semaphore {
+    pub const LIMIT: i64 = 3;
+
+    /// The monitor at its start.
+    #[must_use]
+    pub const fn new() -> Self {
+        Self {
+            state: Mutex::new(State::START),
+            can_take_all: Condvar::new(),
+            can_take_two: Condvar::new(),
+            can_give: Condvar::new(),
+        }
+    }
+
+    /// Waits until `free > 0`.
+    ///
+    /// Wakes all calls that wait until `free < LIMIT`.
+    pub fn take_all(&self) {
+        let mut state = lock(&self.state);
+        while !state.can_take_all() {
+            state = wait(&self.can_take_all, state);
+        }
+        state.run_take_all();
+        drop(state);
+        self.can_give.notify_all();
+    }
+
+    /// Answers `None` where `free > 0` is false.
+    ///
+    /// Wakes all calls that wait until `free < LIMIT`.
+    pub fn try_take_all(&self) -> Option<()> {
+        let mut state = lock(&self.state);
+        if !state.can_take_all() {
+            return None;
+        }
+        state.run_take_all();
+        drop(state);
+        self.can_give.notify_all();
+        Some(())
+    }
+
+    /// Waits until `free >= 1`.
+    ///
+    /// Wakes all calls that wait until `free < LIMIT`.
+    ///
+    /// # Errors
+    ///
+    /// [`Overflow`] where a number would leave 64 bits. Then nothing changes.
+    pub fn take(&self) -> Result<(), Overflow> {
+        let mut state = lock(&self.state);
+        while !state.can_take_all() {
+            state = wait(&self.can_take_all, state);
+        }
+        let Ok(()) = state.run_take() else {
+            self.can_take_all.notify_one();
+            return Err(Overflow);
+        };
+        drop(state);
+        self.can_give.notify_all();
+        Ok(())
+    }
+
+    /// Answers `None` where `free >= 1` is false.
+    ///
+    /// Wakes all calls that wait until `free < LIMIT`.
+    ///
+    /// # Errors
+    ///
+    /// [`Overflow`] where a number would leave 64 bits. Then nothing changes.
+    pub fn try_take(&self) -> Result<Option<()>, Overflow> {
+        let mut state = lock(&self.state);
+        if !state.can_take_all() {
+            return Ok(None);
+        }
+        let Ok(()) = state.run_take() else {
+            self.can_take_all.notify_one();
+            return Err(Overflow);
+        };
+        drop(state);
+        self.can_give.notify_all();
+        Ok(Some(()))
+    }
+
+    /// Waits until `free >= 2`.
+    ///
+    /// Wakes all calls that wait until `free < LIMIT`.
+    ///
+    /// # Errors
+    ///
+    /// [`Overflow`] where a number would leave 64 bits. Then nothing changes.
+    pub fn take_two(&self) -> Result<(), Overflow> {
+        let mut state = lock(&self.state);
+        while !state.can_take_two() {
+            state = wait(&self.can_take_two, state);
+        }
+        let Ok(()) = state.run_take_two() else {
+            self.can_take_two.notify_one();
+            return Err(Overflow);
+        };
+        drop(state);
+        self.can_give.notify_all();
+        Ok(())
+    }
+
+    /// Answers `None` where `free >= 2` is false.
+    ///
+    /// Wakes all calls that wait until `free < LIMIT`.
+    ///
+    /// # Errors
+    ///
+    /// [`Overflow`] where a number would leave 64 bits. Then nothing changes.
+    pub fn try_take_two(&self) -> Result<Option<()>, Overflow> {
+        let mut state = lock(&self.state);
+        if !state.can_take_two() {
+            return Ok(None);
+        }
+        let Ok(()) = state.run_take_two() else {
+            self.can_take_two.notify_one();
+            return Err(Overflow);
+        };
+        drop(state);
+        self.can_give.notify_all();
+        Ok(Some(()))
+    }
+
+    /// Waits until `free < LIMIT`.
+    ///
+    /// Wakes all calls that wait until `free > 0`.
+    /// Wakes one call that waits until `free >= 2`, where that now holds.
+    ///
+    /// # Errors
+    ///
+    /// [`Overflow`] where a number would leave 64 bits. Then nothing changes.
+    pub fn give(&self) -> Result<(), Overflow> {
+        let mut state = lock(&self.state);
+        while !state.can_give() {
+            state = wait(&self.can_give, state);
+        }
+        let Ok(()) = state.run_give() else {
+            self.can_give.notify_one();
+            return Err(Overflow);
+        };
+        if state.can_take_two() {
+            self.can_take_two.notify_one();
+        }
+        drop(state);
+        self.can_take_all.notify_all();
+        Ok(())
+    }
+
+    /// Answers `None` where `free < LIMIT` is false.
+    ///
+    /// Wakes all calls that wait until `free > 0`.
+    /// Wakes one call that waits until `free >= 2`, where that now holds.
+    ///
+    /// # Errors
+    ///
+    /// [`Overflow`] where a number would leave 64 bits. Then nothing changes.
+    pub fn try_give(&self) -> Result<Option<()>, Overflow> {
+        let mut state = lock(&self.state);
+        if !state.can_give() {
+            return Ok(None);
+        }
+        let Ok(()) = state.run_give() else {
+            self.can_give.notify_one();
+            return Err(Overflow);
+        };
+        if state.can_take_two() {
+            self.can_take_two.notify_one();
+        }
+        drop(state);
+        self.can_take_all.notify_all();
+        Ok(Some(()))
+    }
+}
+
+impl Default for Semaphore {
+    fn default() -> Self {
+        Self::new()
+    }
+}
+
+impl std::fmt::Debug for Semaphore {
+    fn fmt(&self, f: &mut std::fmt::Formatter<'_>) -> std::fmt::Result {
+        let state = *self
+            .state
+            .lock()
+            .unwrap_or_else(std::sync::PoisonError::into_inner);
+        f.debug_struct(std::any::type_name::<Self>())
+            .field("state", &state)
+            .finish_non_exhaustive()
+    }
+}
+
+/// The fields of the monitor.
+#[derive(Clone, Copy, Debug)]
+#[allow(dead_code)]
+struct State {
+    free: i64,
+}
+
+// The guards and bodies, with expressions as the monitor has them.
+#[rustfmt::skip]
+#[allow(unused, unused_comparisons, clippy::all, clippy::pedantic)]
+impl State {
+    const START: Self = Self {
+        free: 3,
+    };
+
+    fn can_take_all(&self) -> bool {
+        self.free > 0
+    }
+
+    fn run_take_all(&mut self) {
+        self.free = 0;
+    }
+
+    fn run_take(&mut self) -> Result<(), Overflow> {
+        self.free = narrow(i128::from(self.free) - 1)?;
+        Ok(())
+    }
+
+    fn can_take_two(&self) -> bool {
+        self.free >= 2
+    }
+
+    fn run_take_two(&mut self) -> Result<(), Overflow> {
+        self.free = narrow(i128::from(self.free) - 2)?;
+        Ok(())
+    }
+
+    fn can_give(&self) -> bool {
+        self.free < Semaphore::LIMIT
+    }
+
+    fn run_give(&mut self) -> Result<(), Overflow> {
+        self.free = narrow(i128::from(self.free) + 1)?;
+        Ok(())
+    }
+}
+
+/// Locks the state. Nothing panics while it is locked, so there is no poison to heed.
+fn lock(state: &Mutex<State>) -> MutexGuard<'_, State> {
+    state.lock().unwrap_or_else(PoisonError::into_inner)
+}
+
+/// Gives the lock back and waits on the condition, in one step, and takes the lock again.
+fn wait<'a>(condition: &Condvar, state: MutexGuard<'a, State>) -> MutexGuard<'a, State> {
+    condition
+        .wait(state)
+        .unwrap_or_else(PoisonError::into_inner)
+}
+
+/// A number would have left 64 bits.
+#[derive(Clone, Copy, Debug, PartialEq, Eq)]
+pub struct Overflow;
+
+impl std::fmt::Display for Overflow {
+    fn fmt(&self, f: &mut std::fmt::Formatter<'_>) -> std::fmt::Result {
+        f.write_str("a number would leave 64 bits")
+    }
+}
+
+impl std::error::Error for Overflow {}
+
+/// The number, where it has 64 bits.
+fn narrow(number: i128) -> Result<i64, Overflow> {
+    i64::try_from(number).map_err(|_| Overflow)
+}

@@ -1,0 +1,430 @@
+// Made by `expresso emit`. Change the monitor, and not this file.
+
+use std::sync::{Condvar, Mutex, MutexGuard, PoisonError};
+
+/// The monitor `TwoKinds`. Threads share it by reference. A call waits for its guard, unless it tries.
+#[allow(dead_code, non_camel_case_types, clippy::upper_case_acronyms)]
+pub struct TwoKinds {
+    state: Mutex<State>,
+    /// For calls that wait until `total < ROOM`.
+    can_put_red: Condvar,
+    /// For calls that wait until `red > 0`.
+    can_get_red: Condvar,
+    /// For calls that wait until `red < total`.
+    can_get_blue: Condvar,
+    /// For calls that wait until `total == ROOM`.
+    can_drain: Condvar,
+}
+
+#[rustfmt::skip]
+#[allow(dead_code, clippy::style)]
+impl TwoKinds {
+    pub const ROOM: i64 = 2;
+
+    /// The monitor at its start.
+    #[must_use]
+    pub const fn new() -> Self {
+        Self {
+            state: Mutex::new(State::START),
+            can_put_red: Condvar::new(),
+            can_get_red: Condvar::new(),
+            can_get_blue: Condvar::new(),
+            can_drain: Condvar::new(),
+        }
+    }
+
+    /// Waits until `total < ROOM`.
+    ///
+    /// Wakes all calls that wait until `red > 0`.
+    /// Wakes one call that waits until `total == ROOM`, where that now holds.
+    ///
+    /// # Errors
+    ///
+    /// [`Overflow`] where a number would leave 64 bits. Then nothing changes.
+    pub fn put_red(&self) -> Result<(), Overflow> {
+        let mut state = lock(&self.state);
+        while !state.can_put_red() {
+            state = wait(&self.can_put_red, state);
+        }
+        let Ok(()) = state.run_put_red() else {
+            self.can_put_red.notify_one();
+            return Err(Overflow);
+        };
+        if state.can_drain() {
+            self.can_drain.notify_one();
+        }
+        drop(state);
+        self.can_get_red.notify_all();
+        Ok(())
+    }
+
+    /// Answers `None` where `total < ROOM` is false.
+    ///
+    /// Wakes all calls that wait until `red > 0`.
+    /// Wakes one call that waits until `total == ROOM`, where that now holds.
+    ///
+    /// # Errors
+    ///
+    /// [`Overflow`] where a number would leave 64 bits. Then nothing changes.
+    pub fn try_put_red(&self) -> Result<Option<()>, Overflow> {
+        let mut state = lock(&self.state);
+        if !state.can_put_red() {
+            return Ok(None);
+        }
+        let Ok(()) = state.run_put_red() else {
+            self.can_put_red.notify_one();
+            return Err(Overflow);
+        };
+        if state.can_drain() {
+            self.can_drain.notify_one();
+        }
+        drop(state);
+        self.can_get_red.notify_all();
+        Ok(Some(()))
+    }
+
+    /// Waits until `total < ROOM`.
+    ///
+    /// Wakes all calls that wait until `red < total`.
+    /// Wakes one call that waits until `total == ROOM`, where that now holds.
+    ///
+    /// # Errors
+    ///
+    /// [`Overflow`] where a number would leave 64 bits. Then nothing changes.
+    pub fn put_blue(&self) -> Result<(), Overflow> {
+        let mut state = lock(&self.state);
+        while !state.can_put_red() {
+            state = wait(&self.can_put_red, state);
+        }
+        let Ok(()) = state.run_put_blue() else {
+            self.can_put_red.notify_one();
+            return Err(Overflow);
+        };
+        if state.can_drain() {
+            self.can_drain.notify_one();
+        }
+        drop(state);
+        self.can_get_blue.notify_all();
+        Ok(())
+    }
+
+    /// Answers `None` where `total < ROOM` is false.
+    ///
+    /// Wakes all calls that wait until `red < total`.
+    /// Wakes one call that waits until `total == ROOM`, where that now holds.
+    ///
+    /// # Errors
+    ///
+    /// [`Overflow`] where a number would leave 64 bits. Then nothing changes.
+    pub fn try_put_blue(&self) -> Result<Option<()>, Overflow> {
+        let mut state = lock(&self.state);
+        if !state.can_put_red() {
+            return Ok(None);
+        }
+        let Ok(()) = state.run_put_blue() else {
+            self.can_put_red.notify_one();
+            return Err(Overflow);
+        };
+        if state.can_drain() {
+            self.can_drain.notify_one();
+        }
+        drop(state);
+        self.can_get_blue.notify_all();
+        Ok(Some(()))
+    }
+
+    /// Waits until `total < ROOM`.
+    ///
+    /// Wakes all calls that wait until `red > 0`, where that now holds.
+    /// Wakes all calls that wait until `red < total`, where that now holds.
+    /// Wakes one call that waits until `total == ROOM`, where that now holds.
+    ///
+    /// # Errors
+    ///
+    /// [`Overflow`] where a number would leave 64 bits. Then nothing changes.
+    pub fn put(&self, is_red: bool) -> Result<(), Overflow> {
+        let mut state = lock(&self.state);
+        while !state.can_put_red() {
+            state = wait(&self.can_put_red, state);
+        }
+        let Ok(()) = state.run_put(is_red) else {
+            self.can_put_red.notify_one();
+            return Err(Overflow);
+        };
+        if state.can_get_red() {
+            self.can_get_red.notify_all();
+        }
+        if state.can_get_blue() {
+            self.can_get_blue.notify_all();
+        }
+        if state.can_drain() {
+            self.can_drain.notify_one();
+        }
+        drop(state);
+        Ok(())
+    }
+
+    /// Answers `None` where `total < ROOM` is false.
+    ///
+    /// Wakes all calls that wait until `red > 0`, where that now holds.
+    /// Wakes all calls that wait until `red < total`, where that now holds.
+    /// Wakes one call that waits until `total == ROOM`, where that now holds.
+    ///
+    /// # Errors
+    ///
+    /// [`Overflow`] where a number would leave 64 bits. Then nothing changes.
+    pub fn try_put(&self, is_red: bool) -> Result<Option<()>, Overflow> {
+        let mut state = lock(&self.state);
+        if !state.can_put_red() {
+            return Ok(None);
+        }
+        let Ok(()) = state.run_put(is_red) else {
+            self.can_put_red.notify_one();
+            return Err(Overflow);
+        };
+        if state.can_get_red() {
+            self.can_get_red.notify_all();
+        }
+        if state.can_get_blue() {
+            self.can_get_blue.notify_all();
+        }
+        if state.can_drain() {
+            self.can_drain.notify_one();
+        }
+        drop(state);
+        Ok(Some(()))
+    }
+
+    /// Waits until `red > 0`.
+    ///
+    /// Wakes all calls that wait until `total < ROOM`.
+    ///
+    /// # Errors
+    ///
+    /// [`Overflow`] where a number would leave 64 bits. Then nothing changes.
+    pub fn get_red(&self) -> Result<(), Overflow> {
+        let mut state = lock(&self.state);
+        while !state.can_get_red() {
+            state = wait(&self.can_get_red, state);
+        }
+        let Ok(()) = state.run_get_red() else {
+            self.can_get_red.notify_one();
+            return Err(Overflow);
+        };
+        drop(state);
+        self.can_put_red.notify_all();
+        Ok(())
+    }
+
+    /// Answers `None` where `red > 0` is false.
+    ///
+    /// Wakes all calls that wait until `total < ROOM`.
+    ///
+    /// # Errors
+    ///
+    /// [`Overflow`] where a number would leave 64 bits. Then nothing changes.
+    pub fn try_get_red(&self) -> Result<Option<()>, Overflow> {
+        let mut state = lock(&self.state);
+        if !state.can_get_red() {
+            return Ok(None);
+        }
+        let Ok(()) = state.run_get_red() else {
+            self.can_get_red.notify_one();
+            return Err(Overflow);
+        };
+        drop(state);
+        self.can_put_red.notify_all();
+        Ok(Some(()))
+    }
+
+    /// Waits until `red < total`.
+    ///
+    /// Wakes all calls that wait until `total < ROOM`.
+    ///
+    /// # Errors
+    ///
+    /// [`Overflow`] where a number would leave 64 bits. Then nothing changes.
+    pub fn get_blue(&self) -> Result<(), Overflow> {
+        let mut state = lock(&self.state);
+        while !state.can_get_blue() {
+            state = wait(&self.can_get_blue, state);
+        }
+        let Ok(()) = state.run_get_blue() else {
+            self.can_get_blue.notify_one();
+            return Err(Overflow);
+        };
+        drop(state);
+        self.can_put_red.notify_all();
+        Ok(())
+    }
+
+    /// Answers `None` where `red < total` is false.
+    ///
+    /// Wakes all calls that wait until `total < ROOM`.
+    ///
+    /// # Errors
+    ///
+    /// [`Overflow`] where a number would leave 64 bits. Then nothing changes.
+    pub fn try_get_blue(&self) -> Result<Option<()>, Overflow> {
+        let mut state = lock(&self.state);
+        if !state.can_get_blue() {
+            return Ok(None);
+        }
+        let Ok(()) = state.run_get_blue() else {
+            self.can_get_blue.notify_one();
+            return Err(Overflow);
+        };
+        drop(state);
+        self.can_put_red.notify_all();
+        Ok(Some(()))
+    }
+
+    /// Waits until `total == ROOM`.
+    ///
+    /// Wakes all calls that wait until `total < ROOM`.
+    pub fn drain(&self) {
+        let mut state = lock(&self.state);
+        while !state.can_drain() {
+            state = wait(&self.can_drain, state);
+        }
+        state.run_drain();
+        drop(state);
+        self.can_put_red.notify_all();
+    }
+
+    /// Answers `None` where `total == ROOM` is false.
+    ///
+    /// Wakes all calls that wait until `total < ROOM`.
+    pub fn try_drain(&self) -> Option<()> {
+        let mut state = lock(&self.state);
+        if !state.can_drain() {
+            return None;
+        }
+        state.run_drain();
+        drop(state);
+        self.can_put_red.notify_all();
+        Some(())
+    }
+}
+
+impl Default for TwoKinds {
+    fn default() -> Self {
+        Self::new()
+    }
+}
+
+impl std::fmt::Debug for TwoKinds {
+    fn fmt(&self, f: &mut std::fmt::Formatter<'_>) -> std::fmt::Result {
+        let state = *self
+            .state
+            .lock()
+            .unwrap_or_else(std::sync::PoisonError::into_inner);
+        f.debug_struct(std::any::type_name::<Self>())
+            .field("state", &state)
+            .finish_non_exhaustive()
+    }
+}
+
+/// The fields of the monitor.
+#[derive(Clone, Copy, Debug)]
+#[allow(dead_code)]
+struct State {
+    total: i64,
+    red: i64,
+}
+
+// The guards and bodies, with expressions as the monitor has them.
+#[rustfmt::skip]
+#[allow(unused, unused_comparisons, clippy::all, clippy::pedantic)]
+impl State {
+    const START: Self = Self {
+        total: 0,
+        red: 0,
+    };
+
+    fn can_put_red(&self) -> bool {
+        self.total < TwoKinds::ROOM
+    }
+
+    fn run_put_red(&mut self) -> Result<(), Overflow> {
+        let mut next = *self;
+        next.total = narrow(i128::from(next.total) + 1)?;
+        next.red = narrow(i128::from(next.red) + 1)?;
+        *self = next;
+        Ok(())
+    }
+
+    fn run_put_blue(&mut self) -> Result<(), Overflow> {
+        self.total = narrow(i128::from(self.total) + 1)?;
+        Ok(())
+    }
+
+    fn run_put(&mut self, is_red: bool) -> Result<(), Overflow> {
+        let mut next = *self;
+        next.total = narrow(i128::from(next.total) + 1)?;
+        if is_red {
+            next.red = narrow(i128::from(next.red) + 1)?;
+        }
+        *self = next;
+        Ok(())
+    }
+
+    fn can_get_red(&self) -> bool {
+        self.red > 0
+    }
+
+    fn run_get_red(&mut self) -> Result<(), Overflow> {
+        let mut next = *self;
+        next.red = narrow(i128::from(next.red) - 1)?;
+        next.total = narrow(i128::from(next.total) - 1)?;
+        *self = next;
+        Ok(())
+    }
+
+    fn can_get_blue(&self) -> bool {
+        self.red < self.total
+    }
+
+    fn run_get_blue(&mut self) -> Result<(), Overflow> {
+        self.total = narrow(i128::from(self.total) - 1)?;
+        Ok(())
+    }
+
+    fn can_drain(&self) -> bool {
+        self.total == TwoKinds::ROOM
+    }
+
+    fn run_drain(&mut self) {
+        self.total = 0;
+        self.red = 0;
+    }
+}
+
+/// Locks the state. Nothing panics while it is locked, so there is no poison to heed.
+fn lock(state: &Mutex<State>) -> MutexGuard<'_, State> {
+    state.lock().unwrap_or_else(PoisonError::into_inner)
+}
+
+/// Gives the lock back and waits on the condition, in one step, and takes the lock again.
+fn wait<'a>(condition: &Condvar, state: MutexGuard<'a, State>) -> MutexGuard<'a, State> {
+    condition
+        .wait(state)
+        .unwrap_or_else(PoisonError::into_inner)
+}
+
+/// A number would have left 64 bits.
+#[derive(Clone, Copy, Debug, PartialEq, Eq)]
+pub struct Overflow;
+
+impl std::fmt::Display for Overflow {
+    fn fmt(&self, f: &mut std::fmt::Formatter<'_>) -> std::fmt::Result {
+        f.write_str("a number would leave 64 bits")
+    }
+}
+
+impl std::error::Error for Overflow {}
+
+/// The number, where it has 64 bits.
+fn narrow(number: i128) -> Result<i64, Overflow> {
+    i64::try_from(number).map_err(|_| Overflow)
+}

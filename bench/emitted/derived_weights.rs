@@ -1,0 +1,334 @@
+// Made by `expresso emit`. Change the monitor, and not this file.
+
+use std::sync::{Condvar, Mutex, MutexGuard, PoisonError};
+
+/// The monitor `Weights`. Threads share it by reference. A call waits for its guard, unless it tries.
+#[allow(dead_code, non_camel_case_types, clippy::upper_case_acronyms)]
+pub struct Weights {
+    state: Mutex<State>,
+    /// For calls that wait until `free >= 5`.
+    can_take5: Condvar,
+    /// For calls that wait until `free >= 10`.
+    can_take10: Condvar,
+    /// For calls that wait until `free >= 15`.
+    can_take15: Condvar,
+    /// For calls that wait until `free < LIMIT`.
+    can_give: Condvar,
+}
+
+#[rustfmt::skip]
+#[allow(dead_code, clippy::style)]
+impl Weights {
+    pub const LIMIT: i64 = 20;
+
+    /// The monitor at its start.
+    #[must_use]
+    pub const fn new() -> Self {
+        Self {
+            state: Mutex::new(State::START),
+            can_take5: Condvar::new(),
+            can_take10: Condvar::new(),
+            can_take15: Condvar::new(),
+            can_give: Condvar::new(),
+        }
+    }
+
+    /// Waits until `free >= 5`.
+    ///
+    /// Wakes all calls that wait until `free < LIMIT`, where that now holds.
+    ///
+    /// # Errors
+    ///
+    /// [`Overflow`] where a number would leave 64 bits. Then nothing changes.
+    pub fn take5(&self) -> Result<(), Overflow> {
+        let mut state = lock(&self.state);
+        while !state.can_take5() {
+            state = wait(&self.can_take5, state);
+        }
+        let Ok(()) = state.run_take5() else {
+            self.can_take5.notify_one();
+            return Err(Overflow);
+        };
+        if state.can_give() {
+            self.can_give.notify_all();
+        }
+        drop(state);
+        Ok(())
+    }
+
+    /// Answers `None` where `free >= 5` is false.
+    ///
+    /// Wakes all calls that wait until `free < LIMIT`, where that now holds.
+    ///
+    /// # Errors
+    ///
+    /// [`Overflow`] where a number would leave 64 bits. Then nothing changes.
+    pub fn try_take5(&self) -> Result<Option<()>, Overflow> {
+        let mut state = lock(&self.state);
+        if !state.can_take5() {
+            return Ok(None);
+        }
+        let Ok(()) = state.run_take5() else {
+            self.can_take5.notify_one();
+            return Err(Overflow);
+        };
+        if state.can_give() {
+            self.can_give.notify_all();
+        }
+        drop(state);
+        Ok(Some(()))
+    }
+
+    /// Waits until `free >= 10`.
+    ///
+    /// Wakes all calls that wait until `free < LIMIT`, where that now holds.
+    ///
+    /// # Errors
+    ///
+    /// [`Overflow`] where a number would leave 64 bits. Then nothing changes.
+    pub fn take10(&self) -> Result<(), Overflow> {
+        let mut state = lock(&self.state);
+        while !state.can_take10() {
+            state = wait(&self.can_take10, state);
+        }
+        let Ok(()) = state.run_take10() else {
+            self.can_take10.notify_one();
+            return Err(Overflow);
+        };
+        if state.can_give() {
+            self.can_give.notify_all();
+        }
+        drop(state);
+        Ok(())
+    }
+
+    /// Answers `None` where `free >= 10` is false.
+    ///
+    /// Wakes all calls that wait until `free < LIMIT`, where that now holds.
+    ///
+    /// # Errors
+    ///
+    /// [`Overflow`] where a number would leave 64 bits. Then nothing changes.
+    pub fn try_take10(&self) -> Result<Option<()>, Overflow> {
+        let mut state = lock(&self.state);
+        if !state.can_take10() {
+            return Ok(None);
+        }
+        let Ok(()) = state.run_take10() else {
+            self.can_take10.notify_one();
+            return Err(Overflow);
+        };
+        if state.can_give() {
+            self.can_give.notify_all();
+        }
+        drop(state);
+        Ok(Some(()))
+    }
+
+    /// Waits until `free >= 15`.
+    ///
+    /// Wakes all calls that wait until `free < LIMIT`, where that now holds.
+    ///
+    /// # Errors
+    ///
+    /// [`Overflow`] where a number would leave 64 bits. Then nothing changes.
+    pub fn take15(&self) -> Result<(), Overflow> {
+        let mut state = lock(&self.state);
+        while !state.can_take15() {
+            state = wait(&self.can_take15, state);
+        }
+        let Ok(()) = state.run_take15() else {
+            self.can_take15.notify_one();
+            return Err(Overflow);
+        };
+        if state.can_give() {
+            self.can_give.notify_all();
+        }
+        drop(state);
+        Ok(())
+    }
+
+    /// Answers `None` where `free >= 15` is false.
+    ///
+    /// Wakes all calls that wait until `free < LIMIT`, where that now holds.
+    ///
+    /// # Errors
+    ///
+    /// [`Overflow`] where a number would leave 64 bits. Then nothing changes.
+    pub fn try_take15(&self) -> Result<Option<()>, Overflow> {
+        let mut state = lock(&self.state);
+        if !state.can_take15() {
+            return Ok(None);
+        }
+        let Ok(()) = state.run_take15() else {
+            self.can_take15.notify_one();
+            return Err(Overflow);
+        };
+        if state.can_give() {
+            self.can_give.notify_all();
+        }
+        drop(state);
+        Ok(Some(()))
+    }
+
+    /// Waits until `free < LIMIT`.
+    ///
+    /// Wakes all calls that wait until `free >= 5`, where that now holds.
+    /// Wakes all calls that wait until `free >= 10`, where that now holds.
+    /// Wakes all calls that wait until `free >= 15`, where that now holds.
+    ///
+    /// # Errors
+    ///
+    /// [`Overflow`] where a number would leave 64 bits. Then nothing changes.
+    pub fn give(&self) -> Result<(), Overflow> {
+        let mut state = lock(&self.state);
+        while !state.can_give() {
+            state = wait(&self.can_give, state);
+        }
+        let Ok(()) = state.run_give() else {
+            self.can_give.notify_one();
+            return Err(Overflow);
+        };
+        if state.can_take5() {
+            self.can_take5.notify_all();
+        }
+        if state.can_take10() {
+            self.can_take10.notify_all();
+        }
+        if state.can_take15() {
+            self.can_take15.notify_all();
+        }
+        drop(state);
+        Ok(())
+    }
+
+    /// Answers `None` where `free < LIMIT` is false.
+    ///
+    /// Wakes all calls that wait until `free >= 5`, where that now holds.
+    /// Wakes all calls that wait until `free >= 10`, where that now holds.
+    /// Wakes all calls that wait until `free >= 15`, where that now holds.
+    ///
+    /// # Errors
+    ///
+    /// [`Overflow`] where a number would leave 64 bits. Then nothing changes.
+    pub fn try_give(&self) -> Result<Option<()>, Overflow> {
+        let mut state = lock(&self.state);
+        if !state.can_give() {
+            return Ok(None);
+        }
+        let Ok(()) = state.run_give() else {
+            self.can_give.notify_one();
+            return Err(Overflow);
+        };
+        if state.can_take5() {
+            self.can_take5.notify_all();
+        }
+        if state.can_take10() {
+            self.can_take10.notify_all();
+        }
+        if state.can_take15() {
+            self.can_take15.notify_all();
+        }
+        drop(state);
+        Ok(Some(()))
+    }
+}
+
+impl Default for Weights {
+    fn default() -> Self {
+        Self::new()
+    }
+}
+
+impl std::fmt::Debug for Weights {
+    fn fmt(&self, f: &mut std::fmt::Formatter<'_>) -> std::fmt::Result {
+        let state = *self
+            .state
+            .lock()
+            .unwrap_or_else(std::sync::PoisonError::into_inner);
+        f.debug_struct(std::any::type_name::<Self>())
+            .field("state", &state)
+            .finish_non_exhaustive()
+    }
+}
+
+/// The fields of the monitor.
+#[derive(Clone, Copy, Debug)]
+#[allow(dead_code)]
+struct State {
+    free: i64,
+}
+
+// The guards and bodies, with expressions as the monitor has them.
+#[rustfmt::skip]
+#[allow(unused, unused_comparisons, clippy::all, clippy::pedantic)]
+impl State {
+    const START: Self = Self {
+        free: 0,
+    };
+
+    fn can_take5(&self) -> bool {
+        self.free >= 5
+    }
+
+    fn run_take5(&mut self) -> Result<(), Overflow> {
+        self.free = narrow(i128::from(self.free) - 5)?;
+        Ok(())
+    }
+
+    fn can_take10(&self) -> bool {
+        self.free >= 10
+    }
+
+    fn run_take10(&mut self) -> Result<(), Overflow> {
+        self.free = narrow(i128::from(self.free) - 10)?;
+        Ok(())
+    }
+
+    fn can_take15(&self) -> bool {
+        self.free >= 15
+    }
+
+    fn run_take15(&mut self) -> Result<(), Overflow> {
+        self.free = narrow(i128::from(self.free) - 15)?;
+        Ok(())
+    }
+
+    fn can_give(&self) -> bool {
+        self.free < Weights::LIMIT
+    }
+
+    fn run_give(&mut self) -> Result<(), Overflow> {
+        self.free = narrow(i128::from(self.free) + 1)?;
+        Ok(())
+    }
+}
+
+/// Locks the state. Nothing panics while it is locked, so there is no poison to heed.
+fn lock(state: &Mutex<State>) -> MutexGuard<'_, State> {
+    state.lock().unwrap_or_else(PoisonError::into_inner)
+}
+
+/// Gives the lock back and waits on the condition, in one step, and takes the lock again.
+fn wait<'a>(condition: &Condvar, state: MutexGuard<'a, State>) -> MutexGuard<'a, State> {
+    condition
+        .wait(state)
+        .unwrap_or_else(PoisonError::into_inner)
+}
+
+/// A number would have left 64 bits.
+#[derive(Clone, Copy, Debug, PartialEq, Eq)]
+pub struct Overflow;
+
+impl std::fmt::Display for Overflow {
+    fn fmt(&self, f: &mut std::fmt::Formatter<'_>) -> std::fmt::Result {
+        f.write_str("a number would leave 64 bits")
+    }
+}
+
+impl std::error::Error for Overflow {}
+
+/// The number, where it has 64 bits.
+fn narrow(number: i128) -> Result<i64, Overflow> {
+    i64::try_from(number).map_err(|_| Overflow)
+}

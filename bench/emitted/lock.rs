@@ -1,0 +1,143 @@
+// Made by `expresso emit`. Change the monitor, and not this file.
+
+use std::sync::{Condvar, Mutex, MutexGuard, PoisonError};
+
+/// The monitor `Lock`. Threads share it by reference. A call waits for its guard, unless it tries.
+#[allow(dead_code, non_camel_case_types, clippy::upper_case_acronyms)]
+pub struct Lock {
+    state: Mutex<State>,
+    /// For calls that wait until `!held`.
+    can_acquire: Condvar,
+    /// For calls that wait until `held`.
+    can_release: Condvar,
+}
+
+#[rustfmt::skip]
+#[allow(dead_code, clippy::style)]
+impl Lock {
+    /// The monitor at its start.
+    #[must_use]
+    pub const fn new() -> Self {
+        Self {
+            state: Mutex::new(State::START),
+            can_acquire: Condvar::new(),
+            can_release: Condvar::new(),
+        }
+    }
+
+    /// Waits until `!held`.
+    ///
+    /// Wakes one call that waits until `held`.
+    pub fn acquire(&self) {
+        let mut state = lock(&self.state);
+        while !state.can_acquire() {
+            state = wait(&self.can_acquire, state);
+        }
+        state.run_acquire();
+        drop(state);
+        self.can_release.notify_one();
+    }
+
+    /// Answers `None` where `!held` is false.
+    ///
+    /// Wakes one call that waits until `held`.
+    pub fn try_acquire(&self) -> Option<()> {
+        let mut state = lock(&self.state);
+        if !state.can_acquire() {
+            return None;
+        }
+        state.run_acquire();
+        drop(state);
+        self.can_release.notify_one();
+        Some(())
+    }
+
+    /// Waits until `held`.
+    ///
+    /// Wakes one call that waits until `!held`.
+    pub fn release(&self) {
+        let mut state = lock(&self.state);
+        while !state.can_release() {
+            state = wait(&self.can_release, state);
+        }
+        state.run_release();
+        drop(state);
+        self.can_acquire.notify_one();
+    }
+
+    /// Answers `None` where `held` is false.
+    ///
+    /// Wakes one call that waits until `!held`.
+    pub fn try_release(&self) -> Option<()> {
+        let mut state = lock(&self.state);
+        if !state.can_release() {
+            return None;
+        }
+        state.run_release();
+        drop(state);
+        self.can_acquire.notify_one();
+        Some(())
+    }
+}
+
+impl Default for Lock {
+    fn default() -> Self {
+        Self::new()
+    }
+}
+
+impl std::fmt::Debug for Lock {
+    fn fmt(&self, f: &mut std::fmt::Formatter<'_>) -> std::fmt::Result {
+        let state = *self
+            .state
+            .lock()
+            .unwrap_or_else(std::sync::PoisonError::into_inner);
+        f.debug_struct(std::any::type_name::<Self>())
+            .field("state", &state)
+            .finish_non_exhaustive()
+    }
+}
+
+/// The fields of the monitor.
+#[derive(Clone, Copy, Debug)]
+#[allow(dead_code)]
+struct State {
+    held: bool,
+}
+
+// The guards and bodies, with expressions as the monitor has them.
+#[rustfmt::skip]
+#[allow(unused, unused_comparisons, clippy::all, clippy::pedantic)]
+impl State {
+    const START: Self = Self {
+        held: false,
+    };
+
+    fn can_acquire(&self) -> bool {
+        !self.held
+    }
+
+    fn run_acquire(&mut self) {
+        self.held = true;
+    }
+
+    fn can_release(&self) -> bool {
+        self.held
+    }
+
+    fn run_release(&mut self) {
+        self.held = false;
+    }
+}
+
+/// Locks the state. Nothing panics while it is locked, so there is no poison to heed.
+fn lock(state: &Mutex<State>) -> MutexGuard<'_, State> {
+    state.lock().unwrap_or_else(PoisonError::into_inner)
+}
+
+/// Gives the lock back and waits on the condition, in one step, and takes the lock again.
+fn wait<'a>(condition: &Condvar, state: MutexGuard<'a, State>) -> MutexGuard<'a, State> {
+    condition
+        .wait(state)
+        .unwrap_or_else(PoisonError::into_inner)
+}

@@ -1,0 +1,256 @@
+// Made by `expresso emit`. Change the monitor, and not this file.
+
+use std::sync::{Condvar, Mutex, MutexGuard, PoisonError};
+
+/// The monitor `state`. Threads share it by reference. A call waits for its guard, unless it tries.
+#[allow(non_snake_case, non_upper_case_globals)]
+#[allow(dead_code, non_camel_case_types, clippy::upper_case_acronyms)]
+pub struct State_ {
+    state: Mutex<State>,
+    /// For calls that wait until `Ok && state > Mutex`.
+    can_new_: Condvar,
+    /// For calls that wait until `answer * 2 >= narrow - match`.
+    can_await_: Condvar,
+    /// For calls that wait until `lock && startRead || match_ <= drop`.
+    can2_await_: Condvar,
+}
+
+#[rustfmt::skip]
+#[allow(dead_code, clippy::style)]
+#[allow(non_snake_case, non_upper_case_globals)]
+impl State_ {
+    pub const MUTEX: i64 = -3;
+
+    /// The monitor at its start.
+    #[must_use]
+    pub const fn new() -> Self {
+        Self {
+            state: Mutex::new(State::START),
+            can_new_: Condvar::new(),
+            can_await_: Condvar::new(),
+            can2_await_: Condvar::new(),
+        }
+    }
+
+    /// Waits until `Ok && state > Mutex`.
+    ///
+    /// Wakes nobody.
+    ///
+    /// # Errors
+    ///
+    /// [`Overflow`] where a number would leave 64 bits. Then nothing changes.
+    pub fn new_(&self, state_: i64, ok: bool) -> Result<bool, Overflow> {
+        let mut state = lock(&self.state);
+        while !state.can_new_(state_, ok) {
+            state = wait(&self.can_new_, state);
+        }
+        let Ok(answer) = state.run_new_(state_, ok) else {
+            self.can_new_.notify_one();
+            return Err(Overflow);
+        };
+        drop(state);
+        Ok(answer)
+    }
+
+    /// Waits until `answer * 2 >= narrow - match`.
+    ///
+    /// Wakes all calls that wait until `lock && startRead || match_ <= drop`.
+    ///
+    /// Then waits until `lock && startRead || match_ <= drop`.
+    ///
+    /// Wakes all calls that wait until `answer * 2 >= narrow - match`.
+    ///
+    /// # Errors
+    ///
+    /// [`Overflow`] where a number would leave 64 bits. Its block then changes nothing, and no later one runs.
+    pub fn await_(&self, answer_: i64, narrow_: i64) -> Result<i64, Overflow> {
+        let mut drop_: i64 = 0;
+        let mut lock_: bool = true;
+        let mut state = lock(&self.state);
+        while !state.can_await_(answer_, narrow_, drop_, lock_) {
+            state = wait(&self.can_await_, state);
+        }
+        let Ok(()) = state.run_await_(answer_, narrow_, &mut drop_, &mut lock_) else {
+            self.can_await_.notify_one();
+            return Err(Overflow);
+        };
+        drop(state);
+        self.can2_await_.notify_all();
+        let mut state = lock(&self.state);
+        while !state.can2_await_(answer_, narrow_, drop_, lock_) {
+            state = wait(&self.can2_await_, state);
+        }
+        let Ok(answer) = state.run2_await_(answer_, narrow_, &mut drop_, &mut lock_) else {
+            self.can2_await_.notify_one();
+            return Err(Overflow);
+        };
+        drop(state);
+        self.can_await_.notify_all();
+        Ok(answer)
+    }
+
+    /// Answers `None` where `answer * 2 >= narrow - match` is false.
+    ///
+    /// Wakes all calls that wait until `lock && startRead || match_ <= drop`.
+    ///
+    /// Then waits until `lock && startRead || match_ <= drop`.
+    ///
+    /// Wakes all calls that wait until `answer * 2 >= narrow - match`.
+    ///
+    /// # Errors
+    ///
+    /// [`Overflow`] where a number would leave 64 bits. Its block then changes nothing, and no later one runs.
+    pub fn try_await_(&self, answer_: i64, narrow_: i64) -> Result<Option<i64>, Overflow> {
+        let mut drop_: i64 = 0;
+        let mut lock_: bool = true;
+        let mut state = lock(&self.state);
+        if !state.can_await_(answer_, narrow_, drop_, lock_) {
+            return Ok(None);
+        }
+        let Ok(()) = state.run_await_(answer_, narrow_, &mut drop_, &mut lock_) else {
+            self.can_await_.notify_one();
+            return Err(Overflow);
+        };
+        drop(state);
+        self.can2_await_.notify_all();
+        let mut state = lock(&self.state);
+        while !state.can2_await_(answer_, narrow_, drop_, lock_) {
+            state = wait(&self.can2_await_, state);
+        }
+        let Ok(answer) = state.run2_await_(answer_, narrow_, &mut drop_, &mut lock_) else {
+            self.can2_await_.notify_one();
+            return Err(Overflow);
+        };
+        drop(state);
+        self.can_await_.notify_all();
+        Ok(Some(answer))
+    }
+
+    /// Does not wait.
+    ///
+    /// Wakes nobody.
+    pub fn try_new_(&self) {
+        let mut state = lock(&self.state);
+        state.run_try_new_();
+        drop(state);
+    }
+}
+
+impl Default for State_ {
+    fn default() -> Self {
+        Self::new()
+    }
+}
+
+impl std::fmt::Debug for State_ {
+    fn fmt(&self, f: &mut std::fmt::Formatter<'_>) -> std::fmt::Result {
+        let state = *self
+            .state
+            .lock()
+            .unwrap_or_else(std::sync::PoisonError::into_inner);
+        f.debug_struct(std::any::type_name::<Self>())
+            .field("state", &state)
+            .finish_non_exhaustive()
+    }
+}
+
+/// The fields of the monitor.
+#[derive(Clone, Copy, Debug)]
+#[allow(dead_code)]
+#[allow(non_snake_case, non_upper_case_globals)]
+struct State {
+    self_: i64,
+    next: i64,
+    startRead: bool,
+    start_read: bool,
+    match_: i64,
+    match__: i64,
+}
+
+// The guards and bodies, with expressions as the monitor has them.
+#[rustfmt::skip]
+#[allow(unused, unused_comparisons, clippy::all, clippy::pedantic)]
+#[allow(non_snake_case, non_upper_case_globals)]
+impl State {
+    const START: Self = Self {
+        self_: 0,
+        next: 0,
+        startRead: true,
+        start_read: false,
+        match_: 0,
+        match__: 0,
+    };
+
+    fn can_new_(&self, state_: i64, ok: bool) -> bool {
+        ok && state_ > State_::MUTEX
+    }
+
+    fn run_new_(&mut self, state_: i64, ok: bool) -> Result<bool, Overflow> {
+        let mut next = *self;
+        next.self_ = narrow(i128::from(next.self_) + i128::from(state_))?;
+        next.next = narrow(i128::from(state_) * 2)?;
+        *self = next;
+        Ok(!ok)
+    }
+
+    fn can_await_(&self, answer_: i64, narrow_: i64, drop_: i64, lock_: bool) -> bool {
+        i128::from(answer_) * 2 >= i128::from(narrow_) - i128::from(self.match_)
+    }
+
+    fn run_await_(&mut self, answer_: i64, narrow_: i64, drop_: &mut i64, lock_: &mut bool) -> Result<(), Overflow> {
+        *drop_ = narrow(i128::from(answer_) - i128::from(narrow_))?;
+        *lock_ = *drop_ == 0 || 1_i128 < 2_i128;
+        self.match__ = *drop_;
+        Ok(())
+    }
+
+    fn can2_await_(&self, answer_: i64, narrow_: i64, drop_: i64, lock_: bool) -> bool {
+        lock_ && self.startRead || self.match__ <= drop_
+    }
+
+    fn run2_await_(&mut self, answer_: i64, narrow_: i64, drop_: &mut i64, lock_: &mut bool) -> Result<i64, Overflow> {
+        let mut next = *self;
+        if *lock_ {
+            next.match_ = narrow(-i128::from(*drop_))?;
+        } else {
+            next.self_ = narrow(-(i128::from(*drop_) + 1))?;
+            next.next = narrow(i128::from(next.next) - i128::from(next.self_))?;
+        }
+        let answer = narrow(i128::from(*drop_) - 1)?;
+        *self = next;
+        Ok(answer)
+    }
+
+    fn run_try_new_(&mut self) {
+        self.self_ = 0;
+    }
+}
+
+/// Locks the state. Nothing panics while it is locked, so there is no poison to heed.
+fn lock(state: &Mutex<State>) -> MutexGuard<'_, State> {
+    state.lock().unwrap_or_else(PoisonError::into_inner)
+}
+
+/// Gives the lock back and waits on the condition, in one step, and takes the lock again.
+fn wait<'a>(condition: &Condvar, state: MutexGuard<'a, State>) -> MutexGuard<'a, State> {
+    condition
+        .wait(state)
+        .unwrap_or_else(PoisonError::into_inner)
+}
+
+/// A number would have left 64 bits.
+#[derive(Clone, Copy, Debug, PartialEq, Eq)]
+pub struct Overflow;
+
+impl std::fmt::Display for Overflow {
+    fn fmt(&self, f: &mut std::fmt::Formatter<'_>) -> std::fmt::Result {
+        f.write_str("a number would leave 64 bits")
+    }
+}
+
+impl std::error::Error for Overflow {}
+
+/// The number, where it has 64 bits.
+fn narrow(number: i128) -> Result<i64, Overflow> {
+    i64::try_from(number).map_err(|_| Overflow)
+}

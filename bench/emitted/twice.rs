@@ -1,0 +1,127 @@
+// Made by `expresso emit`. Change the monitor, and not this file.
+
+use std::sync::{Condvar, Mutex, MutexGuard, PoisonError};
+
+/// The monitor `Twice`. Threads share it by reference. A call waits for its guard, unless it tries.
+#[allow(dead_code, non_camel_case_types, clippy::upper_case_acronyms)]
+pub struct Twice {
+    state: Mutex<State>,
+    /// For calls that wait until `level > seen + 1`.
+    can2_pair: Condvar,
+}
+
+#[rustfmt::skip]
+#[allow(dead_code, clippy::style)]
+impl Twice {
+    /// The monitor at its start.
+    #[must_use]
+    pub const fn new() -> Self {
+        Self {
+            state: Mutex::new(State::START),
+            can2_pair: Condvar::new(),
+        }
+    }
+
+    /// Does not wait.
+    ///
+    /// Wakes all calls that wait until `level > seen + 1`.
+    ///
+    /// Then waits until `level > seen + 1`.
+    ///
+    /// Wakes nobody.
+    ///
+    /// # Errors
+    ///
+    /// [`Overflow`] where a number would leave 64 bits. Its block then changes nothing, and no later one runs.
+    pub fn pair(&self) -> Result<i64, Overflow> {
+        let mut seen: i64 = 0;
+        let mut state = lock(&self.state);
+        state.run_pair(&mut seen)?;
+        drop(state);
+        self.can2_pair.notify_all();
+        let mut state = lock(&self.state);
+        while !state.can2_pair(seen) {
+            state = wait(&self.can2_pair, state);
+        }
+        let answer = state.run2_pair(&mut seen);
+        drop(state);
+        Ok(answer)
+    }
+}
+
+impl Default for Twice {
+    fn default() -> Self {
+        Self::new()
+    }
+}
+
+impl std::fmt::Debug for Twice {
+    fn fmt(&self, f: &mut std::fmt::Formatter<'_>) -> std::fmt::Result {
+        let state = *self
+            .state
+            .lock()
+            .unwrap_or_else(std::sync::PoisonError::into_inner);
+        f.debug_struct(std::any::type_name::<Self>())
+            .field("state", &state)
+            .finish_non_exhaustive()
+    }
+}
+
+/// The fields of the monitor.
+#[derive(Clone, Copy, Debug)]
+#[allow(dead_code)]
+struct State {
+    level: i64,
+}
+
+// The guards and bodies, with expressions as the monitor has them.
+#[rustfmt::skip]
+#[allow(unused, unused_comparisons, clippy::all, clippy::pedantic)]
+impl State {
+    const START: Self = Self {
+        level: 0,
+    };
+
+    fn run_pair(&mut self, seen: &mut i64) -> Result<(), Overflow> {
+        *seen = self.level;
+        self.level = narrow(i128::from(self.level) + 1)?;
+        Ok(())
+    }
+
+    fn can2_pair(&self, seen: i64) -> bool {
+        i128::from(self.level) > i128::from(seen) + 1
+    }
+
+    fn run2_pair(&mut self, seen: &mut i64) -> i64 {
+        *seen
+    }
+}
+
+/// Locks the state. Nothing panics while it is locked, so there is no poison to heed.
+fn lock(state: &Mutex<State>) -> MutexGuard<'_, State> {
+    state.lock().unwrap_or_else(PoisonError::into_inner)
+}
+
+/// Gives the lock back and waits on the condition, in one step, and takes the lock again.
+fn wait<'a>(condition: &Condvar, state: MutexGuard<'a, State>) -> MutexGuard<'a, State> {
+    condition
+        .wait(state)
+        .unwrap_or_else(PoisonError::into_inner)
+}
+
+/// A number would have left 64 bits.
+#[derive(Clone, Copy, Debug, PartialEq, Eq)]
+pub struct Overflow;
+
+impl std::fmt::Display for Overflow {
+    fn fmt(&self, f: &mut std::fmt::Formatter<'_>) -> std::fmt::Result {
+        f.write_str("a number would leave 64 bits")
+    }
+}
+
+impl std::error::Error for Overflow {}
+
+/// The number, where it has 64 bits.
+fn narrow(number: i128) -> Result<i64, Overflow> {
+    i64::try_from(number).map_err(|_| Overflow)
+}

@@ -1,0 +1,136 @@
+// Made by `expresso emit`. Change the monitor, and not this file.
+
+use std::sync::{Condvar, Mutex, MutexGuard, PoisonError};
+
+/// The monitor `Up`. Threads share it by reference. A call waits for its guard, unless it tries.
+#[allow(dead_code, non_camel_case_types, clippy::upper_case_acronyms)]
+pub struct Up {
+    state: Mutex<State>,
+    /// For calls that wait until `x > 0`.
+    can_inc: Condvar,
+}
+
+#[rustfmt::skip]
+#[allow(dead_code, clippy::style)]
+impl Up {
+    /// The monitor at its start.
+    #[must_use]
+    pub const fn new() -> Self {
+        Self {
+            state: Mutex::new(State::START),
+            can_inc: Condvar::new(),
+        }
+    }
+
+    /// Waits until `x > 0`.
+    ///
+    /// Wakes nobody.
+    ///
+    /// # Errors
+    ///
+    /// [`Overflow`] where a number would leave 64 bits. Then nothing changes.
+    pub fn inc(&self) -> Result<(), Overflow> {
+        let mut state = lock(&self.state);
+        while !state.can_inc() {
+            state = wait(&self.can_inc, state);
+        }
+        let Ok(()) = state.run_inc() else {
+            self.can_inc.notify_one();
+            return Err(Overflow);
+        };
+        drop(state);
+        Ok(())
+    }
+
+    /// Answers `None` where `x > 0` is false.
+    ///
+    /// Wakes nobody.
+    ///
+    /// # Errors
+    ///
+    /// [`Overflow`] where a number would leave 64 bits. Then nothing changes.
+    pub fn try_inc(&self) -> Result<Option<()>, Overflow> {
+        let mut state = lock(&self.state);
+        if !state.can_inc() {
+            return Ok(None);
+        }
+        let Ok(()) = state.run_inc() else {
+            self.can_inc.notify_one();
+            return Err(Overflow);
+        };
+        drop(state);
+        Ok(Some(()))
+    }
+}
+
+impl Default for Up {
+    fn default() -> Self {
+        Self::new()
+    }
+}
+
+impl std::fmt::Debug for Up {
+    fn fmt(&self, f: &mut std::fmt::Formatter<'_>) -> std::fmt::Result {
+        let state = *self
+            .state
+            .lock()
+            .unwrap_or_else(std::sync::PoisonError::into_inner);
+        f.debug_struct(std::any::type_name::<Self>())
+            .field("state", &state)
+            .finish_non_exhaustive()
+    }
+}
+
+/// The fields of the monitor.
+#[derive(Clone, Copy, Debug)]
+#[allow(dead_code)]
+struct State {
+    x: i64,
+}
+
+// The guards and bodies, with expressions as the monitor has them.
+#[rustfmt::skip]
+#[allow(unused, unused_comparisons, clippy::all, clippy::pedantic)]
+impl State {
+    const START: Self = Self {
+        x: 9223372036854775807,
+    };
+
+    fn can_inc(&self) -> bool {
+        self.x > 0
+    }
+
+    fn run_inc(&mut self) -> Result<(), Overflow> {
+        self.x = narrow(i128::from(self.x) + 1)?;
+        Ok(())
+    }
+}
+
+/// Locks the state. Nothing panics while it is locked, so there is no poison to heed.
+fn lock(state: &Mutex<State>) -> MutexGuard<'_, State> {
+    state.lock().unwrap_or_else(PoisonError::into_inner)
+}
+
+/// Gives the lock back and waits on the condition, in one step, and takes the lock again.
+fn wait<'a>(condition: &Condvar, state: MutexGuard<'a, State>) -> MutexGuard<'a, State> {
+    condition
+        .wait(state)
+        .unwrap_or_else(PoisonError::into_inner)
+}
+
+/// A number would have left 64 bits.
+#[derive(Clone, Copy, Debug, PartialEq, Eq)]
+pub struct Overflow;
+
+impl std::fmt::Display for Overflow {
+    fn fmt(&self, f: &mut std::fmt::Formatter<'_>) -> std::fmt::Result {
+        f.write_str("a number would leave 64 bits")
+    }
+}
+
+impl std::error::Error for Overflow {}
+
+/// The number, where it has 64 bits.
+fn narrow(number: i128) -> Result<i64, Overflow> {
+    i64::try_from(number).map_err(|_| Overflow)
+}

@@ -1,0 +1,291 @@
+#!/usr/bin/env python3
+"""Emits monitors that are made up, whose names have a meaning in Rust, and calls them beside a reference.
+
+  emitted_random.py MONITORS [SEED]     so many monitors; SEED is 1 where it is left out
+
+Each module is compiled by rustc without a warning, and called on one thread: what the calls answer must be what plain
+arithmetic over the monitor's text says. EXPRESSO=PROGRAM takes the modules of that program; without it those of the
+second printer, tools/emitted.py, under a plan that wakes everyone. It ends with status 1 where one differs.
+"""
+
+import os
+import pathlib
+import random
+import subprocess
+import sys
+import tempfile
+
+sys.dont_write_bytecode = True
+ROOT = pathlib.Path(__file__).resolve().parent.parent
+sys.path.insert(0, str(ROOT / "tools"))
+
+from emitted import Source, module_text  # noqa: E402
+from trees import If, Return, read_tree  # noqa: E402
+
+WORDS = ("self Self _ __ Ok Err Some None state State next answer match match_ try startRead start_read x X y new lock "
+         "wait drop narrow Overflow Mutex Option i64 i128 std async dyn a__b can_x run_x x_ _x await clone Result "
+         "try_x try_new_ box gen readX read_x").split()
+LEAST, MOST = -2 ** 63, 2 ** 63 - 1
+CALLS = 40
+SIGNS = "==", "!=", "<", "<=", ">", ">="
+
+
+# ---- monitors that are made up, in canonical form
+class Maker:
+    """Makes a text of what it has declared so far."""
+
+    def __init__(self, dice):
+        self.dice, self.names = dice, dice.sample(WORDS, len(WORDS))
+        self.constants, self.ints, self.flags = [], [], []
+
+    def number(self):
+        return self.dice.choice([0, 1, 2, 3, 7, 2 ** 31, 2 ** 62, MOST][:self.dice.choice([5, 5, 5, 8])])
+
+    def atom(self):
+        known = self.constants + self.ints
+        return self.dice.choice(known) if known and self.dice.random() < 0.8 else str(self.number())
+
+    def sum(self):
+        """A sum, a product with a number, or an atom."""
+        parts = [self.part() for _ in range(self.dice.choice([1, 1, 2, 3]))]
+        return "".join(part if not k else f" {self.dice.choice('+-')} {part}" for k, part in enumerate(parts))
+
+    def part(self):
+        kind = self.dice.random()
+        if kind < 0.2:
+            return f"{self.dice.randrange(9)} * {self.atom()}"
+        if kind < 0.3:
+            return f"-{self.atom()}"
+        return f"-({self.sum()})" if kind < 0.35 else self.atom()
+
+    def truth(self, deep=2):
+        kind = self.dice.random()
+        if deep and kind < 0.3:
+            sign = self.dice.choice(["&&", "||"])
+            return f" {sign} ".join(self.within(self.truth(deep - 1)) for _ in range(2))
+        if kind < 0.4:
+            return f"!({self.truth(0)})"
+        if kind < 0.6 and self.flags:
+            return self.dice.choice(["", "!"]) + self.dice.choice(self.flags)
+        return f"{self.sum()} {self.dice.choice(SIGNS)} {self.sum()}" if kind < 0.95 else "true"
+
+    @staticmethod
+    def within(text):
+        return f"({text})" if "&&" in text or "||" in text else text
+
+    def statement(self, indent, deep=1):
+        if deep and self.dice.random() < 0.3:
+            body = "".join(self.statement(indent + "  ", 0) for _ in range(self.dice.randrange(1, 3)))
+            other = self.statement(indent + "  ", 0) if self.dice.random() < 0.5 else ""
+            end = f" else {{\n{other}{indent}}}" if other else ""
+            return f"{indent}if ({self.truth()}) {{\n{body}{indent}}}{end}\n"
+        if self.flags and self.dice.random() < 0.3:
+            return f"{indent}{self.dice.choice(self.flags)} = {self.truth()};\n"
+        return f"{indent}{self.dice.choice(self.ints)} = {self.sum()};\n" if self.ints else ""
+
+    def declared(self, ahead):
+        """A line, with its name noted."""
+        name = self.names.pop()
+        if ahead != "const" and self.dice.random() < 0.4:
+            self.flags.append(name)
+            return f"bool {name} = {self.dice.choice(['true', 'false'])};\n"
+        (self.constants if ahead == "const" else self.ints).append(name)
+        sign = self.dice.choice(["", "-"])
+        return f"{ahead} {name} = {sign}{self.number() or 1};\n"
+
+    def method(self):
+        name, outer = self.names.pop(), (self.ints[:], self.flags[:], self.names[:])
+        inputs = [self.declared("int").split(" ")[:2] for _ in range(self.dice.randrange(3))]
+        taken = ", ".join(map(" ".join, inputs))
+        lines = ["    local " + self.declared("int") for _ in range(self.dice.choice([0, 0, 1, 2]))]
+        writable = [one for one in self.ints if one not in [name for _, name in inputs]]
+        readable, self.ints = self.ints, writable
+        count = self.dice.choice([1, 1, 1, 2])
+        flags = [one for one in self.flags if one not in [name for _, name in inputs]]
+        blocks = [self.block("    ", readable, flags, k == count - 1) for k in range(count)]
+        self.ints, self.flags, self.names = outer
+        if count == 1 and not lines:
+            block = blocks[0].replace("\n  ", "\n").lstrip()
+            return f"  method {name}({taken}) {block}"
+        return f"  method {name}({taken})\n{''.join(lines + blocks)}"
+
+    def block(self, indent, readable, flags, is_last):
+        """A block; what it assigns are fields and locals."""
+        writable, all_flags = self.ints, self.flags
+        self.ints = readable
+        guard = self.truth() if self.dice.random() < 0.7 else "true"
+        body = ""
+        for _ in range(self.dice.randrange(4)):
+            self.ints, self.flags = readable, all_flags
+            text = self.statement(indent + "  ")
+            targets = [line.split(" = ")[0].strip() for line in text.splitlines() if line.endswith(";")]
+            body += text if all(one in writable + flags for one in targets) else ""
+        if is_last and self.dice.random() < 0.5:
+            body += f"{indent}  return {self.sum() if self.dice.random() < 0.6 else self.truth()};\n"
+        self.ints, self.flags = writable, all_flags
+        return f"{indent}waituntil ({guard}) {{\n{body}{indent}}}\n"
+
+    def monitor(self):
+        name = self.names.pop()
+        lines = ["  " + self.declared("const") for _ in range(self.dice.randrange(3))]
+        lines += ["  " + self.declared("int") for _ in range(self.dice.randrange(1, 5))]
+        lines += [self.method() for _ in range(self.dice.randrange(1, 5))]
+        return f"monitor {name} {{\n{''.join(lines)}}}\n"
+
+
+# ---- the reference: plain arithmetic over the tree
+class Overflow(Exception):
+    """A value has more than 64 bits."""
+
+
+def value(expression, known):
+    sign, parts = expression
+    if sign in ("number", "truth", "name"):
+        return int(parts) if sign == "number" else parts == "true" if sign == "truth" else known[parts]
+    if sign == "+":
+        return sum((-1 if one == "-" else 1) * value(part, known) for one, part in parts)
+    held = [value(part, known) for part in parts]
+    if sign in ("minus", "not"):
+        return -held[0] if sign == "minus" else not held[0]
+    if sign in ("&&", "||"):
+        return all(held) if sign == "&&" else any(held)
+    left, right = held
+    return {"*": left * right, "==": left == right, "!=": left != right, "<": left < right, "<=": left <= right,
+            ">": left > right, ">=": left >= right}[sign]
+
+
+def stored(number):
+    if not isinstance(number, bool) and not LEAST <= number <= MOST:
+        raise Overflow
+    return number
+
+
+def run(body, known):
+    """The result, or None. What is known changes."""
+    for one in body:
+        if isinstance(one, Return):
+            return stored(value(one.value, known))
+        if isinstance(one, If):
+            run(one.body if value(one.when, known) else one.other, known)
+        else:
+            known[one.name] = stored(value(one.value, known))
+    return None
+
+
+def literal(start):
+    return start == "true" if start in ("true", "false") else int(start)
+
+
+def shown(answer):
+    return "()" if answer is None else str(answer).lower()
+
+
+def called(source, method, first, arguments, state, tries):
+    """What a call answers and the state after it; None where it would wait."""
+    fails = any(map(source.fails, range(first, first + len(method.blocks))))
+    known, own = dict(state), [one.name for one in method.inputs + method.own_locals]
+    known |= dict(zip(own, arguments + [literal(one.start) for one in method.own_locals]))
+    answer = None
+    for number, block in enumerate(method.blocks):
+        if not value(block.guard, known):
+            refused = "Ok(None)" if fails else "None"
+            return (refused, state) if tries and not number else None
+        after = dict(known)
+        try:
+            answer = run(block.body, after)
+        except Overflow:
+            return "Err(Overflow)", {name: known[name] for name in state}
+        known = after
+    text = f"Some({shown(answer)})" if tries else shown(answer)
+    return f"Ok({text})" if fails else text, {name: known[name] for name in state}
+
+
+def calls_of(source, dice):
+    """Statements that call and print, and the lines that they should print."""
+    names, tree = source.names, source.tree
+    state = {one.name: literal(one.start) for one in tree.declared}
+    firsts, lines, wanted, first = [], [], [], 0
+    for method in tree.methods:
+        firsts.append((method, first))
+        first += len(method.blocks)
+    for _ in range(CALLS):
+        method, first = dice.choice(firsts)
+        tries = source.is_waited_on(source.condition_of(first)) and names.is_free(names.tried(method.name))
+        arguments = [dice.random() < 0.5 if one.kind == "bool" else dice.choice([0, 1, -1, 5, MOST, LEAST])
+                     for one in method.inputs]
+        answered = called(source, method, first, arguments, state, tries)
+        if answered is not None:
+            line, state = answered
+            name = names.tried(method.name) if tries else names.member(method.name)
+            lines.append(f'    println!("{{:?}}", monitor.{name}({", ".join(map(shown, arguments))}));')
+            wanted.append(line)
+    return lines, wanted
+
+
+# ---- the comparison
+def everyone(text):
+    """A plan by which each block wakes all."""
+    count = len(Source(text, "").monitor.conditions)
+    blocks = sum(len(method.blocks) for method in read_tree(text).methods)
+    notes = ", ".join(f"{number} broadcast" for number in range(1, count + 1))
+    return "".join(f"block m: {notes}\n" for _ in range(blocks))
+
+
+def printed(program, text, work):
+    """The source and its module, or None where the program refuses the text."""
+    if program is None:
+        source = Source(text, everyone(text))
+        return source, module_text(source)
+    (work / "m.mon").write_text(text)
+    texts = []
+    for command in "check", "compile", "emit":
+        made = subprocess.run([program, command, work / "m.mon"], capture_output=True, text=True, check=False)
+        if made.returncode:
+            return None
+        texts.append(made.stdout)
+    return Source(*texts[:2]), texts[2]
+
+
+def compiled(words):
+    return subprocess.run(["rustc", "--edition", "2021", *words], check=False).returncode == 0
+
+
+def judge(program, dice, work):
+    """Whether a module answers as the reference, or None where its text is refused."""
+    text = Maker(dice).monitor()
+    made = printed(program, text, work)
+    if made is None:
+        return None
+    source, module = made
+    lines, wanted = calls_of(source, dice)
+    (work / "m.rs").write_text(module)
+    (work / "main.rs").write_text(f"mod m;\n\nfn main() {{\n    let monitor = m::{source.names.type_name()}::new();\n"
+                                  + "\n".join(lines) + "\n}\n")
+    is_good = compiled(["-D", "warnings", "--crate-type", "lib", "-o", work / "m.rlib", work / "m.rs"])
+    is_good = is_good and compiled(["-A", "warnings", "-C", "debug-assertions", "-o", work / "main", work / "main.rs"])
+    if is_good:
+        got = subprocess.run([work / "main"], capture_output=True, text=True, timeout=60, check=False)
+        is_good = got.returncode == 0 and got.stdout.split("\n")[:-1] == wanted
+    if not is_good:
+        print(text)
+    return is_good, len(wanted), wanted.count("Err(Overflow)")
+
+
+def main(count, seed):
+    program, refused, calls, overflows = os.environ.get("EXPRESSO"), 0, 0, 0
+    for number in range(count):
+        with tempfile.TemporaryDirectory() as work:
+            found = judge(program, random.Random(f"{seed}.{number}"), pathlib.Path(work))
+        if found is None:
+            refused += 1
+        elif not found[0]:
+            sys.exit(f"monitor {number} of seed {seed} differs")
+        else:
+            calls, overflows = calls + found[1], overflows + found[2]
+    print(f"{count - refused} monitors of {count}, {calls} calls, of which {overflows} overflow: as the reference")
+
+
+if __name__ == "__main__":
+    if len(sys.argv) not in (2, 3):
+        sys.exit(__doc__)
+    main(int(sys.argv[1]), int((sys.argv + ["1"])[2]))

@@ -1,0 +1,28 @@
+//! Three threads meet, and a fourth watches; then one dismisses the others.
+
+#[path = "../emitted/derived_barrier.rs"]
+mod barrier;
+mod common;
+
+use barrier::Barrier;
+use common::{assert_state, in_threads};
+
+fn main() {
+    let barrier = Barrier::new();
+    in_threads(4, |thread| {
+        for _ in 0..2048 {
+            if thread < 3 {
+                barrier.arrive().unwrap();
+                barrier.leave().unwrap();
+            } else {
+                barrier.watch();
+            }
+        }
+    });
+    in_threads(3, |_| {
+        assert!(barrier.arrive().unwrap() <= Barrier::PARTIES)
+    });
+    barrier.dismiss();
+    assert_state(&barrier, "waiting: 0, open: false");
+    assert_eq!(barrier.try_dismiss(), None);
+}

@@ -1,0 +1,29 @@
+//! Threads read, write, and ask to write and think better of it.
+
+mod common;
+#[path = "../emitted/derived_readers_writers.rs"]
+mod readers_writers;
+
+use common::{assert_state, in_threads};
+use readers_writers::ReadersWriters;
+
+fn main() {
+    let monitor = ReadersWriters::new();
+    in_threads(32, |thread| {
+        for _ in 0..200 {
+            if thread < 16 {
+                monitor.start_read().unwrap();
+                monitor.end_read().unwrap();
+            } else if thread < 24 {
+                monitor.ask().unwrap();
+                monitor.start_write().unwrap();
+                monitor.end_write();
+            } else {
+                monitor.ask().unwrap();
+                monitor.cancel().unwrap();
+            }
+        }
+    });
+    assert_state(&monitor, "readers: 0, queued: 0, writing: false");
+    assert_eq!(monitor.try_cancel(), Ok(None));
+}

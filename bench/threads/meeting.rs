@@ -1,0 +1,18 @@
+//! Two threads meet. With more the last of them may be alone.
+
+mod common;
+#[path = "../emitted/meeting.rs"]
+mod meeting;
+
+use common::{assert_state, in_threads};
+use meeting::Meeting;
+
+fn main() {
+    let meeting = Meeting::new();
+    in_threads(2, |_| {
+        for _ in 0..4096 {
+            meeting.meet().unwrap();
+        }
+    });
+    assert_state(&meeting, "waiting: 0, round: 4096");
+}

@@ -1,0 +1,55 @@
+-- What threads do by the code that is printed of a monitor under its plan, and what the printed
+-- bodies do.
+use Rattle.std.specs.Prelude.{◌≡◌, ℕ, List, ◌∷◌, All, Some, slice_get}
+use Rattle.mon_base.specs.declared.value.Value.{Value}
+use Rattle.mon_tree.specs.declared.tree.MonitorTree.{MonitorTree}
+use Rattle.mon_monitor.specs.declared.monitor.Block.{Block}
+use Rattle.mon_monitor.specs.Bodies.{Inputs, Memory}
+use Rattle.mon_monitor.specs.MonitorParts.{MonitorParts}
+use Rattle.mon_types.specs.KeptMeaning.{expressions_in}
+use Rattle.mon_types.specs.Typed.{PlacedBlock, blocks_from}
+use Rattle.mon_implicit.specs.declared.script.Client.{Client}
+use Rattle.mon_implicit.specs.Scripted.{FitsScripts}
+use Rattle.mon_events.specs.declared.plan.Plan.{Plan}
+use Rattle.mon_code.specs.Executions.{Moment}
+use Rattle.mon_code.specs.Laws.{Leads, LosesNone}
+use Rattle.mon_code.specs.LivePlans.{printed_program}
+use Rattle.mon_numbers.specs.Laws.{AreShort, CallSteps, StaysWide, scope_in}
+
+-- Any number of threads call the methods, each as often as it does, with arguments that fit. Then
+-- at each moment of each execution all that `LosesNone` lists is so: what ran is a run of the
+-- implicit monitor, calls answer its replies, no wake-up is lost, and where no thread can move none
+-- hangs whose guard is true. This is the law `printed_code_loses_none` of `mon_code` for one plan.
+abbrev pub ThreadsLoseNone : MonitorParts → Plan → Type 0
+ThreadsLoseNone monitor plan =
+    (clients : List Client) (last : Moment) → FitsScripts monitor clients
+    → Leads (printed_program monitor plan clients) last
+    → LosesNone (printed_program monitor plan clients) last
+
+-- From each state within 64 bits, with such arguments and locals, a call of the function that is
+-- printed of a block's body is a step of the block: it answers an overflow just where a value
+-- leaves 64 bits, and the state is then as before. This is the law `printed_bodies_step` of
+-- `mon_numbers` for one monitor.
+abbrev pub BodiesStep : MonitorTree → MonitorParts → Type 0
+BodiesStep tree monitor =
+    (index : ℕ) (placed : PlacedBlock) (block : Block) (state : List Value) (inputs : Inputs)
+    → slice_get (blocks_from 0 tree.methods) index ≡ Some placed
+    → slice_get monitor.blocks index ≡ Some block
+    → AreShort state → AreShort inputs.arguments → AreShort inputs.locals
+    → CallSteps tree placed block state inputs
+
+-- And no number that a printed guard or body makes on the way leaves 128 bits: the law
+-- `printed_numbers_are_wide` for one monitor.
+abbrev pub NumbersStayWide : MonitorTree → Type 0
+NumbersStayWide tree =
+    (index : ℕ) (placed : PlacedBlock) (arguments : List Value) (memory : Memory)
+    → slice_get (blocks_from 0 tree.methods) index ≡ Some placed
+    → AreShort arguments → AreShort memory.state → AreShort memory.locals
+    → All (StaysWide (scope_in tree placed) arguments memory)
+    (placed.block.guard ∷ expressions_in placed.block.body)
+
+-- what is so of the module that is printed of a monitor under a plan
+pub record IsSound (tree : MonitorTree) (monitor : MonitorParts) (plan : Plan) : Type 0 where
+  pub threads : ThreadsLoseNone monitor plan
+  pub bodies : BodiesStep tree monitor
+  pub wide : NumbersStayWide tree

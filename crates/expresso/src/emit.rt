@@ -1,0 +1,41 @@
+//! `expresso emit FILE`.
+
+ghost use Rattle.mon_command.specs.CommandLine.{emit};
+ghost use Rattle.expresso.specs.ProgramEnds.{KeepsFiles};
+ghost use Rattle.expresso.specs.inner.Ending.{CommandEnds};
+
+use crate::input::monitor_of;
+use crate::placement::plan_of;
+use crate::status::Status;
+use crate::text::show_module;
+use mon_code::printed_code_loses_none;
+use mon_command::PlanChoice;
+use mon_io::{Files, Sink};
+use mon_numbers::{printed_bodies_step, printed_numbers_are_wide};
+use std::alloc::{AllocError, Global};
+
+/// Compiles a monitor file and writes its Rust module under the plan that is placed, or the line of its first fault.
+pub(crate) fn emit_file<F: Files, S: Sink>(
+    alloc: Global,
+    file: &str,
+    files: &mut F,
+    out: &mut S,
+) -> Status
+    requires { F.may_read files.old file.now }
+    ensures ended { CommandEnds (emit file.now)
+        (F.seen files.old) (F.seen files.new) result (S.seen out.old) (S.seen out.new) }
+    ensures files { KeepsFiles (F.seen files.old) (F.seen files.new)
+        (F.may_read files.old) (F.may_read files.new) }
+{
+    printed_code_loses_none();
+    printed_bodies_step();
+    printed_numbers_are_wide();
+    let found = match monitor_of(alloc, file, files, out) {
+        Ok(found) => found,
+        Err(status) => return status,
+    };
+    match plan_of(alloc, &found.monitor, PlanChoice::Placed) {
+        Ok(plan) => show_module(&found.tree, &found.monitor, &plan, out),
+        Err(AllocError) => Status::OutOfMemory,
+    }
+}

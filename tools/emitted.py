@@ -1,0 +1,250 @@
+#!/usr/bin/env python3
+"""`tools/emitted.py MONITOR PLAN` prints the module of Rust that `expresso emit` prints of a monitor.
+
+It shares no code with the product. MONITOR is in canonical form, as `expresso check` prints it, and
+PLAN is the plan that `expresso compile` prints of it.
+"""
+
+import pathlib
+import re
+import sys
+
+sys.dont_write_bytecode = True
+from formulas import joined  # noqa: E402
+from monitors import read_monitor  # noqa: E402
+from rust_bodies import (Scope, answer, argument_texts, can_name, doc_text,  # noqa: E402
+                         function_texts, kind_text, run_name, trace)
+from rust_names import Names, lints  # noqa: E402
+from rust_texts import DEBUG, DEFAULT, HEAD, LOCK, NEW, OVERFLOW, SKIP, STATE  # noqa: E402
+from rust_texts import STATE_HEAD, USED, WAIT  # noqa: E402
+from trees import read_tree  # noqa: E402
+
+ALWAYS = joined("all", [])
+
+
+def notes_of(plan):
+    """Of each block: the condition of each note, whether it wakes all, and whether it is tested."""
+    notes = []
+    for line in plan.splitlines():
+        if line.startswith("block "):
+            texts = re.findall(r"(\d+) (signal|broadcast)( tested)?", line.split(": ", 1)[1])
+            notes.append([(int(q), kind == "broadcast", bool(test)) for q, kind, test in texts])
+    return notes
+
+
+class Source:
+    """A monitor as it is written and as it is checked, with the notes that somebody hears."""
+
+    def __init__(self, text, plan):
+        self.tree, self.monitor = read_tree(text), read_monitor(text)
+        self.names = Names(self.tree)
+        self.blocks = [(method, number, block) for method in self.tree.methods
+                       for number, block in enumerate(method.blocks, 1)]
+        self.notes = [[note for note in notes if self.is_waited_on(note[0])]
+                      for notes in notes_of(plan)]
+
+    def is_waited_on(self, condition):
+        return self.monitor.conditions[condition - 1].guard != ALWAYS
+
+    def waited_on(self):
+        return [q for q in range(1, len(self.monitor.conditions) + 1) if self.is_waited_on(q)]
+
+    def condition_of(self, block):
+        return self.monitor.blocks[block].condition
+
+    def reads_inputs(self, condition):
+        return self.monitor.conditions[condition - 1].reads_inputs
+
+    def first_block(self, condition):
+        return [one.condition for one in self.monitor.blocks].index(condition)
+
+    def condition_name(self, condition):
+        method, number, _ = self.blocks[self.first_block(condition)]
+        return can_name(self.names, method, number)
+
+    def shown(self, condition):
+        return self.blocks[self.first_block(condition)][2].shown
+
+    def fails(self, block):
+        method, _, parts = self.blocks[block]
+        return trace(Scope(self.names, method, "self", "lent"), parts.body).fails
+
+    def answer(self, block):
+        method, _, parts = self.blocks[block]
+        return answer(Scope(self.names, method, "self", "lent"), parts.body)
+
+
+# ---- methods
+def test_text(source, block):
+    condition, (method, number, _) = source.condition_of(block), source.blocks[block]
+    if not source.reads_inputs(condition):
+        return f"{source.condition_name(condition)}()"
+    arguments = ", ".join(argument_texts(source.names, method, ""))
+    return f"{can_name(source.names, method, number)}({arguments})"
+
+
+def call_text(source, block):
+    method, number, _ = source.blocks[block]
+    arguments = ", ".join(argument_texts(source.names, method, "&mut "))
+    return f"state.{run_name(source.names, method, number)}({arguments})"
+
+
+def note_lines(source, note):
+    condition, everyone, tested = note
+    name = source.condition_name(condition)
+    line = f"self.{name}.notify_{'all' if everyone else 'one'}();"
+    return [f"if state.{name}() {{", f"    {line}", "}"] if tested else [line]
+
+
+def run_lines(source, block):
+    """The body of a block, and what is told where it overflows."""
+    call, answer = call_text(source, block), source.answer(block)
+    before = "let answer = " if answer else ""
+    if not source.fails(block):
+        return [f"{before}{call};"]
+    condition = source.condition_of(block)
+    if not source.is_waited_on(condition):
+        return [f"{before}{call}?;"]
+    return [f"let Ok({'answer' if answer else '()'}) = {call} else {{",
+            f"    self.{source.condition_name(condition)}.notify_one();",
+            "    return Err(Overflow);", "};"]
+
+
+def test_lines(source, block, refusal):
+    """The block's guard is waited for, or, where there is a refusal, the call is refused."""
+    condition = source.condition_of(block)
+    if not source.is_waited_on(condition):
+        return []
+    if refusal:
+        return [f"if !state.{test_text(source, block)} {{", f"    return {refusal};", "}"]
+    return [f"while !state.{test_text(source, block)} {{",
+            f"    state = wait(&self.{source.condition_name(condition)}, state);", "}"]
+
+
+def block_lines(source, block, refusal):
+    """From the lock to the notes; the notes that aren't tested come when the lock is given back."""
+    lines, notes = ["let mut state = lock(&self.state);"], source.notes[block]
+    lines += test_lines(source, block, refusal) + run_lines(source, block)
+    for note in notes:
+        lines += note_lines(source, note) if note[2] else []
+    lines.append("drop(state);")
+    for note in notes:
+        lines += [] if note[2] else note_lines(source, note)
+    return lines
+
+
+def end_lines(answer, fails, tries):
+    """What a method answers, after its last block."""
+    if not fails and not tries:
+        return ["answer"] if answer else []
+    value = "answer" if answer else "()"
+    value = f"Some({value})" if tries else value
+    return [f"Ok({value})" if fails else value]
+
+
+def method_text(source, method, first, tries):
+    """A method; of one that tries, a call is refused where it would wait at the first block."""
+    blocks = range(first, first + len(method.blocks))
+    fails, answer = any(source.fails(block) for block in blocks), source.answer(blocks[-1])
+    refusal = ("Ok(None)" if fails else "None") if tries else None
+    lines = [f"let mut {source.names.own(method, one.name)}: {kind_text(one.kind)} = {one.start};"
+             for one in method.own_locals]
+    for block in blocks:
+        lines += block_lines(source, block, refusal if block == first else None)
+    lines += end_lines(answer, fails, tries)
+    inputs = "".join(f", {source.names.own(method, one.name)}: {kind_text(one.kind)}"
+                     for one in method.inputs)
+    name = source.names.tried(method.name) if tries else source.names.member(method.name)
+    arrow = arrow_text(f"Option<{answer or '()'}>" if tries else answer, fails)
+    body = "".join(f"        {line}\n" for line in lines)
+    docs = doc_text(source, method, first, fails, tries)
+    return f"\n{docs}    pub fn {name}(&self{inputs}){arrow} {{\n{body}    }}\n"
+
+
+def methods_text(source, method, first):
+    """With the calls that try, where the first block waits and no other name is theirs."""
+    waits = source.is_waited_on(source.condition_of(first))
+    tries = waits and source.names.is_free(source.names.tried(method.name))
+    return "".join(method_text(source, method, first, one) for one in [False, True][:1 + tries])
+
+
+def arrow_text(answer, fails):
+    if fails:
+        return f" -> Result<{answer or '()'}, Overflow>"
+    return f" -> {answer}" if answer else ""
+
+
+# ---- the module
+def module_text(source):
+    lint, kind = lints(source.tree), source.names.type_name()
+    waited, fails = source.waited_on(), any(map(source.fails, range(len(source.blocks))))
+    used = "{Mutex, MutexGuard, PoisonError}" if source.blocks else "Mutex"
+    used = used.replace("{", "{Condvar, ") if waited else used
+    parts = [HEAD, f"use std::sync::{used};\n\n",
+             struct_text(source, kind, lint, waited), impl_text(source, kind, lint, waited),
+             f"impl Default for {kind}{DEFAULT}", f"impl std::fmt::Debug for {kind}{DEBUG}",
+             f"{lint}struct State {{{state_fields(source)}}}\n\n", STATE,
+             f"{lint}{STATE_HEAD}{starts(source)}}};\n", functions(source), "}\n"]
+    own = [LOCK] * bool(source.blocks) + [WAIT] * bool(waited) + [OVERFLOW] * fails
+    return "".join(parts + own)
+
+
+def struct_text(source, kind, lint, waited):
+    fields = "".join(f"    /// For calls that wait until `{source.shown(q)}`.\n"
+                     f"    {source.condition_name(q)}: Condvar,\n" for q in waited)
+    return (f"/// The monitor `{source.tree.name}`. Threads share it by reference. A call waits for its guard, "
+            f"unless it tries.\n{lint}{USED}pub struct {kind} {{\n"
+            f"    state: Mutex<State>,\n{fields}}}\n\n")
+
+
+def impl_text(source, kind, lint, waited):
+    constants = "".join(f"    pub const {source.names.constant(one.name)}: i64 = {one.start};\n"
+                        for one in source.tree.declared if one.kind == "const")
+    conditions = "".join(f"            {source.condition_name(q)}: Condvar::new(),\n" for q in waited)
+    methods, first = "", 0
+    for method in source.tree.methods:
+        methods += methods_text(source, method, first)
+        first += len(method.blocks)
+    gap = "\n" if constants else ""
+    return (f"{SKIP}{lint}impl {kind} {{\n{constants}{gap}{NEW}{conditions}        }}\n    }}\n"
+            f"{methods}}}\n\n")
+
+
+def fields_of(source):
+    return [one for one in source.tree.declared if one.kind != "const"]
+
+
+def state_fields(source):
+    lines = [f"    {source.names.member(one.name)}: {kind_text(one.kind)},\n"
+             for one in fields_of(source)]
+    return "".join(["\n"] + lines) if lines else ""
+
+
+def starts(source):
+    lines = [f"        {source.names.member(one.name)}: {one.start},\n" for one in fields_of(source)]
+    return "".join(["\n"] + lines + ["    "]) if lines else ""
+
+
+def functions(source):
+    """Of each block its guard, once for each condition that reads no inputs, and its body."""
+    texts = []
+    for number, (method, place, block) in enumerate(source.blocks):
+        condition = source.condition_of(number)
+        reads = source.reads_inputs(condition)
+        is_tested = source.is_waited_on(condition) and (
+            reads or source.first_block(condition) == number)
+        texts += function_texts(source.names, method, place, block, is_tested, reads,
+                                arrow_text(source.answer(number), source.fails(number)))
+    return "".join(f"\n{text}" for text in texts)
+
+
+def main(monitor, plan):
+    sys.setrecursionlimit(10 ** 6)
+    text, plan = (pathlib.Path(one).read_text("ascii") for one in (monitor, plan))
+    sys.stdout.write(module_text(Source(text, plan)))
+
+
+if __name__ == "__main__":
+    if len(sys.argv) != 3:
+        sys.exit(__doc__)
+    main(*sys.argv[1:])

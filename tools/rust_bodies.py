@@ -1,0 +1,227 @@
+"""Guards, bodies and docs of a monitor in Rust, with no code of the product."""
+
+from collections import namedtuple
+
+from trees import If, Return, Set
+
+COMPARISONS = "==", "!=", "<", "<=", ">", ">="
+
+# where an expression stands: `own` is "held" where inputs are read, "lent" in a body, or "unread"
+Scope = namedtuple("Scope", "names method receiver own")
+
+# Text in 64 bits; in 128 bits, by what comes after a number; how tightly both hold together; whether
+# some name in it is read, and whether its value may need more than 64 bits.
+Written = namedtuple("Written", "level plain wide is_named narrows")
+
+# what may happen on some path of a body: it writes a field, or a value may not fit; both in this order
+Trace = namedtuple("Trace", "writes fails copies")
+NOTHING = Trace(False, False, False)
+
+
+# ---- names and kinds
+def kind_text(kind):
+    return "bool" if kind == "bool" else "i64"
+
+
+def mark(number):
+    return "" if number == 1 else str(number)
+
+
+def can_name(names, method, number):
+    return f"can{mark(number)}_{names.member(method.name)}"
+
+
+def run_name(names, method, number):
+    return f"run{mark(number)}_{names.member(method.name)}"
+
+
+def argument_texts(names, method, lending):
+    return [names.own(method, one.name) for one in method.inputs] + [
+        lending + names.own(method, one.name) for one in method.own_locals]
+
+
+def parameters(names, method, lending):
+    taken = [(one, "") for one in method.inputs] + [(one, lending) for one in method.own_locals]
+    return "".join(f", {names.own(method, one.name)}: {lent}{kind_text(one.kind)}"
+                   for one, lent in taken)
+
+
+def name_text(scope, name):
+    """The text of a name, or None where its value counts 0 times."""
+    names, kind = scope.names, scope.names.kind_of(scope.method, name)
+    if kind == "const":
+        return f"{names.type_name()}::{names.constant(name)}"
+    if kind in ("int", "bool"):
+        return f"{scope.receiver}.{names.member(name)}"
+    if scope.own == "unread":
+        return None
+    lent = "*" if kind == "local" and scope.own == "lent" else ""
+    return lent + names.own(scope.method, name)
+
+
+# ---- expressions
+def within(level, part, text):
+    return f"({text})" if part.level < level else text
+
+
+def written(scope, expression):
+    sign, parts = expression
+    if sign == "number":
+        return Written(7, parts, lambda end: parts + end, False, False)
+    if sign == "truth":
+        return Written(7, parts, None, False, False)
+    if sign == "name":
+        text = name_text(scope, parts)
+        wide = (lambda end: "0" + end) if text is None else (lambda end: f"i128::from({text})")
+        return Written(7, text or "0", wide, text is not None, False)
+    if sign == "+":
+        return sum_written(scope, parts)
+    inner = [written(scope, part) for part in parts]
+    is_named = any(part.is_named for part in inner)
+    if sign == "minus":
+        of, = inner
+        return Written(6, "-" + of.plain, lambda end: "-" + within(7, of, of.wide(end)), is_named,
+                       parts[0].sign != "number")
+    if sign == "not":
+        return Written(6, "!" + within(6, inner[0], inner[0].plain), None, is_named, False)
+    if sign == "*":
+        return Written(5, "", lambda end: " * ".join(within(6, part, part.wide(end)) for part in inner),
+                       is_named, True)
+    if sign in COMPARISONS:
+        return Written(3, comparison(sign, *inner), None, is_named, False)
+    level = 2 if sign == "&&" else 1
+    text = f" {sign} ".join(within(level + 1, part, part.plain) for part in inner)
+    return Written(level, text, None, is_named, False)
+
+
+def sum_written(scope, parts):
+    inner = [(sign, written(scope, part)) for sign, part in parts]
+
+    def wide(end):
+        texts = [f" {sign} {within(5, part, part.wide(end))}" for sign, part in inner]
+        return "".join(texts).removeprefix(" + ")
+
+    return Written(4, "", wide, any(part.is_named for _, part in inner), True)
+
+
+def comparison(sign, left, right):
+    """In 64 bits where neither is a sum, and some name says that they are no i32."""
+    is_named = left.is_named or right.is_named
+    if is_named and not left.narrows and not right.narrows:
+        return f"{left.plain} {sign} {right.plain}"
+    end = "" if is_named else "_i128"
+    return f"{left.wide(end)} {sign} {right.wide(end)}"
+
+
+def value_text(value, end):
+    return f"narrow({value.wide('')}){end}" if value.narrows else value.plain
+
+
+# ---- bodies
+def trace(scope, body, before=NOTHING):
+    for statement in body:
+        after = statement_trace(scope, statement)
+        before = Trace(before.writes or after.writes, before.fails or after.fails,
+                       before.copies or after.copies or before.writes and after.fails)
+    return before
+
+
+def statement_trace(scope, statement):
+    if isinstance(statement, If):
+        paths = trace(scope, statement.body), trace(scope, statement.other)
+        return Trace(*map(any, zip(*paths)))
+    is_local = isinstance(statement, Return) or (
+        scope.names.kind_of(scope.method, statement.name) == "local")
+    return Trace(not is_local, written(scope, statement.value).narrows, False)
+
+
+def statement_lines(scope, statement, indent):
+    if isinstance(statement, Set):
+        value = value_text(written(scope, statement.value), "?")
+        return [f"{indent}{name_text(scope, statement.name)} = {value};"]
+    if isinstance(statement, Return):
+        return []
+    lines = [f"{indent}if {written(scope, statement.when).plain} {{"]
+    lines += body_lines(scope, statement.body, indent + "    ")
+    if statement.other:
+        lines.append(f"{indent}}} else {{")
+        lines += body_lines(scope, statement.other, indent + "    ")
+    return lines + [f"{indent}}}"]
+
+
+def body_lines(scope, body, indent):
+    return [line for one in body for line in statement_lines(scope, one, indent)]
+
+
+def answer(scope, body):
+    """The type of what the body answers, or None."""
+    if not body or not isinstance(body[-1], Return):
+        return None
+    sign, parts = body[-1].value
+    if sign == "name":
+        return kind_text(scope.names.type_of(scope.method, parts))
+    return "i64" if sign in ("number", "minus", "+", "*") else "bool"
+
+
+def run_body(scope, body):
+    """The lines of a body: on a copy, where a field is written before a value that may not fit."""
+    path, result = trace(scope, body), None
+    if body and isinstance(body[-1], Return):
+        result = body[-1].value
+    if not path.copies:
+        lines = body_lines(scope, body, "        ")
+        if result is None:
+            return lines + (["        Ok(())"] if path.fails else [])
+        value = written(scope, result)
+        text = f"Ok({value.plain})" if path.fails and not value.narrows else value_text(value, "")
+        return lines + [f"        {text}"]
+    copied = scope._replace(receiver="next")
+    lines = ["        let mut next = *self;"] + body_lines(copied, body, "        ")
+    if result is None:
+        return lines + ["        *self = next;", "        Ok(())"]
+    value = written(copied, result)
+    if value.narrows:
+        return lines + [f"        let answer = {value_text(value, '?')};", "        *self = next;",
+                        "        Ok(answer)"]
+    return lines + ["        *self = next;", f"        Ok({written(scope, result).plain})"]
+
+
+def function_texts(names, method, number, block, is_tested, reads, arrow):
+    """The functions of a block: that of its guard, where it has one, and that of its body."""
+    texts = []
+    if is_tested:
+        scope = Scope(names, method, "self", "held" if reads else "unread")
+        inputs = parameters(names, method, "") if reads else ""
+        texts.append(f"    fn {can_name(names, method, number)}(&self{inputs}) -> bool {{\n"
+                     f"        {written(scope, block.guard).plain}\n    }}\n")
+    lines = run_body(Scope(names, method, "self", "lent"), block.body)
+    head = f"    fn {run_name(names, method, number)}(&mut self{parameters(names, method, '&mut ')})"
+    inside = "".join(["\n"] + [f"{line}\n" for line in lines] + ["    "]) if block.body else ""
+    return texts + [f"{head}{arrow} {{{inside}}}\n"]
+
+
+# ---- docs
+def doc_text(source, method, first, fails, tries):
+    lines = []
+    for place, block in enumerate(method.blocks):
+        waits = source.is_waited_on(source.condition_of(first + place))
+        lines += [""] if place else []
+        if waits and tries and not place:
+            lines.append(f"Answers `None` where `{block.shown}` is false.")
+        elif waits:
+            lines.append(f"{'Then waits' if place else 'Waits'} until `{block.shown}`.")
+        else:
+            lines.append("Then goes on." if place else "Does not wait.")
+        lines += [""] + [waking_text(source, note) for note in source.notes[first + place]]
+        lines += [] if source.notes[first + place] else ["Wakes nobody."]
+    if fails:
+        end = ("Its block then changes nothing, and no later one runs." if len(method.blocks) > 1
+               else "Then nothing changes.")
+        lines += ["", "# Errors", "", f"[`Overflow`] where a number would leave 64 bits. {end}"]
+    return "".join(f"    /// {line}".rstrip() + "\n" for line in lines)
+
+
+def waking_text(source, note):
+    condition, everyone, tested = note
+    whom = "all calls that wait" if everyone else "one call that waits"
+    return f"Wakes {whom} until `{source.shown(condition)}`{', where that now holds' if tested else ''}."

@@ -1,0 +1,90 @@
+"""Texts that are the same in every module of a monitor in Rust."""
+
+HEAD = """\
+// Made by `expresso emit`. Change the monitor, and not this file.
+
+"""
+
+SKIP = "#[rustfmt::skip]\n#[allow(dead_code, clippy::style)]\n"
+
+USED = "#[allow(dead_code, non_camel_case_types, clippy::upper_case_acronyms)]\n"
+
+NEW = """\
+    /// The monitor at its start.
+    #[must_use]
+    pub const fn new() -> Self {
+        Self {
+            state: Mutex::new(State::START),
+"""
+
+DEFAULT = """\
+ {
+    fn default() -> Self {
+        Self::new()
+    }
+}
+
+"""
+
+DEBUG = """\
+ {
+    fn fmt(&self, f: &mut std::fmt::Formatter<'_>) -> std::fmt::Result {
+        let state = *self
+            .state
+            .lock()
+            .unwrap_or_else(std::sync::PoisonError::into_inner);
+        f.debug_struct(std::any::type_name::<Self>())
+            .field("state", &state)
+            .finish_non_exhaustive()
+    }
+}
+
+/// The fields of the monitor.
+#[derive(Clone, Copy, Debug)]
+#[allow(dead_code)]
+"""
+
+STATE = """\
+// The guards and bodies, with expressions as the monitor has them.
+#[rustfmt::skip]
+#[allow(unused, unused_comparisons, clippy::all, clippy::pedantic)]
+"""
+
+STATE_HEAD = """\
+impl State {
+    const START: Self = Self {"""
+
+LOCK = """
+/// Locks the state. Nothing panics while it is locked, so there is no poison to heed.
+fn lock(state: &Mutex<State>) -> MutexGuard<'_, State> {
+    state.lock().unwrap_or_else(PoisonError::into_inner)
+}
+"""
+
+WAIT = """
+/// Gives the lock back and waits on the condition, in one step, and takes the lock again.
+fn wait<'a>(condition: &Condvar, state: MutexGuard<'a, State>) -> MutexGuard<'a, State> {
+    condition
+        .wait(state)
+        .unwrap_or_else(PoisonError::into_inner)
+}
+"""
+
+OVERFLOW = """
+/// A number would have left 64 bits.
+#[derive(Clone, Copy, Debug, PartialEq, Eq)]
+pub struct Overflow;
+
+impl std::fmt::Display for Overflow {
+    fn fmt(&self, f: &mut std::fmt::Formatter<'_>) -> std::fmt::Result {
+        f.write_str("a number would leave 64 bits")
+    }
+}
+
+impl std::error::Error for Overflow {}
+
+/// The number, where it has 64 bits.
+fn narrow(number: i128) -> Result<i64, Overflow> {
+    i64::try_from(number).map_err(|_| Overflow)
+}
+"""
