@@ -104,6 +104,7 @@ expresso recheck FILE REPORT
 expresso block FILE CLIENTS
 expresso audit FILE PLAN
 expresso explain FILE
+expresso emit FILE
 """
 
 SUMMARY = b"calls 16384\ndone\nstate count=0\n"
