@@ -57,7 +57,8 @@ run_done number system log now is are run ends =
     (subst (λ (monitor : MonitorParts). Ends monitor producers_and_consumers now) is
     (subst (λ (clients : List Client). Ends system.monitor clients now) are ends))
 
--- a log of the large input whose commits are a run that ended is summed up so, whatever the plan and the order of sections
+-- a log of the large input whose commits are a run that ended is summed up so, whatever the plan
+-- and the order of sections
 pub large_summary : (number : ℕ) (system : System) (log : List Entry) (last : Configuration)
     → system.monitor ≡ buffer_of (capacity_of number) → system.clients ≡ producers_and_consumers
     → IsRun system.monitor system.clients (commits_of log) (situation_of last) → Ends system.monitor system.clients (situation_of last)

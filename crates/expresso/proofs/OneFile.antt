@@ -22,7 +22,7 @@ use Rattle.mon_command.specs.CommandLine.{Command, check, compile, report, expla
 use Rattle.mon_why.specs.declared.reason.Reason.{Reason}
 use Rattle.expresso.specs.Placements.{IsChosen, IsPlacement}
 use Rattle.expresso.specs.MonitorFiles.{IsAccepted}
-use Rattle.expresso.specs.PrintedPrograms.{BodiesStep, IsSound, NumbersStayWide, ThreadsLoseNone}
+use Rattle.expresso.specs.PrintedPrograms.{BodiesStep, IsAsPromised, NumbersStayWide, ThreadsLoseNone}
 use Rattle.expresso.specs.Texts.{explained_text}
 use Rattle.expresso.specs.inner.Explaining.{IsExplained}
 use Rattle.expresso.specs.FirstFaults.{IsRefusalLine}
@@ -159,8 +159,8 @@ numbers_stay_wide law bytes tree monitor accepted = λ index placed arguments me
     (record { bytes = bytes; tokens = accepted.tokens; short = accepted.short; spelled = accepted.spelled; derived = accepted.derived })
     accepted.unbroken at short short_state short_locals
 
-is_sound : PrintedLaws → (bytes : List ℕ) (tree : MonitorTree) (monitor : MonitorParts) (plan : Plan) → IsAccepted bytes tree monitor → IsPlacement monitor plan → IsSound tree monitor plan
-is_sound laws bytes tree monitor plan accepted placement = record {
+is_as_promised : PrintedLaws → (bytes : List ℕ) (tree : MonitorTree) (monitor : MonitorParts) (plan : Plan) → IsAccepted bytes tree monitor → IsPlacement monitor plan → IsAsPromised tree monitor plan
+is_as_promised laws bytes tree monitor plan accepted placement = record {
   threads = threads_lose_none laws.threads monitor plan placement;
   bodies = bodies_step laws.bodies bytes tree monitor accepted;
   wide = numbers_stay_wide laws.wide bytes tree monitor accepted;
@@ -172,5 +172,5 @@ pub emit_done : PrintedLaws → (file : List ℕ) (tree : MonitorTree) (monitor 
 emit_done laws file tree monitor plan files files_now result out out_now holds chosen steady written =
     let placement = placed_plan monitor plan chosen in
     work_ended (emit file) files files_now (rust_text tree monitor plan) result out out_now true
-    (record { tree = tree; monitor = monitor; plan = plan; holds = holds; placement = placement; sound = is_sound laws holds.bytes tree monitor plan holds.accepted placement; printed = refl })
+    (record { tree = tree; monitor = monitor; plan = plan; holds = holds; placement = placement; promised = is_as_promised laws holds.bytes tree monitor plan holds.accepted placement; printed = refl })
     (no_rejection files.held file tree monitor holds) steady written

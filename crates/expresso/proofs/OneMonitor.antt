@@ -75,7 +75,8 @@ same_block scope number tree a b p q condition = λ i. record {
 both_longer : (a b : Block) (some others : List Block) (all them : List Condition) → a ≡ b → (some ≡ others) × (all ≡ them) → (a ∷ some ≡ b ∷ others) × (all ≡ them)
 both_longer a b some others all them same more = (λ i. same i ∷ more.0 i, more.1)
 
--- The blocks determine the conditions, and where the guards so far are distinct, a guard determines its number.
+-- The blocks determine the conditions, and where the guards so far are distinct, a guard determines
+-- its number.
 one_rest : (declared : List Decl) (before : List Condition) (row : List PlacedBlock) (some others : List Block) (all them : List Condition) → AreDistinct before
     → AreBlocksOf declared row some → AreBlocksOf declared row others → AreConditions before row some all → AreConditions before row others them
     → (some ≡ others) × (all ≡ them)

@@ -1,4 +1,5 @@
--- A call of the program ends as its command ended, or with the usage, or where memory ran out before the words were read.
+-- A call of the program ends as its command ended, or with the usage, or where memory ran out
+-- before the words were read.
 use Rattle.std.proofs.Common.{◌≡◌, ℕ, ◌≤◌, List, Result, Ok, Err, refl, sym, subst, ◌∙◌, inl, inr, arith}
 use Rattle.std.specs.Prelude.{IfOk, IfErr}
 use Rattle.mon_io.specs.Outside.{FilesSeen, SinkSeen, Rises}

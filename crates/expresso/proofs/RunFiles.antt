@@ -1,4 +1,5 @@
--- How a command that runs the clients of one file on the monitor of another ends before they are run.
+-- How a command that runs the clients of one file on the monitor of another ends before they are
+-- run.
 use Rattle.std.proofs.Common.{◌≡◌, ℕ, List, [], ◌∷◌, Option, Some, None, refl, sym, subst, ◌∙◌, inl, inr, arith}
 use Rattle.std.specs.Prelude.{Any}
 use Rattle.mon_io.specs.Outside.{FilesSeen, SinkSeen, IsRead, Rises}

@@ -48,7 +48,7 @@ use Rattle.mon_why.specs.declared.reason.Reason.{Reason}
 use Rattle.mon_why.specs.Reasons.{IsReason}
 use Rattle.mon_why.specs.Things.{things_of}
 use Rattle.mon_module.specs.Modules.{rust_text}
-use Rattle.expresso.specs.PrintedPrograms.{IsSound}
+use Rattle.expresso.specs.PrintedPrograms.{IsAsPromised}
 use Rattle.expresso.specs.Texts.{explained_text, usage_text}
 
 -- the bytes are those held by a name, where they are told
@@ -210,7 +210,7 @@ pub record IsEmitText (held : List ℕ → Option (List ℕ)) (file text : List 
   pub plan : Plan
   pub holds : HoldsMonitor held file tree monitor
   pub placement : IsPlacement monitor plan
-  pub sound : IsSound tree monitor plan
+  pub promised : IsAsPromised tree monitor plan
   pub printed : text ≡ rust_text tree monitor plan
 
 -- the text of a command whose work is done; of `turns`, `simulate`, `run` and `block`, that no

@@ -48,8 +48,8 @@ NumbersStayWide tree =
     → All (StaysWide (scope_in tree placed) arguments memory)
     (placed.block.guard ∷ expressions_in placed.block.body)
 
--- what is so of the module that is printed of a monitor under a plan
-pub record IsSound (tree : MonitorTree) (monitor : MonitorParts) (plan : Plan) : Type 0 where
+-- What is promised of the module that is printed of a monitor under a plan, beside its text.
+pub record IsAsPromised (tree : MonitorTree) (monitor : MonitorParts) (plan : Plan) : Type 0 where
   pub threads : ThreadsLoseNone monitor plan
   pub bodies : BodiesStep tree monitor
   pub wide : NumbersStayWide tree

@@ -27,8 +27,8 @@ pub(crate) struct Found {
     pub finding: Finding,
 }
 
-/// Reads both files, the monitor first, asks whether the plan of the second is lawful, and writes that it is, or the
-/// line of the first fault.
+/// Reads both files, the monitor first, asks whether the plan of the second is lawful, and writes
+/// that it is, or the line of the first fault.
 pub(crate) fn audit_files<F: Files, S: Sink>(
     alloc: Global,
     monitor: &str,
@@ -75,7 +75,8 @@ fn show_found<S: Sink>(monitor: &Monitor, file: &str, found: &Option<Found>, out
     }
 }
 
-/// The plan that bytes are with what is found of it, and nothing where they are none. It fails only for want of memory.
+/// The plan that bytes are with what is found of it, and nothing where they are none. It fails only
+/// for want of memory.
 fn audited(alloc: Global, monitor: &Monitor, bytes: &[u8]) -> Result<Option<Found>, AllocError>
     ensures { IfOk result (IsFound monitor.now bytes.now) }
 {

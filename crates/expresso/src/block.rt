@@ -25,8 +25,8 @@ use std::alloc::{AllocError, Global};
 use std::sync::Wait;
 use std::thread::Threads;
 
-/// A caller for each client runs it on their monitor to the end, under the plan that the monitor is compiled to. All
-/// memory is taken here.
+/// A caller for each client runs it on their monitor to the end, under the plan that the monitor is
+/// compiled to. All memory is taken here.
 fn called<R: Threads + Wait + Sync, G: Gate>(
     rt: &R,
     alloc: Global,
@@ -46,8 +46,8 @@ fn called<R: Threads + Wait + Sync, G: Gate>(
     run_callers(rt, alloc, free, gate)
 }
 
-/// Reads both files, the monitor first, has a caller for each client run it on the monitor in a thread of its own, and
-/// writes the plan and the log, or the line of the first fault.
+/// Reads both files, the monitor first, has a caller for each client run it on the monitor in a
+/// thread of its own, and writes the plan and the log, or the line of the first fault.
 pub(crate) fn block_files<R: Threads + Wait + Sync, F: Files, S: Sink, G: Gate>(
     rt: &R,
     alloc: Global,

@@ -14,7 +14,8 @@ use mon_io::{Files, Sink};
 use mon_numbers::{printed_bodies_step, printed_numbers_are_wide};
 use std::alloc::{AllocError, Global};
 
-/// Compiles a monitor file and writes its Rust module under the plan that is placed, or the line of its first fault.
+/// Compiles a monitor file and writes its Rust module under the plan that is placed, or the line of
+/// its first fault.
 pub(crate) fn emit_file<F: Files, S: Sink>(
     alloc: Global,
     file: &str,

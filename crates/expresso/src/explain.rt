@@ -23,8 +23,8 @@ pub(crate) struct Explanation {
     pub reasons: Vec<Reason>,
 }
 
-/// Compiles a monitor file and writes the plan, with a state that shows why each thing stands that costs something, or
-/// the line of its first fault.
+/// Compiles a monitor file and writes the plan, with a state that shows why each thing stands that
+/// costs something, or the line of its first fault.
 pub(crate) fn explain_file<F: Files, S: Sink>(
     alloc: Global,
     file: &str,

@@ -26,8 +26,8 @@ use mon_text::Fault;
 use mon_tokens::one_spelling;
 use std::alloc::Global;
 
-/// The tree and the monitor that the bytes of a file stand for. Where there is no monitor, the status of the command:
-/// the line of the first fault is written then.
+/// The tree and the monitor that the bytes of a file stand for. Where there is no monitor, the
+/// status of the command: the line of the first fault is written then.
 fn monitor_in<S: Sink>(
     alloc: Global,
     file: &str,
@@ -53,8 +53,8 @@ fn monitor_in<S: Sink>(
     }
 }
 
-/// The scripts that the bytes of a file stand for, of clients of this monitor. Where there are none, the status of the
-/// command: the line of the first fault is written then.
+/// The scripts that the bytes of a file stand for, of clients of this monitor. Where there are
+/// none, the status of the command: the line of the first fault is written then.
 fn scripts_in<S: Sink>(
     alloc: Global,
     file: &str,
@@ -82,8 +82,8 @@ fn scripts_in<S: Sink>(
     }
 }
 
-/// Reads a monitor file. Where there is no monitor, the status of its command: the line of the first fault is written
-/// then.
+/// Reads a monitor file. Where there is no monitor, the status of its command: the line of the
+/// first fault is written then.
 pub(crate) fn monitor_of<F: Files, S: Sink>(
     alloc: Global,
     file: &str,
@@ -113,8 +113,9 @@ pub(crate) struct Opened {
     pub bytes: Vec<u8>,
 }
 
-/// Reads both files, the monitor first, and of the other one byte more than it may have at most. Where there is no
-/// monitor, or one of them couldn't be read, the status of their command: the line of the first fault is written then.
+/// Reads both files, the monitor first, and of the other one byte more than it may have at most.
+/// Where there is no monitor, or one of them couldn't be read, the status of their command: the
+/// line of the first fault is written then.
 pub(crate) fn open_both<F: Files, S: Sink>(
     alloc: Global,
     monitor: &str,
@@ -150,8 +151,8 @@ pub(crate) struct Input {
     pub scripts: Scripts,
 }
 
-/// Reads both files, the monitor first. Where there are no monitor and clients, the status of their command: the line
-/// of the first fault is written then.
+/// Reads both files, the monitor first. Where there are no monitor and clients, the status of their
+/// command: the line of the first fault is written then.
 pub(crate) fn input_of<F: Files, S: Sink>(
     alloc: Global,
     monitor: &str,

@@ -49,7 +49,8 @@ pub fn accepts_one_client_list()
     derives_one_tree();
 }
 
-/// Under one plan, clients of one monitor have one simulation by a schedule: one log, and one configuration at its end.
+/// Under one plan, clients of one monitor have one simulation by a schedule: one log, and one
+/// configuration at its end.
 pub fn one_simulation()
     ensures logs { (choice : PlanChoice) (system : System) (schedule : Schedule)
         (log other : List Entry) (last also : Configuration)
@@ -64,8 +65,8 @@ pub fn one_simulation()
     one_drawn_log();
 }
 
-/// A small monitor is compiled to one plan, so its clients have one simulation by a schedule and a choice of the plan, and
-/// `simulate` has one text.
+/// A small monitor is compiled to one plan, so its clients have one simulation by a schedule and a
+/// choice of the plan, and `simulate` has one text.
 pub fn one_simulated_text()
     ensures plans { (monitor : MonitorParts) (plan other : Plan) → IsSmall monitor
         → IsPlacement monitor plan → IsPlacement monitor other → plan ≡ other }
@@ -88,8 +89,8 @@ pub fn accepted_monitors_have_no_lone_part()
         → IsAccepted bytes tree monitor → HasNoLoneParts monitor }
 {}
 
-/// What `report` printed of a monitor without a hard claim is never refused by `recheck`, which prints that it accepts
-/// as many claims as were proved.
+/// What `report` printed of a monitor without a hard claim is never refused by `recheck`, which
+/// prints that it accepts as many claims as were proved.
 pub fn printed_reports_are_rechecked()
     ensures refusals { (held later : List ℕ → Option (List ℕ))
         (file report_file text line : List ℕ)

@@ -1,21 +1,24 @@
 //! The top call: from words, files and a sink to a status and what is printed.
 //!
-//! [`expresso`] reads the words of the command line and does what they ask for. `run FILE CLIENTS` compiles a monitor to a
-//! plan, has workers run clients on it in threads, and prints the plan and the log. `check` prints a monitor's canonical
-//! form, `turns` a run by rounds of the implicit machine, `compile` the plan alone: whom each block wakes; `simulate` runs
-//! the clients by a schedule in place of threads, `stress` runs a large input, and `block` has a caller for each client run
-//! it in place of workers. `report` prints the plan with a certificate of each claim that it rests on, and `recheck`
-//! checks such a text without the prover. `audit` says whether a plan that was written by hand is lawful, or what it
-//! lacks. `explain` prints a plan with a state that shows why each thing stands in it that costs something. `emit` prints
-//! a monitor under its plan as a module of Rust, for threads of any program to call.
+//! [`expresso`] reads the words of the command line and does what they ask for. `run FILE CLIENTS`
+//! compiles a monitor to a plan, has workers run clients on it in threads, and prints the plan and
+//! the log. `check` prints a monitor's canonical form, `turns` a run by rounds of the implicit
+//! machine, `compile` the plan alone: whom each block wakes; `simulate` runs the clients by a
+//! schedule in place of threads, `stress` runs a large input, and `block` has a caller for each
+//! client run it in place of workers. `report` prints the plan with a certificate of each claim
+//! that it rests on, and `recheck` checks such a text without the prover. `audit` says whether a
+//! plan that was written by hand is lawful, or what it lacks. `explain` prints a plan with a state
+//! that shows why each thing stands in it that costs something. `emit` prints a monitor under its
+//! plan as a module of Rust, for threads of any program to call.
 //!
 //! `--relay` asks for the plan with its signals relayed.
 //!
-//! Its clause `headline` is `specs/Headline`: what `run` and `block` promise. `specs/ProgramEnds` says what every call
-//! promises, `specs/Answers` what each command prints, and `specs/Exit` which number stands for a [`Status`].
-//! [`without_threads`] does what needs no threads, with no runtime: so it returns. That bytes stand for one monitor and one
-//! list of clients, that a schedule has one simulation, which for a small monitor has one text, and that `recheck` accepts
-//! what `report` printed of such a monitor, are the laws of `laws`.
+//! Its clause `headline` is `specs/Headline`: what `run` and `block` promise. `specs/ProgramEnds`
+//! says what every call promises, `specs/Answers` what each command prints, and `specs/Exit` which
+//! number stands for a [`Status`]. [`without_threads`] does what needs no threads, with no runtime:
+//! so it returns. That bytes stand for one monitor and one list of clients, that a schedule has one
+//! simulation, which for a small monitor has one text, and that `recheck` accepts what `report`
+//! printed of such a monitor, are the laws of `laws`.
 #![tactic(auto)]
 
 mod audit;

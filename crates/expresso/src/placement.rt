@@ -10,7 +10,8 @@ use mon_monitor::Monitor;
 use mon_place::{PlacedPlan, place, relay, relayed_plans_are_lawful};
 use std::alloc::{AllocError, Global};
 
-/// A plan that the monitor is compiled to, with a proof of each claim that it rests on. It fails only for want of memory.
+/// A plan that the monitor is compiled to, with a proof of each claim that it rests on. It fails
+/// only for want of memory.
 pub(crate) fn placed_of(alloc: Global, monitor: &Monitor) -> Result<PlacedPlan, AllocError>
     ensures placement { IfOk result (λ placed. IsPlacement monitor.now placed.plan) }
     ensures proofs { IfOk result (λ placed. AreProofs monitor.now placed.plan.kept
@@ -22,8 +23,8 @@ pub(crate) fn placed_of(alloc: Global, monitor: &Monitor) -> Result<PlacedPlan, 
     Ok(placed)
 }
 
-/// The plan that is asked for: one that the monitor is compiled to, or that one with its signals relayed. It fails only
-/// for want of memory.
+/// The plan that is asked for: one that the monitor is compiled to, or that one with its signals
+/// relayed. It fails only for want of memory.
 pub(crate) fn plan_of(
     alloc: Global,
     monitor: &Monitor,

@@ -17,26 +17,30 @@ use std::alloc::Global;
 use std::sync::Wait;
 use std::thread::Threads;
 
-/// The program: `run FILE CLIENTS [--workers N]` compiles the monitor of a file to a plan, has workers run the clients
-/// of another in threads under it, and writes the plan, the log and the last state. `check FILE` checks a monitor file
-/// and writes its canonical form; `turns FILE CLIENTS` runs the clients by rounds of the implicit machine, and writes
-/// the run and its last state; `compile FILE` writes the plan; `simulate FILE CLIENTS [--seed N] [--spurious K]` runs
-/// the clients by sections under such a plan, by rounds or by the words that a seed draws, and writes as `run`;
-/// `stress N [--workers N]` has workers run a large input that is made of a number, and writes a summary;
-/// `block FILE CLIENTS` has a caller for each client run it in a thread of its own, and writes as `run`.
-/// `report FILE` writes the plan and, for each claim that it rests on, a line with a certificate; `recheck FILE REPORT`
-/// checks such a report again, by its certificates alone, and writes whether it is accepted. `audit FILE PLAN` writes
-/// whether a plan that was written by hand is lawful, or what it lacks. `explain FILE` writes the plan and, for each thing
-/// in it that costs something, a state that shows why it stands. `emit FILE` writes a Rust module of the monitor under
-/// the plan, whose methods threads call.
+/// The program: `run FILE CLIENTS [--workers N]` compiles the monitor of a file to a plan, has
+/// workers run the clients of another in threads under it, and writes the plan, the log and the
+/// last state. `check FILE` checks a monitor file and writes its canonical form; `turns FILE
+/// CLIENTS` runs the clients by rounds of the implicit machine, and writes the run and its last
+/// state; `compile FILE` writes the plan; `simulate FILE CLIENTS [--seed N] [--spurious K]` runs
+/// the clients by sections under such a plan, by rounds or by the words that a seed draws, and
+/// writes as `run`; `stress N [--workers N]` has workers run a large input that is made of a
+/// number, and writes a summary; `block FILE CLIENTS` has a caller for each client run it in a
+/// thread of its own, and writes as `run`. `report FILE` writes the plan and, for each claim that
+/// it rests on, a line with a certificate; `recheck FILE REPORT` checks such a report again, by its
+/// certificates alone, and writes whether it is accepted. `audit FILE PLAN` writes whether a plan
+/// that was written by hand is lawful, or what it lacks. `explain FILE` writes the plan and, for
+/// each thing in it that costs something, a state that shows why it stands. `emit FILE` writes a
+/// Rust module of the monitor under the plan, whose methods threads call.
 ///
-/// With `--relay` beside `run`, `compile` or `simulate` the plan is that one with its signals relayed.
+/// With `--relay` beside `run`, `compile` or `simulate` the plan is that one with its signals
+/// relayed.
 ///
-/// The words begin with the program's name. First the files are read, the monitor first, then all work is
-/// done and all memory taken, and then the text is written, which takes no memory. Of a file that isn't accepted
-/// the line of its first fault is written, the monitor's first. Each worker calls the gate ahead of each section that it
-/// tries, and each caller ahead of each block that it waits for. Threads wait for one another, so `run`, `stress` and
-/// `block` are not said to return; all else is done by [`without_threads`], which has no runtime to wait by and returns.
+/// The words begin with the program's name. First the files are read, the monitor first, then all
+/// work is done and all memory taken, and then the text is written, which takes no memory. Of a
+/// file that isn't accepted the line of its first fault is written, the monitor's first. Each
+/// worker calls the gate ahead of each section that it tries, and each caller ahead of each block
+/// that it waits for. Threads wait for one another, so `run`, `stress` and `block` are not said to
+/// return; all else is done by [`without_threads`], which has no runtime to wait by and returns.
 pub fn expresso<R: Threads + Wait + Sync, F: Files, S: Sink, G: Gate>(
     rt: &R,
     alloc: Global,
@@ -63,9 +67,10 @@ pub fn expresso<R: Threads + Wait + Sync, F: Files, S: Sink, G: Gate>(
     }
 }
 
-/// The program but for `run`, `stress` and `block`: what `check`, `turns`, `compile`, `simulate`, `report`, `recheck`,
-/// `audit`, `explain` and `emit` do, and what comes of other words. It starts no thread and waits for none, so it
-/// returns. A command that runs clients in threads is handed back, with nothing read and nothing written.
+/// The program but for `run`, `stress` and `block`: what `check`, `turns`, `compile`, `simulate`,
+/// `report`, `recheck`, `audit`, `explain` and `emit` do, and what comes of other words. It starts
+/// no thread and waits for none, so it returns. A command that runs clients in threads is handed
+/// back, with nothing read and nothing written.
 pub fn without_threads<'a, F: Files, S: Sink>(
     alloc: Global,
     words: &'a Vec<String>,

@@ -11,12 +11,12 @@ use mon_io::{FileFault, Files, Sink};
 use mon_text::Fault;
 use std::alloc::Global;
 
-/// The most bytes of a file that is no monitor and no clients. Definitions give it the same name and number
-/// (`specs/ReportFiles`).
+/// The most bytes of a file that is no monitor and no clients. Definitions give it the same name
+/// and number (`specs/ReportFiles`).
 pub(crate) const OTHER_BYTES: usize = 16_777_216;
 
-/// The bytes of a file, one more than it may have at most. Where it has none, the status of its command: the
-/// line of a file that couldn't be read is written then.
+/// The bytes of a file, one more than it may have at most. Where it has none, the status of its
+/// command: the line of a file that couldn't be read is written then.
 pub(crate) fn bytes_of<F: Files, S: Sink>(
     alloc: Global,
     file: &str,

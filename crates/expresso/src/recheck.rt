@@ -18,8 +18,8 @@ use mon_text::Fault;
 use mon_tokens::one_spelling;
 use std::alloc::{AllocError, Global};
 
-/// Reads both files, the monitor first, checks the report of the second without the prover, and writes that it is
-/// accepted, or the line of the first fault.
+/// Reads both files, the monitor first, checks the report of the second without the prover, and
+/// writes that it is accepted, or the line of the first fault.
 pub(crate) fn recheck_files<F: Files, S: Sink>(
     alloc: Global,
     monitor: &str,
@@ -66,7 +66,8 @@ fn show_finding<S: Sink>(file: &str, found: Option<Verdict>, out: &mut S) -> Sta
     }
 }
 
-/// What a check says of the report that bytes are, and nothing where they are none. It fails only for want of memory.
+/// What a check says of the report that bytes are, and nothing where they are none. It fails only
+/// for want of memory.
 fn finding(alloc: Global, monitor: &Monitor, bytes: &[u8]) -> Result<Option<Verdict>, AllocError>
     ensures { IfOk result (IsFinding monitor.now bytes.now) }
 {

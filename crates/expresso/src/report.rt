@@ -12,8 +12,8 @@ use mon_io::{Files, Sink};
 use mon_recheck::{placed_text_is_report_text, read_numbers};
 use std::alloc::{AllocError, Global};
 
-/// Compiles a monitor file and writes the plan with a certificate of each claim that it rests on, or the line of its
-/// first fault.
+/// Compiles a monitor file and writes the plan with a certificate of each claim that it rests on,
+/// or the line of its first fault.
 pub(crate) fn report_file<F: Files, S: Sink>(
     alloc: Global,
     file: &str,

@@ -24,8 +24,8 @@ use std::alloc::{AllocError, Global};
 use std::sync::Wait;
 use std::thread::Threads;
 
-/// So many workers run the clients on their monitor to the end, under the plan that is asked for. All memory is taken
-/// here.
+/// So many workers run the clients on their monitor to the end, under the plan that is asked for.
+/// All memory is taken here.
 pub(crate) fn worked<R: Threads + Wait + Sync, G: Gate>(
     rt: &R,
     alloc: Global,
@@ -49,8 +49,8 @@ pub(crate) fn worked<R: Threads + Wait + Sync, G: Gate>(
     run_pool(rt, alloc, free, workers, gate)
 }
 
-/// Reads both files, the monitor first, has workers run the clients on the monitor in threads, and writes the plan and
-/// the log, or the line of the first fault.
+/// Reads both files, the monitor first, has workers run the clients on the monitor in threads, and
+/// writes the plan and the log, or the line of the first fault.
 pub(crate) fn run_files<R: Threads + Wait + Sync, F: Files, S: Sink, G: Gate>(
     rt: &R,
     alloc: Global,

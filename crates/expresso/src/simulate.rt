@@ -41,7 +41,8 @@ fn run(free: &mut FreeMonitor, schedule: Schedule)
     }
 }
 
-/// The clients run on their monitor by the schedule, under the plan that is asked for. All memory is taken here.
+/// The clients run on their monitor by the schedule, under the plan that is asked for. All memory
+/// is taken here.
 fn simulation(
     alloc: Global,
     input: Input,
@@ -62,8 +63,8 @@ fn simulation(
     Ok(free)
 }
 
-/// Reads both files, the monitor first, runs the clients on the monitor by sections, and writes the plan and the
-/// log, or the line of the first fault.
+/// Reads both files, the monitor first, runs the clients on the monitor by sections, and writes the
+/// plan and the log, or the line of the first fault.
 pub(crate) fn simulate_files<F: Files, S: Sink>(
     alloc: Global,
     monitor: &str,

@@ -16,7 +16,8 @@ use std::alloc::{AllocError, Global};
 use std::sync::Wait;
 use std::thread::Threads;
 
-/// Has workers run the large input that a number stands for, and writes the summary of the log. It reads no file.
+/// Has workers run the large input that a number stands for, and writes the summary of the log. It
+/// reads no file.
 pub(crate) fn stress<R: Threads + Wait + Sync, S: Sink, G: Gate>(
     rt: &R,
     alloc: Global,

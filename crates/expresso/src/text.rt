@@ -1,5 +1,5 @@
-//! What the program itself prints, written whole to a sink and handed on, with the status that it comes to.
-//! No writer takes memory.
+//! What the program itself prints, written whole to a sink and handed on, with the status that it
+//! comes to. No writer takes memory.
 
 ghost use Rattle.std.specs.Prelude.{◌≡◌, ℕ, List};
 ghost use Rattle.mon_io.specs.Outside.{SinkSeen};

@@ -12,8 +12,8 @@ use mon_implicit::turns;
 use mon_io::{Files, Sink};
 use std::alloc::{AllocError, Global};
 
-/// Reads both files, the monitor first, runs the clients on the monitor by rounds, and writes the run, or
-/// the line of the first fault.
+/// Reads both files, the monitor first, runs the clients on the monitor by rounds, and writes the
+/// run, or the line of the first fault.
 pub(crate) fn take_turns<F: Files, S: Sink>(
     alloc: Global,
     monitor: &str,

@@ -27,8 +27,8 @@ use std::alloc::Global;
 use std::sync::Wait;
 use std::thread::Threads;
 
-/// Does what a command asks for, and writes its text or the line of the first fault of its files. A command that runs
-/// clients in threads is handed back, with nothing done.
+/// Does what a command asks for, and writes its text or the line of the first fault of its files. A
+/// command that runs clients in threads is handed back, with nothing done.
 pub(crate) fn work<'a, F: Files, S: Sink>(
     alloc: Global,
     command: Command<'a>,

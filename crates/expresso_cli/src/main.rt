@@ -1,7 +1,7 @@
 //! `expresso`: monitors with implicit signals.
 //!
-//! `main` hands the runtime, the words, the files of the system, standard output and a gate that holds nobody to the top
-//! call, [`expresso::expresso`], and gives the number of its status.
+//! `main` hands the runtime, the words, the files of the system, standard output and a gate that
+//! holds nobody to the top call, [`expresso::expresso`], and gives the number of its status.
 #![tactic(auto)]
 
 use expresso::{Status, exit_status, expresso};

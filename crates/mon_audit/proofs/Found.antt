@@ -1,4 +1,5 @@
--- A plan with which nothing is wrong at sight, and each of whose claims that are asked has a certificate, is lawful.
+-- A plan with which nothing is wrong at sight, and each of whose claims that are asked has a
+-- certificate, is lawful.
 use Rattle.std.proofs.Common.{◌≡◌, inl, inr, true, List, [], Option, Some, None, refl, sym, ap, subst, ◌∙◌, arith}
 use Rattle.std.specs.Prelude.{All, IsSomeAnd, unwrap_or}
 use Rattle.std.proofs.lemmas.Bool.{cases_Bool, not_from_false}

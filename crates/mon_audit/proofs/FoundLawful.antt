@@ -1,4 +1,5 @@
--- Where no claim of the monitor is hard, nothing else than that it is lawful is found of a lawful plan.
+-- Where no claim of the monitor is hard, nothing else than that it is lawful is found of a lawful
+-- plan.
 use Rattle.std.proofs.Common.{◌≡◌, inl, inr, ℕ, ◌+◌, ◌-◌, ◌<◌, ◌≤◌, Bool, true, false, not, ◌&&◌, List, [], ◌++◌, map, length, Option, Some, None, refl, sym, ap, subst, ◌∙◌, arith}
 use Rattle.std.specs.Prelude.{All, IsSomeAnd, slice_get, unwrap_or}
 use Rattle.std.specs.List.{Contains, filter, flat_map, enumerate_from}

@@ -9,8 +9,8 @@ pub enum Finding {
     Lawful,
     /// The kept candidate at this place, counted from 0, is the first that is false at the start.
     Start { kept: u32 },
-    /// The kind of this condition, numbered from 1, or a note on it doesn't suit it; it is the first
-    /// such one.
+    /// The kind of this condition, numbered from 1, or a note on it doesn't suit it; it is the
+    /// first such one.
     Kind { condition: u32 },
     /// The claim is the first for which no certificate is found.
     Unproved { claim: Claim },

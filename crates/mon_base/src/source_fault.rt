@@ -28,8 +28,8 @@ pub enum Refusal {
     WrongType,
     /// Neither side of a `*` is constant.
     NotLinear,
-    /// A number is above 9223372036854775807, or a flattened form has too large a number. At the number, not at
-    /// its minus sign.
+    /// A number is above 9223372036854775807, or a flattened form has too large a number. At the
+    /// number, not at its minus sign.
     TooLarge,
     /// The first one over a limit of a monitor.
     TooMany(Counted),
@@ -41,8 +41,8 @@ pub enum Refusal {
     DuplicateClient,
     /// There are more than 32 clients. At the 33rd name.
     TooManyClients,
-    /// There are more than 16,384 calls, with each `repeat` written out. At the first item, of those that stand
-    /// directly in a client, with which they are above.
+    /// There are more than 16,384 calls, with each `repeat` written out. At the first item, of
+    /// those that stand directly in a client, with which they are above.
     TooManyCalls,
 }
 

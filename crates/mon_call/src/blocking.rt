@@ -20,8 +20,8 @@ use std::sync::Wait;
 /// The right to call a monitor that threads share, for one thread at a time.
 pub type Caller = Pass;
 
-/// A monitor that threads share, whose callers block until their clients' blocks reply. Dropped, it drops the monitor;
-/// closed, with all callers, it gives it back.
+/// A monitor that threads share, whose callers block until their clients' blocks reply. Dropped, it
+/// drops the monitor; closed, with all callers, it gives it back.
 #[derive(Drop)]
 pub struct BlockingMonitor {
     monitor: SharedMonitor,
@@ -43,8 +43,9 @@ impl Model for BlockingMonitor {
 }
 
 impl BlockingMonitor {
-    /// Shares a monitor among callers, one for each client, and one where there is no client. It takes all memory that
-    /// calls will need, and fails only for want of memory; the monitor is dropped then.
+    /// Shares a monitor among callers, one for each client, and one where there is no client. It
+    /// takes all memory that calls will need, and fails only for want of memory; the monitor is
+    /// dropped then.
     pub fn open(
         alloc: Global,
         free: FreeMonitor,
@@ -64,9 +65,10 @@ impl BlockingMonitor {
         Ok((BlockingMonitor { monitor, parkers }, callers))
     }
 
-    /// Makes sections of a client, until one replies or none can be made. It blocks while the client waits, and takes no
-    /// memory. A caller is used by one thread at a time; callers call side by side. `Over` comes only where the client has
-    /// no call left, and `Stalled` only where the monitor is closed and the client has a call left.
+    /// Makes sections of a client, until one replies or none can be made. It blocks while the
+    /// client waits, and takes no memory. A caller is used by one thread at a time; callers call
+    /// side by side. `Over` comes only where the client has no call left, and `Stalled` only where
+    /// the monitor is closed and the client has a call left.
     pub fn commit<R: Wait>(&self, rt: &R, caller: &mut Caller, client: u32) -> CommitEnd
         requires own { caller.old.lock ≡ self.now.lock }
         requires client { client < length caller.old.known.front.system.clients }
@@ -77,9 +79,10 @@ impl BlockingMonitor {
         commit_by(rt, &self.monitor, &self.parkers, caller, client)
     }
 
-    /// The monitor, once all callers are back. Its log begins with all that the callers knew, has each receipt's entry at
-    /// its place, and no spurious entry more than at the start; no two receipts are of one place, and the places are in
-    /// the order of the tickets. Where a caller knew a closed monitor, it is that one. It takes no memory.
+    /// The monitor, once all callers are back. Its log begins with all that the callers knew, has
+    /// each receipt's entry at its place, and no spurious entry more than at the start; no two
+    /// receipts are of one place, and the places are in the order of the tickets. Where a caller
+    /// knew a closed monitor, it is that one. It takes no memory.
     pub fn close(self, callers: Vec<Caller>) -> FreeMonitor
         requires all { vec_len callers ≡ self.passes }
         requires own { All (λ caller. caller.lock ≡ self.lock) callers.items }

@@ -18,10 +18,11 @@ use std::sync::Wait;
 use std::thread;
 use std::thread::Threads;
 
-/// Makes the calls of all clients, each client's in a thread of its own, until each client is over or stalled. The gate
-/// is called ahead of each call, with no lock held and the number of replies that the client was given. The answer is
-/// closed for every schedule of the threads, and has no spurious entry more than before. It takes all memory first, and
-/// fails only for want of memory; the monitor is dropped then.
+/// Makes the calls of all clients, each client's in a thread of its own, until each client is over
+/// or stalled. The gate is called ahead of each call, with no lock held and the number of replies
+/// that the client was given. The answer is closed for every schedule of the threads, and has no
+/// spurious entry more than before. It takes all memory first, and fails only for want of memory;
+/// the monitor is dropped then.
 pub fn run_callers<R: Threads + Wait + Sync, G: Gate>(
     rt: &R,
     alloc: Global,

@@ -9,6 +9,7 @@ pub enum CommitEnd {
     Replied(Receipt),
     /// The client has no call left, after a log of so many entries.
     Over { entries: u64 },
-    /// The monitor is closed, after a log of so many entries, and the client has a call left, which nobody will free.
+    /// The monitor is closed, after a log of so many entries, and the client has a call left, which
+    /// nobody will free.
     Stalled { entries: u64 },
 }

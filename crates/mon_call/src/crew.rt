@@ -63,7 +63,8 @@ pub fn gather(hall: &Hall, callers: Vec<Caller>, crew: &mut Vec<Calling>)
     }
 }
 
-/// The callers, once all calls have ended. Each makes the sections that are left, and knows that the monitor is closed.
+/// The callers, once all calls have ended. Each makes the sections that are left, and knows that
+/// the monitor is closed.
 pub fn dismiss<R: Wait>(rt: &R, hall: &Hall, crew: Vec<Calling>, back: &mut Vec<Caller>)
     requires own { All (IsCalling hall.now) crew.items }
     requires room { (back.old.items ≡ []) × (vec_len crew ≤ vec_capacity back.old) }

@@ -1,9 +1,11 @@
-//! Blocking calls: each client of a monitor has a caller, whose call blocks until the client's next block replies.
+//! Blocking calls: each client of a monitor has a caller, whose call blocks until the client's next
+//! block replies.
 //!
-//! A program with threads of its own opens a [`BlockingMonitor`] and gives each thread a [`Caller`]. A thread whose
-//! client waits is parked until another thread's section wakes the client. [`run_callers`] makes the calls of all
-//! clients, each in a thread of its own. Definitions: `specs/Commits` (what a call that blocks tells its caller), those
-//! of `mon_lock` (what a caller knows, and what stands in the log at the end) and of `mon_explicit`.
+//! A program with threads of its own opens a [`BlockingMonitor`] and gives each thread a
+//! [`Caller`]. A thread whose client waits is parked until another thread's section wakes the
+//! client. [`run_callers`] makes the calls of all clients, each in a thread of its own.
+//! Definitions: `specs/Commits` (what a call that blocks tells its caller), those of `mon_lock`
+//! (what a caller knows, and what stands in the log at the end) and of `mon_explicit`.
 #![tactic(auto)]
 
 mod attempt;

@@ -25,9 +25,10 @@ struct Branch<'a> {
 
 /// Whether the certificate refutes the formula, which is then true at no valuation.
 ///
-/// It follows one branch after the other from a list of its own and calls itself nowhere, so the depth of its
-/// calls is the same for every formula and certificate, and none is too deep for it. Making, copying and dropping a
-/// formula recurse as deep as it is: a stack of 8 MB bore 20,000 levels. It fails only for want of memory.
+/// It follows one branch after the other from a list of its own and calls itself nowhere, so the
+/// depth of its calls is the same for every formula and certificate, and none is too deep for it.
+/// Making, copying and dropping a formula recurse as deep as it is: a stack of 8 MB bore 20,000
+/// levels. It fails only for want of memory.
 pub fn accepts(alloc: Global, formula: &Formula, cert: &Cert) -> Result<bool, AllocError>
     ensures exact { IfOk result (λ accepted. IsTrue accepted ↔ Refutes formula.now cert.now) }
     ensures sound { IfOk result (λ accepted. IsTrue accepted
@@ -50,8 +51,8 @@ fn follow_all(alloc: Global, formula: &Formula, cert: &Cert) -> Result<bool, All
     Ok(true)
 }
 
-/// Follows a branch until it is closed, or is split into branches that are put on the list. It answers false
-/// where its certificate does not refute it.
+/// Follows a branch until it is closed, or is split into branches that are put on the list. It
+/// answers false where its certificate does not refute it.
 fn follow<'a>(
     alloc: Global,
     branch: Branch<'a>,
@@ -71,8 +72,8 @@ fn follow<'a>(
     }
 }
 
-/// Takes formulas to do up to an any: a literal is gathered, and of an all the parts are put first. It answers
-/// the parts of the any, and none where no formula is left.
+/// Takes formulas to do up to an any: a literal is gathered, and of an all the parts are put first.
+/// It answers the parts of the any, and none where no formula is left.
 fn gather<'a>(branch: &mut Branch<'a>) -> Result<Option<&'a [Formula]>, AllocError>
     ensures answer { IfOk result (IsGathered branch.old branch.new) }
     ensures cert { branch.new.cert ≡ branch.old.cert }
@@ -104,7 +105,8 @@ fn put_first<'a>(parts: &'a [Formula], todo: &mut Vec<&'a Formula>) -> Result<()
     Ok(())
 }
 
-/// Puts a branch on the list for each part with its certificate. It answers false where there are not as many.
+/// Puts a branch on the list for each part with its certificate. It answers false where there are
+/// not as many.
 fn split<'a>(
     alloc: Global,
     at: &Branch<'a>,

@@ -1,8 +1,8 @@
 //! Certificates that a formula is true at no valuation.
 //!
-//! A [`Cert`] refutes a formula as `specs/Refutes` says, [`accepts`] tells exactly whether it does, and what is
-//! refuted is true nowhere (`laws`). [`WideRow`] and [`sum_of_rows`] make the rows of a chain, and [`print_cert`]
-//! writes a certificate's text (`specs/CertText`).
+//! A [`Cert`] refutes a formula as `specs/Refutes` says, [`accepts`] tells exactly whether it does,
+//! and what is refuted is true nowhere (`laws`). [`WideRow`] and [`sum_of_rows`] make the rows of a
+//! chain, and [`print_cert`] writes a certificate's text (`specs/CertText`).
 #![tactic(auto)]
 
 mod acceptance;

@@ -10,8 +10,8 @@ use super::cert::{Cert, Combine};
 use itoa::{Buffer, Integer};
 use mon_io::{Sink, SinkFailed, write_piece, write_pieces};
 
-/// Writes the text of a certificate. It takes no memory, and calls itself once for each level of splits in one
-/// another.
+/// Writes the text of a certificate. It takes no memory, and calls itself once for each level of
+/// splits in one another.
 ///
 /// After `SinkFailed` the first bytes were taken, fewer than all and maybe none.
 #[cycle(print_cert)]

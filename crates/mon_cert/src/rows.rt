@@ -9,8 +9,9 @@ use super::wide_row::WideRow;
 use mon_linear::combined_terms;
 use std::alloc::{AllocError, Global};
 
-/// So many times the one row and so many times the other. It is none exactly where a factor is below 0, or a
-/// product or a number of the sum is not from `-2^127` to `2^127 - 1`. It fails only for want of memory.
+/// So many times the one row and so many times the other. It is none exactly where a factor is
+/// below 0, or a product or a number of the sum is not from `-2^127` to `2^127 - 1`. It fails only
+/// for want of memory.
 pub fn sum_of_rows(
     alloc: Global,
     combine: Combine,

@@ -1,4 +1,5 @@
--- Under a lawful plan each move keeps the invariant, and that wake-ups are pending; so who sleeps with a true guard is seen to.
+-- Under a lawful plan each move keeps the invariant, and that wake-ups are pending; so who sleeps
+-- with a true guard is seen to.
 use Rattle.std.proofs.Common.{◌≡◌, ◌==◌, ℕ, suc, ◌+◌, ◌-◌, ◌<◌, Bool, true, false, cond, ◌&&◌, List, [], ◌∷◌, length, Option, Some, None, refl, sym, ap, subst, ◌∙◌, arith, inl, inr}
 use Rattle.std.specs.Prelude.{slice_get}
 use Rattle.std.proofs.lemmas.Option.{none-some, slice_get_within}

@@ -44,7 +44,8 @@ same_position : (threads : List Thread) (thread : ℕ) (frame other_frame : Fram
 same_position threads thread frame other_frame position other at again =
     ap (λ (one : Thread). one.position) (same_Some (record { frame = frame; position = position }) (record { frame = other_frame; position = other }) (sym at ∙ again))
 
--- a thread goes, and who held the mutex holds it still: if it is that thread, it holds it where it is now
+-- a thread goes, and who held the mutex holds it still: if it is that thread, it holds it where it
+-- is now
 goes_holding : (threads : List Thread) (holder : Option ℕ) (thread : ℕ) (frame new_frame : Frame) (position new_position : Position) → IsThread threads thread frame position → HasHolder threads holder
     → (is_holding position ≡ true → is_holding new_position ≡ true) → HasHolder (goes threads thread new_frame new_position) holder
 goes_holding threads holder thread frame new_frame position new_position at has keeps other is =

@@ -1,4 +1,5 @@
--- What is pending after a step or a note, while others that gave the mutex back still have notes to make.
+-- What is pending after a step or a note, while others that gave the mutex back still have notes to
+-- make.
 use Rattle.std.proofs.Common.{◌≡◌, ◌==◌, ◌⊎◌, ℕ, ◌-◌, ◌<◌, ◌≤◌, Bool, true, false, not, ◌&&◌, List, [], ◌∷◌, length, Some, refl, sym, ap, subst, ◌∙◌, arith, inl, inr}
 use Rattle.std.specs.Prelude.{All}
 use Rattle.std.proofs.lemmas.Option.{slice_get_within}

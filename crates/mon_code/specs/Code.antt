@@ -20,15 +20,17 @@ pub data Op : Type 0 where
   -- `while !state.can_m() { state = wait(&self.can_m, state); }`: the guard of a block, on a
   -- condition
   WaitUntil : (block condition : ℕ) → Op
-  -- `if !state.can_m() { return None; }`: the guard of a block
+  -- `if !state.can_m() { return None; }`: the guard of a block; the answer is `Ok(None)` where a call
+  -- of the method may overflow
   ElseRefuse : (block : ℕ) → Op
   -- `let Ok(answer) = state.run_m() else { .. return Err(Overflow); };`: the body of a block, and
-  -- the notes that are made where it overflows
+  -- the notes that are made where it overflows; `state.run_m();` where it can't, and no `answer` is
+  -- kept where the method returns none
   Run : (block : ℕ) (otherwise : List Note) → Op
   -- `self.can_m.notify_one();`, or `notify_all` where the note is for all; where it is tested, in
   -- an `if` on the guard of its condition
   Notify : (note : Note) → Op
-  -- the guard of the mutex is dropped
+  -- `drop(state);`: the guard of the mutex is dropped
   Unlock : Op
 
 -- ---- whether anyone ever waits on a condition: its guard is not `true`

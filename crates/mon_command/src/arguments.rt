@@ -24,7 +24,8 @@ pub(crate) struct Given<'a> {
     pub(crate) relay: bool,
 }
 
-/// What the words, the program's name first, give; `Usage` where `clap` refuses them or they ask for help.
+/// What the words, the program's name first, give; `Usage` where `clap` refuses them or they ask
+/// for help.
 pub(crate) fn given_of<'a>(alloc: Global, words: &'a [String]) -> Result<Given<'a>, CommandFault>
     ensures given { IfOk result
         (λ given. IsGiven (map string_bytes words.now) (given_meant given)) }

@@ -28,16 +28,16 @@ pub enum Command<'a> {
         monitor: &'a str,
         choice: PlanChoice,
     },
-    /// Runs the clients of a file on the monitor of another by sections, under the plan that is asked for and a
-    /// schedule.
+    /// Runs the clients of a file on the monitor of another by sections, under the plan that is
+    /// asked for and a schedule.
     Simulate {
         monitor: &'a str,
         clients: &'a str,
         schedule: Schedule,
         choice: PlanChoice,
     },
-    /// Runs the clients of a file on the monitor of another in workers, from 1 to `WORKERS`, under the plan that is
-    /// asked for.
+    /// Runs the clients of a file on the monitor of another in workers, from 1 to `WORKERS`, under
+    /// the plan that is asked for.
     Run {
         monitor: &'a str,
         clients: &'a str,
@@ -58,8 +58,8 @@ pub enum Command<'a> {
         monitor: &'a str,
         report: &'a str,
     },
-    /// Runs the clients of a file on the monitor of another by a caller for each client, under the plan that is placed for
-    /// it.
+    /// Runs the clients of a file on the monitor of another by a caller for each client, under the
+    /// plan that is placed for it.
     Block {
         monitor: &'a str,
         clients: &'a str,
@@ -69,7 +69,8 @@ pub enum Command<'a> {
         monitor: &'a str,
         plan: &'a str,
     },
-    /// Compiles a monitor to a plan, with a state that shows why each thing stands that costs something.
+    /// Compiles a monitor to a plan, with a state that shows why each thing stands that costs
+    /// something.
     Explain {
         monitor: &'a str,
     },

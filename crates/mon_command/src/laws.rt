@@ -11,8 +11,9 @@ pub fn one_command()
         → Takes words command → Takes words other → command ≡ other }
 {}
 
-/// What some words are: an option left out, before the values, as one word, twice, or without the other that it wants; `--`
-/// before a value; an asked help text; a number out of range; an option without a text, used and where it may not be.
+/// What some words are: an option left out, before the values, as one word, twice, or without the
+/// other that it wants; `--` before a value; an asked help text; a number out of range; an option
+/// without a text, used and where it may not be.
 pub fn words_taken()
     ensures default_workers { Takes
         (codes "expresso" ∷ codes "run" ∷ codes "M" ∷ codes "C" ∷ [])

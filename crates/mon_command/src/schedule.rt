@@ -11,7 +11,8 @@ use mon_base::limits::MOST_SPURIOUS;
 pub enum Schedule {
     /// Clients act by rounds, and no wake-up is spurious.
     Rounds,
-    /// Clients are drawn by the words of a seed, with at most so many spurious wake-ups, from 0 to `MOST_SPURIOUS`.
+    /// Clients are drawn by the words of a seed, with at most so many spurious wake-ups, from 0 to
+    /// `MOST_SPURIOUS`.
     Drawn { seed: u64, spurious: u32 },
 }
 

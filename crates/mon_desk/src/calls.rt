@@ -135,7 +135,8 @@ impl<A, T, K, E: Errand<A, T, K>> Cell<A, T, K, E> {
         Ok(asked)
     }
 
-    /// Sleeps while a letter is posted in this cell, and no longer than this. It may also return for no reason.
+    /// Sleeps while a letter is posted in this cell, and no longer than this. It may also return
+    /// for no reason.
     pub fn rest<R: Wait>(&self, rt: &R, longest: Duration) {
         self.board
             .shared

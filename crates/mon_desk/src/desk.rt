@@ -22,7 +22,8 @@ pub struct Desk<A, T, K, E: Errand<A, T, K>> {
 }
 
 impl<A: Drop, T: Drop, K, E: Errand<A, T, K>> Desk<A, T, K, E> {
-    /// A desk with no letters. It takes all memory that the desk will need, and fails only for want of memory.
+    /// A desk with no letters. It takes all memory that the desk will need, and fails only for want
+    /// of memory.
     pub fn open(alloc: Global, about: &K) -> Result<Desk<A, T, K, E>, AllocError>
         ensures about { IfOk result (λ desk. desk.about.value ≡ about.now) }
     {

@@ -34,7 +34,8 @@ pub struct View<A, K> {
 /// A seat at a cell.
 pub type Spot<A, T, K> = Seat<Option<Sheet<A, T>>, View<A, K>>;
 
-/// The right to what is told to a letter. It can't be dropped: collect the answer, or take the letter back.
+/// The right to what is told to a letter. It can't be dropped: collect the answer, or take the
+/// letter back.
 pub struct Mail<A, T, K> {
     pub(crate) seat: Spot<A, T, K>,
 }

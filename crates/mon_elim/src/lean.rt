@@ -78,10 +78,11 @@ fn put_before(number: u64, combine: Combine, later: &mut Vec<Combine>) -> Result
     Ok(())
 }
 
-/// The chain without the sums that no later one needs, from the last one back. The first made row has the number.
+/// The chain without the sums that no later one needs, from the last one back. The first made row
+/// has the number.
 ///
-/// What is kept are the few sums that the last row is made of, so they are looked through one by one. It fails only for
-/// want of memory.
+/// What is kept are the few sums that the last row is made of, so they are looked through one by
+/// one. It fails only for want of memory.
 pub fn lean_chain(
     alloc: Global,
     first: u32,

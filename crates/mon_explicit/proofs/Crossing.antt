@@ -15,6 +15,7 @@ config_send = search (crosses, formula_crosses, statement_crosses, expression_cr
 rings_send : IsSend rings.the_field.row
 rings_send = search (sendable, crosses, Cells-send, Deed-send) depth 40
 
--- for every owner of such a monitor that threads share: a search from the fields of what it runs ends at its limits, and one from here is short
+-- for every owner of such a monitor that threads share: a search from the fields of what it runs
+-- ends at its limits, and one from here is short
 pub free_send : IsSend free.the_field.row
 free_send = let a = config_send in let b = rings_send in search (crosses, sendable) depth 60 fits 20000

@@ -135,7 +135,8 @@ none_comes monitor plan clients state owner commits positions client never place
 pub none_notifies : (machine : Machine) (client : ℕ) (target : Option ℕ) → NoneComes machine client → NotAllowed machine (events.Notify client target)
 none_notifies machine client target never next (place, event) = never place event.note event.more event.notifying
 
--- a position that is lent after each waiter was woken: a client with a note to come was none of these
+-- a position that is lent after each waiter was woken: a client with a note to come was none of
+-- these
 pub lent_woken : (plan : Plan) (positions : List Position) (client : ℕ) (next : Next) (is : IsNext plan positions client next) (one : Position) (woken : List Position) → woken ≡ map (waking_position next.note.condition) positions
     → one ≡ get_or woken client one → is.place ≡ one.place
 lent_woken plan positions client next is one woken same lent =

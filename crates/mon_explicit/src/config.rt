@@ -51,7 +51,8 @@ pub enum Way {
     Waits,
 }
 
-/// What a client inside did: it waits on a condition, it ran its block with a reply, or its call was refused.
+/// What a client inside did: it waits on a condition, it ran its block with a reply, or its call
+/// was refused.
 #[derive(Clone, Copy)]
 pub enum Went {
     Waits(u32),
@@ -66,7 +67,8 @@ pub struct Coming {
     pub fires: bool,
 }
 
-/// A configuration of the explicit machine, and what it runs: a monitor, a plan for it, and what its clients call.
+/// A configuration of the explicit machine, and what it runs: a monitor, a plan for it, and what
+/// its clients call.
 #[derive(Drop)]
 pub struct Config {
     monitor: Monitor,
@@ -99,9 +101,9 @@ impl Model for Config {
 }
 
 impl Config {
-    /// The configuration at the start: no owner, no commits, and every client idle at its first place. It makes room
-    /// for a commit of each block of all calls and no more, so no later call takes memory. It fails only for want of
-    /// memory.
+    /// The configuration at the start: no owner, no commits, and every client idle at its first
+    /// place. It makes room for a commit of each block of all calls and no more, so no later call
+    /// takes memory. It fails only for want of memory.
     pub fn open(
         alloc: Global,
         monitor: Monitor,
@@ -147,8 +149,8 @@ impl Config {
         })
     }
 
-    /// Makes an event. `NotEnabled` comes exactly where the event isn't allowed, and then all is as before. Under a
-    /// lawful plan no wake-up is lost, whatever events come. It takes no memory.
+    /// Makes an event. `NotEnabled` comes exactly where the event isn't allowed, and then all is as
+    /// before. Under a lawful plan no wake-up is lost, whatever events come. It takes no memory.
     pub fn step(&mut self, event: Event) -> Result<(), NotEnabled>
         ensures steps { Steps event self.old self.new result }
         ensures rule { IsMachine self.new }
@@ -219,7 +221,8 @@ impl Config {
         }
     }
 
-    /// The commits so far, in order. They are a run of the implicit machine to the state and the clients' places.
+    /// The commits so far, in order. They are a run of the implicit machine to the state and the
+    /// clients' places.
     pub fn commits(&self) -> &[Commit]
         ensures commits { result.now ≡ self.now.now.commits }
         ensures rule { IsMachine self.now }
@@ -375,7 +378,8 @@ impl Config {
         Ok(())
     }
 
-    /// A client inside makes its step where its guard is true, and is refused or waits where it is false.
+    /// A client inside makes its step where its guard is true, and is refused or waits where it is
+    /// false.
     pub(crate) fn go_on(&mut self, client: u32) -> Went
         requires { IsInside self.old client }
         ensures { WentIn client self.old self.new result }
@@ -485,7 +489,8 @@ impl Config {
         self.positions[client as usize].doing = next.rest;
     }
 
-    /// A client makes its first note to come, a broadcast that fires: it wakes each client that waits.
+    /// A client makes its first note to come, a broadcast that fires: it wakes each client that
+    /// waits.
     pub(crate) fn wake_each(&mut self, client: u32, next: Next)
         requires next { IsComing self.old client next }
         requires fires { fires self.old.system self.old.now.state next.note ≡ true }
@@ -496,7 +501,8 @@ impl Config {
         self.positions[client as usize].doing = next.rest;
     }
 
-    /// A client makes its first note to come, a signal that fires: it wakes this client, which waits.
+    /// A client makes its first note to come, a signal that fires: it wakes this client, which
+    /// waits.
     pub(crate) fn wake_one(&mut self, client: u32, next: Next, target: u32)
         requires next { IsComing self.old client next }
         requires fires { fires self.old.system self.old.now.state next.note ≡ true }

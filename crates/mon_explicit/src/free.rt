@@ -21,8 +21,8 @@ use mon_monitor::Monitor;
 use std::alloc::{AllocError, Global};
 use std::marker::Model;
 
-/// A monitor that runs by sections, with a plan for it, what its clients call, and the log so far, which is legal at
-/// every moment. Between sections no one owns the lock.
+/// A monitor that runs by sections, with a plan for it, what its clients call, and the log so far,
+/// which is legal at every moment. Between sections no one owns the lock.
 #[derive(Drop)]
 pub struct FreeMonitor {
     config: Config,
@@ -55,9 +55,9 @@ impl Model for FreeMonitor {
 }
 
 impl FreeMonitor {
-    /// The monitor at the start: an empty log, and every client idle at its first place. The log may have so many
-    /// spurious entries, at most 16,384. It makes room for the longest log and no more, so no later call takes
-    /// memory. It fails only for want of memory.
+    /// The monitor at the start: an empty log, and every client idle at its first place. The log
+    /// may have so many spurious entries, at most 16,384. It makes room for the longest log and no
+    /// more, so no later call takes memory. It fails only for want of memory.
     pub fn open(
         alloc: Global,
         monitor: Monitor,
@@ -103,11 +103,12 @@ impl FreeMonitor {
         })
     }
 
-    /// Makes a section of a client: it begins its next block, or goes on where it was woken, takes the lock, and runs its
-    /// block, makes its notes and gives the lock back, where its guard is true. Where it is false the client waits, or at
-    /// the first block of a call that tries, is refused and gives the lock back. A signal wakes the client that has waited
-    /// longest in its condition. `NotReady` comes exactly where the client waits, or has no call left,
-    /// and then all is as before. It takes no memory.
+    /// Makes a section of a client: it begins its next block, or goes on where it was woken, takes
+    /// the lock, and runs its block, makes its notes and gives the lock back, where its guard is
+    /// true. Where it is false the client waits, or at the first block of a call that tries, is
+    /// refused and gives the lock back. A signal wakes the client that has waited longest in its
+    /// condition. `NotReady` comes exactly where the client waits, or has no call left, and then
+    /// all is as before. It takes no memory.
     pub fn section(&mut self, client: u32) -> Result<Section, NotReady>
         requires { client < length self.old.system.clients }
         ensures section { Sections client self.old self.new result }
@@ -132,8 +133,9 @@ impl FreeMonitor {
         Ok(Section { place, entry })
     }
 
-    /// Wakes a client by nothing. `NotReady` comes exactly where it doesn't wait, and `Spent` exactly where it waits
-    /// and the log has as many spurious entries as it may have; then all is as before. It takes no memory.
+    /// Wakes a client by nothing. `NotReady` comes exactly where it doesn't wait, and `Spent`
+    /// exactly where it waits and the log has as many spurious entries as it may have; then all is
+    /// as before. It takes no memory.
     pub fn spurious(&mut self, client: u32) -> Result<(), SpuriousFault>
         requires { client < length self.old.system.clients }
         ensures spurious { WakesByNothing client self.old self.new result }
@@ -173,7 +175,8 @@ impl FreeMonitor {
         Ok(())
     }
 
-    /// Whether each client waits, or is idle with no call left. Under a lawful plan no client may step then.
+    /// Whether each client waits, or is idle with no call left. Under a lawful plan no client may
+    /// step then.
     pub fn closed(&self) -> bool
         ensures closed { IsTrue result ↔ IsClosed self.now.system self.now.now }
         ensures ends { IsTrue result → HasEnded self.now }

@@ -1,9 +1,9 @@
 //! The event machine: a monitor whose clients wait on conditions and are woken by notes.
 //!
-//! A [`Config`] is a configuration of the explicit machine with what it runs. [`Config::step`] makes one event, or
-//! refuses it where it isn't allowed. A [`FreeMonitor`] runs by whole sections and keeps a log of them.
-//! Definitions: those of `mon_events` (plans, configurations, events, what every configuration keeps, legal logs),
-//! `specs/Machines`, and `specs/Sections`.
+//! A [`Config`] is a configuration of the explicit machine with what it runs. [`Config::step`]
+//! makes one event, or refuses it where it isn't allowed. A [`FreeMonitor`] runs by whole sections
+//! and keeps a log of them. Definitions: those of `mon_events` (plans, configurations, events, what
+//! every configuration keeps, legal logs), `specs/Machines`, and `specs/Sections`.
 #![tactic(auto)]
 
 mod calls;

@@ -9,8 +9,8 @@ ghost use Rattle.mon_explicit.specs.inner.Positions.{waking_position};
 
 use mon_implicit::Place;
 
-/// What a client does with its call. The notes to come are those of a block from one on, or a signal after an
-/// overflow: so they take no memory.
+/// What a client does with its call. The notes to come are those of a block from one on, or a
+/// signal after an overflow: so they take no memory.
 #[derive(Clone, Copy, Debug)]
 pub enum Doing {
     Idle,

@@ -13,8 +13,8 @@ use mon_base::limits::CLIENTS;
 use std::alloc::{AllocError, Global};
 use std::marker::Model;
 
-/// A ring of waiting clients for each condition by its number, with room for every client. A call at a number with no
-/// ring finds an empty one.
+/// A ring of waiting clients for each condition by its number, with room for every client. A call
+/// at a number with no ring finds an empty one.
 #[derive(Drop)]
 pub struct Rings {
     rings: Vec<HeapCircularBuffer<u32>>,

@@ -12,7 +12,8 @@ use super::rings::Rings;
 use mon_events::{Entry, Outcome};
 use mon_implicit::Reply;
 
-/// Makes a section of a client, or changes nothing where it waits, or has no call left. The rings list who waits.
+/// Makes a section of a client, or changes nothing where it waits, or has no call left. The rings
+/// list who waits.
 pub fn make_section(config: &mut Config, rings: &mut Rings, client: u32) -> Option<Entry>
     requires settled { IsSettled config.old.now }
     requires lines { HaveLines config.old.system config.old.now.standings rings.old }
@@ -35,8 +36,9 @@ pub fn make_section(config: &mut Config, rings: &mut Rings, client: u32) -> Opti
     })
 }
 
-/// A client inside runs its block, makes its notes and gives the lock back, where its guard is true. Where it is false
-/// it is refused and gives the lock back, if its call tries, and else waits.
+/// A client inside runs its block, makes its notes and gives the lock back, where its guard is
+/// true. Where it is false it is refused and gives the lock back, if its call tries, and else
+/// waits.
 fn go_on(config: &mut Config, rings: &mut Rings, client: u32) -> Outcome
     requires inside { IsInside config.old client }
     requires lines { HaveLines config.old.system config.old.now.standings rings.old }

@@ -12,7 +12,8 @@ use super::position::{Doing, Position};
 use mon_implicit::{Client, Commit, Reply, State, begin_call, block_number, go_to_next, run_block};
 use mon_monitor::Monitor;
 
-/// Makes the step of a client whose guard is true. It is then at its next place, and its notes are to come.
+/// Makes the step of a client whose guard is true. It is then at its next place, and its notes are
+/// to come.
 pub fn run_step(
     monitor: &Monitor,
     clients: &[Client],
@@ -50,7 +51,8 @@ pub fn run_step(
     commit
 }
 
-/// Makes the step of a client whose call is refused. It is then at its next call, with no note to come.
+/// Makes the step of a client whose call is refused. It is then at its next call, with no note to
+/// come.
 pub fn refuse_step(
     monitor: &Monitor,
     clients: &[Client],

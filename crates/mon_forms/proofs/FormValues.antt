@@ -1,4 +1,5 @@
--- What flattened forms are worth, and that sums, multiples and products of forms are worth what they say.
+-- What flattened forms are worth, and that sums, multiples and products of forms are worth what
+-- they say.
 use Rattle.std.proofs.Common.{◌≡◌, ℕ, zero, suc, ◌*◌, Bool, true, false, ◌||◌, cond, ℤ, pos, neg_ℤ, ◌+ℤ◌, ◌-ℤ◌, ◌*ℤ◌, List, [], ◌∷◌, map, length, Some, refl, sym, ap, ◌∙◌, arith}
 use Rattle.std.specs.Prelude.{slice_get, slice_set}
 use Rattle.std.specs.List.{list_all}

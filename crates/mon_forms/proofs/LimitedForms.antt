@@ -1,4 +1,5 @@
--- The forms of numbers and names are limited, and so is the opposite_within of a limited difference.
+-- The forms of numbers and names are limited, and so is the opposite_within of a limited
+-- difference.
 use Rattle.std.proofs.Common.{◌≡◌, ℕ, zero, suc, ◌^◌, ℤ, pos, neg_ℤ, ◌+ℤ◌, ◌*ℤ◌, Bool, true, false, List, [], ◌∷◌, map, set, refl, arith}
 use Rattle.std.specs.Prelude.{Option, Some, None, ◌&&◌, slice_get}
 use Rattle.std.specs.List.{list_all}

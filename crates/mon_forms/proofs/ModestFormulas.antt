@@ -1,4 +1,5 @@
--- Formulas whose numbers are far within the range that a negation asks, and stay there when they are negated.
+-- Formulas whose numbers are far within the range that a negation asks, and stay there when they
+-- are negated.
 use Rattle.std.proofs.Common.{◌≡◌, ℕ, ◌+◌, ◌^◌, ℤ, pos, neg_ℤ, ◌+ℤ◌, ◌-ℤ◌, Bool, true, false, List, [], ◌∷◌, map, refl, sym, ap, subst, ◌∙◌, arith}
 use Rattle.std.specs.Prelude.{Option, Some, None, int_le, ◌&&◌, if◌then◌else◌}
 use Rattle.std.specs.List.{list_all}
@@ -25,7 +26,8 @@ use Rattle.mon_forms.proofs.LimitedForms.{both_true, opposite_limited}
 
 -- ---- modest numbers
 
--- A constant may be one more than the greatest magnitude: one less it then is at least its opposite.
+-- A constant may be one more than the greatest magnitude: one less it then is at least its
+-- opposite.
 abbrev pub is_modest_number : ℤ → Bool
 is_modest_number number = int_le (neg_ℤ (pos (2 ^ 63))) number && int_le number (pos (2 ^ 63 + 1))
 

@@ -1,4 +1,5 @@
--- What is found of every expression: forms of the scope, of limited numbers where no rule is broken, and formulas that can be negated.
+-- What is found of every expression: forms of the scope, of limited numbers where no rule is
+-- broken, and formulas that can be negated.
 use Rattle.std.proofs.Common.{◌≡◌, ℕ, ◌^◌, ◌≤◌, pos, neg_ℤ, Bool, true, false, List, [], ◌∷◌, map, refl, sym, subst, ◌∙◌, arith}
 use Rattle.std.specs.Prelude.{nat_lt, ◌||◌, if◌then◌else◌}
 use Rattle.std.specs.List.{list_all}

@@ -10,14 +10,16 @@ ghost use Rattle.mon_forms.specs.Making.{HasSmallScope};
 ghost use Rattle.mon_base.specs.SourceFaults.{FindsLeast, least};
 ghost use Rattle.mon_forms.specs.KeptMeaning.{FormsKeepMeaning, FormulasKeepMeaning};
 
-/// Flattened forms and formulas keep the plain meaning of expressions that break no rule: a form has the value
-/// that ordinary arithmetic gives the expression, and a formula the truth that ordinary logic gives it.
+/// Flattened forms and formulas keep the plain meaning of expressions that break no rule: a form
+/// has the value that ordinary arithmetic gives the expression, and a formula the truth that
+/// ordinary logic gives it.
 pub fn forms_keep_meaning()
     ensures ints { (scope : List Entry) → FormsKeepMeaning scope }
     ensures bools { (scope : List Entry) → FormulasKeepMeaning scope }
 {}
 
-/// The least of some faults is one of them that none comes before, and there is none only where there are no faults.
+/// The least of some faults is one of them that none comes before, and there is none only where
+/// there are no faults.
 pub fn least_is_least()
     ensures one { (among : List SourceFault) → FindsLeast among }
     ensures none { (among : List SourceFault) → least among ≡ None → among ≡ [] }

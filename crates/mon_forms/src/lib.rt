@@ -2,8 +2,8 @@
 //!
 //! A scope, a list of [`Entry`], says what the names of a method's expressions stand for
 //! (`specs/Scope`). Of an expression in a scope [`fault_in`] finds the first rule that it breaks
-//! (`specs/Sense`), and of one that breaks none [`form_of`] makes its flattened form
-//! and [`formula_of`] its formula (`specs/Forms`). [`forms_keep_meaning`] is the law that both keep the
+//! (`specs/Sense`), and of one that breaks none [`form_of`] makes its flattened form and
+//! [`formula_of`] its formula (`specs/Forms`). [`forms_keep_meaning`] is the law that both keep the
 //! plain meaning of `specs/Plain`.
 #![tactic(auto)]
 

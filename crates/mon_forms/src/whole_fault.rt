@@ -163,8 +163,8 @@ fn large_form(at: u32, flat: &Flat) -> Option<SourceFault>
     }
 }
 
-/// From left to right: of the product before a `*` and the factor after it one is constant, and their product
-/// is not too large.
+/// From left to right: of the product before a `*` and the factor after it one is constant, and
+/// their product is not too large.
 fn fault_of_factors(
     alloc: Global,
     scope: &[Entry],

@@ -1,12 +1,13 @@
 //! Bells: a seat whose ticket is not served yet sleeps until the ticket's bell is rung.
 //!
-//! No wake-up is lost, since all steps on the words of bells and tickets have one order. A seat counts itself in and reads
-//! how often the bell was rung, *before* it looks once more which ticket is served. Whoever serves the next ticket does so
-//! *before* it looks for sleepers at that ticket's bell. So the seat sees its ticket served, and stays awake; or else it is
-//! seen, and the bell is rung after it read how often: it then does not fall asleep, or is woken.
+//! No wake-up is lost, since all steps on the words of bells and tickets have one order. A seat
+//! counts itself in and reads how often the bell was rung, *before* it looks once more which ticket
+//! is served. Whoever serves the next ticket does so *before* it looks for sleepers at that
+//! ticket's bell. So the seat sees its ticket served, and stays awake; or else it is seen, and the
+//! bell is rung after it read how often: it then does not fall asleep, or is woken.
 //!
-//! A bell is also rung when its ticket comes near: a seat that is woken then has its processor when its turn comes. No
-//! wake-up rests on that.
+//! A bell is also rung when its ticket comes near: a seat that is woken then has its processor when
+//! its turn comes. No wake-up rests on that.
 
 use crossbeam_utils::CachePadded;
 use std::alloc::{AllocError, Global};
@@ -14,7 +15,8 @@ use std::array;
 use std::sync::Wait;
 use std::sync::atomic::{AtomicU64, Ordering};
 
-/// How many bells a lock has. Tickets that are so far apart share one: their seats wake together, and look whose turn it is.
+/// How many bells a lock has. Tickets that are so far apart share one: their seats wake together,
+/// and look whose turn it is.
 const BELLS: usize = 32;
 
 /// A bell, and how many seats sleep until it is rung, or are about to.
@@ -33,7 +35,8 @@ impl Bell {
         }
     }
 
-    /// Counts in a seat that is about to sleep. The result is for `sleep`: how often the bell was rung, modulo 2^32.
+    /// Counts in a seat that is about to sleep. The result is for `sleep`: how often the bell was
+    /// rung, modulo 2^32.
     pub fn enter(&self) -> u32 {
         self.sleepers.fetch_add(1, Ordering::SeqCst);
         (self.rung.load(Ordering::SeqCst) & u64::from(u32::MAX)) as u32

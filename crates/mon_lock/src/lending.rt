@@ -1,9 +1,10 @@
 //! How sections are made for those who wait.
 //!
-//! A waiting seat is lent by a letter in the cell of its ticket. Whoever has made a section makes those of the letters that
-//! it finds for the next tickets, each with the seat that waits for it: so sections are still made in the order of tickets,
-//! and each seat knows its own. A letter that lies there for another ticket comes back unmade. No wake-up rests on letters:
-//! who lent its seat looks again after a while.
+//! A waiting seat is lent by a letter in the cell of its ticket. Whoever has made a section makes
+//! those of the letters that it finds for the next tickets, each with the seat that waits for it:
+//! so sections are still made in the order of tickets, and each seat knows its own. A letter that
+//! lies there for another ticket comes back unmade. No wake-up rests on letters: who lent its seat
+//! looks again after a while.
 
 ghost use Rattle.std.specs.Prelude.{◌≡◌, ◌<◌, MatchResult, length};
 ghost use Rattle.mon_desk.specs.Letters.{IsMailOf, IsTaskOf, about_of};
@@ -22,7 +23,8 @@ use std::sync::Wait;
 use std::time::Duration;
 use std::{hint, mem};
 
-/// How many sections whoever had the monitor makes for others, before it goes on with its own affairs.
+/// How many sections whoever had the monitor makes for others, before it goes on with its own
+/// affairs.
 const MOST_MADE: u64 = 256;
 
 /// How many pauses a seat makes that is lent, before it sleeps.
@@ -82,8 +84,8 @@ impl Lock {
         Some(self.finish(seat, client, ticket))
     }
 
-    /// Makes the section of the letter that is posted in the cell of this ticket, if there is one and the ticket of the
-    /// letter is served; and says whether it did.
+    /// Makes the section of the letter that is posted in the cell of this ticket, if there is one
+    /// and the ticket of the letter is served; and says whether it did.
     fn answer(&self, ticket: u64) -> bool {
         let cell = self.letters.cell(ticket);
         match cell.take() {
@@ -104,8 +106,8 @@ impl Lock {
         made
     }
 
-    /// Makes the sections of the letters that are posted for the tickets from this one on. After many it wakes who is next
-    /// instead.
+    /// Makes the sections of the letters that are posted for the tickets from this one on. After
+    /// many it wakes who is next instead.
     fn serve(&self, first: u64) {
         let mut ticket = first;
         for _ in 0..MOST_MADE {
@@ -117,7 +119,8 @@ impl Lock {
         self.letters.cell(ticket).wake();
     }
 
-    /// A section on the monitor that the seat has, and then those of the letters for the tickets after it.
+    /// A section on the monitor that the seat has, and then those of the letters for the tickets
+    /// after it.
     fn hold(&self, seat: &mut Seat, client: u32, ticket: u64) -> Result<Receipt, NotReady>
         requires own { seat.old.table_id ≡ self.now.board.shared.table_id }
         requires turn { IsHolding ticket seat.old.me }
@@ -134,7 +137,8 @@ impl Lock {
         result
     }
 
-    /// Makes a section with a seat that waits, if its ticket is served, and then those of the letters.
+    /// Makes a section with a seat that waits, if its ticket is served, and then those of the
+    /// letters.
     fn try_hold(
         &self,
         seat: &mut Seat,
@@ -197,7 +201,8 @@ impl Lock {
         }
     }
 
-    /// Waits until the letter is answered. The seat comes back unused where its ticket is served before anybody takes it.
+    /// Waits until the letter is answered. The seat comes back unused where its ticket is served
+    /// before anybody takes it.
     fn stay<R: Wait>(&self, rt: &R, cell: &Place, letter: Letter, ticket: u64) -> Returned
         requires mail { (lent : Lent) × IsMailOf cell.now letter lent }
         ensures returned { (lent : Lent) → IsMailOf cell.now letter lent
@@ -220,8 +225,8 @@ impl Lock {
         unreachable!()
     }
 
-    /// Posts a letter with the seat, and waits until it is answered. The seat comes back unused where the cell is taken, or
-    /// its ticket is served before anybody takes the letter.
+    /// Posts a letter with the seat, and waits until it is answered. The seat comes back unused
+    /// where the cell is taken, or its ticket is served before anybody takes the letter.
     fn ask<R: Wait>(&self, rt: &R, lent: Lent) -> Returned
         requires lent { IsLent self.now.letters.about.value lent }
         ensures returned { IsReturned self.now.letters.about.value lent result }

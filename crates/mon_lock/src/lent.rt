@@ -1,4 +1,5 @@
-//! Seats that are lent: whoever waits lets who has the monitor make its section, with the seat that waits.
+//! Seats that are lent: whoever waits lets who has the monitor make its section, with the seat that
+//! waits.
 
 ghost use Rattle.std.specs.Prelude.{◌≡◌, None};
 

@@ -1,13 +1,13 @@
 //! The running lock: a monitor that threads share in the order of their tickets.
 //!
-//! A [`SharedMonitor`] keeps a [`FreeMonitor`](mon_explicit::FreeMonitor) behind a ticket lock. Each
-//! thread has a [`Pass`] of its own. A section is made by whoever has the turn, and gives a
-//! [`Receipt`]; a pass that waits lends its seat, and whoever has the monitor makes its section with
-//! it (`src/lending.rt`). How long the log is can be observed with no wait. A [`Gate`] is what
+//! A [`SharedMonitor`] keeps a [`FreeMonitor`](mon_explicit::FreeMonitor) behind a ticket lock.
+//! Each thread has a [`Pass`] of its own. A section is made by whoever has the turn, and gives a
+//! [`Receipt`]; a pass that waits lends its seat, and whoever has the monitor makes its section
+//! with it (`src/lending.rt`). How long the log is can be observed with no wait. A [`Gate`] is what
 //! threads that share it may call ahead of sections. Definitions: `specs/Growth` and `specs/Passes`
 //! (what a pass knows, and what each call does), `specs/Standings` (how a client stands),
-//! `specs/Closing` (what stands in the log at the end); `specs/inner/Queueing` (the rule between any
-//! two steps).
+//! `specs/Closing` (what stands in the log at the end); `specs/inner/Queueing` (the rule between
+//! any two steps).
 #![tactic(auto)]
 
 mod bell;

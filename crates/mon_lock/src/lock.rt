@@ -23,7 +23,8 @@ use super::standing::{Standing, standing_of};
 use mon_explicit::{NotReady, Section};
 use std::sync::Wait;
 
-/// The words, the slot and the rule that they keep; and the bells, which tell nothing and only save a wait its processor.
+/// The words, the slot and the rule that they keep; and the bells, which tell nothing and only save
+/// a wait its processor.
 #[derive(Drop)]
 pub struct Lock {
     pub board: Board,
@@ -61,7 +62,8 @@ impl Lock {
         self.board.shared.fetch_add::<Draw>(seat, NEXT, 1)
     }
 
-    /// How many tickets are to be served before this one. At 0 the seat has the turn, and the monitor; else nothing changes.
+    /// How many tickets are to be served before this one. At 0 the seat has the turn, and the
+    /// monitor; else nothing changes.
     pub fn call(&self, seat: &mut Seat, ticket: u64) -> u64
         requires own { seat.old.table_id ≡ self.now.board.shared.table_id }
         requires waits { (t : ℕ) × (ticket ≡ t % 2 ^ 64) × (seat.old.me.0.stage ≡ Waiting t) }
@@ -72,7 +74,8 @@ impl Lock {
         ticket.wrapping_sub(self.board.shared.load::<Call>(seat, SERVING))
     }
 
-    /// Sleeps until the ticket's bell is rung, unless the ticket is served: then the seat has the turn, and the monitor.
+    /// Sleeps until the ticket's bell is rung, unless the ticket is served: then the seat has the
+    /// turn, and the monitor.
     fn sleep<R: Wait>(&self, rt: &R, seat: &mut Seat, ticket: u64) -> bool
         requires own { seat.old.table_id ≡ self.now.board.shared.table_id }
         requires waits { (t : ℕ) × (ticket ≡ t % 2 ^ 64) × (seat.old.me.0.stage ≡ Waiting t) }
@@ -90,7 +93,8 @@ impl Lock {
         comes
     }
 
-    /// Waits until the ticket is served. It spins as long as its turn may come soon, and else sleeps between looks.
+    /// Waits until the ticket is served. It spins as long as its turn may come soon, and else
+    /// sleeps between looks.
     pub fn wait<R: Wait>(&self, rt: &R, seat: &mut Seat, ticket: u64)
         requires own { seat.old.table_id ≡ self.now.board.shared.table_id }
         requires waits { (t : ℕ) × (ticket ≡ t % 2 ^ 64) × (seat.old.me.0.stage ≡ Waiting t) }
@@ -182,8 +186,8 @@ impl Lock {
         }
     }
 
-    /// Gives the monitor back, serves the next ticket, and rings its bell, and that of the ticket which comes near: so
-    /// who has it is awake when it is served.
+    /// Gives the monitor back, serves the next ticket, and rings its bell, and that of the ticket
+    /// which comes near: so who has it is awake when it is served.
     pub fn unlock(&self, seat: &mut Seat)
         requires own { seat.old.table_id ≡ self.now.board.shared.table_id }
         requires turn { HasMonitor seat.old.me }

@@ -7,8 +7,8 @@ ghost use Rattle.mon_lock.specs.inner.Queueing.{IsIdle};
 use super::rule::Seat;
 use std::marker::Model;
 
-/// The right to use a shared monitor, for one thread at a time. Contracts see which monitor it is of and what it knows;
-/// the program keeps the length that it has seen.
+/// The right to use a shared monitor, for one thread at a time. Contracts see which monitor it is
+/// of and what it knows; the program keeps the length that it has seen.
 #[derive(Drop)]
 pub struct Pass {
     pub(crate) seat: Seat,

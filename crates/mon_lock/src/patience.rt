@@ -2,11 +2,12 @@
 
 use std::hint;
 
-/// Seats that are so many tickets away, or fewer, spin; the others sleep at once, since there may be more threads than
-/// processors, and are woken when they come so near.
+/// Seats that are so many tickets away, or fewer, spin; the others sleep at once, since there may
+/// be more threads than processors, and are woken when they come so near.
 pub const NEAR: u64 = 4;
 
-/// How many pauses a seat makes while no further ticket is served: about as long as two wake-ups take.
+/// How many pauses a seat makes while no further ticket is served: about as long as two wake-ups
+/// take.
 const PAUSES: u64 = 2_048;
 
 /// How far away the seat's ticket was, and how many pauses the seat has made since it came so near.
@@ -25,8 +26,9 @@ impl Patience {
         }
     }
 
-    /// Pauses, in proportion to how far away the ticket is; or says that it is time to sleep. It never yields: a seat that
-    /// yields gets its processor back too late for its turn, where there are more threads than processors.
+    /// Pauses, in proportion to how far away the ticket is; or says that it is time to sleep. It
+    /// never yields: a seat that yields gets its processor back too late for its turn, where there
+    /// are more threads than processors.
     pub fn spins(&mut self, distance: u64) -> bool {
         if distance != self.distance {
             *self = Patience {

@@ -21,8 +21,9 @@ use std::alloc::{AllocError, Global};
 use std::marker::Model;
 use std::sync::Wait;
 
-/// A monitor that threads share, each with a pass of its own. Sections are made one at a time, in the order of their
-/// tickets. Dropped, it drops the monitor; closed, with all passes, it gives it back.
+/// A monitor that threads share, each with a pass of its own. Sections are made one at a time, in
+/// the order of their tickets. Dropped, it drops the monitor; closed, with all passes, it gives it
+/// back.
 #[derive(Drop)]
 pub struct SharedMonitor {
     lock: Lock,
@@ -47,8 +48,8 @@ impl Model for SharedMonitor {
 }
 
 impl SharedMonitor {
-    /// Shares a monitor among so many passes, at least one. It takes all memory that the lock will need, and fails only
-    /// for want of memory; the monitor is dropped then.
+    /// Shares a monitor among so many passes, at least one. It takes all memory that the lock will
+    /// need, and fails only for want of memory; the monitor is dropped then.
     pub fn open(
         alloc: Global,
         free: FreeMonitor,
@@ -69,8 +70,9 @@ impl SharedMonitor {
         Ok((SharedMonitor { lock }, list))
     }
 
-    /// Makes a section of a client, when the ticket that it draws is served. `NotReady` comes exactly where, in the
-    /// monitor as it is then, the client waits or has no call left. It takes no memory.
+    /// Makes a section of a client, when the ticket that it draws is served. `NotReady` comes
+    /// exactly where, in the monitor as it is then, the client waits or has no call left. It takes
+    /// no memory.
     pub fn section<R: Wait>(
         &self,
         rt: &R,
@@ -97,8 +99,8 @@ impl SharedMonitor {
         }
     }
 
-    /// Whether the monitor is closed, when the ticket that this call draws is served: whether then each client waits, or
-    /// is idle with no call left. It takes no memory.
+    /// Whether the monitor is closed, when the ticket that this call draws is served: whether then
+    /// each client waits, or is idle with no call left. It takes no memory.
     pub fn is_closed<R: Wait>(&self, rt: &R, pass: &mut Pass) -> bool
         requires own { pass.old.lock ≡ self.now.lock }
         ensures own { pass.new.lock ≡ pass.old.lock }
@@ -127,7 +129,8 @@ impl SharedMonitor {
         found.standing
     }
 
-    /// How long the log was at a moment of this call. It never waits, whoever has the lock, and takes no memory.
+    /// How long the log was at a moment of this call. It never waits, whoever has the lock, and
+    /// takes no memory.
     pub fn observe(&self, pass: &mut Pass) -> u64
         requires own { pass.old.lock ≡ self.now.lock }
         ensures own { pass.new.lock ≡ pass.old.lock }
@@ -140,9 +143,10 @@ impl SharedMonitor {
         count
     }
 
-    /// The monitor, once all passes are back. Its log begins with all that the passes knew, has each receipt's entry at
-    /// its place, and no spurious entry more than at the start; no two receipts are of one place, and the places are in
-    /// the order of the tickets. Where a pass knew a closed monitor, it is that one. It takes no memory.
+    /// The monitor, once all passes are back. Its log begins with all that the passes knew, has
+    /// each receipt's entry at its place, and no spurious entry more than at the start; no two
+    /// receipts are of one place, and the places are in the order of the tickets. Where a pass knew
+    /// a closed monitor, it is that one. It takes no memory.
     pub fn close(self, mut passes: Vec<Pass>) -> FreeMonitor
         requires all { vec_len passes ≡ self.passes }
         requires own { All (λ pass. pass.lock ≡ self.lock) passes.items }

@@ -1,4 +1,5 @@
-//! What a seat of the lock knows. No value of these types but [`Terms`] is made: contracts alone speak of them.
+//! What a seat of the lock knows. No value of these types but [`Terms`] is made: contracts alone
+//! speak of them.
 
 use crate::receipt::Receipt;
 use mon_explicit::FreeMonitor;
@@ -7,7 +8,8 @@ use std::snapshot::Snapshot;
 
 /// What a pass knows of the monitor that it shares.
 pub struct Knowledge {
-    /// The monitor as it was when this pass last held the lock, at first as it was when it was shared.
+    /// The monitor as it was when this pass last held the lock, at first as it was when it was
+    /// shared.
     pub front: FreeMonitor,
     /// A length that the log has reached.
     pub seen: u64,
@@ -19,8 +21,8 @@ pub struct Knowledge {
     pub looks: u64,
 }
 
-/// Where a seat stands in the queue, with the ticket that it drew. Tickets grow without end here; the words of the lock
-/// have them modulo 2^64.
+/// Where a seat stands in the queue, with the ticket that it drew. Tickets grow without end here;
+/// the words of the lock have them modulo 2^64.
 pub enum Stage {
     Idle,
     Waiting(u64),
@@ -33,7 +35,8 @@ pub enum Stage {
 /// What a seat knows.
 pub struct View {
     pub stage: Stage,
-    /// Its parts of the right to close: one for each pass, and none where it was joined into another.
+    /// Its parts of the right to close: one for each pass, and none where it was joined into
+    /// another.
     pub parts: u64,
     pub known: Knowledge,
 }

@@ -108,7 +108,7 @@ abbrev pub waits_first : MonitorParts → ℕ → Bool
 waits_first monitor number =
     is_waited_on monitor (block_condition monitor (first_in (slice_get monitor.methods number)))
 
--- so its calls may try, where no other method is called so
+-- so its calls may try, where nothing else of the module is called so
 abbrev pub has_try : SourceParts → ℕ → MethodTree → Bool
 has_try source number method =
     waits_first source.monitor number && is_try_free source.tree method.name

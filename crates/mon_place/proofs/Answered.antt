@@ -1,4 +1,5 @@
--- A plan that the prover's answers make fits, is lawful and licensed, and exact where no claim of the monitor is hard.
+-- A plan that the prover's answers make fits, is lawful and licensed, and exact where no claim of
+-- the monitor is hard.
 use Rattle.std.proofs.Common.{◌≡◌, ◌==◌, ◌↔◌, inl, ℕ, ◌-◌, ◌<◌, ◌≤◌, Bool, true, false, List, [], ◌∷◌, length, get_or, Option, Some, None, refl, sym, ap, subst, ◌∙◌, arith}
 use Rattle.std.specs.Prelude.{All, slice_get, IsSomeAnd, unwrap_or, ◌||◌}
 use Rattle.std.proofs.lemmas.Bool.{true≢false, eqb-true}

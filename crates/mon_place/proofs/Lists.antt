@@ -1,4 +1,5 @@
--- Lists of numbers, of numbered elements, and what is true of each element of a list that is made of another.
+-- Lists of numbers, of numbered elements, and what is true of each element of a list that is made
+-- of another.
 use Rattle.std.proofs.Common.{◌≡◌, ℕ, zero, suc, ◌+◌, ◌-◌, ◌<◌, ◌≤◌, Bool, true, false, cond, List, [], ◌∷◌, ◌++◌, map, length, get_or, Some, refl, sym, ap, subst, ◌∙◌, add-one, arith}
 use Rattle.std.specs.Prelude.{All, slice_get}
 use Rattle.std.specs.List.{filter, flat_map, enumerate_from, range_with_len}

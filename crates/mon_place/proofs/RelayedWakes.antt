@@ -1,4 +1,5 @@
--- Under a relayed plan a section wakes, of the clients that wait on a condition that reads no inputs, one at most.
+-- Under a relayed plan a section wakes, of the clients that wait on a condition that reads no
+-- inputs, one at most.
 use Rattle.std.proofs.Common.{◌≡◌, ◌⊎◌, inl, inr, ℕ, ◌^◌, Bool, true, false, not, ◌&&◌, List, [], ◌∷◌, Option, Some, None, refl, sym, ap, subst, ◌∙◌}
 use Rattle.std.specs.Prelude.{All, IsBitSet}
 use Rattle.std.specs.Int.Bits.{and_zero_l, bit_and}
@@ -221,7 +222,8 @@ signals_after system condition block replies.Refused signals = All-nil (λ (note
 
 -- ---- sections
 
--- a client that waits is another than the one that makes the section, and waits on until that one notifies
+-- a client that waits is another than the one that makes the section, and waits on until that one
+-- notifies
 begins_apart : (system : System) (client : ℕ) (place : Place) (before begun : Configuration) → IsBegun system client place before begun
     → (condition other : ℕ) (others_place : Place) → StandsAt before.standings other others_place (Waiting condition)
     → (other ≡ client → ⊥) × StandsAt begun.standings other others_place (Waiting condition)

@@ -7,8 +7,9 @@ use std::sync::atomic::{AtomicU64, Ordering};
 
 /// What was last seen of a client, each as the length of the log then and 1 more; 0 is never.
 ///
-/// Of a client that waits, whoever wakes it makes a later section, so the log is longer after it than when the client
-/// was last seen to rest. So where `woken` is greater than `rested` the client is worth a try, and no wake-up is missed.
+/// Of a client that waits, whoever wakes it makes a later section, so the log is longer after it
+/// than when the client was last seen to rest. So where `woken` is greater than `rested` the client
+/// is worth a try, and no wake-up is missed.
 #[derive(Drop)]
 struct Hint {
     /// When it was seen to wait, or to have no call left. Whoever has its ticket writes this.

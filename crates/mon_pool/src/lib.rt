@@ -1,10 +1,11 @@
 //! Workers that run a monitor side by side.
 //!
 //! [`run_pool`] shares a monitor among so many threads. The tickets of its clients go round in a
-//! [`ReadyQueue`](mon_queue::ReadyQueue), so each client is tried by one worker at a time. Which clients are worth a
-//! try, and which workers doze, no clause rests on. A [`Gate`] is called ahead of each section that a worker tries,
-//! with no lock held. Definitions: `Follows` of `mon_lock` (what stays) and those of `mon_explicit` (what a closed
-//! monitor is); `specs/inner/Workers` (what a worker keeps between two turns, and what it knows when it ends).
+//! [`ReadyQueue`](mon_queue::ReadyQueue), so each client is tried by one worker at a time. Which
+//! clients are worth a try, and which workers doze, no clause rests on. A [`Gate`] is called ahead
+//! of each section that a worker tries, with no lock held. Definitions: `Follows` of `mon_lock`
+//! (what stays) and those of `mon_explicit` (what a closed monitor is); `specs/inner/Workers` (what
+//! a worker keeps between two turns, and what it knows when it ends).
 #![tactic(auto)]
 
 mod crew;

@@ -21,10 +21,11 @@ use std::sync::Wait;
 use std::thread;
 use std::thread::Threads;
 
-/// Runs a monitor by so many workers, from 1 to 16, each in a thread of its own, until it is closed. The gate is called
-/// ahead of each section that a worker tries, with no lock held. Workers alone make sections, and each ends when it was
-/// told that the monitor is closed: so the answer is closed for every schedule of the threads, and has no spurious entry
-/// more than before. It takes all memory first, and fails only for want of memory; the monitor is dropped then.
+/// Runs a monitor by so many workers, from 1 to 16, each in a thread of its own, until it is
+/// closed. The gate is called ahead of each section that a worker tries, with no lock held. Workers
+/// alone make sections, and each ends when it was told that the monitor is closed: so the answer is
+/// closed for every schedule of the threads, and has no spurious entry more than before. It takes
+/// all memory first, and fails only for want of memory; the monitor is dropped then.
 pub fn run_pool<R: Threads + Wait + Sync, G: Gate>(
     rt: &R,
     alloc: Global,

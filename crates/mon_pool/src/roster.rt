@@ -1,18 +1,20 @@
 //! Who is awake, and who is in whose way. No clause rests on it.
 //!
-//! Sections are made one at a time, so one worker alone runs a monitor fastest; the others are there for when it is held
-//! at its gate. So a worker that comes while another is at the monitor goes away again, and dozes where two others are
-//! awake. Whoever leaves nobody awake at the gate wakes one, and who ends wakes all: what is to be done is never left to
-//! those that doze.
+//! Sections are made one at a time, so one worker alone runs a monitor fastest; the others are
+//! there for when it is held at its gate. So a worker that comes while another is at the monitor
+//! goes away again, and dozes where two others are awake. Whoever leaves nobody awake at the gate
+//! wakes one, and who ends wakes all: what is to be done is never left to those that doze.
 
 use std::sync::Wait;
 use std::sync::atomic::{AtomicU64, Ordering};
 
-/// The fewest workers that stay awake, where there are so many: one at the monitor, and one that looks whether it is held.
+/// The fewest workers that stay awake, where there are so many: one at the monitor, and one that
+/// looks whether it is held.
 const FEWEST_AWAKE: u64 = 2;
 
-/// How many workers are awake and not at their gates, how many doze or are about to, their bell, and how many are at the
-/// monitor. Of one worker alone nothing is counted, since nobody is in its way.
+/// How many workers are awake and not at their gates, how many doze or are about to, their bell,
+/// and how many are at the monitor. Of one worker alone nothing is counted, since nobody is in its
+/// way.
 #[derive(Drop)]
 pub struct Roster {
     alone: bool,
@@ -70,9 +72,11 @@ impl Roster {
         }
     }
 
-    /// An awake worker dozes until it is wanted, where enough others are awake. Whether it did; it may wake for no reason.
+    /// An awake worker dozes until it is wanted, where enough others are awake. Whether it did; it
+    /// may wake for no reason.
     ///
-    /// It is counted among those that doze before it is no more among the awake: who leaves nobody awake then sees it.
+    /// It is counted among those that doze before it is no more among the awake: who leaves nobody
+    /// awake then sees it.
     pub fn doze<R: Wait>(&self, rt: &R) -> bool {
         let rung = self.rung.load(Ordering::SeqCst);
         self.dozing.fetch_add(1, Ordering::SeqCst);

@@ -110,7 +110,8 @@ pub fn work<R: Threads + Wait + Sync, G: Gate>(rt: &R, shop: &Shop, gate: &G, wo
 /// The most doublings of a pause.
 const MOST_DOUBLINGS: u32 = 10;
 
-/// A worker makes way for another. It dozes, or pauses the longer the more often it was in the way, which is answered.
+/// A worker makes way for another. It dozes, or pauses the longer the more often it was in the way,
+/// which is answered.
 fn make_way<R: Wait>(rt: &R, shop: &Shop, crowded: u32) -> u32 {
     if shop.roster.doze(rt) {
         return 0;
@@ -123,7 +124,8 @@ fn make_way<R: Wait>(rt: &R, shop: &Shop, crowded: u32) -> u32 {
 }
 
 /// Tries a section of the next client: the one whose ticket is the queue's first. A worker that is
-/// alone goes round the clients without the queue, in the same order, since nobody else has a ticket.
+/// alone goes round the clients without the queue, in the same order, since nobody else has a
+/// ticket.
 fn next_turn<R: Threads + Wait + Sync, G: Gate>(
     rt: &R,
     shop: &Shop,
@@ -185,7 +187,8 @@ fn take_turn<R: Threads + Wait + Sync, G: Gate>(
     turn
 }
 
-/// Tries a client whose ticket the worker has, unless the client rests, or another worker is at the monitor.
+/// Tries a client whose ticket the worker has, unless the client rests, or another worker is at the
+/// monitor.
 fn try_client<R: Wait>(rt: &R, shop: &Shop, place: &mut Pass, client: u32) -> Turn
     requires own { IsPlace shop.now place.old }
     requires client { client < shop.now.clients }

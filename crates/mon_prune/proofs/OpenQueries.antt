@@ -64,7 +64,8 @@ is_light rows = subst (λ (some : List Linear). IsLightCube some ⊎ (IsLightCub
 abbrev Fails : MonitorParts → Query → Type 0
 Fails monitor query = (v : Valuation) → truth_of v (negated_query monitor query) ≡ true → IsValidQuery monitor query → ⊥
 
--- a cube with a row that is no difference row is heavy, or has a solution in fractions alone, where the query is valid
+-- a cube with a row that is no difference row is heavy, or has a solution in fractions alone, where
+-- the query is valid
 general_open : (monitor : MonitorParts) (query : Query) → Fails monitor query → HasUndecidedCube (negated_query monitor query) → IsValidQuery monitor query → MayStayOpen monitor query
 general_open monitor query fails has valid = by_light (is_light (rows_of_literals has.cube))
   where

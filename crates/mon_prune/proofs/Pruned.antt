@@ -30,7 +30,8 @@ left_first monitor = record {
 
 -- ---- after a round
 
--- a candidate of an invariant that is contained in what was left, and none of whose claims is hard, has to stay
+-- a candidate of an invariant that is contained in what was left, and none of whose claims is hard,
+-- has to stay
 stays : (monitor : MonitorParts) (kept other : List Candidate) (one : Candidate)
     → AreSomeOf kept (candidates_of monitor) → IsInvariant monitor other → NoneIsHard monitor other → All (Contains kept) other → Contains other one
     → MustStay monitor kept one

@@ -7,7 +7,8 @@ pub struct Hand {
     /// For how many clients, and for how many passes, the queue was opened.
     pub clients: u64,
     pub passes: u64,
-    /// Its parts of the right to close: one for each pass, and none where it was joined into another.
+    /// Its parts of the right to close: one for each pass, and none where it was joined into
+    /// another.
     pub parts: u64,
     /// The clients whose tickets it has.
     pub tickets: Seq<u32>,

@@ -13,7 +13,8 @@ use super::ticket::Ticket;
 use std::alloc::AllocError;
 use std::sync::Wait;
 
-/// Takes a ticket. `None` comes only where the queue was empty at one moment of the call, and is counted.
+/// Takes a ticket. `None` comes only where the queue was empty at one moment of the call, and is
+/// counted.
 pub fn take<R: Wait>(rt: &R, line: &Tickets, place: &mut Place) -> Option<Ticket>
     requires own { IsPassOf line.now place.old }
     requires live { 0 < (view place.old).parts }

@@ -7,8 +7,8 @@ ghost use Rattle.mon_queue.specs.inner.Gathered.{pass_of};
 use super::rule::Place;
 use std::marker::Model;
 
-/// The right to use a queue of tickets, for one thread at a time. Contracts see of which queue it is, the tickets that
-/// it has, and how many of its pops found the queue empty.
+/// The right to use a queue of tickets, for one thread at a time. Contracts see of which queue it
+/// is, the tickets that it has, and how many of its pops found the queue empty.
 #[derive(Drop)]
 pub struct QueuePass {
     pub(crate) place: Place,

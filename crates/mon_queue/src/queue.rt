@@ -21,7 +21,8 @@ use std::sync::Wait;
 /// The most passes of a queue. The fewest is 1.
 pub const MOST_PASSES: u32 = 32;
 
-/// The tickets that no pass has. Contracts see which queue it is, and for how many clients and passes it was opened.
+/// The tickets that no pass has. Contracts see which queue it is, and for how many clients and
+/// passes it was opened.
 #[derive(Drop)]
 pub struct ReadyQueue {
     line: Tickets,
@@ -46,8 +47,9 @@ impl Model for ReadyQueue {
 }
 
 impl ReadyQueue {
-    /// A queue with one ticket for each of so many clients, at most 32, and so many passes that have none, from 1 to 32.
-    /// It takes all memory that the queue will need, and fails only for want of memory.
+    /// A queue with one ticket for each of so many clients, at most 32, and so many passes that
+    /// have none, from 1 to 32. It takes all memory that the queue will need, and fails only for
+    /// want of memory.
     pub fn open(
         alloc: Global,
         clients: u32,
@@ -74,8 +76,8 @@ impl ReadyQueue {
         Ok((queue, list))
     }
 
-    /// Takes a ticket for a pass of this queue. `None` comes only where a pop of this call found the queue empty, which
-    /// the pass counts. It takes no memory.
+    /// Takes a ticket for a pass of this queue. `None` comes only where a pop of this call found
+    /// the queue empty, which the pass counts. It takes no memory.
     pub fn take<R: Wait>(&self, rt: &R, pass: &mut QueuePass) -> Option<Ticket>
         requires own { pass.old.queue ≡ self.now }
         ensures taken { Takes pass.old pass.new result }
@@ -83,8 +85,8 @@ impl ReadyQueue {
         line::take(rt, &self.line, &mut pass.place)
     }
 
-    /// Puts a ticket of a pass of this queue back, behind those that the queue has: there is always room. At the moment
-    /// when it is put back the queue has it again. It takes no memory.
+    /// Puts a ticket of a pass of this queue back, behind those that the queue has: there is always
+    /// room. At the moment when it is put back the queue has it again. It takes no memory.
     pub fn put<R: Wait>(&self, rt: &R, pass: &mut QueuePass, ticket: Ticket)
         requires own { pass.old.queue ≡ self.now }
         requires has { Contains pass.old.tickets ticket }
@@ -94,8 +96,8 @@ impl ReadyQueue {
         line::put(rt, &self.line, &mut pass.place, ticket);
     }
 
-    /// Ends the queue, once all passes are back: the tickets in the queue and in the passes are then the numbers below
-    /// `clients`, each once. It takes no memory.
+    /// Ends the queue, once all passes are back: the tickets in the queue and in the passes are
+    /// then the numbers below `clients`, each once. It takes no memory.
     pub fn close(self, mut passes: Vec<QueuePass>)
         requires all { vec_len passes ≡ self.passes }
         requires own { All (λ pass. pass.queue ≡ self) passes.items }

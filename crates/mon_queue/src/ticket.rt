@@ -4,8 +4,8 @@ ghost use Rattle.std.specs.Prelude.{◌≡◌};
 
 use std::marker::Model;
 
-/// The right to try a section of a client. Contracts see it as the client's number. A queue makes one for each client
-/// when it is opened; nothing else makes or copies one.
+/// The right to try a section of a client. Contracts see it as the client's number. A queue makes
+/// one for each client when it is opened; nothing else makes or copies one.
 #[derive(Debug, Drop)]
 pub struct Ticket {
     client: u32,

@@ -16,12 +16,12 @@ use mon_text::write_block_name;
 use mon_tree::MonitorTree;
 use mon_why::{Answer, Reason, Thing};
 
-/// Writes a line for each reason: `why startRead 2: readers=0 to readers=1`,
-/// `why 2 broadcast endRead: ..`, `why endRead 4 tested: ..`, or `why startRead 2: not decided`. The
-/// fields stand in the monitor's order, before and after the body of the block; where a number on the
-/// way is outside 128 bits, `numbers beyond 128 bits` stands for those after it. The inputs and
-/// locals of the method of the block stand after it in parentheses, and those of a waiting client
-/// after the condition, where its guard reads such. Their names are the tree's. It takes no memory.
+/// Writes a line for each reason: `why startRead 2: readers=0 to readers=1`, `why 2 broadcast
+/// endRead: ..`, `why endRead 4 tested: ..`, or `why startRead 2: not decided`. The fields stand in
+/// the monitor's order, before and after the body of the block; where a number on the way is
+/// outside 128 bits, `numbers beyond 128 bits` stands for those after it. The inputs and locals of
+/// the method of the block stand after it in parentheses, and those of a waiting client after the
+/// condition, where its guard reads such. Their names are the tree's. It takes no memory.
 ///
 /// After `SinkFailed` the first bytes of the text were taken, fewer than all and maybe none.
 pub fn write_reasons<S: Sink>(

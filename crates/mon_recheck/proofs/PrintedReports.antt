@@ -1,4 +1,5 @@
--- The printed report of a placed plan is read again, and accepted, where no claim of the monitor is hard.
+-- The printed report of a placed plan is read again, and accepted, where no claim of the monitor is
+-- hard.
 use Rattle.std.proofs.Common.{◌≡◌, suc, ◌≤◌, true, List, length, map, Option, Some, None, inl, inr, sym, ap, subst, arith}
 use Rattle.std.specs.Prelude.{All}
 use Rattle.std.proofs.lemmas.Bool.{and_parts, cases_Bool, leb-true}

@@ -93,9 +93,9 @@ pub fn printed_reports_are_accepted()
 }
 
 /// The text of a plan has as many lines as [`recheck`] counts for it: one for its name, and one for
-/// each kept candidate, condition and block. In the text of a report, the claim at each place stands
-/// after them, on a line of its own. So on the line that a verdict names stands a claim that isn't
-/// proved there.
+/// each kept candidate, condition and block. In the text of a report, the claim at each place
+/// stands after them, on a line of its own. So on the line that a verdict names stands a claim that
+/// isn't proved there.
 ///
 /// [`recheck`]: super::recheck
 pub fn report_lines_are_numbered()

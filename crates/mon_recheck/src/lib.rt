@@ -6,8 +6,8 @@
 //! that isn't proved is named by its line in the report's text (`specs/Lines`, `laws`).
 //! [`write_report`] writes the report of a plan that was placed (`specs/Reports`), and
 //! [`write_verdict`] the line of what a check says. Where no claim of the monitor is hard, what was
-//! written of a placed plan is read again as its report, and accepted (`laws`): its certificates nest
-//! no deeper than a reader goes, since a formula has fewer splits than cubes (`specs/Splits`).
+//! written of a placed plan is read again as its report, and accepted (`laws`): its certificates
+//! nest no deeper than a reader goes, since a formula has fewer splits than cubes (`specs/Splits`).
 #![tactic(auto)]
 
 mod after;

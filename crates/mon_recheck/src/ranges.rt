@@ -6,8 +6,8 @@ ghost use Rattle.mon_recheck.specs.Nesting.{HasTypedNumbers, IsCombine, IsFactor
 use mon_cert::{Cert, Combine};
 use mon_place::{PlacedPlan, Proof};
 
-/// The numbers of the certificates of a placed plan are of their types. It reads each of them, since
-/// a contract knows the range of a number that was read, and does nothing else.
+/// The numbers of the certificates of a placed plan are of their types. It reads each of them,
+/// since a contract knows the range of a number that was read, and does nothing else.
 pub fn read_numbers(placed: &PlacedPlan)
     ensures { All (λ proof. HasTypedNumbers proof.cert) placed.now.proofs }
 {

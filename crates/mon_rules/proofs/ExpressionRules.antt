@@ -1,4 +1,5 @@
--- The rules of expressions: a fault of an expression is one of a part of it, or a rule that it breaks itself.
+-- The rules of expressions: a fault of an expression is one of a part of it, or a rule that it
+-- breaks itself.
 use Rattle.std.proofs.Common.{◌≡◌, ℕ, zero, suc, ◌<◌, Bool, true, false, List, [], ◌∷◌, map, refl, sym, ap, subst, arith, inl, inr, Option, Some, None}
 use Rattle.std.specs.Prelude.{◌⊎◌, nat_lt, if◌then◌else◌}
 use Rattle.std.specs.List.{All, Contains}

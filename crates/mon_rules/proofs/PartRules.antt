@@ -1,4 +1,5 @@
--- The rules on the parts of an expression: which fault each gives, and what each fault of parts breaks.
+-- The rules on the parts of an expression: which fault each gives, and what each fault of parts
+-- breaks.
 use Rattle.std.proofs.Common.{◌≡◌, Bool, true, false, List, [], ◌∷◌, map, refl, sym, ap, subst, ◌∙◌, inl, inr}
 use Rattle.std.specs.Prelude.{◌⊎◌, if◌then◌else◌}
 use Rattle.std.specs.List.{All, Contains, flat_map}

@@ -1,5 +1,5 @@
--- The rules of statements: a fault of a statement is one of an expression or an inner statement of it, or a
--- rule that it breaks itself.
+-- The rules of statements: a fault of a statement is one of an expression or an inner statement of
+-- it, or a rule that it breaks itself.
 use Rattle.std.proofs.Common.{◌≡◌, ℕ, zero, suc, Bool, true, false, List, [], ◌∷◌, ◌++◌, map, refl, sym, subst, inl, inr, Option, Some, None}
 use Rattle.std.specs.Prelude.{◌⊎◌, if◌then◌else◌}
 use Rattle.std.specs.List.{Contains, flat_map}

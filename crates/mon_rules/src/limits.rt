@@ -163,8 +163,8 @@ fn declares_constant(decl: &Decl) -> bool
     matches!(decl, Decl::Const { .. })
 }
 
-/// Counts a statement and its inner ones down from how many are left: the place of the one for which
-/// none is left, or how many are left after all.
+/// Counts a statement and its inner ones down from how many are left: the place of the one for
+/// which none is left, or how many are left after all.
 #[cycle(count_statement)]
 fn count_statement(statement: &StmtTree, left: usize) -> Result<usize, u32>
     ensures { result ≡ counted (statement_places statement.now) left }

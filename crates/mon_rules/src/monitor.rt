@@ -12,8 +12,9 @@ use mon_base::{SourceFault, earlier_of};
 use mon_tree::MonitorTree;
 use std::alloc::{AllocError, Global};
 
-/// The first rule that the tree of a monitor file breaks: the one at the least place, and at one place the
-/// first in the order of [`Refusal`](mon_base::Refusal). There is none only where the tree keeps all the rules.
+/// The first rule that the tree of a monitor file breaks: the one at the least place, and at one
+/// place the first in the order of [`Refusal`](mon_base::Refusal). There is none only where the
+/// tree keeps all the rules.
 ///
 /// # Errors
 ///

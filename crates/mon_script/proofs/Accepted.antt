@@ -1,4 +1,5 @@
--- What follows where a tree breaks no rule: its scripts fit the monitor and keep the rule of scripts.
+-- What follows where a tree breaks no rule: its scripts fit the monitor and keep the rule of
+-- scripts.
 use Rattle.std.proofs.Common.{◌≡◌, ◌≢◌, ◌==◌, ℕ, zero, suc, ◌+◌, ◌<◌, ◌≤◌, Bool, true, false, List, [], ◌∷◌, ◌++◌, length, take, drop, get_or, map, replicate, All, refl, sym, ap, subst, ◌∙◌, arith, inl, inr, Option, Some, None, append_assoc}
 use Rattle.std.specs.Prelude.{if◌then◌else◌, nat_lt, sum_by, slice_get, unwrap_or, position, zip}
 use Rattle.std.specs.List.{AllPairs, Contains, flat_map}

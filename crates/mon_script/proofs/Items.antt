@@ -76,7 +76,8 @@ module _ (P : Item → Type 0)
   of_layer (layers.Call at tries place name arguments) = subst P (sym (items.rolls-Call at tries place name arguments)) (call at tries place name arguments)
   of_layer (layers.Repeat at times inner) = subst P (sym (items.rolls-Repeat at times (map (λ e. e.0) inner))) (again at times (map (λ e. e.0) inner) (each inner))
 
-  -- what holds of each call, and of a `repeat` where it holds of what stands in it, holds of each item
+  -- what holds of each call, and of a `repeat` where it holds of what stands in it, holds of each
+  -- item
   pub by_items : (item : Item) → P item
   by_items = ind-Item P (λ x y is. subst (λ (z : Item-F Item). P (roll-Item z)) is (of_layer y))
 

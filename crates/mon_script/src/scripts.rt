@@ -18,13 +18,14 @@ use mon_monitor::Monitor;
 use mon_tree::ClientsTree;
 use std::alloc::Global;
 
-/// The scripts that a client file's tree stands for, each `repeat` written out, where the tree keeps all the
-/// rules of `specs/ScriptRules`. Every tree that the grammar derives meets what is asked of its names.
+/// The scripts that a client file's tree stands for, each `repeat` written out, where the tree
+/// keeps all the rules of `specs/ScriptRules`. Every tree that the grammar derives meets what is
+/// asked of its names.
 ///
 /// # Errors
 ///
-/// The first rule that is broken: the one at the least place, and at one place the first in the order of
-/// [`Refusal`](mon_base::Refusal); or out of memory.
+/// The first rule that is broken: the one at the least place, and at one place the first in the
+/// order of [`Refusal`](mon_base::Refusal); or out of memory.
 pub fn clients(alloc: Global, tree: &ClientsTree, monitor: &Monitor) -> Result<Scripts, SourceError>
     requires named { All IsIdentifier (names_in_clients tree.now) }
     // The scripts are those that the tree stands for,

@@ -9,8 +9,9 @@ ghost use Rattle.mon_simulate.specs.inner.Turns.{IsFirstReady, NoneReady};
 use super::acting::{act, count_clients};
 use mon_explicit::FreeMonitor;
 
-/// Runs a monitor by rounds. It passes over the clients in file order, again and again; in a pass each client that can
-/// make a section at that moment makes one. It ends when the monitor is closed. No spurious wake-up is made.
+/// Runs a monitor by rounds. It passes over the clients in file order, again and again; in a pass
+/// each client that can make a section at that moment makes one. It ends when the monitor is
+/// closed. No spurious wake-up is made.
 pub fn rounds(free: &mut FreeMonitor)
     ensures rounds { IsByRounds 0 free.old free.new }
     ensures closed { IsClosed free.new.system free.new.now }

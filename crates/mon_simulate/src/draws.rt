@@ -20,15 +20,16 @@ struct Draws {
     left: u32,
 }
 
-/// Runs a monitor by the words that a seed draws, with at most so many spurious wake-ups, which the monitor must have
-/// left. It ends when the monitor is closed. The words are those of the generator PCG XSH RR 64/32, made of the seed
-/// and stream 1.
+/// Runs a monitor by the words that a seed draws, with at most so many spurious wake-ups, which the
+/// monitor must have left. It ends when the monitor is closed. The words are those of the generator
+/// PCG XSH RR 64/32, made of the seed and stream 1.
 ///
-/// A turn draws a word `x`, from 0 to 2^32 - 1. Its remainder `x mod 4` says what the turn is. Where that is 0, a
-/// spurious wake-up is left and some client waits, a second word `y` is drawn, and of the `w` clients that wait the one
-/// at position `y mod w` is woken by nothing. Else the quotient `x / 4`, rounded down, picks: of the `r` clients that
-/// can make a section the one at position `(x / 4) mod r` makes one. Clients stand in file order, and positions are
-/// counted from 0.
+/// A turn draws a word `x`, from 0 to 2^32 - 1. Its remainder `x mod 4` says what the turn is.
+/// Where that is 0, a spurious wake-up is left and some client waits, a second word `y` is drawn,
+/// and of the `w` clients that wait the one at position `y mod w` is woken by nothing. Else the
+/// quotient `x / 4`, rounded down, picks: of the `r` clients that can make a section the one at
+/// position `(x / 4) mod r` makes one. Clients stand in file order, and positions are counted from
+/// 0.
 pub fn drawn(free: &mut FreeMonitor, seed: u64, spurious: u32)
     requires left { spurious_in free.old.log + spurious ≤ free.old.extra }
     ensures drawn { IsDrawn seed spurious free.old free.new }

@@ -1,7 +1,8 @@
-//! Schedules of a monitor that runs by sections: by rounds, and drawn from the words of a generator.
+//! Schedules of a monitor that runs by sections: by rounds, and drawn from the words of a
+//! generator.
 //!
-//! Both run a [`FreeMonitor`](mon_explicit::FreeMonitor) until it is closed, and take no memory. Definitions:
-//! `specs/Schedules`. A schedule has one log: the laws are functions of `laws`.
+//! Both run a [`FreeMonitor`](mon_explicit::FreeMonitor) until it is closed, and take no memory.
+//! Definitions: `specs/Schedules`. A schedule has one log: the laws are functions of `laws`.
 #![tactic(auto)]
 
 mod acting;

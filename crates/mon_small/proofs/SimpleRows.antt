@@ -1,4 +1,5 @@
--- A difference row stays one where it is negated, moved to a client that waits, or has a simple form put in.
+-- A difference row stays one where it is negated, moved to a client that waits, or has a simple
+-- form put in.
 use Rattle.std.proofs.Common.{◌≡◌, ◌⊎◌, inl, inr, ℕ, ◌==◌, ℤ, pos, neg_ℤ, ◌+ℤ◌, Bool, true, false, not, cond, ◌&&◌, ◌||◌, List, [], ◌∷◌, map, refl, sym, subst}
 use Rattle.std.specs.Prelude.{nat_lt}
 use Rattle.std.specs.List.{filter}

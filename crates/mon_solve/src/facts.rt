@@ -142,7 +142,8 @@ fn catch_up(literals: &[Literal], facts: &mut Facts) -> Result<(), AllocError>
     Ok(())
 }
 
-/// The number among so many literals of what has this number over the facts, unless it is too large.
+/// The number among so many literals of what has this number over the facts, unless it is too
+/// large.
 fn moved(numbers: &[u32], count: u32, number: u32) -> Option<u32>
     requires { length numbers.now ≤ MOST_NODES }
     ensures { IfSome result (λ at. at ≡ moved numbers.now count number) }
@@ -241,8 +242,8 @@ fn closing_by(
     Ok(closing_over(alloc, literals)?)
 }
 
-/// A clash or a chain that refutes the literals, where one is found; of many it looks only at those that say something
-/// new. Literals whose rows are difference rows are refuted, or have a solution.
+/// A clash or a chain that refutes the literals, where one is found; of many it looks only at those
+/// that say something new. Literals whose rows are difference rows are refuted, or have a solution.
 pub(crate) fn closing(
     alloc: Global,
     literals: &[Literal],

@@ -39,7 +39,8 @@ fn first_opposite(literals: &[Literal], literal: &Literal) -> Option<usize>
         .position(|other| are_opposite(literal, other))
 }
 
-/// The number of the literal's opposite, which is looked for once for each flag: where there is none, the flag is noted.
+/// The number of the literal's opposite, which is looked for once for each flag: where there is
+/// none, the flag is noted.
 fn opposite_of(
     literals: &[Literal],
     literal: &Literal,

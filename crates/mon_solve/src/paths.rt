@@ -8,8 +8,8 @@ ghost use Rattle.mon_solve.specs.inner.Paths.{comes_from, is_of, height_at, path
 
 use std::alloc::{AllocError, Global};
 
-/// A difference row as an edge: the vertex `to` is at least `weight` above the vertex `from`. The vertex 0 is
-/// the number 0, and each other one the variable at the place before it.
+/// A difference row as an edge: the vertex `to` is at least `weight` above the vertex `from`. The
+/// vertex 0 is the number 0, and each other one the variable at the place before it.
 #[derive(Clone, Copy, Debug)]
 pub(crate) struct Edge {
     pub from: u64,
@@ -19,7 +19,8 @@ pub(crate) struct Edge {
     pub number: u32,
 }
 
-/// A vertex, and the weight and the edges, the last first, of the heaviest path to it that is known.
+/// A vertex, and the weight and the edges, the last first, of the heaviest path to it that is
+/// known.
 #[derive(Debug, Drop)]
 pub(crate) struct Reached {
     pub vertex: u64,
@@ -165,8 +166,9 @@ fn relax_all(
     Ok(Relaxed::Same)
 }
 
-/// A cycle of positive weight, or the vertices stand as high as the edges ask, where none was reached before (Bellman's
-/// and Ford's method: Cormen, Leiserson, Rivest and Stein, "Introduction to Algorithms", on difference constraints).
+/// A cycle of positive weight, or the vertices stand as high as the edges ask, where none was
+/// reached before (Bellman's and Ford's method: Cormen, Leiserson, Rivest and Stein, "Introduction
+/// to Algorithms", on difference constraints).
 pub(crate) fn positive_cycle(
     alloc: Global,
     edges: &[Edge],

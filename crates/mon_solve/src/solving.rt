@@ -126,13 +126,14 @@ fn solved(alloc: Global, literals: &[Literal]) -> Result<Option<Solution>, Alloc
 
 /// A valuation in whole numbers at which the formula is true, where one is found.
 ///
-/// There is none only where the formula is true at no valuation, or has more than 1,024 cubes, or a row that is no
-/// difference row. So one is found of a formula of difference rows with no more cubes just where
-/// [`refute`](super::prover::refute) finds no certificate. It fails only for want of memory.
+/// There is none only where the formula is true at no valuation, or has more than 1,024 cubes, or a
+/// row that is no difference row. So one is found of a formula of difference rows with no more
+/// cubes just where [`refute`](super::prover::refute) finds no certificate. It fails only for want
+/// of memory.
 ///
-/// The search of a certificate ends at the first cube that it can't refute. Where the rows of this cube are difference
-/// rows, the heights to which longest paths raise their vertices are the numbers, each less that of the vertex 0: so they
-/// are the least ones from there on.
+/// The search of a certificate ends at the first cube that it can't refute. Where the rows of this
+/// cube are difference rows, the heights to which longest paths raise their vertices are the
+/// numbers, each less that of the vertex 0.
 pub fn solution(alloc: Global, formula: &Formula) -> Result<Option<Solution>, AllocError>
     requires { nodes_of formula.now ≤ MOST_NODES }
     ensures { IfOk result (IsSolution formula.now) }

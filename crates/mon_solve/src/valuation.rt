@@ -12,8 +12,8 @@ pub struct NumberAt {
     pub number: i128,
 }
 
-/// A valuation in whole numbers (`specs/Solutions`, `valuation_of`): the numbers that are given, and 0 at each other
-/// place; just those flags are true that are listed.
+/// A valuation in whole numbers (`specs/Solutions`, `valuation_of`): the numbers that are given,
+/// and 0 at each other place; just those flags are true that are listed.
 #[derive(Debug, Drop)]
 pub struct Solution {
     pub numbers: Seq<NumberAt>,

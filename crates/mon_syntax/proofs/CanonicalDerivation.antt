@@ -1,4 +1,5 @@
--- The canonical words of a monitor file, whatever their offsets, derive the same tree but for offsets.
+-- The canonical words of a monitor file, whatever their offsets, derive the same tree but for
+-- offsets.
 use Rattle.std.proofs.Common.{◌≡◌, ℕ, Bool, true, false, List, [], ◌∷◌, ◌++◌, map, refl, ap, ◌∙◌, append_assoc}
 use Rattle.std.specs.List.{flat_map}
 use Rattle.mon_base.specs.Limits.{LEVELS}

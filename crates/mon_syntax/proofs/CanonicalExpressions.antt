@@ -33,7 +33,8 @@ abbrev OneLess : ℕ → Expr → Type 0
 OneLess zero expression = ⊥
 OneLess (suc levels) expression = Own levels expression
 
--- Where it holds together less than is asked, it stood in parentheses, and leaves a level for those of the canonical form.
+-- Where it holds together less than is asked, it stood in parentheses, and leaves a level for those
+-- of the canonical form.
 pub record Fits (asked levels : ℕ) (expression : Expr) : Type 0 where
   pub own : Own levels expression
   pub tight_or_less : (asked ≤ (spelled expression).level) ⊎ OneLess levels expression
@@ -239,7 +240,8 @@ unary_fits zero expression ws is = atom_fits zero expression ws is
 unary_fits (suc levels) expression ws (inl is) = atom_fits (suc levels) expression ws is
 unary_fits (suc levels) expression ws (inr is) = opened_fits levels (unary_fits levels) expression ws is
 
--- The canonical words of a derived expression, at any offsets, derive the same expression but for offsets.
+-- The canonical words of a derived expression, at any offsets, derive the same expression but for
+-- offsets.
 pub expression_again : (levels : ℕ) (expression : Expr) (ws : List Word) → IsExpression levels expression ws
     → Again (IsExpression levels) unplaced_expression (unplaced_expression expression) (expression_words expression)
 expression_again levels expression ws is = λ printed h.

@@ -1,4 +1,5 @@
--- Texts that are cut into pieces before whatever may follow them, and the words that the pieces say.
+-- Texts that are cut into pieces before whatever may follow them, and the words that the pieces
+-- say.
 use Rattle.std.proofs.Common.{◌≡◌, ℕ, ◌+◌, ◌*◌, ◌-◌, ◌/◌, ◌%◌, ◌^◌, ◌<◌, ◌≤◌, Bool, true, false, cond, eqb, ◌||◌, List, [], ◌∷◌, ◌++◌, length, take, map, All, Option, Some, refl, sym, ap, subst, ◌∙◌, append_assoc, arith}
 use Rattle.std.specs.Prelude.{codes, if◌then◌else◌, decimal, option_map}
 use Rattle.std.specs.List.{flat_map, prefix_len, list_all}
@@ -104,7 +105,8 @@ abbrev pub Ready : Bool → List ℕ → List Word → Type 0
 Ready true bytes ws = (ends bytes ≡ true) × Reads bytes ws
 Ready false bytes ws = Reads bytes ws
 
--- The text says these words before anything that is ready as it needs, and then is ready as it gives.
+-- The text says these words before anything that is ready as it needs, and then is ready as it
+-- gives.
 pub record Says (needs gives : Bool) (text : List ℕ) (ws : List Word) : Type 0 where
   pub before : (rest : List ℕ) (more : List Word) → Ready needs rest more → Ready gives (text ++ rest) (ws ++ more)
 

@@ -155,7 +155,8 @@ if_again levels IsInner again statement ws is =
     (key.1.front, key.1.rest, key.1.first, (opening.front, opening.rest, opening.first, (w.cut.front, w.cut.rest, w.cut.first, (closing.front, closing.rest, closing.first, (b.cut.front, b.cut.rest, b.cut.first, o.1, b.cut.is), closing.is), w.cut.is), opening.is), key.1.is) in
     (made, whole, seen_If key.0 w.again (unplaced_expression is.1) b.again o.0 (map unplaced_statement is.2) (map unplaced_statement is.3) w.same b.same o.2))
 
--- The canonical words of a derived statement, at any offsets, derive the same statement but for offsets.
+-- The canonical words of a derived statement, at any offsets, derive the same statement but for
+-- offsets.
 pub statement_again : (levels : ℕ) → AllAgain (IsStatement levels)
 statement_again zero statement ws is = simple_again zero statement ws is
 statement_again (suc levels) statement ws (inl is) = λ printed h.

@@ -1,4 +1,5 @@
--- The canonical words of a client file, whatever their offsets, derive the same tree but for offsets.
+-- The canonical words of a client file, whatever their offsets, derive the same tree but for
+-- offsets.
 use Rattle.std.proofs.Common.{◌≡◌, ℕ, zero, suc, Bool, true, false, List, [], ◌∷◌, ◌++◌, map, refl, sym, ap, ◌∙◌, inl, inr, append_assoc}
 use Rattle.std.specs.List.{flat_map}
 use Rattle.mon_base.specs.Limits.{LEVELS}

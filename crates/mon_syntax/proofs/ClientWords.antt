@@ -1,4 +1,5 @@
--- The canonical words of client files, each at offset 0. The words of a derived tree are these but for offsets.
+-- The canonical words of client files, each at offset 0. The words of a derived tree are these but
+-- for offsets.
 use Rattle.std.proofs.Common.{◌≡◌, ℕ, zero, suc, Bool, true, false, List, [], ◌∷◌, ◌++◌, map, sym, ap, subst, ◌∙◌, inl, inr, append_assoc}
 use Rattle.std.specs.List.{flat_map}
 use Rattle.std.proofs.lemmas.List.{map-append}

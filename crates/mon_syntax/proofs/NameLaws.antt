@@ -1,4 +1,5 @@
--- The names of derived trees are identifiers: they are the names among their words, and those of tokens are identifiers.
+-- The names of derived trees are identifiers: they are the names among their words, and those of
+-- tokens are identifiers.
 use Rattle.std.proofs.Common.{◌≡◌, ℕ, zero, suc, inl, inr, Bool, true, false, List, [], ◌∷◌, ◌++◌, All, map, refl, sym, ap, subst, ◌∙◌, append_assoc, append-nil}
 use Rattle.std.specs.Prelude.{nat_lt, if◌then◌else◌}
 use Rattle.std.specs.List.{flat_map}

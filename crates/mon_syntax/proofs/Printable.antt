@@ -1,4 +1,5 @@
--- Trees that can be printed and read again: each name is an identifier, and each number has at most 32 digits.
+-- Trees that can be printed and read again: each name is an identifier, and each number has at most
+-- 32 digits.
 use Rattle.std.proofs.Common.{◌<◌, ◌^◌, List, [], ◌∷◌, ◌++◌}
 use Rattle.mon_tree.specs.declared.tree.Addend.{Addend}
 use Rattle.mon_tree.specs.declared.tree.Factor.{Factor}

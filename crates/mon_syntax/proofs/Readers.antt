@@ -1,5 +1,6 @@
--- What a reader owes the rule of what it reads: what it finds follows the rule, what follows the rule it finds again, and where it
--- stops, the words before begin something that follows the rule, and with the word there nothing is read.
+-- What a reader owes the rule of what it reads: what it finds follows the rule, what follows the
+-- rule it finds again, and where it stops, the words before begin something that follows the rule,
+-- and with the word there nothing is read.
 use Rattle.std.proofs.Common.{◌≡◌, ℕ, zero, suc, ◌<◌, ◌≤◌, Bool, true, false, cond, eqb, List, [], ◌∷◌, ◌++◌, length, Result, Ok, Err, refl, sym, ap, subst, ◌∙◌, inl, inr, append_assoc, arith}
 use Rattle.std.specs.Prelude.{◌⊎◌}
 use Rattle.std.proofs.lemmas.Bool.{eqb-true}
@@ -520,7 +521,8 @@ whole_again IsTree read F r ends ws x is =
     let read_all : read ws ≡ Ok (x, []) = ap read (sym (append-nil ws)) ∙ r.again x ws [] is ends in
     rw read_all refl
 
--- Where so many words are left: the words before begin a tree's, and with the next word they begin none.
+-- Where so many words are left: the words before begin a tree's, and with the next word they begin
+-- none.
 pub record IsFault {A : Type 0} (IsTree : Rule A) (ws : List Word) (left : ℕ) : Type 0 where
   pub front : List Word
   pub rest : List Word

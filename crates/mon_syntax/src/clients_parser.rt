@@ -59,12 +59,13 @@ fn whole(alloc: Global, bytes: &[u8], tokens: &[Token]) -> Result<ClientsTree, S
 
 /// The tree of a client file, from its bytes and the tokens that spell them.
 ///
-/// The brace of a `repeat` opens a level, and no more than 64 may be open; the recursion is bounded by them.
+/// The brace of a `repeat` opens a level, and no more than 64 may be open; the recursion is bounded
+/// by them.
 ///
 /// # Errors
 ///
-/// Where the grammar derives no tree a fault by `Refusal::Syntax`, at the first token that doesn't fit, or at the
-/// file's end; or out of memory.
+/// Where the grammar derives no tree a fault by `Refusal::Syntax`, at the first token that doesn't
+/// fit, or at the file's end; or out of memory.
 pub fn parse_clients(
     alloc: Global,
     bytes: &[u8],

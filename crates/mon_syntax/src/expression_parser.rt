@@ -1,5 +1,5 @@
-//! The parser of expressions: one function for each level of precedence. The recursion is as deep as the
-//! levels that are left, so no input overflows the stack.
+//! The parser of expressions: one function for each level of precedence. The recursion is as deep
+//! as the levels that are left, so no input overflows the stack.
 
 ghost use Rattle.std.specs.Prelude.{◌≡◌, ◌≢◌, [], IfOk};
 ghost use Rattle.mon_syntax.specs.inner.Reading.{IsMarkKind, addend_at, addends_at, chain_of, comparison_at, expression_at, factor_at, factors_at, group_at, inner_at, joined_at, minus_unary_at, node_of, not_unary_at, part_at, parts_at, product_at, sign_of, sum_at, unary_at};

@@ -1,10 +1,11 @@
 //! The grammars of monitor and client files, and their parsers.
 //!
-//! From the tokens of a file [`parse_monitor`] reads the tree that the grammar of monitor files derives, and
-//! [`parse_clients`] the one of client files. Both answer exactly what the definitions say: `specs/Grammar` and
-//! `specs/ClientGrammar` (which words are a tree's, a rule for each production), and `specs/Fault` (where a text
-//! stops to be one). The laws of these definitions are functions of `laws`. Tokens, trees and the printer stand in
-//! crates of their own, which this one hands on.
+//! From the tokens of a file [`parse_monitor`] reads the tree that the grammar of monitor files
+//! derives, and [`parse_clients`] the one of client files. Both answer exactly what the definitions
+//! say: `specs/Grammar` and `specs/ClientGrammar` (which words are a tree's, a rule for each
+//! production), and `specs/Fault` (where a text stops to be one). The laws of these definitions are
+//! functions of `laws`. Tokens, trees and the printer stand in crates of their own, which this one
+//! hands on.
 #![tactic(auto)]
 
 mod clients_parser;

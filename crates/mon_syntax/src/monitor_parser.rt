@@ -309,13 +309,13 @@ fn whole(alloc: Global, bytes: &[u8], tokens: &[Token]) -> Result<MonitorTree, S
 
 /// The tree of a monitor file, from its bytes and the tokens that spell them.
 ///
-/// A parenthesis, a unary operator, and the braces of `if` and `else` open a level each, and no more than 64 may
-/// be open; the recursion is bounded by them.
+/// A parenthesis, a unary operator, and the braces of `if` and `else` open a level each, and no
+/// more than 64 may be open; the recursion is bounded by them.
 ///
 /// # Errors
 ///
-/// Where the grammar derives no tree a fault by `Refusal::Syntax`, at the first token that doesn't fit, or at the
-/// file's end; or out of memory.
+/// Where the grammar derives no tree a fault by `Refusal::Syntax`, at the first token that doesn't
+/// fit, or at the file's end; or out of memory.
 pub fn parse_monitor(
     alloc: Global,
     bytes: &[u8],

@@ -1,4 +1,5 @@
--- The kind of a word is an identifier's exactly where the word is no keyword, and never a number's; a sign's is neither.
+-- The kind of a word is an identifier's exactly where the word is no keyword, and never a number's;
+-- a sign's is neither.
 use Rattle.std.proofs.Common.{◌≡◌, ℕ, suc, ◌+◌, ◌<◌, Bool, true, false, cond, not, ◌||◌, List, [], ◌∷◌, length, Some, None, refl, sym, ap, subst, ◌∙◌, arith}
 use Rattle.std.specs.Prelude.{Contains, nat_lt, slice_index_or}
 use Rattle.std.specs.List.{list_all, list_any, position_or_len}

@@ -4,7 +4,8 @@ ghost use Rattle.std.specs.Prelude.{◌≡◌};
 ghost use Rattle.mon_tokens.specs.Spelling.{IsDecimal};
 ghost use Rattle.mon_tokens.specs.Words.{decimal_value};
 
-/// The number that 1 to 32 decimal digits stand for, the most significant first: from 0 to 10^32 - 1.
+/// The number that 1 to 32 decimal digits stand for, the most significant first: from 0 to 10^32 -
+/// 1.
 pub fn decimal_value(digits: &[u8]) -> u128
     requires { IsDecimal digits.now }
     ensures { result ≡ decimal_value digits.now }

@@ -36,7 +36,8 @@ fn push_token(out: &mut Vec<Token>, shape: Shape, text: &[u8], at: u32) -> Resul
 ///
 /// # Errors
 ///
-/// A fault by [`Refusal::Lex`] at the first offset at which no token, blank or comment starts; or out of memory.
+/// A fault by [`Refusal::Lex`] at the first offset at which no token, blank or comment starts; or
+/// out of memory.
 pub fn tokens(alloc: Global, bytes: &[u8]) -> Result<Vec<Token>, SourceError>
     requires { length bytes.now ≤ FILE_BYTES }
     ensures spelled { IfOk result (λ v. Spells bytes.now v.items) }

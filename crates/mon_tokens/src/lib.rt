@@ -1,9 +1,10 @@
 //! Tokens: what the bytes of a file spell.
 //!
-//! [`tokens`] cuts a file's bytes into the one list of tokens that they spell (`specs/Spelling`), or answers the
-//! first place where nothing starts (`specs/Lexing`). [`is_identifier`] tells whether a text is one name, and [`decimal_value`] gives
-//! the number that a text of digits stands for. `specs/Words` says what tokens say, each with its offset; grammars speak
-//! of these words. The laws are functions of `laws`.
+//! [`tokens`] cuts a file's bytes into the one list of tokens that they spell (`specs/Spelling`),
+//! or answers the first place where nothing starts (`specs/Lexing`). [`is_identifier`] tells
+//! whether a text is one name, and [`decimal_value`] gives the number that a text of digits stands
+//! for. `specs/Words` says what tokens say, each with its offset; grammars speak of these words.
+//! The laws are functions of `laws`.
 #![tactic(auto)]
 
 mod decimal;

@@ -1,5 +1,5 @@
-//! Tokens, and which bytes are a keyword's and a sign's. Definitions give the tables the same names and rows
-//! (`specs/Spelling`).
+//! Tokens, and which bytes are a keyword's and a sign's. Definitions give the tables the same names
+//! and rows (`specs/Spelling`).
 
 /// What a token is.
 #[derive(Clone, Copy, Debug, PartialEq, Eq)]

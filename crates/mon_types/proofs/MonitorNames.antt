@@ -1,4 +1,5 @@
--- The names of a monitor that is typed from a tree: identifiers as the tree's are, and distinct where none is repeated.
+-- The names of a monitor that is typed from a tree: identifiers as the tree's are, and distinct
+-- where none is repeated.
 use Rattle.std.proofs.Common.{◌≡◌, ◌≢◌, ℕ, zero, suc, ◌+◌, Bool, true, false, ◌||◌, List, [], ◌∷◌, ◌++◌, get_or, length, map, refl, sym, ap, subst, ◌∙◌, arith}
 use Rattle.std.specs.List.{All, AllPairs, flat_map, list_any}
 use Rattle.std.specs.Str.{bytes_eq}

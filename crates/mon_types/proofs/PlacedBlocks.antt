@@ -84,7 +84,8 @@ few_from number (method ∷ methods) few =
     let rest = few_from (number + 1) methods (All-tail (λ (method : MethodTree). length method.blocks ≤ 4) method methods few) in
     omega arith
 
--- Where a method's blocks stand: the method at an index is a tree's, and its blocks follow one another.
+-- Where a method's blocks stand: the method at an index is a tree's, and its blocks follow one
+-- another.
 pub record MethodAt (methods : List MethodTree) (number first index : ℕ) (method : Method) : Type 0 where
   pub tree : MethodTree
   pub is : slice_get methods index ≡ Some tree

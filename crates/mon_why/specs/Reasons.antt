@@ -27,8 +27,8 @@ pub record Breaks (monitor : MonitorParts) (query : Query) (v : Valuation) : Typ
   pub before : truth_of v (formulas.All query.hyps) ≡ true
   pub after : truth_of (valuation_after (places_of monitor held) held.body v) query.post ≡ false
 
--- The valuation after the body of the block is given. It isn't only where a number on the way is
--- outside 128 bits.
+-- The valuation after the body of the block is given; it is missing only where a number on the way
+-- is outside 128 bits.
 abbrev pub IsAfter : MonitorParts → ℕ → Valuation → Option Solution → Type 0
 IsAfter monitor block before (Some last) =
     IsSomeAnd (slice_get monitor.blocks block)

@@ -23,7 +23,7 @@ pub record HasWideSum (v : Valuation) (terms : List Term) : Type 0 where
   pub on_the_way : IsOnTheWay v terms number
   pub wide : fits_128 number ≡ false
 
--- so is one of the form's terms, or its value
+-- a number on the way to the form's value is outside 128 bits, or the value is
 abbrev pub IsWideForm : Valuation → Linear → Type 0
 IsWideForm v form = HasWideSum v form.terms ⊎ (fits_128 (value_of v form) ≡ false)
 
@@ -32,11 +32,12 @@ pub record HasWideRow (v : Valuation) (rows : List Linear) : Type 0 where
   pub there : Contains rows row
   pub wide : IsWideForm v row
 
--- so is one of a row of the formula
+-- a number of one of the formula's rows is outside 128 bits
 abbrev pub IsWideFormula : Valuation → Formula → Type 0
 IsWideFormula v formula = HasWideRow v (rows_of formula)
 
--- so is one of a form or a formula that the body comes to, from the valuation on
+-- a number of a form or a formula that the body comes to, from the valuation on, is outside 128
+-- bits
 pub data IsWideBody : List Stmt → Valuation → Type 0 where
   number : (place : ℕ) (form : Linear) (rest : List Stmt) (v : Valuation)
       → IsWideForm v form → IsWideBody (statements.SetInt place form ∷ rest) v

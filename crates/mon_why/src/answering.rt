@@ -22,8 +22,8 @@ use mon_solve::solution;
 use mon_wp::{claim_query, negated, negated_query_is_exact, refuted_query_is_valid};
 use std::alloc::{AllocError, Global};
 
-/// That the thing is needed after the block, where that is found: the formula, which is the negated query of the claim that
-/// would spare it, has a solution.
+/// That the thing is needed after the block, where that is found: the formula, which is the negated
+/// query of the claim that would spare it, has a solution.
 fn shown(
     alloc: Global,
     monitor: &Monitor,
@@ -55,7 +55,8 @@ fn shown(
     }
 }
 
-/// That the thing is needed after the block, where that is found and its query is negated within the limits.
+/// That the thing is needed after the block, where that is found and its query is negated within
+/// the limits.
 fn broken(
     alloc: Global,
     monitor: &Monitor,
@@ -95,7 +96,8 @@ fn answer_at(
     Ok(broken(alloc, monitor, plan, thing, block)?)
 }
 
-/// Whether the thing is needed: of the blocks that it is about the first one shows it after which that is found.
+/// Whether the thing is needed: of the blocks that it is about the first one shows it after which
+/// that is found.
 fn answer_of(
     alloc: Global,
     monitor: &Monitor,
@@ -115,12 +117,14 @@ fn answer_of(
     Ok(Answer::Undecided)
 }
 
-/// For each thing of the plan that costs something, in the plan's order, whether it is needed (`specs/Things`).
+/// For each thing of the plan that costs something, in the plan's order, whether it is needed
+/// (`specs/Things`).
 ///
-/// A thing that is needed is shown with a valuation in whole numbers at which the triple of the claim fails that would
-/// spare it, after a block that the thing is about, by what validity means (`specs/Reasons`). It is undecided only where
-/// each claim that would spare it is valid or not plain: not negated within the limits, or with more than 1,024 cubes or a
-/// row that is no difference row. It fails only for want of memory.
+/// A thing that is needed is shown with a valuation in whole numbers at which the triple of the
+/// claim fails that would spare it, after a block that the thing is about, by what validity means
+/// (`specs/Reasons`). It is undecided only where each claim that would spare it is valid or not
+/// plain: not negated within the limits, or with more than 1,024 cubes or a row that is no
+/// difference row. It fails only for want of memory.
 pub fn reasons(alloc: Global, monitor: &Monitor, plan: &Plan) -> Result<Vec<Reason>, AllocError>
     requires { FitsPlan monitor.now plan.now }
     ensures things { IfOk result (λ reasons.

@@ -20,8 +20,8 @@ pub enum Thing {
 /// Whether a thing is needed.
 #[derive(Debug, Drop)]
 pub enum Answer {
-    /// It is: the triple that would spare it fails at the valuation `before` the body of the block. The valuation after
-    /// the body is given unless a number on the way leaves 128 bits.
+    /// It is: the triple that would spare it fails at the valuation `before` the body of the block.
+    /// The valuation after the body is given unless a number on the way leaves 128 bits.
     Shown {
         block: u32,
         before: Solution,

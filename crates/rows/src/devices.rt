@@ -6,11 +6,11 @@ use std::alloc::{AllocError, Global};
 use std::sync::Wait;
 use std::thread::Threads;
 
-/// What differs first from what is wanted of a call, if anything does. What it prints becomes a file where the call
-/// says so.
+/// What differs first from what is wanted of a call, if anything does. What it prints becomes a
+/// file where the call says so.
 ///
-/// Where the whole text is wanted, the call is made again with each write failing, with less room than the text wants,
-/// and with each read failing.
+/// Where the whole text is wanted, the call is made again with each write failing, with less room
+/// than the text wants, and with each read failing.
 pub(crate) fn difference(
     rt: &(impl Threads + Wait + Sync + AllocGlobal),
     call: &Call,
@@ -112,8 +112,8 @@ fn is_wanted(call: &Call, outcome: &Outcome, text: &[u8]) -> bool {
     outcome.status == call.status && outcome.text.as_slice() == text
 }
 
-/// Makes the call with its first write failing, then with its second, and so on to the first number at which none fails.
-/// Each fault must leave some of the first bytes of the text, and not all.
+/// Makes the call with its first write failing, then with its second, and so on to the first number
+/// at which none fails. Each fault must leave some of the first bytes of the text, and not all.
 fn write_difference(
     rt: &(impl Threads + Wait + Sync + AllocGlobal),
     call: &Call,
@@ -164,7 +164,8 @@ fn room_difference(
     Ok(None)
 }
 
-/// Makes the call with the read of each file failing that its words name, in their order, and then with one more.
+/// Makes the call with the read of each file failing that its words name, in their order, and then
+/// with one more.
 fn read_difference(
     rt: &(impl Threads + Wait + Sync + AllocGlobal),
     call: &Call,

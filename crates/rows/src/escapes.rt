@@ -1,8 +1,8 @@
 //! Bytes that a line of a table writes with escapes.
 //!
-//! `\n` is a line feed, `\r` a carriage return, `\t` a tab, `\s` a blank, `\e` nothing, and `\xHH` the byte of these two
-//! hexadecimal digits, as `\x5c` for a backslash. `\#` is the number of the copy that `repeat` makes, from 00 on in two
-//! digits, and `\(NAME)` the text of this name.
+//! `\n` is a line feed, `\r` a carriage return, `\t` a tab, `\s` a blank, `\e` nothing, and `\xHH`
+//! the byte of these two hexadecimal digits, as `\x5c` for a backslash. `\#` is the number of the
+//! copy that `repeat` makes, from 00 on in two digits, and `\(NAME)` the text of this name.
 
 ghost use Rattle.std.specs.Prelude.{◌<◌, IfOk};
 

@@ -1,8 +1,9 @@
 //! The table of the commands: files in memory, command lines, and what each must answer and print.
 //!
-//! Rows are data, so a new row costs no proof. The words of the command line name files of rows, and a text that one
-//! of them defines can be named in those behind it. [`reading`] says how they are written. For each row that doesn't
-//! hold a line says what differs, and the last line says how many rows hold.
+//! Rows are data, so a new row costs no proof. The words of the command line name files of rows,
+//! and a text that one of them defines can be named in those behind it. [`reading`] says how they
+//! are written. For each row that doesn't hold a line says what differs, and the last line says how
+//! many rows hold.
 #![tactic(auto)]
 
 mod calls;

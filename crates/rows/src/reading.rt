@@ -1,6 +1,7 @@
 //! How rows are written.
 //!
-//! A table is made of lines. Blanks ahead of a line, empty lines, and lines that begin with `#` say nothing.
+//! A table is made of lines. Blanks ahead of a line, empty lines, and lines that begin with `#` say
+//! nothing.
 //!
 //! ```text
 //! text NAME           a text, which rows below name
@@ -10,9 +11,9 @@
 //!   status STATUS     calls the program with the words above, and wants this status and this text
 //! ```
 //!
-//! Words are split at blanks, and may have escapes. Behind `> NAME` what the program prints becomes a file of this name.
-//! Behind `text NAME`, `file NAME` and `status STATUS` there may stand ` = NAME`, and lines may follow, which go on with
-//! the text:
+//! Words are split at blanks, and may have escapes. Behind `> NAME` what the program prints becomes
+//! a file of this name. Behind `text NAME`, `file NAME` and `status STATUS` there may stand ` =
+//! NAME`, and lines may follow, which go on with the text:
 //!
 //! ```text
 //!     | LINE          a line as it stands here, and a line feed
@@ -122,7 +123,8 @@ fn add_line(alloc: Global, items: &mut Vec<Item>, line: u64, text: String) -> Re
     Ok(())
 }
 
-/// Adds the texts and rows of a file of this name. An error begins with the number of the line where it is met.
+/// Adds the texts and rows of a file of this name. An error begins with the number of the line
+/// where it is met.
 pub(crate) fn read_table(alloc: Global, file: &str, text: &str, table: &mut Table) -> Result<()> {
     let items = items_of(alloc, text)?;
     let mut last: u64 = 0;

@@ -29,7 +29,8 @@ fn note_list(alloc: Global, note: Option<Note>) -> Result<NoteList, AllocError> 
     }
 }
 
-/// The plan of these kinds, with one note or none for each block. It keeps no candidate: no section looks at those.
+/// The plan of these kinds, with one note or none for each block. It keeps no candidate: no section
+/// looks at those.
 pub fn plan_of(
     alloc: Global,
     kinds: &[CondKind],

@@ -26,7 +26,8 @@ fn tokens_of(alloc: Global, text: &[u8]) -> Option<Vec<Token>>
     tokens(alloc, text).ok()
 }
 
-/// The monitor of a text, where the text is short enough and keeps all the rules, and there is memory for it.
+/// The monitor of a text, where the text is short enough and keeps all the rules, and there is
+/// memory for it.
 pub fn checked(alloc: Global, text: &[u8]) -> Option<Monitor>
     ensures { IfSome result (λ monitor. IsMonitorOf text.now monitor) }
 {
@@ -37,8 +38,8 @@ pub fn checked(alloc: Global, text: &[u8]) -> Option<Monitor>
     }
 }
 
-/// The clients of a text, where the text is short enough and keeps all the rules of this monitor, and there is memory
-/// for it.
+/// The clients of a text, where the text is short enough and keeps all the rules of this monitor,
+/// and there is memory for it.
 pub fn scripts_read(alloc: Global, text: &[u8], monitor: &Monitor) -> Option<Scripts>
     ensures clients { IfSome result (λ scripts. AreClientsOf text.now monitor.now scripts) }
     ensures fits { IfSome result (FitsScripts monitor.now) }

@@ -1,5 +1,5 @@
-//! A monitor that a program's own threads share: two permits among four threads, each of which takes one, works, and
-//! gives it back.
+//! A monitor that a program's own threads share: two permits among four threads, each of which
+//! takes one, works, and gives it back.
 #![tactic(auto)]
 
 mod threads;

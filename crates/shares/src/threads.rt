@@ -13,7 +13,8 @@ use std::sync::atomic::{AtomicU64, Ordering};
 use std::thread;
 use std::thread::Threads;
 
-/// What the threads share: the monitor, how many clients it has, and how many threads work, and worked at most.
+/// What the threads share: the monitor, how many clients it has, and how many threads work, and
+/// worked at most.
 #[derive(Drop)]
 struct Shop {
     monitor: BlockingMonitor,
@@ -23,7 +24,8 @@ struct Shop {
     ghost every: { length monitor.start.system.clients ≡ clients },
 }
 
-/// What came of the calls: how many replied, whether the monitor is closed, and how many threads worked at most.
+/// What came of the calls: how many replied, whether the monitor is closed, and how many threads
+/// worked at most.
 #[derive(Clone, Copy)]
 pub(crate) struct Told {
     pub replies: usize,

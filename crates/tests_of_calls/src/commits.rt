@@ -38,7 +38,8 @@ struct Calling {
 }
 
 impl Calling {
-    /// The monitor of a text at the start, with the clients of another, under the plan that wakes everyone.
+    /// The monitor of a text at the start, with the clients of another, under the plan that wakes
+    /// everyone.
     fn of(alloc: Global, monitor: &[u8], clients: &[u8]) -> Result<Calling, Fail> {
         let free = opened(alloc, monitor, clients)?;
         let clients = clients_of(&free);

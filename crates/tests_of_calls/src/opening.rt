@@ -6,7 +6,8 @@ use samples::{checked, scripts_read};
 use std::alloc::Global;
 use std::test::Fail;
 
-/// The monitor of a text at the start, with the clients of another and the plan that wakes everyone.
+/// The monitor of a text at the start, with the clients of another and the plan that wakes
+/// everyone.
 pub(crate) fn opened(alloc: Global, monitor: &[u8], clients: &[u8]) -> Result<FreeMonitor, Fail> {
     let monitor = checked(alloc, monitor).ok_or("a monitor")?;
     let scripts = scripts_read(alloc, clients, &monitor).ok_or("clients")?;

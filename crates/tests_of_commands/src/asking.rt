@@ -56,7 +56,8 @@ pub(crate) fn outcome_of<G: Gate>(
     })
 }
 
-/// Demands of a call whose workers pass this gate that it has this status, and writes exactly this text.
+/// Demands of a call whose workers pass this gate that it has this status, and writes exactly this
+/// text.
 pub(crate) fn answers_through<G: Gate>(
     rt: &(impl Abort + Threads + Wait + Sync + AllocGlobal),
     call: Call<'_>,

@@ -1,5 +1,6 @@
-//! Runs whose workers or callers pass a gate that holds some of its calls until others have come: only workers that run side by side,
-//! take clients of any number, are as many as were asked for, and each make sections come through.
+//! Runs whose workers or callers pass a gate that holds some of its calls until others have come:
+//! only workers that run side by side, take clients of any number, are as many as were asked for,
+//! and each make sections come through.
 
 use super::asking::{Call, answers_through, asked, begins_and_ends};
 use expresso::Status;
@@ -14,7 +15,8 @@ use std::thread::Threads;
 /// The most turns for which a call is held.
 const MOST_TURNS: u64 = 10_000_000;
 
-/// Calls that were held, those among them that were held in vain, and the most sections that a call was told of.
+/// Calls that were held, those among them that were held in vain, and the most sections that a call
+/// was told of.
 #[derive(Drop)]
 struct Holds {
     begun: AtomicU64,
@@ -256,7 +258,8 @@ fn both_of_two_workers_make_sections(rt: HostRuntime) -> Result<(), Fail> {
     Ok(())
 }
 
-/// Keeps the number of sections that the last call was told, and counts calls that were told another than that or one more.
+/// Keeps the number of sections that the last call was told, and counts calls that were told
+/// another than that or one more.
 #[derive(Drop)]
 struct Counting {
     last: AtomicU64,
@@ -290,8 +293,8 @@ fn one_worker_tells_how_many_sections_it_has_made(rt: HostRuntime) -> Result<(),
     Ok(())
 }
 
-/// Holds each worker's call ahead of its first section until 16 such calls have begun, and each worker's call after its
-/// first section until each worker has made one. Counts all calls.
+/// Holds each worker's call ahead of its first section until 16 such calls have begun, and each
+/// worker's call after its first section until each worker has made one. Counts all calls.
 #[derive(Drop)]
 struct Crowd {
     calls: AtomicU64,

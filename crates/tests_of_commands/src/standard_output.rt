@@ -1,4 +1,5 @@
-//! The program over a standard output that takes three bytes at a time, and over one that takes none.
+//! The program over a standard output that takes three bytes at a time, and over one that takes
+//! none.
 
 ghost use Rattle.std.specs.Prelude.{◌≤◌, IfOk, length};
 
@@ -103,7 +104,8 @@ impl Print for Slow {
     }
 }
 
-/// Demands of a call that it has this status, and that all of this text has reached standard output.
+/// Demands of a call that it has this status, and that all of this text has reached standard
+/// output.
 fn hands_on(
     rt: &(impl Abort + Threads + Wait + Sync + AllocGlobal),
     call: Call<'_>,

@@ -48,7 +48,8 @@ fn are_light(alloc: Global, told: &[Told]) -> Result<bool, Fail> {
     Ok(is_light(alloc, &kept)?)
 }
 
-/// The length of the chain that refutes the rows, and none where they are no light cube or have a solution in fractions.
+/// The length of the chain that refutes the rows, and none where they are no light cube or have a
+/// solution in fractions.
 fn chain_length(alloc: Global, rows: &[Lin]) -> Result<Option<usize>, AllocError> {
     let kept = kept_rows(alloc, rows)?;
     if !is_light(alloc, &kept)? {

@@ -1,5 +1,5 @@
-//! Tests of formulas, of the elimination and of the prover. Which certificates are accepted, and which guards the prover
-//! refutes, is said by the rows of the crate `rows`.
+//! Tests of formulas, of the elimination and of the prover. Which certificates are accepted, and
+//! which guards the prover refutes, is said by the rows of the crate `rows`.
 //!
 //! There are only tests. What they ask for was worked out by hand.
 #![tactic(auto)]

@@ -95,7 +95,8 @@ fn push_pairs(alloc: Global, rows: &mut Vec<Formula>, place: u32, first: i128) -
     Ok(())
 }
 
-/// By each row the variable of one of so many places is at most another's, and in a pair's first row this much less.
+/// By each row the variable of one of so many places is at most another's, and in a pair's first
+/// row this much less.
 fn of_all_pairs(alloc: Global, places: u32, first: i128) -> Result<Formula, Fail> {
     let mut rows = Vec::new(alloc);
     for place in 0..places {

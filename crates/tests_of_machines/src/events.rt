@@ -1,4 +1,5 @@
-//! The event machine on the lock and clients that are read from texts, by plans that were worked out by hand.
+//! The event machine on the lock and clients that are read from texts, by plans that were worked
+//! out by hand.
 
 ghost use Rattle.std.specs.Prelude.{◌≡◌, length};
 
@@ -50,8 +51,8 @@ impl Machine {
         true
     }
 
-    /// Whether the events of a client, with notes that name nobody and that name the target, are refused, all but this
-    /// one.
+    /// Whether the events of a client, with notes that name nobody and that name the target, are
+    /// refused, all but this one.
     fn allows_only(&mut self, client: u32, target: u32, allowed: Option<Event>) -> bool {
         let events = [
             Event::Begin { client },
@@ -85,7 +86,8 @@ fn notes_to(client: u32, target: Option<u32>) -> Event {
     Event::Notify { client, target }
 }
 
-/// The lock at its start, with these clients and one note or none for each block. Both conditions are of kind signal.
+/// The lock at its start, with these clients and one note or none for each block. Both conditions
+/// are of kind signal.
 fn opened(alloc: Global, clients: &[u8], notes: &[Option<Note>]) -> Result<Machine, Fail> {
     let monitor = monitor_of(alloc, LOCK)?;
     let scripts = clients_of(alloc, clients, &monitor)?;
@@ -101,7 +103,8 @@ fn opened(alloc: Global, clients: &[u8], notes: &[Option<Note>]) -> Result<Machi
 enum Check<'a> {
     /// It makes these events.
     Makes(&'a [Event]),
-    /// Of a client's events, with notes that name nobody and that name a target, it allows this one alone.
+    /// Of a client's events, with notes that name nobody and that name a target, it allows this one
+    /// alone.
     Allows(u32, u32, Option<Event>),
     /// The client of the event is at the stage, has this event alone, and makes it.
     MakesItsOwn(Stage, Event),
@@ -210,8 +213,8 @@ fn a_note_names_no_client_that_it_does_not_wake(rt: HostRuntime) -> Result<(), F
         Event::Run { client: A },
     ];
     let nobody = Check::Allows(A, B, Some(notes_to(A, None)));
-    // B waits to acquire, and the note on the other condition is for nobody. Or B waits to release, and the note's
-    // guard, which was true before the body, is false after it.
+    // B waits to acquire, and the note on the other condition is for nobody. Or B waits to release,
+    // and the note's guard, which was true before the body, is false after it.
     let acquired = [
         Check::Makes(&acquires),
         Check::Makes(&waits),

@@ -69,7 +69,8 @@ fn is_same_client(one: &Client, other: &Client) -> bool {
     true
 }
 
-/// The large input of a number. What is promised of it is left out, since the tests compare it with texts.
+/// The large input of a number. What is promised of it is left out, since the tests compare it with
+/// texts.
 fn made(alloc: Global, number: u64) -> Result<LargeInput, AllocError> {
     large_input(alloc, number)
 }

@@ -1,5 +1,5 @@
-//! Tests of single events and sections, which no command makes alone, and of the large input. What the runs of whole
-//! schedules are is said by the rows of the crate `rows`.
+//! Tests of single events and sections, which no command makes alone, and of the large input. What
+//! the runs of whole schedules are is said by the rows of the crate `rows`.
 //!
 //! There are only tests. The answers were worked out by hand from the rules of the machines.
 #![tactic(auto)]

@@ -1,5 +1,5 @@
-//! Monitors and clients of texts, and plans for them. What is promised of a monitor is left out here, so that no test
-//! has to be proved over it.
+//! Monitors and clients of texts, and plans for them. What is promised of a monitor is left out
+//! here, so that no test has to be proved over it.
 
 ghost use Rattle.std.specs.Prelude.{IfOk};
 ghost use Rattle.mon_implicit.specs.Scripted.{FitsScripts};

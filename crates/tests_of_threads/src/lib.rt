@@ -1,6 +1,6 @@
-//! Tests of what threads share: tickets of the ready queue, two passes of a monitor in turn, and the log's length as it is
-//! observed while another thread makes a section. Runs of many threads are rows of the crate `rows`, and tests of
-//! commands.
+//! Tests of what threads share: tickets of the ready queue, two passes of a monitor in turn, and
+//! the log's length as it is observed while another thread makes a section. Runs of many threads
+//! are rows of the crate `rows`, and tests of commands.
 //!
 //! There are only tests.
 #![tactic(auto)]

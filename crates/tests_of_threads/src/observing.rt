@@ -1,10 +1,11 @@
 //! The log's length is observed while another thread is in the middle of a section.
 //!
-//! A section calls nothing of its caller's while it has the lock, so no gate can hold it there. It is held by its own
-//! body, which has thousands of tests. The maker counts each call of `section` just before it and just after it. The
-//! watcher wants 16 observes in a row within one such call, each of which finds the log as long as before the call.
-//! Nobody else draws a ticket: so from the step after the first count, which draws the ticket that is served, to the
-//! step that makes the log longer, the maker has that ticket, and with it the lock.
+//! A section calls nothing of its caller's while it has the lock, so no gate can hold it there. It
+//! is held by its own body, which has thousands of tests. The maker counts each call of `section`
+//! just before it and just after it. The watcher wants 16 observes in a row within one such call,
+//! each of which finds the log as long as before the call. Nobody else draws a ticket: so from the
+//! step after the first count, which draws the ticket that is served, to the step that makes the
+//! log longer, the maker has that ticket, and with it the lock.
 
 ghost use Rattle.std.specs.Prelude.{◌≡◌, ◌↔◌, IsTrue, length};
 ghost use Rattle.std.specs.List.{All};
@@ -54,8 +55,8 @@ const THREADS: u32 = 2;
 /// How many times the watcher observes in one call of a section.
 const ENOUGH: u64 = 16;
 
-/// What the threads share: the monitor and their meeting, how many calls of `section` began, ended and made one, and
-/// how many times the watcher has observed enough.
+/// What the threads share: the monitor and their meeting, how many calls of `section` began, ended
+/// and made one, and how many times the watcher has observed enough.
 #[derive(Drop)]
 struct Watch {
     shared: SharedMonitor,
@@ -124,15 +125,16 @@ fn observe(watch: &Watch, pass: &mut Pass) -> u64
     watch.shared.observe(pass)
 }
 
-/// Whether so many calls have ended, one more has begun, and this length is the log's before that one's section.
+/// Whether so many calls have ended, one more has begun, and this length is the log's before that
+/// one's section.
 fn is_within(watch: &Watch, calls: u64, count: u64) -> bool {
     count == calls
         && watch.begun.load(Ordering::SeqCst) > calls
         && watch.ended.load(Ordering::SeqCst) == calls
 }
 
-/// Observes again and again, as long as the maker is in one and the same call, which is not its first, and has not
-/// counted its section yet. Whether it did so often enough.
+/// Observes again and again, as long as the maker is in one and the same call, which is not its
+/// first, and has not counted its section yet. Whether it did so often enough.
 fn observe_within(watch: &Watch, pass: &mut Pass) -> bool
     requires own { IsPlace watch.now.shared pass.old }
     ensures own { IsPlace watch.now.shared pass.new }

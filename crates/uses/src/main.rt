@@ -1,5 +1,5 @@
-//! Expresso as a library: the top call over files in memory, and a monitor that is compiled and then run by sections, in
-//! an order of one's own.
+//! Expresso as a library: the top call over files in memory, and a monitor that is compiled and
+//! then run by sections, in an order of one's own.
 #![tactic(auto)]
 
 ghost use Rattle.std.specs.Prelude.{◌<◌, ◌↔◌, IsTrue, length};
@@ -64,7 +64,8 @@ fn has_client(free: &FreeMonitor, client: u32) -> bool
     (client as usize) < free.scripts().clients().len()
 }
 
-/// Makes a section of each of these clients, one after the other, and says whether each could make one.
+/// Makes a section of each of these clients, one after the other, and says whether each could make
+/// one.
 fn makes(free: &mut FreeMonitor, clients: &[u32]) -> bool {
     for client in clients {
         if !has_client(free, *client) || free.section(*client).is_err() {

@@ -7,14 +7,13 @@ use Rattle.mon_tree.specs.declared.tree.Expr.TheVariants as exprs
 use Rattle.mon_tree.specs.declared.tree.Addend.{Addend}
 use Rattle.mon_tree.specs.declared.tree.Factor.{Factor}
 use Rattle.mon_linear.specs.declared.formula.Formula.{Formula}
-use Rattle.mon_base.specs.declared.kind.Kind.TheVariants as kinds
 use Rattle.mon_base.specs.declared.source_fault.SourceFault.{SourceFault}
 use Rattle.mon_forms.specs.declared.scope.Entry.{Entry}
 use Rattle.mon_base.specs.SourceFaults.{least, earlier_of}
-use Rattle.mon_forms.specs.Forms.{Form, minus, opposite}
+use Rattle.mon_forms.specs.Forms.{Form, minus}
 use Rattle.mon_forms.specs.Sense.{AddendSense, FactorSense, at_most, comparison_formula, faults_in}
-use Rattle.mon_forms.specs.Sense.{first_in, form_in, formula_in, large_form, less, product_faults}
-use Rattle.mon_forms.specs.Sense.{product_form, sense, sum_form, wrong_type}
+use Rattle.mon_forms.specs.Sense.{first_in, form_in, formula_in, less, product_faults}
+use Rattle.mon_forms.specs.Sense.{product_form, sense, sum_form}
 
 -- ---- the later parts of sums and products
 
@@ -57,31 +56,10 @@ abbrev pub first_in_sides : List Entry → Expr → Expr → Option SourceFault
 first_in_sides scope left right =
     earlier_of (least (faults_in scope left)) (least (faults_in scope right))
 
--- ---- parts of another kind
-
-abbrev pub wrong_parts : List Entry → List Expr → List SourceFault
-wrong_parts scope parts = flat_map (λ part. wrong_type kinds.Bool (sense scope part)) parts
-
-abbrev pub wrong_addends : List Entry → List Addend → List SourceFault
-wrong_addends scope rest = flat_map (λ addend. wrong_type kinds.Int (sense scope addend.of)) rest
-
-abbrev pub wrong_factors : List Entry → List Factor → List SourceFault
-wrong_factors scope rest = flat_map (λ factor. wrong_type kinds.Int (sense scope factor.of)) rest
-
 -- ---- wholes whose parts break no rule
 
 abbrev pub difference : List Entry → Expr → Expr → Form
 difference scope left right = minus (form_in scope left) (form_in scope right)
-
-abbrev pub large_opposite : List Entry → ℕ → Expr → List SourceFault
-large_opposite scope at of = large_form at (opposite (form_in scope of))
-
-abbrev pub large_sum : List Entry → Expr → List Addend → List SourceFault
-large_sum scope first rest =
-    large_form (first_in scope first) (sum_from scope (form_in scope first) rest)
-
-abbrev pub large_difference : List Entry → Expr → Expr → List SourceFault
-large_difference scope left right = large_form (first_in scope left) (difference scope left right)
 
 abbrev pub broken_product : List Entry → Expr → List Factor → List SourceFault
 broken_product scope first rest =
