@@ -226,8 +226,7 @@ fn errors_bytes(fails: bool, blocks: usize) -> &'static [u8]
         b"    ///
     /// # Errors
     ///
-    /// [`Overflow`] where a number would leave 64 bits. Its block then changes nothing, and no
-    /// later one runs.
+    /// [`Overflow`] where a number would leave 64 bits. Its block then changes nothing, and no later one runs.
 "
     }
 }
