@@ -4,3 +4,4 @@ pub mod Depths
 pub mod StatementTexts
 pub mod Turns
 pub mod BodyTexts
+pub mod BlockNames

@@ -3,4 +3,5 @@ pub mod Guards
 pub mod Statements
 pub mod Traces
 pub mod Bodies
+pub mod Laws
 pub mod inner

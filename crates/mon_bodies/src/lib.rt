@@ -4,16 +4,19 @@
 //! guard: [`write_body`] and [`write_guard`] write them, as `specs/Bodies` and `specs/Guards` say.
 //! A body stops at the first value that needs more than 64 bits, and then nothing is changed: where
 //! a field may be assigned before, it works on a copy of the state (`specs/Traces`). [`fails`] says
-//! whether a body may stop. The other calls write parts that methods have too (`specs/Blocks`).
+//! whether a body may stop. The other calls write parts that methods have too (`specs/Blocks`). No
+//! two of the names that blocks have become one ([`block_names_stay_apart`], `specs/Laws`).
 #![tactic(auto)]
 
 mod blocks;
 mod bodies;
 mod depth;
 mod guards;
+mod laws;
 mod statements;
 mod traces;
 
 pub use blocks::{kind_bytes, kind_declared, lending_bytes, write_block_name, write_parameters};
 pub use bodies::{fails, write_arrow, write_body};
 pub use guards::write_guard;
+pub use laws::block_names_stay_apart;
