@@ -13,3 +13,4 @@ pub mod FileWords
 pub mod ShortSums
 pub mod Expressions
 pub mod Starts
+pub mod Tests

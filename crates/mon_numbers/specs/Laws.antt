@@ -11,13 +11,15 @@ use Rattle.mon_rules.specs.Rules.{faults_of}
 use Rattle.mon_monitor.specs.declared.monitor.Block.{Block}
 use Rattle.mon_monitor.specs.MonitorParts.{MonitorParts, locals_in, start_of}
 use Rattle.mon_monitor.specs.Bodies.{Inputs, Memory, fits_64, reading}
+use Rattle.mon_monitor.specs.Inputs.{reads_inputs}
 use Rattle.mon_types.specs.Typed.{IsTyped, PlacedBlock, blocks_from}
 use Rattle.mon_types.specs.KeptMeaning.{expressions_in}
-use Rattle.mon_implicit.specs.Steps.{BlockSteps}
+use Rattle.mon_implicit.specs.Steps.{BlockSteps, condition_truth, guard_truth}
 use Rattle.mon_implicit.specs.declared.commit.Reply.TheVariants as replies
 use Rattle.mon_rust.specs.Scopes.{ScopeParts}
 use Rattle.mon_bodies.specs.Bodies.{body_fails, body_scope}
 use Rattle.mon_numbers.specs.Calls.{Left, entries, printed_call}
+use Rattle.mon_numbers.specs.Tests.{printed_test}
 use Rattle.mon_numbers.specs.Widths.{IsWide, worked}
 
 -- within 64 bits
@@ -71,6 +73,37 @@ StartsAreShort =
     (tree : MonitorTree) (monitor : MonitorParts) → faults_of tree ≡ [] → IsTyped tree monitor
     → AreShort (start_of monitor)
     × ((method : ℕ) → AreShort (locals_in (slice_get monitor.methods method)))
+
+-- ---- guards
+
+-- At each state and inputs, a call of the function that is printed of a block's guard answers
+-- whether the guard is true: with these inputs where the guard reads any, and else without them.
+abbrev pub PrintedTestsHold : Type 0
+PrintedTestsHold =
+    (tree : MonitorTree) (monitor : MonitorParts) (index : ℕ) (placed : PlacedBlock)
+    (block : Block) (state : List Value) (inputs : Inputs)
+    → faults_of tree ≡ [] → IsTyped tree monitor
+    → slice_get (blocks_from 0 tree.methods) index ≡ Some placed
+    → slice_get monitor.blocks index ≡ Some block
+    → printed_test tree placed (reads_inputs block.guard) state inputs
+    ≡ guard_truth monitor state index inputs
+
+-- Where the guard reads no inputs, one such function serves all blocks of a condition: it answers
+-- whether the condition's guard is true, and so whether that of each of its blocks is, at whatever
+-- inputs.
+abbrev pub SharedTestsHold : Type 0
+SharedTestsHold =
+    (tree : MonitorTree) (monitor : MonitorParts) (index : ℕ) (placed : PlacedBlock)
+    (block : Block) (other : ℕ) (waiting : Block) (state : List Value) (inputs : Inputs)
+    → faults_of tree ≡ [] → IsTyped tree monitor
+    → slice_get (blocks_from 0 tree.methods) index ≡ Some placed
+    → slice_get monitor.blocks index ≡ Some block
+    → slice_get monitor.blocks other ≡ Some waiting
+    → waiting.condition ≡ block.condition
+    → reads_inputs block.guard ≡ false
+    → (printed_test tree placed false state inputs
+    ≡ condition_truth monitor state block.condition)
+    × (printed_test tree placed false state inputs ≡ guard_truth monitor state other inputs)
 
 -- ---- numbers on the way
 

@@ -1,3 +1,4 @@
 pub mod Calls
 pub mod Widths
+pub mod Tests
 pub mod Laws

@@ -1,7 +1,8 @@
 //! What follows from the definitions alone.
 
 ghost use Rattle.mon_numbers.specs.Laws.{PrintedBodiesStep, PrintedNumbersAreWide};
-ghost use Rattle.mon_numbers.specs.Laws.{StartsAreShort, WorksOutPlainly};
+ghost use Rattle.mon_numbers.specs.Laws.{PrintedTestsHold, SharedTestsHold, StartsAreShort};
+ghost use Rattle.mon_numbers.specs.Laws.{WorksOutPlainly};
 
 /// A call of the function that is printed of a block's body does the block's step: it answers an
 /// overflow just where a value that is assigned or answered leaves 64 bits, and the state is then
@@ -19,4 +20,13 @@ pub fn printed_bodies_step()
 pub fn printed_numbers_are_wide()
     ensures wide { PrintedNumbersAreWide }
     ensures plain { WorksOutPlainly }
+{}
+
+/// A call of the function that is printed of a block's guard answers whether the guard is true. One
+/// that reads no inputs is printed without them, once for its condition: it answers whether the
+/// condition's guard is true, which is that of each block of the condition at whatever inputs. The
+/// numbers that it makes on the way are those of [`printed_numbers_are_wide`], without inputs.
+pub fn printed_tests_hold()
+    ensures own { PrintedTestsHold }
+    ensures shared { SharedTestsHold }
 {}

@@ -1,0 +1,22 @@
+-- The truth of the function that is printed of a block's guard.
+use Rattle.std.specs.Prelude.{Bool, true, false, List}
+use Rattle.mon_tree.specs.declared.tree.MonitorTree.{MonitorTree}
+use Rattle.mon_base.specs.declared.value.Value.{Value}
+use Rattle.mon_forms.specs.Plain.{truth_in}
+use Rattle.mon_monitor.specs.Bodies.{Inputs, no_inputs, valuation}
+use Rattle.mon_types.specs.Typed.{PlacedBlock}
+use Rattle.mon_bodies.specs.Guards.{guard_scope}
+use Rattle.mon_numbers.specs.Calls.{entries}
+use Rattle.mon_numbers.specs.Widths.{worked}
+
+-- The arguments and locals that it takes, by whether its condition's guard reads such. Where it
+-- takes none, 0 is written in place of their names: that is what each is worth without inputs.
+abbrev pub taken_inputs : Bool → Inputs → Inputs
+taken_inputs true inputs = inputs
+taken_inputs false inputs = no_inputs
+
+-- what a call of it answers in a state, in the same way
+abbrev pub printed_test : MonitorTree → PlacedBlock → Bool → List Value → Inputs → Bool
+printed_test tree placed reads state inputs =
+    truth_in (worked (entries (guard_scope tree placed.method reads))
+    (valuation state (taken_inputs reads inputs)) placed.block.guard).value
