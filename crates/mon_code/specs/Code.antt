@@ -20,8 +20,8 @@ pub data Op : Type 0 where
   -- `while !state.can_m() { state = wait(&self.can_m, state); }`: the guard of a block, on a
   -- condition
   WaitUntil : (block condition : ℕ) → Op
-  -- `if !state.can_m() { return None; }`: the guard of a block; the answer is `Ok(None)` where a call
-  -- of the method may overflow
+  -- `if !state.can_m() { return None; }`: the guard of a block; the answer is `Ok(None)` where a
+  -- call of the method may overflow
   ElseRefuse : (block : ℕ) → Op
   -- `let Ok(answer) = state.run_m() else { .. return Err(Overflow); };`: the body of a block, and
   -- the notes that are made where it overflows; `state.run_m();` where it can't, and no `answer` is
