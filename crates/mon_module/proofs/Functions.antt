@@ -7,7 +7,7 @@ use Rattle.mon_tree.specs.declared.tree.StmtTree.{StmtTree}
 use Rattle.mon_events.specs.Configurations.{block_condition}
 use Rattle.mon_bodies.specs.Bodies.{body_text}
 use Rattle.mon_bodies.specs.Guards.{guard_text}
-use Rattle.mon_module.specs.Sources.{SourceParts, answer_of, reads_inputs}
+use Rattle.mon_method.specs.Sources.{SourceParts, answer_of, reads_inputs}
 use Rattle.mon_module.specs.Modules.{body_function, test_function, tests_guard}
 
 module _ (source : SourceParts) (method : MethodTree) (place block : ℕ) (parts : BlockTree) where

@@ -1,9 +1,1 @@
-mod Numbered
-mod Choices
-mod Lookups
-mod Arguments
-mod Runs
-mod Blocks
-mod Wakes
-mod Tests
 mod Functions

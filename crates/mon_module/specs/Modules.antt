@@ -20,10 +20,10 @@ use Rattle.mon_rust.specs.Lints.{has_odd_name}
 use Rattle.mon_bodies.specs.Blocks.{kind_declared, kind_text}
 use Rattle.mon_bodies.specs.Bodies.{body_text}
 use Rattle.mon_bodies.specs.Guards.{guard_text}
-use Rattle.mon_module.specs.Sources.{SourceParts, source_of, answer_of, reads_inputs}
-use Rattle.mon_module.specs.Conditions.{around_name, first_block}
-use Rattle.mon_module.specs.Statements.{method_fails}
-use Rattle.mon_module.specs.Methods.{methods_text, start_text, typed_start}
+use Rattle.mon_method.specs.Sources.{SourceParts, source_of, answer_of, reads_inputs}
+use Rattle.mon_method.specs.Conditions.{around_name, first_block}
+use Rattle.mon_method.specs.Statements.{method_fails}
+use Rattle.mon_method.specs.Methods.{methods_text, start_text, typed_start}
 use Rattle.mon_module.specs.Fixed.{HEAD, NEW, DEFAULT, DEBUG, STATE_IMPL, LOCK, WAIT, OVERFLOW}
 
 -- lints would speak of names that are written as they stand

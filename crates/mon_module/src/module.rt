@@ -3,29 +3,30 @@
 ghost use Rattle.std.specs.Prelude.{if◌then◌else◌, ◌≡◌, ◌<◌, ◌≤◌, [], length, not};
 ghost use Rattle.std.specs.List.{enumerate_from, flat_map, list_any};
 ghost use Rattle.mon_base.specs.Limits.{CONDITIONS};
+ghost use Rattle.mon_code.specs.Code.{is_always};
 ghost use Rattle.mon_io.specs.Writing.{Wrote};
-ghost use Rattle.mon_module.specs.Sources.{seen};
-ghost use Rattle.mon_module.specs.Statements.{method_fails};
-ghost use Rattle.mon_module.specs.Methods.{methods_text};
+ghost use Rattle.mon_method.specs.Sources.{seen};
+ghost use Rattle.mon_method.specs.Statements.{method_fails};
+ghost use Rattle.mon_method.specs.Methods.{methods_text};
 ghost use Rattle.mon_module.specs.Modules.{condition_field, condition_start, constant_line};
 ghost use Rattle.mon_module.specs.Modules.{constant_text, constants_end, constants_text};
 ghost use Rattle.mon_module.specs.Modules.{debug_text, default_text, fails_somewhere, functions_text};
 ghost use Rattle.mon_module.specs.Modules.{has_calls, impl_text, is_field, module_text, new_text};
 ghost use Rattle.mon_module.specs.Modules.{rust_text, struct_docs, struct_head, struct_text};
 ghost use Rattle.mon_module.specs.Modules.{traits_text, use_by, use_text, waited_field};
+ghost use Rattle.mon_module.specs.Modules.{waits_somewhere};
 
-use crate::conditions::write_around_name;
-use crate::declared::{is_field, write_lints, write_typed_start};
+use crate::declared::{is_field, write_lints};
 use crate::fixed::{
     debug_bytes, default_bytes, head_bytes, lock_bytes, new_bytes, overflow_bytes, wait_bytes,
 };
-use crate::methods::write_methods_of;
-use crate::source::{Source, is_always, waits_somewhere};
 use crate::state::{write_state, write_state_impl};
-use crate::statements::method_fails;
 use mon_base::Named;
 use mon_events::Plan;
 use mon_io::{Sink, SinkFailed, write_piece};
+use mon_method::{
+    Source, is_always, method_fails, write_around_name, write_methods_of, write_typed_start,
+};
 use mon_monitor::{Condition, Monitor};
 use mon_printer::write_around;
 use mon_rust::{Style, write_member, write_type};
@@ -90,6 +91,19 @@ fn has_calls(tree: &MonitorTree) -> bool
     ensures { result ≡ has_calls tree.now }
 {
     tree.methods.items().len() != 0
+}
+
+// Whether someone may wait on some condition.
+fn waits_somewhere(monitor: &Monitor) -> bool
+    ensures { result ≡ waits_somewhere monitor.now }
+{
+    any_waits(monitor.conditions())
+}
+
+fn any_waits(conditions: &[Condition]) -> bool
+    ensures { result ≡ list_any (λ which. not (is_always which.guard)) conditions.now }
+{
+    conditions.iter().any(|which| !is_always(&which.guard))
 }
 
 // ---- the type

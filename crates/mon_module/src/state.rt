@@ -5,21 +5,21 @@ ghost use Rattle.std.specs.List.{enumerate_from, flat_map, list_any};
 ghost use Rattle.mon_bodies.specs.Bodies.{body_text};
 ghost use Rattle.mon_bodies.specs.Guards.{guard_text};
 ghost use Rattle.mon_io.specs.Writing.{Wrote};
-ghost use Rattle.mon_module.specs.Sources.{seen};
+ghost use Rattle.mon_method.specs.Sources.{seen};
 ghost use Rattle.mon_module.specs.Modules.{block_functions, body_function, brace_by, brace_text};
 ghost use Rattle.mon_module.specs.Modules.{field_line, field_start, field_text, is_field, is_first};
 ghost use Rattle.mon_module.specs.Modules.{method_functions, start_line, starts_end, starts_end_by};
 ghost use Rattle.mon_module.specs.Modules.{starts_text, state_impl_text, state_text, test_function};
 ghost use Rattle.mon_module.specs.Modules.{tests_guard};
 
-use crate::declared::{is_field, write_lints, write_start};
+use crate::declared::{is_field, write_lints};
 use crate::fixed::state_impl_bytes;
-use crate::source::{
-    Source, answer_of, condition_of, first_block, first_of, is_waited_on, reads_inputs,
-};
 use mon_base::{Kind, Named};
 use mon_bodies::{kind_bytes, kind_declared, write_body, write_guard};
 use mon_io::{Sink, SinkFailed, write_piece};
+use mon_method::{
+    Source, answer_of, condition_of, first_block, first_of, is_waited_on, reads_inputs, write_start,
+};
 use mon_monitor::Monitor;
 use mon_rust::{Style, write_member};
 use mon_tree::{BlockTree, Decl, Expr, MethodTree, MonitorTree, StmtTree};

@@ -1,6 +1,6 @@
 use Rattle.std.proofs.Common.{codes, [], rules}
 use Rattle.mon_io.proofs.Writing.{wrote_same}
-use Rattle.mon_module.proofs.Choices.{no_text, yes_text}
+use Rattle.mon_method.proofs.Choices.{no_text, yes_text}
 use Rattle.mon_rust.specs.Lints.{has_odd_name}
 use Rattle.mon_module.proofs.declared.write_lints.Goals as goal
 

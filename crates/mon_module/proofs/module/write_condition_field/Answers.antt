@@ -1,9 +1,9 @@
 use Rattle.std.proofs.Common.{[], rules}
 use Rattle.mon_code.specs.Code.{is_always}
 use Rattle.mon_io.proofs.Writing.{wrote_same}
-use Rattle.mon_module.proofs.Choices.{no_text, yes_text}
+use Rattle.mon_method.proofs.Choices.{no_text, yes_text}
 use Rattle.mon_module.specs.Modules.{waited_field}
-use Rattle.mon_module.specs.Sources.{seen}
+use Rattle.mon_method.specs.Sources.{seen}
 use Rattle.mon_module.proofs.module.write_condition_field.Goals as goal
 
 pub returns-then-is_always : goal.returns-then-is_always

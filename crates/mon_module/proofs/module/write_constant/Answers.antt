@@ -1,6 +1,6 @@
 use Rattle.std.proofs.Common.{codes, ap}
 use Rattle.mon_io.proofs.Writing.{wrote_both, wrote_fails, wrote_longer, wrote_same}
-use Rattle.mon_module.specs.Methods.{typed_start}
+use Rattle.mon_method.specs.Methods.{typed_start}
 use Rattle.mon_rust.specs.Names.{member_name}
 use Rattle.mon_tree.specs.Names.{declared_name}
 use Rattle.mon_rust.specs.declared.style.Style.TheVariants as styles

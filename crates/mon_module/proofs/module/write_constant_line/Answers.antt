@@ -1,6 +1,6 @@
 use Rattle.std.proofs.Common.{[], rules}
 use Rattle.mon_io.proofs.Writing.{wrote_same}
-use Rattle.mon_module.proofs.Choices.{no_text, yes_text}
+use Rattle.mon_method.proofs.Choices.{no_text, yes_text}
 use Rattle.mon_module.specs.Modules.{constant_text, is_field}
 use Rattle.mon_module.proofs.module.write_constant_line.Goals as goal
 

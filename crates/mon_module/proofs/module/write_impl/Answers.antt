@@ -1,9 +1,9 @@
 use Rattle.std.proofs.Common.{codes, ap, List}
 use Rattle.mon_io.proofs.Writing.{wrote_both, wrote_fails, wrote_longer, wrote_same}
-use Rattle.mon_module.proofs.Numbered.{numbered}
-use Rattle.mon_module.specs.Methods.{methods_text}
+use Rattle.mon_method.proofs.Numbered.{numbered}
+use Rattle.mon_method.specs.Methods.{methods_text}
 use Rattle.mon_module.specs.Modules.{constants_text, lints_text, new_text}
-use Rattle.mon_module.specs.Sources.{seen}
+use Rattle.mon_method.specs.Sources.{seen}
 use Rattle.mon_rust.specs.Names.{type_name}
 use Rattle.mon_tree.specs.declared.tree.MethodTree.{MethodTree}
 use Rattle.std.specs.List.{enumerate_from, flat_map}

@@ -1,6 +1,6 @@
 use Rattle.mon_io.proofs.Writing.{wrote_both, wrote_fails, wrote_longer, wrote_same}
 use Rattle.mon_module.specs.Modules.{traits_text, functions_text, impl_text, state_impl_text, state_text, struct_text, use_text}
-use Rattle.mon_module.specs.Sources.{seen}
+use Rattle.mon_method.specs.Sources.{seen}
 use Rattle.mon_module.proofs.module.write_module.Goals as goal
 
 pub returns-in_err-write_piece : goal.returns-in_err-write_piece

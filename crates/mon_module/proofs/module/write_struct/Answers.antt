@@ -1,8 +1,8 @@
 use Rattle.std.proofs.Common.{codes, ap, List}
 use Rattle.mon_io.proofs.Writing.{wrote_both, wrote_fails, wrote_longer, wrote_same}
-use Rattle.mon_module.proofs.Numbered.{numbered}
+use Rattle.mon_method.proofs.Numbered.{numbered}
 use Rattle.mon_module.specs.Modules.{condition_field, lints_text, struct_head}
-use Rattle.mon_module.specs.Sources.{seen}
+use Rattle.mon_method.specs.Sources.{seen}
 use Rattle.mon_monitor.specs.declared.monitor.Condition.{Condition}
 use Rattle.std.specs.List.{enumerate_from, flat_map}
 use Rattle.mon_module.proofs.module.write_struct.Goals as goal

@@ -1,6 +1,6 @@
 use Rattle.mon_io.proofs.Writing.{wrote_both, wrote_fails, wrote_longer}
 use Rattle.mon_module.specs.Modules.{debug_text}
-use Rattle.mon_module.specs.Sources.{seen}
+use Rattle.mon_method.specs.Sources.{seen}
 use Rattle.mon_module.proofs.module.write_traits.Goals as goal
 
 pub returns-in_err-write_default : goal.returns-in_err-write_default

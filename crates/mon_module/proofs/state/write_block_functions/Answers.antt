@@ -1,7 +1,7 @@
 use Rattle.std.proofs.Common.{◌+◌}
 use Rattle.mon_io.proofs.Writing.{wrote_both, wrote_fails, wrote_longer}
 use Rattle.mon_module.specs.Modules.{body_function}
-use Rattle.mon_module.specs.Sources.{seen}
+use Rattle.mon_method.specs.Sources.{seen}
 use Rattle.mon_module.proofs.state.write_block_functions.Goals as goal
 
 pub returns-in_err-write_test_function : goal.returns-in_err-write_test_function

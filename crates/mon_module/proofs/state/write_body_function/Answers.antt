@@ -1,6 +1,6 @@
 use Rattle.mon_io.proofs.Writing.{wrote_same}
 use Rattle.mon_module.proofs.Functions.{body_says}
-use Rattle.mon_module.specs.Sources.{seen}
+use Rattle.mon_method.specs.Sources.{seen}
 use Rattle.mon_module.proofs.state.write_body_function.Goals as goal
 
 pub returns : goal.returns

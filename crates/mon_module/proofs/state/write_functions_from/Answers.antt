@@ -1,8 +1,8 @@
 use Rattle.std.proofs.Common.{refl}
 use Rattle.mon_io.proofs.Writing.{wrote_same}
-use Rattle.mon_module.proofs.Numbered.{numbered_done, numbered_stopped, numbered_went}
+use Rattle.mon_method.proofs.Numbered.{numbered_done, numbered_stopped, numbered_went}
 use Rattle.mon_module.specs.Modules.{block_functions}
-use Rattle.mon_module.specs.Sources.{seen}
+use Rattle.mon_method.specs.Sources.{seen}
 use Rattle.mon_module.proofs.state.write_functions_from.Goals as goal
 
 pub loop-place-preserved : goal.loop-place-preserved

@@ -1,8 +1,8 @@
 use Rattle.std.proofs.Common.{take, Ok}
 use Rattle.mon_io.specs.Writing.{Wrote}
-use Rattle.mon_module.proofs.Numbered.{numbered}
+use Rattle.mon_method.proofs.Numbered.{numbered}
 use Rattle.mon_module.specs.Modules.{method_functions}
-use Rattle.mon_module.specs.Sources.{seen}
+use Rattle.mon_method.specs.Sources.{seen}
 use Rattle.std.specs.List.{enumerate_from, flat_map}
 use Rattle.mon_module.proofs.state.write_functions_of_blocks.Given as goal
 

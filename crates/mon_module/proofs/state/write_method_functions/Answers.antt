@@ -1,8 +1,8 @@
 use Rattle.std.proofs.Common.{◌∙◌, ap, List, ℕ}
 use Rattle.mon_io.proofs.Writing.{wrote_same}
-use Rattle.mon_module.proofs.Numbered.{numbered}
+use Rattle.mon_method.proofs.Numbered.{numbered}
 use Rattle.mon_module.specs.Modules.{block_functions}
-use Rattle.mon_module.specs.Sources.{seen}
+use Rattle.mon_method.specs.Sources.{seen}
 use Rattle.mon_tree.specs.declared.tree.BlockTree.{BlockTree}
 use Rattle.std.specs.List.{enumerate_from, flat_map}
 use Rattle.mon_module.proofs.state.write_method_functions.Goals as goal

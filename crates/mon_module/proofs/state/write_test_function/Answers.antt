@@ -1,7 +1,7 @@
 use Rattle.std.proofs.Common.{rules}
 use Rattle.mon_io.proofs.Writing.{wrote_same}
 use Rattle.mon_module.proofs.Functions.{no_test, some_test}
-use Rattle.mon_module.specs.Sources.{seen}
+use Rattle.mon_method.specs.Sources.{seen}
 use Rattle.mon_module.proofs.state.write_test_function.Goals as goal
 
 pub returns-then-not-tests_guard : goal.returns-then-not-tests_guard

@@ -1,0 +1,8 @@
+pub mod Numbered
+pub mod Choices
+mod Lookups
+mod Arguments
+mod Runs
+mod Blocks
+mod Wakes
+mod Tests

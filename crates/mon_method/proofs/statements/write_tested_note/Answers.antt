@@ -1,0 +1,17 @@
+use Rattle.std.proofs.Common.{codes}
+use Rattle.mon_io.proofs.Writing.{wrote_both, wrote_fails, wrote_longer}
+use Rattle.mon_method.specs.Sources.{seen}
+use Rattle.mon_method.specs.Statements.{notify_text}
+use Rattle.mon_method.proofs.statements.write_tested_note.Goals as goal
+
+pub returns-in_err-write_around_name : goal.returns-in_err-write_around_name
+returns-in_err-write_around_name g c =
+    wrote_fails _ c.from_residual.ensures.0 (wrote_longer (codes "        }\n") (wrote_longer (notify_text (seen c.args.source.now) c.args.note) c.in_err-write_around_name.ensures))
+
+pub returns-in_err-write_notify : goal.returns-in_err-write_notify
+returns-in_err-write_notify g c =
+    wrote_fails _ c.from_residual-in_err-write_notify.ensures.0 (wrote_longer (codes "        }\n") (wrote_both c.in_ok-write_around_name.ensures c.in_err-write_notify.ensures))
+
+pub returns : goal.returns
+returns g c =
+    wrote_both (wrote_both c.in_ok-write_around_name.ensures c.in_ok-write_notify.ensures) c.write_piece.ensures
