@@ -7,6 +7,7 @@
 #![tactic(auto)]
 
 mod declared;
+mod fields;
 mod fixed;
 mod module;
 mod state;

@@ -7,21 +7,21 @@ ghost use Rattle.mon_bodies.specs.Guards.{guard_text};
 ghost use Rattle.mon_io.specs.Writing.{Wrote};
 ghost use Rattle.mon_method.specs.Sources.{seen};
 ghost use Rattle.mon_module.specs.Modules.{block_functions, body_function, brace_by, brace_text};
-ghost use Rattle.mon_module.specs.Modules.{field_line, field_start, field_text, is_field, is_first};
-ghost use Rattle.mon_module.specs.Modules.{method_functions, start_line, starts_end, starts_end_by};
+ghost use Rattle.mon_module.specs.Modules.{is_field, is_first};
+ghost use Rattle.mon_module.specs.Modules.{method_functions, starts_end, starts_end_by};
 ghost use Rattle.mon_module.specs.Modules.{starts_text, state_impl_text, state_text, test_function};
 ghost use Rattle.mon_module.specs.Modules.{tests_guard};
 
 use crate::declared::{is_field, write_lints};
+use crate::fields::{FieldLine, write_fields};
 use crate::fixed::state_impl_bytes;
-use mon_base::{Kind, Named};
-use mon_bodies::{kind_bytes, kind_declared, write_body, write_guard};
+use mon_base::Kind;
+use mon_bodies::{write_body, write_guard};
 use mon_io::{Sink, SinkFailed, write_piece};
 use mon_method::{
-    Source, answer_of, condition_of, first_block, first_of, is_waited_on, reads_inputs, write_start,
+    Source, answer_of, condition_of, first_block, first_of, is_waited_on, reads_inputs,
 };
 use mon_monitor::Monitor;
-use mon_rust::{Style, write_member};
 use mon_tree::{BlockTree, Decl, Expr, MethodTree, MonitorTree, StmtTree};
 
 /// Writes the struct of the state.
@@ -31,7 +31,7 @@ pub(crate) fn write_state<S: Sink>(tree: &MonitorTree, out: &mut S) -> Result<()
     write_lints(tree, out)?;
     write_piece(b"struct State ", out)?;
     write_brace(tree, out)?;
-    write_field_lines(tree, tree.decls.items(), out)?;
+    write_fields(FieldLine::InStruct, tree, tree.decls.items(), out)?;
     write_piece(b"}\n\n", out)
 }
 
@@ -54,44 +54,6 @@ fn brace_bytes(any: bool) -> &'static [u8]
     if any { b"{\n" } else { b"{" }
 }
 
-fn write_field_lines<S: Sink>(
-    tree: &MonitorTree,
-    declared: &[Decl],
-    out: &mut S,
-) -> Result<(), SinkFailed>
-    ensures { Wrote (S.seen out.old) (S.seen out.new) result
-        (flat_map (field_line tree.now) declared.now) }
-{
-    for one in declared {
-        write_field_line(tree, one, out)?;
-    }
-    Ok(())
-}
-
-fn write_field_line<S: Sink>(
-    tree: &MonitorTree,
-    declared: &Decl,
-    out: &mut S,
-) -> Result<(), SinkFailed>
-    ensures { Wrote (S.seen out.old) (S.seen out.new) result (field_line tree.now declared.now) }
-{
-    if !is_field(declared) {
-        return Ok(());
-    }
-    write_field(tree, declared, out)
-}
-
-// `count: i64,`
-fn write_field<S: Sink>(tree: &MonitorTree, declared: &Decl, out: &mut S) -> Result<(), SinkFailed>
-    ensures { Wrote (S.seen out.old) (S.seen out.new) result (field_text tree.now declared.now) }
-{
-    write_piece(b"    ", out)?;
-    write_member(tree, Style::Snake, declared.name(), out)?;
-    write_piece(b": ", out)?;
-    write_piece(kind_bytes(kind_declared(declared)), out)?;
-    write_piece(b",\n", out)
-}
-
 /// Writes the functions of the state.
 pub(crate) fn write_state_impl<S: Sink>(source: &Source, out: &mut S) -> Result<(), SinkFailed>
     ensures { Wrote (S.seen out.old) (S.seen out.new) result (state_impl_text (seen source.now)) }
@@ -109,7 +71,7 @@ fn write_starts<S: Sink>(tree: &MonitorTree, out: &mut S) -> Result<(), SinkFail
 {
     write_piece(b"    const START: Self = Self ", out)?;
     write_brace(tree, out)?;
-    write_start_lines(tree, tree.decls.items(), out)?;
+    write_fields(FieldLine::AtStart, tree, tree.decls.items(), out)?;
     write_starts_end(tree, out)
 }
 
@@ -123,48 +85,6 @@ fn starts_end_bytes(any: bool) -> &'static [u8]
     ensures { result.now ≡ starts_end_by any }
 {
     if any { b"    };\n" } else { b"};\n" }
-}
-
-fn write_start_lines<S: Sink>(
-    tree: &MonitorTree,
-    declared: &[Decl],
-    out: &mut S,
-) -> Result<(), SinkFailed>
-    ensures { Wrote (S.seen out.old) (S.seen out.new) result
-        (flat_map (start_line tree.now) declared.now) }
-{
-    for one in declared {
-        write_start_line(tree, one, out)?;
-    }
-    Ok(())
-}
-
-fn write_start_line<S: Sink>(
-    tree: &MonitorTree,
-    declared: &Decl,
-    out: &mut S,
-) -> Result<(), SinkFailed>
-    ensures { Wrote (S.seen out.old) (S.seen out.new) result (start_line tree.now declared.now) }
-{
-    if !is_field(declared) {
-        return Ok(());
-    }
-    write_field_start(tree, declared, out)
-}
-
-// `count: 0,`
-fn write_field_start<S: Sink>(
-    tree: &MonitorTree,
-    declared: &Decl,
-    out: &mut S,
-) -> Result<(), SinkFailed>
-    ensures { Wrote (S.seen out.old) (S.seen out.new) result (field_start tree.now declared.now) }
-{
-    write_piece(b"        ", out)?;
-    write_member(tree, Style::Snake, declared.name(), out)?;
-    write_piece(b": ", out)?;
-    write_start(declared, out)?;
-    write_piece(b",\n", out)
 }
 
 // ---- the functions of the state

@@ -12,10 +12,10 @@ pub returns-in_err-write_brace : goal.returns-in_err-write_brace
 returns-in_err-write_brace g c =
     wrote_fails _ c.from_residual-in_err-write_brace.ensures.0 (wrote_longer (starts_end c.args.tree.now) (wrote_longer (flat_map (start_line c.args.tree.now) c.args.tree.now.decls) (wrote_both c.in_ok-write_piece.ensures c.in_err-write_brace.ensures)))
 
-pub returns-in_err-write_start_lines : goal.returns-in_err-write_start_lines
-returns-in_err-write_start_lines g c =
-    wrote_fails _ c.from_residual-in_err-write_start_lines.ensures.0 (wrote_longer (starts_end c.args.tree.now) (wrote_both (wrote_both c.in_ok-write_piece.ensures c.in_ok-write_brace.ensures) (wrote_same _ (ap (flat_map (start_line c.args.tree.now)) c.items.ensures) c.in_err-write_start_lines.ensures)))
+pub returns-in_err-write_fields : goal.returns-in_err-write_fields
+returns-in_err-write_fields g c =
+    wrote_fails _ c.from_residual-in_err-write_fields.ensures.0 (wrote_longer (starts_end c.args.tree.now) (wrote_both (wrote_both c.in_ok-write_piece.ensures c.in_ok-write_brace.ensures) (wrote_same _ (ap (flat_map (start_line c.args.tree.now)) c.items.ensures) c.in_err-write_fields.ensures)))
 
 pub returns : goal.returns
 returns g c =
-    wrote_both (wrote_both (wrote_both c.in_ok-write_piece.ensures c.in_ok-write_brace.ensures) (wrote_same _ (ap (flat_map (start_line c.args.tree.now)) c.items.ensures) c.in_ok-write_start_lines.ensures)) c.write_starts_end.ensures
+    wrote_both (wrote_both (wrote_both c.in_ok-write_piece.ensures c.in_ok-write_brace.ensures) (wrote_same _ (ap (flat_map (start_line c.args.tree.now)) c.items.ensures) c.in_ok-write_fields.ensures)) c.write_starts_end.ensures

@@ -16,10 +16,10 @@ pub returns-in_err-write_brace : goal.returns-in_err-write_brace
 returns-in_err-write_brace g c =
     wrote_fails _ c.from_residual-in_err-write_brace.ensures.0 (wrote_longer (codes "}\n\n") (wrote_longer (flat_map (field_line c.args.tree.now) c.args.tree.now.decls) (wrote_both (wrote_both c.in_ok-write_lints.ensures c.in_ok-write_piece.ensures) c.in_err-write_brace.ensures)))
 
-pub returns-in_err-write_field_lines : goal.returns-in_err-write_field_lines
-returns-in_err-write_field_lines g c =
-    wrote_fails _ c.from_residual-in_err-write_field_lines.ensures.0 (wrote_longer (codes "}\n\n") (wrote_both (wrote_both (wrote_both c.in_ok-write_lints.ensures c.in_ok-write_piece.ensures) c.in_ok-write_brace.ensures) (wrote_same _ (ap (flat_map (field_line c.args.tree.now)) c.items.ensures) c.in_err-write_field_lines.ensures)))
+pub returns-in_err-write_fields : goal.returns-in_err-write_fields
+returns-in_err-write_fields g c =
+    wrote_fails _ c.from_residual-in_err-write_fields.ensures.0 (wrote_longer (codes "}\n\n") (wrote_both (wrote_both (wrote_both c.in_ok-write_lints.ensures c.in_ok-write_piece.ensures) c.in_ok-write_brace.ensures) (wrote_same _ (ap (flat_map (field_line c.args.tree.now)) c.items.ensures) c.in_err-write_fields.ensures)))
 
 pub returns : goal.returns
 returns g c =
-    wrote_both (wrote_both (wrote_both (wrote_both c.in_ok-write_lints.ensures c.in_ok-write_piece.ensures) c.in_ok-write_brace.ensures) (wrote_same _ (ap (flat_map (field_line c.args.tree.now)) c.items.ensures) c.in_ok-write_field_lines.ensures)) c.write_piece-2.ensures
+    wrote_both (wrote_both (wrote_both (wrote_both c.in_ok-write_lints.ensures c.in_ok-write_piece.ensures) c.in_ok-write_brace.ensures) (wrote_same _ (ap (flat_map (field_line c.args.tree.now)) c.items.ensures) c.in_ok-write_fields.ensures)) c.write_piece-2.ensures

@@ -1,0 +1,32 @@
+-- The lines of fields, by where they stand, for their writers.
+use Rattle.std.specs.Prelude.{List, ℕ, [], ◌++◌, codes, if◌then◌else◌}
+use Rattle.mon_tree.specs.declared.tree.Decl.{Decl}
+use Rattle.mon_tree.specs.declared.tree.MonitorTree.{MonitorTree}
+use Rattle.mon_tree.specs.Names.{declared_name}
+use Rattle.mon_rust.specs.declared.style.Style.TheVariants as styles
+use Rattle.mon_rust.specs.Names.{member_name}
+use Rattle.mon_bodies.specs.Blocks.{kind_declared, kind_text}
+use Rattle.mon_method.specs.Methods.{start_text}
+use Rattle.mon_module.specs.declared.fields.FieldLine.{FieldLine}
+use Rattle.mon_module.specs.declared.fields.FieldLine.TheVariants as lines
+use Rattle.mon_module.specs.Modules.{is_field}
+
+-- what stands before the name of a field
+abbrev pub indent_at : FieldLine → List ℕ
+indent_at lines.InStruct = codes "    "
+indent_at lines.AtStart = codes "        "
+
+-- the type of a field, or its value
+abbrev pub said_at : FieldLine → Decl → List ℕ
+said_at lines.InStruct declared = kind_text (kind_declared declared)
+said_at lines.AtStart declared = start_text declared
+
+-- `field_text`, or `field_start`
+abbrev pub field_at : FieldLine → MonitorTree → Decl → List ℕ
+field_at line tree declared =
+    indent_at line ++ member_name tree styles.Snake (declared_name declared) ++ codes ": "
+    ++ said_at line declared ++ codes ",\n"
+
+-- `field_line`, or `start_line`
+abbrev pub line_at : FieldLine → MonitorTree → Decl → List ℕ
+line_at line tree declared = if is_field declared then field_at line tree declared else []
