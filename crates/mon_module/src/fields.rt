@@ -1,15 +1,21 @@
 //! The fields of the structs of a module, a line each.
 
-ghost use Rattle.std.specs.Prelude.{◌≡◌};
-ghost use Rattle.std.specs.List.{flat_map};
+ghost use Rattle.std.specs.Prelude.{◌≡◌, ◌<◌, ◌≤◌, length};
+ghost use Rattle.std.specs.List.{enumerate_from, flat_map};
+ghost use Rattle.mon_base.specs.Limits.{CONDITIONS};
 ghost use Rattle.mon_io.specs.Writing.{Wrote};
+ghost use Rattle.mon_method.specs.Sources.{seen};
+ghost use Rattle.mon_module.specs.Modules.{waited_field};
 ghost use Rattle.mon_module.specs.inner.Lines.{field_at, indent_at, line_at, said_at};
+ghost use Rattle.mon_module.specs.inner.Lines.{variable_at, variable_line_at};
 
 use crate::declared::is_field;
 use mon_base::Named;
 use mon_bodies::{kind_bytes, kind_declared};
 use mon_io::{Sink, SinkFailed, write_piece};
-use mon_method::write_start;
+use mon_method::{Source, is_always, write_around_name, write_start};
+use mon_monitor::Condition;
+use mon_printer::write_around;
 use mon_rust::{Style, write_member};
 use mon_tree::{Decl, MonitorTree};
 
@@ -19,6 +25,8 @@ pub(crate) enum FieldLine {
     InStruct,
     AtStart,
 }
+
+// ---- the fields of the state
 
 /// Writes the lines of the fields of the state.
 pub(crate) fn write_fields<S: Sink>(
@@ -84,4 +92,86 @@ fn indent_bytes(line: FieldLine) -> &'static [u8]
         FieldLine::InStruct => b"    ",
         FieldLine::AtStart => b"        ",
     }
+}
+
+// ---- the condition variables
+
+/// Writes the lines of the condition variables, by the conditions of the monitor.
+pub(crate) fn write_variables<S: Sink>(
+    line: FieldLine,
+    source: &Source,
+    conditions: &[Condition],
+    out: &mut S,
+) -> Result<(), SinkFailed>
+    requires { length conditions.now ≤ CONDITIONS }
+    ensures { Wrote (S.seen out.old) (S.seen out.new) result
+        (flat_map (λ one. variable_line_at line (seen source.now) one.0 one.1)
+        (enumerate_from 0 conditions.now)) }
+{
+    for (place, which) in conditions.iter().enumerate() {
+        write_variable_line(line, source, place, which, out)?;
+    }
+    Ok(())
+}
+
+// Nothing where no one waits on the condition.
+fn write_variable_line<S: Sink>(
+    line: FieldLine,
+    source: &Source,
+    place: usize,
+    which: &Condition,
+    out: &mut S,
+) -> Result<(), SinkFailed>
+    requires { place < CONDITIONS }
+    ensures { Wrote (S.seen out.old) (S.seen out.new) result
+        (variable_line_at line (seen source.now) place which.now) }
+{
+    if is_always(&which.guard) {
+        return Ok(());
+    }
+    write_variable(line, source, place, which, out)
+}
+
+fn write_variable<S: Sink>(
+    line: FieldLine,
+    source: &Source,
+    place: usize,
+    which: &Condition,
+    out: &mut S,
+) -> Result<(), SinkFailed>
+    requires { place < CONDITIONS }
+    ensures { Wrote (S.seen out.old) (S.seen out.new) result
+        (variable_at line (seen source.now) place which.now) }
+{
+    match line {
+        FieldLine::InStruct => write_waited_field(source, place, which, out),
+        FieldLine::AtStart => {
+            write_around_name(
+                source,
+                b"            ",
+                place as u32 + 1,
+                b": Condvar::new(),\n",
+                out,
+            )
+        }
+    }
+}
+
+fn write_waited_field<S: Sink>(
+    source: &Source,
+    place: usize,
+    which: &Condition,
+    out: &mut S,
+) -> Result<(), SinkFailed>
+    requires { place < CONDITIONS }
+    ensures { Wrote (S.seen out.old) (S.seen out.new) result
+        (waited_field (seen source.now) place which.now) }
+{
+    write_around(
+        &[b"    /// For calls that wait until `"],
+        &which.shown,
+        b"`.\n",
+        out,
+    )?;
+    write_around_name(source, b"    ", place as u32 + 1, b": Condvar,\n", out)
 }

@@ -1,22 +1,22 @@
 //! The module of a monitor.
 
-ghost use Rattle.std.specs.Prelude.{if◌then◌else◌, ◌≡◌, ◌<◌, ◌≤◌, [], length, not};
+ghost use Rattle.std.specs.Prelude.{if◌then◌else◌, ◌≡◌, [], not};
 ghost use Rattle.std.specs.List.{enumerate_from, flat_map, list_any};
-ghost use Rattle.mon_base.specs.Limits.{CONDITIONS};
 ghost use Rattle.mon_code.specs.Code.{is_always};
 ghost use Rattle.mon_io.specs.Writing.{Wrote};
 ghost use Rattle.mon_method.specs.Sources.{seen};
 ghost use Rattle.mon_method.specs.Statements.{method_fails};
 ghost use Rattle.mon_method.specs.Methods.{methods_text};
-ghost use Rattle.mon_module.specs.Modules.{condition_field, condition_start, constant_line};
+ghost use Rattle.mon_module.specs.Modules.{constant_line};
 ghost use Rattle.mon_module.specs.Modules.{constant_text, constants_end, constants_text};
 ghost use Rattle.mon_module.specs.Modules.{debug_text, default_text, fails_somewhere, functions_text};
 ghost use Rattle.mon_module.specs.Modules.{has_calls, impl_text, is_field, module_text, new_text};
 ghost use Rattle.mon_module.specs.Modules.{rust_text, struct_docs, struct_head, struct_text};
-ghost use Rattle.mon_module.specs.Modules.{traits_text, use_by, use_text, waited_field};
+ghost use Rattle.mon_module.specs.Modules.{traits_text, use_by, use_text};
 ghost use Rattle.mon_module.specs.Modules.{waits_somewhere};
 
 use crate::declared::{is_field, write_lints};
+use crate::fields::{FieldLine, write_variables};
 use crate::fixed::{
     debug_bytes, default_bytes, head_bytes, lock_bytes, new_bytes, overflow_bytes, wait_bytes,
 };
@@ -24,11 +24,8 @@ use crate::state::{write_state, write_state_impl};
 use mon_base::Named;
 use mon_events::Plan;
 use mon_io::{Sink, SinkFailed, write_piece};
-use mon_method::{
-    Source, is_always, method_fails, write_around_name, write_methods_of, write_typed_start,
-};
+use mon_method::{Source, is_always, method_fails, write_methods_of, write_typed_start};
 use mon_monitor::{Condition, Monitor};
-use mon_printer::write_around;
 use mon_rust::{Style, write_member, write_type};
 use mon_tree::{Decl, MethodTree, MonitorTree};
 
@@ -114,7 +111,12 @@ fn write_struct<S: Sink>(source: &Source, out: &mut S) -> Result<(), SinkFailed>
     write_struct_docs(source.tree, out)?;
     write_lints(source.tree, out)?;
     write_struct_head(source.tree, out)?;
-    write_condition_fields(source, source.monitor.conditions(), out)?;
+    write_variables(
+        FieldLine::InStruct,
+        source,
+        source.monitor.conditions(),
+        out,
+    )?;
     write_piece(b"}\n\n", out)
 }
 
@@ -138,58 +140,6 @@ fn write_struct_head<S: Sink>(tree: &MonitorTree, out: &mut S) -> Result<(), Sin
     )?;
     write_type(tree, out)?;
     write_piece(b" {\n    state: Mutex<State>,\n", out)
-}
-
-fn write_condition_fields<S: Sink>(
-    source: &Source,
-    conditions: &[Condition],
-    out: &mut S,
-) -> Result<(), SinkFailed>
-    requires { length conditions.now ≤ CONDITIONS }
-    ensures { Wrote (S.seen out.old) (S.seen out.new) result
-        (flat_map (λ one. condition_field (seen source.now) one.0 one.1)
-        (enumerate_from 0 conditions.now)) }
-{
-    for (place, which) in conditions.iter().enumerate() {
-        write_condition_field(source, place, which, out)?;
-    }
-    Ok(())
-}
-
-fn write_condition_field<S: Sink>(
-    source: &Source,
-    place: usize,
-    which: &Condition,
-    out: &mut S,
-) -> Result<(), SinkFailed>
-    requires { place < CONDITIONS }
-    ensures { Wrote (S.seen out.old) (S.seen out.new) result
-        (condition_field (seen source.now) place which.now) }
-{
-    if is_always(&which.guard) {
-        return Ok(());
-    }
-    write_waited_field(source, place, which, out)
-}
-
-// A condition's variable, where someone may wait on it.
-fn write_waited_field<S: Sink>(
-    source: &Source,
-    place: usize,
-    which: &Condition,
-    out: &mut S,
-) -> Result<(), SinkFailed>
-    requires { place < CONDITIONS }
-    ensures { Wrote (S.seen out.old) (S.seen out.new) result
-        (waited_field (seen source.now) place which.now) }
-{
-    write_around(
-        &[b"    /// For calls that wait until `"],
-        &which.shown,
-        b"`.\n",
-        out,
-    )?;
-    write_around_name(source, b"    ", place as u32 + 1, b": Condvar,\n", out)
 }
 
 // ---- its functions
@@ -276,46 +226,8 @@ fn write_new<S: Sink>(source: &Source, out: &mut S) -> Result<(), SinkFailed>
     ensures { Wrote (S.seen out.old) (S.seen out.new) result (new_text (seen source.now)) }
 {
     write_piece(new_bytes(), out)?;
-    write_condition_starts(source, source.monitor.conditions(), out)?;
+    write_variables(FieldLine::AtStart, source, source.monitor.conditions(), out)?;
     write_piece(b"        }\n    }\n", out)
-}
-
-fn write_condition_starts<S: Sink>(
-    source: &Source,
-    conditions: &[Condition],
-    out: &mut S,
-) -> Result<(), SinkFailed>
-    requires { length conditions.now ≤ CONDITIONS }
-    ensures { Wrote (S.seen out.old) (S.seen out.new) result
-        (flat_map (λ one. condition_start (seen source.now) one.0 one.1)
-        (enumerate_from 0 conditions.now)) }
-{
-    for (place, which) in conditions.iter().enumerate() {
-        write_condition_start(source, place, which, out)?;
-    }
-    Ok(())
-}
-
-fn write_condition_start<S: Sink>(
-    source: &Source,
-    place: usize,
-    which: &Condition,
-    out: &mut S,
-) -> Result<(), SinkFailed>
-    requires { place < CONDITIONS }
-    ensures { Wrote (S.seen out.old) (S.seen out.new) result
-        (condition_start (seen source.now) place which.now) }
-{
-    if is_always(&which.guard) {
-        return Ok(());
-    }
-    write_around_name(
-        source,
-        b"            ",
-        place as u32 + 1,
-        b": Condvar::new(),\n",
-        out,
-    )
 }
 
 fn write_methods<S: Sink>(

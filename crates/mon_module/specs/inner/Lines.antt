@@ -1,15 +1,21 @@
 -- The lines of fields, by where they stand, for their writers.
-use Rattle.std.specs.Prelude.{List, ℕ, [], ◌++◌, codes, if◌then◌else◌}
+use Rattle.std.specs.Prelude.{List, ℕ, ◌+◌, [], ◌++◌, codes, if◌then◌else◌}
 use Rattle.mon_tree.specs.declared.tree.Decl.{Decl}
 use Rattle.mon_tree.specs.declared.tree.MonitorTree.{MonitorTree}
 use Rattle.mon_tree.specs.Names.{declared_name}
+use Rattle.mon_monitor.specs.declared.monitor.Condition.{Condition}
+use Rattle.mon_code.specs.Code.{is_always}
 use Rattle.mon_rust.specs.declared.style.Style.TheVariants as styles
 use Rattle.mon_rust.specs.Names.{member_name}
 use Rattle.mon_bodies.specs.Blocks.{kind_declared, kind_text}
+use Rattle.mon_method.specs.Sources.{SourceParts}
+use Rattle.mon_method.specs.Conditions.{around_name}
 use Rattle.mon_method.specs.Methods.{start_text}
 use Rattle.mon_module.specs.declared.fields.FieldLine.{FieldLine}
 use Rattle.mon_module.specs.declared.fields.FieldLine.TheVariants as lines
-use Rattle.mon_module.specs.Modules.{is_field}
+use Rattle.mon_module.specs.Modules.{is_field, waited_field}
+
+-- ---- the fields of the state
 
 -- what stands before the name of a field
 abbrev pub indent_at : FieldLine → List ℕ
@@ -30,3 +36,16 @@ field_at line tree declared =
 -- `field_line`, or `start_line`
 abbrev pub line_at : FieldLine → MonitorTree → Decl → List ℕ
 line_at line tree declared = if is_field declared then field_at line tree declared else []
+
+-- ---- the condition variables, by the numbers of the conditions from 0
+
+-- `waited_field`, or the condition variable at its start
+abbrev pub variable_at : FieldLine → SourceParts → ℕ → Condition → List ℕ
+variable_at lines.InStruct source place which = waited_field source place which
+variable_at lines.AtStart source place which =
+    around_name source (codes "            ") (place + 1) (codes ": Condvar::new(),\n")
+
+-- `condition_field`, or `condition_start`
+abbrev pub variable_line_at : FieldLine → SourceParts → ℕ → Condition → List ℕ
+variable_line_at line source place which =
+    if is_always which.guard then [] else variable_at line source place which

@@ -11,10 +11,10 @@ pub returns-in_err-write_piece : goal.returns-in_err-write_piece
 returns-in_err-write_piece g c =
     wrote_fails _ c.from_residual.ensures.0 (wrote_longer (codes "        }\n    }\n") (wrote_longer (flat_map (numbered (condition_start (seen c.args.source.now))) (enumerate_from 0 c.args.source.now.monitor.now.conditions)) (wrote_same _ (c.new_bytes.ensures) c.in_err-write_piece.ensures)))
 
-pub returns-in_err-write_condition_starts : goal.returns-in_err-write_condition_starts
-returns-in_err-write_condition_starts g c =
-    wrote_fails _ c.from_residual-in_err-write_condition_starts.ensures.0 (wrote_longer (codes "        }\n    }\n") (wrote_both (wrote_same _ (c.new_bytes.ensures) c.in_ok-write_piece.ensures) (wrote_same _ (ap (λ (xs : List Condition). flat_map (numbered (condition_start (seen c.args.source.now))) (enumerate_from 0 xs)) c.conditions.ensures.conditions) c.in_err-write_condition_starts.ensures)))
+pub returns-in_err-write_variables : goal.returns-in_err-write_variables
+returns-in_err-write_variables g c =
+    wrote_fails _ c.from_residual-in_err-write_variables.ensures.0 (wrote_longer (codes "        }\n    }\n") (wrote_both (wrote_same _ (c.new_bytes.ensures) c.in_ok-write_piece.ensures) (wrote_same _ (ap (λ (xs : List Condition). flat_map (numbered (condition_start (seen c.args.source.now))) (enumerate_from 0 xs)) c.conditions.ensures.conditions) c.in_err-write_variables.ensures)))
 
 pub returns : goal.returns
 returns g c =
-    wrote_both (wrote_both (wrote_same _ (c.new_bytes.ensures) c.in_ok-write_piece.ensures) (wrote_same _ (ap (λ (xs : List Condition). flat_map (numbered (condition_start (seen c.args.source.now))) (enumerate_from 0 xs)) c.conditions.ensures.conditions) c.in_ok-write_condition_starts.ensures)) c.write_piece-2.ensures
+    wrote_both (wrote_both (wrote_same _ (c.new_bytes.ensures) c.in_ok-write_piece.ensures) (wrote_same _ (ap (λ (xs : List Condition). flat_map (numbered (condition_start (seen c.args.source.now))) (enumerate_from 0 xs)) c.conditions.ensures.conditions) c.in_ok-write_variables.ensures)) c.write_piece-2.ensures

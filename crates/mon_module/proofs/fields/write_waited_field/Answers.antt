@@ -2,7 +2,7 @@ use Rattle.std.proofs.Common.{codes, ◌+◌}
 use Rattle.mon_io.proofs.Writing.{wrote_both, wrote_fails, wrote_longer}
 use Rattle.mon_method.specs.Conditions.{around_name}
 use Rattle.mon_method.specs.Sources.{seen}
-use Rattle.mon_module.proofs.module.write_waited_field.Goals as goal
+use Rattle.mon_module.proofs.fields.write_waited_field.Goals as goal
 
 pub returns-in_err-write_around : goal.returns-in_err-write_around
 returns-in_err-write_around g c =
