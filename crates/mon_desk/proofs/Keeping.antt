@@ -1,27 +1,35 @@
 -- Each step on a cell keeps its rule.
-use Rattle.std.proofs.Common.{◌≡◌, ◌≢◌, ◌⊎◌, ℕ, ◌+◌, ◌<◌, List, [], ◌∷◌, ◌++◌, length, get_or, set, eqb, refl, sym, ap, ◌∙◌, subst, inl, inr, ⊎_elim, arith, Option, Some, None}
+use Rattle.std.proofs.Common.{◌≡◌, ◌⊎◌, ℕ, ◌+◌, List, [], ◌∷◌, ◌++◌, get_or, set, eqb, refl, sym, ap, ◌∙◌, subst, inl, inr, ⊎_elim, arith, Option, Some, None}
 use mathlib.Core.Logic.{dite}
 use mathlib.Core.Option.{none, some}
 use native.Mathlib.Decide.{ℕ_discrete}
 use prog.Atomic.{either}
 use lib.ListN.{get_elem?}
 use lib.Seq.{set-get_or}
-use Rattle.atomic_table.specs.Table.{State, Me, Act, step, keeps, takes, gives, rest, put_back, carried_after, stepped, Valid, Allows, Enters}
-use Rattle.atomic_table.proofs.Lists.{at_snoc, exchanged, set_again}
+use Rattle.atomic_table.specs.Table.{State, Act, step, keeps, takes, gives, rest, put_back, carried_after, stepped, Valid, Allows, Enters}
+use Rattle.atomic_table.proofs.Lists.{at_snoc, exchanged}
 use Rattle.mon_desk.specs.declared.letter.Sheet.{Sheet}
 use Rattle.mon_desk.specs.declared.letter.Sheet.TheVariants.{Asked, Told}
 use Rattle.mon_desk.specs.declared.letter.Part.{Part}
-use Rattle.mon_desk.specs.declared.letter.Part.TheVariants.{Nothing, Writing, Posted, Reading, Serving}
+use Rattle.mon_desk.specs.declared.letter.Part.TheVariants.{Nothing, Writing, Posted, Reading, Serving, Answered, Gone}
 use Rattle.mon_desk.specs.declared.letter.View.{View}
 use Rattle.mon_desk.specs.inner.Cells.{view, newcomer, Standing, free, writing, asked, taken, told, reading, word_of, homes_of, posters_of, servers_of, posts, serves, parts, IsRight, Kept}
-use Rattle.mon_desk.specs.inner.Steps.{parted, missed, At, missing, Came, Sought, Began, Wrote, HasAnswer, Looked, Withdrew, HasLetter, Took, Left}
+use Rattle.mon_desk.specs.inner.Steps.{parted, missed, At, missing, Came, Sought, Began, Wrote, HasAnswer, Looked, Withdrew, Took, Delivered, Left}
 use Rattle.mon_desk.proofs.Parts.{none_has, not_both, parts_same, parts_enter, parts_turn, parts_push, about_set}
 
-module _ {A : Type 0} where
-  same_posted : (a b : A) → Posted a ≡ Posted b → a ≡ b
+module _ {A T : Type 0} where
+  abbrev posted : A → Part A T
+  posted a = Posted a
+
+  same_posted : (a b : A) → posted a ≡ posted b → a ≡ b
   same_posted a b e = cc
 
-module _ {A T : Type 0} where
+  abbrev serving : A → Part A T
+  serving a = Serving a
+
+  same_serving : (a b : A) → serving a ≡ serving b → a ≡ b
+  same_serving a b e = cc
+
   abbrev noted : A → List (ℕ × Option (Sheet A T))
   noted a = (0, Some (Asked a)) ∷ []
 
@@ -121,17 +129,17 @@ module _ {A T : Type 0} where
   is_told (told a t) b e n = let same : a ≡ b = cc in (t, ap (λ x. told x t) same)
   is_told reading b e n = absurd cc
 
-module _ {A K : Type 0} (f : Part A → List (Part A)) where
+module _ {A T K : Type 0} (f : Part A T → List (Part A T)) where
   -- the one that has a part is this one
-  only_one : (l : List (Part A)) → ((p : Part A) × (l ≡ p ∷ [])) ⊎ (l ≡ []) → (vs : List (View A K)) (id : ℕ) (v w : View A K) (q : Part A) → parts f vs ≡ l → get_elem? vs id ≡ some v → f v.part ≡ q ∷ []
+  only_one : (l : List (Part A T)) → ((p : Part A T) × (l ≡ p ∷ [])) ⊎ (l ≡ []) → (vs : List (View A T K)) (id : ℕ) (v w : View A T K) (q : Part A T) → parts f vs ≡ l → get_elem? vs id ≡ some v → f v.part ≡ q ∷ []
       → (l ≡ q ∷ []) × (parts f (set vs id w) ≡ f w.part)
   only_one l one vs id v w q e at has = ⊎_elim
-      (λ (o : (p : Part A) × (l ≡ p ∷ [])). let t = parts_turn f vs id v w o.0 q (e ∙ o.1) at has in (o.1 ∙ ap (λ p. p ∷ []) t.0, t.1))
+      (λ (o : (p : Part A T) × (l ≡ p ∷ [])). let t = parts_turn f vs id v w o.0 q (e ∙ o.1) at has in (o.1 ∙ ap (λ p. p ∷ []) t.0, t.1))
       (λ (none_there : l ≡ []). absurd (not_both q [] (sym has ∙ none_has f vs id v (e ∙ none_there) at)))
       one
 
 module _ {A T : Type 0} where
-  one_poster : (st : Standing A T) → ((p : Part A) × (posters_of st ≡ p ∷ [])) ⊎ (posters_of st ≡ [])
+  one_poster : (st : Standing A T) → ((p : Part A T) × (posters_of st ≡ p ∷ [])) ⊎ (posters_of st ≡ [])
   one_poster free = inr refl
   one_poster writing = inl (Writing, refl)
   one_poster (asked a) = inl (Posted a, refl)
@@ -139,7 +147,7 @@ module _ {A T : Type 0} where
   one_poster (told a t) = inl (Posted a, refl)
   one_poster reading = inl (Reading, refl)
 
-  one_server : (st : Standing A T) → ((p : Part A) × (servers_of st ≡ p ∷ [])) ⊎ (servers_of st ≡ [])
+  one_server : (st : Standing A T) → ((p : Part A T) × (servers_of st ≡ p ∷ [])) ⊎ (servers_of st ≡ [])
   one_server free = inr refl
   one_server writing = inr refl
   one_server (asked a) = inr refl
@@ -149,7 +157,7 @@ module _ {A T : Type 0} where
 
 module _ {A T K : Type 0} (asks : K → A → Type 0) (tells : K → A → T → Type 0) (about : K) where
   abbrev St : Type 0
-  St = State (Option (Sheet A T)) (View A K)
+  St = State (Option (Sheet A T)) (View A T K)
 
   abbrev Rule : St → Type 0
   Rule = Kept asks tells about
@@ -159,7 +167,7 @@ module _ {A T K : Type 0} (asks : K → A → Type 0) (tells : K → A → T →
   found_is s r = ap (λ ws. get_or ws 0 0) r.words
 
   -- a step that changes nothing but a count
-  quiet : (s : St) (r : Rule s) (id : ℕ) (v w : View A K) → get_elem? s.views id ≡ some v → w.about ≡ v.about → w.part ≡ v.part
+  quiet : (s : St) (r : Rule s) (id : ℕ) (v w : View A T K) → get_elem? s.views id ≡ some v → w.about ≡ v.about → w.part ≡ v.part
       → Rule (record { words = set s.words 0 (get_or s.words 0 0); homes = s.homes; views = set s.views id w })
   quiet s r id v w at same_about same_part = record {
     standing = r.standing;
@@ -173,7 +181,7 @@ module _ {A T K : Type 0} (asks : K → A → Type 0) (tells : K → A → T →
 
   -- ---- a seat comes
 
-  came : (s : St) (r : Rule s) (w : View A K) → w.about ≡ about → w.part ≡ Nothing → Rule (record { words = s.words; homes = s.homes; views = s.views ++ w ∷ [] })
+  came : (s : St) (r : Rule s) (w : View A T K) → w.about ≡ about → w.part ≡ Nothing → Rule (record { words = s.words; homes = s.homes; views = s.views ++ w ∷ [] })
   came s r w mine nothing = record {
     standing = r.standing;
     words = r.words;
@@ -181,7 +189,7 @@ module _ {A T K : Type 0} (asks : K → A → Type 0) (tells : K → A → T →
     posters = parts_push posts s.views w (ap posts nothing) ∙ r.posters;
     servers = parts_push serves s.views w (ap serves nothing) ∙ r.servers;
     right = r.right;
-    each = λ j v at. ⊎_elim (λ (old : get_elem? s.views j ≡ some v). r.each j v old) (λ (new : w ≡ v). ap (λ (u : View A K). u.about) (sym new) ∙ mine) (at_snoc s.views w v j at);
+    each = λ j v at. ⊎_elim (λ (old : get_elem? s.views j ≡ some v). r.each j v old) (λ (new : w ≡ v). ap (λ (u : View A T K). u.about) (sym new) ∙ mine) (at_snoc s.views w v j at);
   }
 
   pub comes : (slots : ℕ) → Enters Rule slots 0 (λ n w. Came (step {S = Option (Sheet A T)} slots 0 0 0 none) (newcomer about, []) n (w, []))
@@ -194,7 +202,7 @@ module _ {A T K : Type 0} (asks : K → A → Type 0) (tells : K → A → T →
 
   -- ---- steps that change how the letter stands
 
-  moved : (s : St) (r : Rule s) (id : ℕ) (v w : View A K) (st : Standing A T) (n : ℕ) (homes : _) → get_elem? s.views id ≡ some v → w.about ≡ v.about
+  moved : (s : St) (r : Rule s) (id : ℕ) (v w : View A T K) (st : Standing A T) (n : ℕ) (homes : _) → get_elem? s.views id ≡ some v → w.about ≡ v.about
       → n ≡ word_of st → homes ≡ homes_of st → parts posts (set s.views id w) ≡ posters_of st → parts serves (set s.views id w) ≡ servers_of st → IsRight asks tells about st
       → Rule (record { words = set s.words 0 n; homes = homes; views = set s.views id w })
   moved s r id v w st n homes at same_about number home posters servers right = record {
@@ -209,7 +217,7 @@ module _ {A T K : Type 0} (asks : K → A → Type 0) (tells : K → A → T →
 
   -- what a step owes that finds this word and leaves that one
   abbrev Owes : ℕ → At A T K → (ℕ → At A T K → Type 0) → St → ℕ → Type 0
-  Owes id me then s k = (w : View A K) × (a : Act (Option (Sheet A T))) × Valid s.homes me.1 a × Rule (stepped s 0 k id me.1 w a) × then (get_or s.words 0 0) (w, carried_after me.1 a)
+  Owes id me then s k = (w : View A T K) × (a : Act (Option (Sheet A T))) × Valid s.homes me.1 a × Rule (stepped s 0 k id me.1 w a) × then (get_or s.words 0 0) (w, carried_after me.1 a)
 
   begun : (id : ℕ) (me : At A T K) (s : St) (r : Rule s) → get_elem? s.views id ≡ some me.0 → me.0.part ≡ Nothing → get_or s.words 0 0 ≡ 0 → Owes id me (Began (step 1 0 0 1 none) me) s 1
   begun id me s r at nothing e =
@@ -332,10 +340,10 @@ module _ {A T K : Type 0} (asks : K → A → Type 0) (tells : K → A → T →
 
   -- ---- a part ends
 
-  emptied : (id : ℕ) (me : At A T K) (q : Part A) (st : Standing A T) (s : St) (r : Rule s) → get_elem? s.views id ≡ some me.0 → me.0.part ≡ q → posts q ≡ q ∷ [] → serves q ≡ [] → me.1 ≡ (0, None) ∷ []
-      → (posters_of r.standing ≡ q ∷ [] → r.standing ≡ st) → homes_of st ≡ none ∷ [] → servers_of st ≡ [] → Rule (stepped s 0 0 id me.1 (parted Nothing me.0) gives)
+  emptied : (id : ℕ) (me : At A T K) (q : Part A T) (st : Standing A T) (s : St) (r : Rule s) → get_elem? s.views id ≡ some me.0 → me.0.part ≡ q → posts q ≡ q ∷ [] → serves q ≡ [] → me.1 ≡ (0, None) ∷ []
+      → (posters_of r.standing ≡ q ∷ [] → r.standing ≡ st) → homes_of st ≡ none ∷ [] → servers_of st ≡ [] → Rule (stepped s 0 0 id me.1 (parted Gone me.0) gives)
   emptied id me q st s r at part alone apart has which away none_serves =
-      let w = parted Nothing me.0 in
+      let w = parted Gone me.0 in
       let one = only_one posts (posters_of r.standing) (one_poster r.standing) s.views id me.0 w q r.posters at (ap posts part ∙ alone) in
       let is = which one.0 in
       moved s r id me.0 w free 0 (put_back s.homes me.1) at refl refl
@@ -347,20 +355,20 @@ module _ {A T K : Type 0} (asks : K → A → Type 0) (tells : K → A → T →
   pub leaves : (slots id : ℕ) (me : At A T K) → (me.0.part ≡ Writing) ⊎ (me.0.part ≡ Reading) → me.1 ≡ (0, None) ∷ []
       → Allows Rule slots id me 0 (λ _. 0) (λ _. Left (step slots 0 0 0 none) me 0)
   leaves slots id me part has s r _ at _ = (
-    parted Nothing me.0,
+    parted Gone me.0,
     gives,
     tt,
     ⊎_elim
         (λ (p : me.0.part ≡ Writing). emptied id me Writing writing s r at p refl refl has (is_writing r.standing) refl refl)
         (λ (p : me.0.part ≡ Reading). emptied id me Reading reading s r at p refl refl has (is_reading r.standing) refl refl)
         part,
-    ap (λ l. (parted Nothing me.0, rest l)) has,
+    λ _. ap (λ l. (parted Gone me.0, rest l)) has,
   )
 
   answered : (id : ℕ) (me : At A T K) (a : A) (t : T) (s : St) (r : Rule s) → get_elem? s.views id ≡ some me.0 → tells me.0.about a t → me.0.part ≡ Serving a → me.1 ≡ (0, Some (Told t)) ∷ []
-      → Rule (stepped s 0 4 id me.1 (parted Nothing me.0) gives)
+      → Rule (stepped s 0 4 id me.1 (parted (Answered a t) me.0) gives)
   answered id me a t s r at may part has =
-      let w = parted Nothing me.0 in
+      let w = parted (Answered a t) me.0 in
       let one = only_one serves (servers_of r.standing) (one_server r.standing) s.views id me.0 w (Serving a) r.servers at (ap serves part) in
       let is = is_taken r.standing a one.0 in
       moved s r id me.0 w (told a t) 4 (put_back s.homes me.1) at refl refl
@@ -370,8 +378,17 @@ module _ {A T K : Type 0} (asks : K → A → Type 0) (tells : K → A → T →
       (subst (λ k. tells k a t) (r.each id me.0 at) may)
 
   pub answers : (slots id : ℕ) (me : At A T K) (a : A) (t : T) → tells me.0.about a t → me.0.part ≡ Serving a → me.1 ≡ (0, Some (Told t)) ∷ []
-      → Allows Rule slots id me 0 (λ _. 4) (λ _. Left (step slots 0 4 0 none) me 4)
-  answers slots id me a t may part has s r _ at _ = (parted Nothing me.0, gives, tt, answered id me a t s r at may part has, ap (λ l. (parted Nothing me.0, rest l)) has)
+      → Allows Rule slots id me 0 (λ _. 4) (λ _. Delivered (step slots 0 4 0 none) me 4)
+  answers slots id me a t may part has s r _ at _ = (
+    parted (Answered a t) me.0,
+    gives,
+    tt,
+    answered id me a t s r at may part has,
+    λ b u part' has'.
+        let letter = same_serving a b (sym part ∙ part') in
+        let told_is = same_told t u (one_sheet me.1 [] [] (Some (Told t)) (Some (Told u)) has has') in
+        λ i. (parted (Answered (letter i) (told_is i)) me.0, rest (has i)),
+  )
 
   -- ---- what a look tells
 

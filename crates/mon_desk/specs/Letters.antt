@@ -1,10 +1,12 @@
 -- Who has a part in a letter.
 use Rattle.std.specs.Prelude.{◌≡◌, ◌+◌, [], ◌∷◌, None}
 use Rattle.mon_desk.specs.declared.cell.Cell.{Cell}
-use Rattle.mon_desk.specs.declared.letter.Part.TheVariants.{Posted, Serving}
+use Rattle.mon_desk.specs.declared.letter.Part.TheVariants.{Posted, Serving, Answered, Gone}
 use Rattle.mon_desk.specs.declared.letter.Mail.{Mail}
 use Rattle.mon_desk.specs.declared.letter.Task.{Task}
 use Rattle.mon_desk.specs.declared.letter.Miss.{Miss}
+use Rattle.mon_desk.specs.declared.letter.Done.{Done}
+use Rattle.mon_desk.specs.declared.letter.Free.{Free}
 use Rattle.mon_desk.specs.inner.Cells.{view}
 
 module _ {A T K E : Type 0} where
@@ -35,3 +37,14 @@ module _ {A T K E : Type 0} where
   abbrev pub IsMissOf : Cell A T K E → Miss A T K → Type 0
   IsMissOf cell miss =
       (miss.seat.table_id ≡ cell.board.shared.table_id) × (miss.seat.me.0.misses ≡ 1)
+
+  -- a step of this cell answered the letter by this
+  abbrev pub IsDoneOf : Cell A T K E → Done A T K → A → T → Type 0
+  IsDoneOf cell done letter told =
+      (done.seat.table_id ≡ cell.board.shared.table_id)
+      × (done.seat.me.0.part ≡ Answered letter told)
+
+  -- a step of this cell freed it
+  abbrev pub IsFreeOf : Cell A T K E → Free A T K → Type 0
+  IsFreeOf cell free =
+      (free.seat.table_id ≡ cell.board.shared.table_id) × (free.seat.me.0.part ≡ Gone)

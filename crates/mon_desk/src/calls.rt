@@ -4,14 +4,15 @@ ghost use Rattle.std.specs.Prelude.{◌≡◌, ◌+◌, ◌⊎◌, ◌∷◌, []
 ghost use Rattle.mon_desk.specs.declared.letter.Sheet.{Sheet};
 ghost use Rattle.mon_desk.specs.declared.letter.Sheet.TheVariants.{Told};
 ghost use Rattle.mon_desk.specs.declared.letter.Part.TheVariants.{Writing, Reading};
-ghost use Rattle.mon_desk.specs.Letters.{IsKeptIn, IsMailOf, IsMissOf, IsTaskOf, about_of};
+ghost use Rattle.mon_desk.specs.Letters.{IsDoneOf, IsFreeOf, IsKeptIn, IsMailOf, IsMissOf, IsTaskOf};
+ghost use Rattle.mon_desk.specs.Letters.{about_of};
 
 use crate::cell::Cell;
 use crate::errand::Errand;
-use crate::letter::{Mail, Miss, Sheet, Spot, Task};
+use crate::letter::{Done, Free, Mail, Miss, Sheet, Spot, Task};
 use crate::rule::{
-    ASKED, Begin, Board, Come, FREE, Leave, Look, Post, SHEET, STANDING, Seek, TAKEN, TOLD, Take,
-    WRITING, Withdraw,
+    ASKED, Begin, Board, Come, Deliver, FREE, Leave, Look, Post, SHEET, STANDING, Seek, TAKEN,
+    TOLD, Take, WRITING, Withdraw,
 };
 use std::alloc::{AllocError, Global};
 use std::sync::Wait;
@@ -46,16 +47,17 @@ impl<A, T, K, E: Errand<A, T, K>> Cell<A, T, K, E> {
     }
 
     /// Empties the cell, and gives what was in it.
-    fn clear(&self, mut seat: Spot<A, T, K>) -> Option<Sheet<A, T>>
+    fn clear(&self, mut seat: Spot<A, T, K>) -> (Option<Sheet<A, T>>, Free<A, T, K>)
         requires own { seat.table_id ≡ self.now.board.shared.table_id }
         requires part { (seat.me.0.part ≡ Writing) ⊎ (seat.me.0.part ≡ Reading) }
         requires has { (sheet : Option (Sheet A T)) × (seat.me.1 ≡ (0, sheet) ∷ []) }
-        ensures had { seat.me.1 ≡ (0, result) ∷ [] }
+        ensures had { seat.me.1 ≡ (0, result.0) ∷ [] }
+        ensures free { IsFreeOf self.now result.1 }
     {
         let shared = &self.board.shared;
         let sheet = shared.exchange(&mut seat, SHEET, None);
         shared.store::<Leave>(&mut seat, STANDING, FREE);
-        sheet
+        (sheet, Free { seat })
     }
 
     /// Takes a letter, if one is posted.
@@ -82,26 +84,30 @@ impl<A, T, K, E: Errand<A, T, K>> Cell<A, T, K, E> {
     }
 
     /// Answers a letter that was taken in this cell.
-    pub fn answer(&self, task: Task<A, T, K>, told: T)
+    pub fn answer(&self, task: Task<A, T, K>, told: T) -> Done<A, T, K>
         requires task { (asked : A)
             × IsTaskOf self.now task asked
             × E.tells (about_of self.now) asked told }
+        ensures done { (asked : A)
+            → IsTaskOf self.now task asked
+            → IsDoneOf self.now result asked told }
     {
         let Task { mut seat } = task;
         let shared = &self.board.shared;
         let before = shared.exchange(&mut seat, SHEET, Some(Sheet::Told(told)));
         let None = before else { unreachable!() };
-        shared.store::<Leave>(&mut seat, STANDING, TOLD);
+        shared.store::<Deliver>(&mut seat, STANDING, TOLD);
+        Done { seat }
     }
 
-    /// What was told to a letter, if it is answered.
-    pub fn collect(&self, mail: Mail<A, T, K>) -> Result<T, Mail<A, T, K>>
+    /// What was told to a letter, if it is answered. Then the cell is free again.
+    pub fn collect(&self, mail: Mail<A, T, K>) -> Result<(T, Free<A, T, K>), Mail<A, T, K>>
         requires mail { (asked : A)
             × IsMailOf self.now mail asked }
         ensures told { (asked : A)
             → IsMailOf self.now mail asked
             → MatchResult result
-            (λ told. E.tells (about_of self.now) asked told)
+            (λ had. E.tells (about_of self.now) asked had.0 × IsFreeOf self.now had.1)
             (λ back. IsKeptIn self.now mail back asked) }
     {
         let Mail { mut seat } = mail;
@@ -109,17 +115,18 @@ impl<A, T, K, E: Errand<A, T, K>> Cell<A, T, K, E> {
         if found != TOLD {
             return Err(Mail { seat });
         }
-        Ok(answer_in(self.clear(seat)))
+        let (sheet, free) = self.clear(seat);
+        Ok((answer_in(sheet), free))
     }
 
-    /// The letter, if nobody took it.
-    pub fn withdraw(&self, mail: Mail<A, T, K>) -> Result<A, Mail<A, T, K>>
+    /// The letter, if nobody took it. Then the cell is free again.
+    pub fn withdraw(&self, mail: Mail<A, T, K>) -> Result<(A, Free<A, T, K>), Mail<A, T, K>>
         requires mail { (asked : A)
             × IsMailOf self.now mail asked }
         ensures back { (asked : A)
             → IsMailOf self.now mail asked
             → MatchResult result
-            (λ letter. letter ≡ asked)
+            (λ had. (had.0 ≡ asked) × IsFreeOf self.now had.1)
             (λ back. IsKeptIn self.now mail back asked) }
     {
         let Mail { mut seat } = mail;
@@ -128,11 +135,11 @@ impl<A, T, K, E: Errand<A, T, K>> Cell<A, T, K, E> {
         if found != ASKED {
             return Err(Mail { seat });
         }
-        let sheet = self.clear(seat);
+        let (sheet, free) = self.clear(seat);
         let Some(Sheet::Asked(asked)) = sheet else {
             unreachable!()
         };
-        Ok(asked)
+        Ok((asked, free))
     }
 
     /// Sleeps while a letter is posted in this cell, and no longer than this. It may also return

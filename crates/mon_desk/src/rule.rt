@@ -27,7 +27,7 @@ pub struct Standing<E> {
     errand: PhantomData<E>,
 }
 
-impl<A, T, K, E: Errand<A, T, K>> TableRule<Option<Sheet<A, T>>, View<A, K>, K> for Standing<E> {
+impl<A, T, K, E: Errand<A, T, K>> TableRule<Option<Sheet<A, T>>, View<A, T, K>, K> for Standing<E> {
     ghost use Rattle.mon_desk.specs.inner.Cells.{Kept, newcomer};
 
     ghost holds = { Kept E.asks E.tells };
@@ -38,7 +38,7 @@ impl<A, T, K, E: Errand<A, T, K>> TableRule<Option<Sheet<A, T>>, View<A, K>, K> 
 /// A seat comes that wants to post a letter.
 pub struct Come;
 
-impl<A, T, K> Play<Option<Sheet<A, T>>, View<A, K>> for Come {
+impl<A, T, K> Play<Option<Sheet<A, T>>, View<A, T, K>> for Come {
     ghost use Rattle.mon_desk.specs.inner.Steps.{Came};
 
     ghost then = { Came };
@@ -47,7 +47,7 @@ impl<A, T, K> Play<Option<Sheet<A, T>>, View<A, K>> for Come {
 /// A seat comes that wants to take a letter.
 pub struct Seek;
 
-impl<A, T, K> Play<Option<Sheet<A, T>>, View<A, K>> for Seek {
+impl<A, T, K> Play<Option<Sheet<A, T>>, View<A, T, K>> for Seek {
     ghost use Rattle.mon_desk.specs.inner.Steps.{Sought};
 
     ghost then = { Sought };
@@ -56,7 +56,7 @@ impl<A, T, K> Play<Option<Sheet<A, T>>, View<A, K>> for Seek {
 /// The cell is had for a letter, if it was free.
 pub struct Begin;
 
-impl<A, T, K> Play<Option<Sheet<A, T>>, View<A, K>> for Begin {
+impl<A, T, K> Play<Option<Sheet<A, T>>, View<A, T, K>> for Begin {
     ghost use Rattle.mon_desk.specs.inner.Steps.{Began};
 
     ghost then = { Began };
@@ -65,7 +65,7 @@ impl<A, T, K> Play<Option<Sheet<A, T>>, View<A, K>> for Begin {
 /// A letter is posted.
 pub struct Post;
 
-impl<A, T, K> Play<Option<Sheet<A, T>>, View<A, K>> for Post {
+impl<A, T, K> Play<Option<Sheet<A, T>>, View<A, T, K>> for Post {
     ghost use Rattle.mon_desk.specs.inner.Steps.{Wrote};
 
     ghost then = { Wrote };
@@ -76,7 +76,7 @@ pub struct Look<E> {
     errand: PhantomData<E>,
 }
 
-impl<A, T, K, E: Errand<A, T, K>> Play<Option<Sheet<A, T>>, View<A, K>> for Look<E> {
+impl<A, T, K, E: Errand<A, T, K>> Play<Option<Sheet<A, T>>, View<A, T, K>> for Look<E> {
     ghost use Rattle.mon_desk.specs.inner.Steps.{Looked};
 
     ghost then = { Looked E.tells };
@@ -85,7 +85,7 @@ impl<A, T, K, E: Errand<A, T, K>> Play<Option<Sheet<A, T>>, View<A, K>> for Look
 /// The letter is had back, if nobody took it.
 pub struct Withdraw;
 
-impl<A, T, K> Play<Option<Sheet<A, T>>, View<A, K>> for Withdraw {
+impl<A, T, K> Play<Option<Sheet<A, T>>, View<A, T, K>> for Withdraw {
     ghost use Rattle.mon_desk.specs.inner.Steps.{Withdrew};
 
     ghost then = { Withdrew };
@@ -96,20 +96,29 @@ pub struct Take<E> {
     errand: PhantomData<E>,
 }
 
-impl<A, T, K, E: Errand<A, T, K>> Play<Option<Sheet<A, T>>, View<A, K>> for Take<E> {
+impl<A, T, K, E: Errand<A, T, K>> Play<Option<Sheet<A, T>>, View<A, T, K>> for Take<E> {
     ghost use Rattle.mon_desk.specs.inner.Steps.{Took};
 
     ghost then = { Took E.asks };
 }
 
-/// The slot is given back, and the seat has no part in the letter any more.
+/// The letter is answered by what the slot has, which is given back.
+pub struct Deliver;
+
+impl<A, T, K> Play<Option<Sheet<A, T>>, View<A, T, K>> for Deliver {
+    ghost use Rattle.mon_desk.specs.inner.Steps.{Delivered};
+
+    ghost then = { Delivered };
+}
+
+/// The slot is given back, and the cell is free.
 pub struct Leave;
 
-impl<A, T, K> Play<Option<Sheet<A, T>>, View<A, K>> for Leave {
+impl<A, T, K> Play<Option<Sheet<A, T>>, View<A, T, K>> for Leave {
     ghost use Rattle.mon_desk.specs.inner.Steps.{Left};
 
     ghost then = { Left };
 }
 
 /// The word, the slot and the rule.
-pub type Board<A, T, K, E> = Table<Option<Sheet<A, T>>, View<A, K>, K, Standing<E>, Global>;
+pub type Board<A, T, K, E> = Table<Option<Sheet<A, T>>, View<A, T, K>, K, Standing<E>, Global>;

@@ -102,7 +102,7 @@ impl Lock {
     {
         let returned = self.make_for(lent);
         let made = returned.made.is_some();
-        cell.answer(debt, returned);
+        let _done = cell.answer(debt, returned);
         made
     }
 
@@ -189,14 +189,14 @@ impl Lock {
             (λ back. IsMailOf cell.now back lent) }
     {
         let kept = match cell.collect(letter) {
-            Ok(returned) => return Ok(returned),
+            Ok((returned, _free)) => return Ok(returned),
             Err(kept) => kept,
         };
         if self.board.shared.peek(SERVING) != ticket {
             return Err(kept);
         }
         match cell.withdraw(kept) {
-            Ok(lent) => Ok(lent.unused()),
+            Ok((lent, _free)) => Ok(lent.unused()),
             Err(back) => Err(back),
         }
     }

@@ -8,13 +8,13 @@ use Rattle.mon_desk.specs.declared.letter.Sheet.{Sheet}
 use Rattle.mon_desk.specs.declared.letter.Sheet.TheVariants.{Asked, Told}
 use Rattle.mon_desk.specs.declared.letter.Part.{Part}
 use Rattle.mon_desk.specs.declared.letter.Part.TheVariants.{Nothing, Writing, Posted}
-use Rattle.mon_desk.specs.declared.letter.Part.TheVariants.{Reading, Serving}
+use Rattle.mon_desk.specs.declared.letter.Part.TheVariants.{Reading, Serving, Answered, Gone}
 use Rattle.mon_desk.specs.declared.letter.View.{View}
 
-abbrev pub view : {A K : Type 0} → K → Part A → ℕ → View A K
+abbrev pub view : {A T K : Type 0} → K → Part A T → ℕ → View A T K
 view about part misses = record { about = about; part = part; misses = misses }
 
-abbrev pub newcomer : {A K : Type 0} → K → View A K
+abbrev pub newcomer : {A T K : Type 0} → K → View A T K
 newcomer about = view about Nothing 0
 
 -- ---- how a letter stands
@@ -48,7 +48,7 @@ module _ {A T : Type 0} where
   homes_of reading = none ∷ []
 
   -- the part of who posts
-  abbrev pub posters_of : Standing A T → List (Part A)
+  abbrev pub posters_of : Standing A T → List (Part A T)
   posters_of free = []
   posters_of writing = Writing ∷ []
   posters_of (asked a) = Posted a ∷ []
@@ -57,7 +57,7 @@ module _ {A T : Type 0} where
   posters_of reading = Reading ∷ []
 
   -- the part of who answers
-  abbrev pub servers_of : Standing A T → List (Part A)
+  abbrev pub servers_of : Standing A T → List (Part A T)
   servers_of free = []
   servers_of writing = []
   servers_of (asked a) = []
@@ -67,24 +67,28 @@ module _ {A T : Type 0} where
 
 -- ---- who has a part in it
 
-module _ {A : Type 0} where
-  abbrev pub posts : Part A → List (Part A)
+module _ {A T : Type 0} where
+  abbrev pub posts : Part A T → List (Part A T)
   posts Nothing = []
   posts Writing = Writing ∷ []
   posts (Posted a) = Posted a ∷ []
   posts Reading = Reading ∷ []
   posts (Serving a) = []
+  posts (Answered a t) = []
+  posts Gone = []
 
-  abbrev pub serves : Part A → List (Part A)
+  abbrev pub serves : Part A T → List (Part A T)
   serves Nothing = []
   serves Writing = []
   serves (Posted a) = []
   serves Reading = []
   serves (Serving a) = Serving a ∷ []
+  serves (Answered a t) = []
+  serves Gone = []
 
-module _ {A K : Type 0} where
+module _ {A T K : Type 0} where
   -- f of the part of each view, one after the other
-  abbrev pub parts : (Part A → List (Part A)) → List (View A K) → List (Part A)
+  abbrev pub parts : (Part A T → List (Part A T)) → List (View A T K) → List (Part A T)
   parts f [] = []
   parts f (v ∷ views) = f v.part ++ parts f views
 
@@ -100,11 +104,11 @@ module _ {A T K : Type 0} (asks : K → A → Type 0) (tells : K → A → T →
   IsRight about (told a t) = tells about a t
   IsRight about reading = Unit {0}
 
-  pub record Kept (about : K) (s : State (Option (Sheet A T)) (View A K)) : Type 0 where
+  pub record Kept (about : K) (s : State (Option (Sheet A T)) (View A T K)) : Type 0 where
     pub standing : Standing A T
     pub words : s.words ≡ word_of standing ∷ []
     pub homes : s.homes ≡ homes_of standing
     pub posters : parts posts s.views ≡ posters_of standing
     pub servers : parts serves s.views ≡ servers_of standing
     pub right : IsRight about standing
-    pub each : (j : ℕ) (v : View A K) → get_elem? s.views j ≡ some v → v.about ≡ about
+    pub each : (j : ℕ) (v : View A T K) → get_elem? s.views j ≡ some v → v.about ≡ about

@@ -1,24 +1,24 @@
 -- What each step on a cell tells whoever makes it.
-use Rattle.std.specs.Prelude.{◌≡◌, ◌≢◌, ◌+◌, ℕ, [], ◌∷◌, Option, Some, None}
+use Rattle.std.specs.Prelude.{◌≡◌, ◌≢◌, ◌⊎◌, ◌+◌, ℕ, [], ◌∷◌, Option, Some, None}
 use Rattle.atomic_table.specs.Table.{Me, Step}
 use Rattle.mon_desk.specs.declared.letter.Sheet.{Sheet}
 use Rattle.mon_desk.specs.declared.letter.Sheet.TheVariants.{Asked, Told}
 use Rattle.mon_desk.specs.declared.letter.Part.{Part}
-use Rattle.mon_desk.specs.declared.letter.Part.TheVariants.{Nothing, Writing, Posted}
-use Rattle.mon_desk.specs.declared.letter.Part.TheVariants.{Reading, Serving}
+use Rattle.mon_desk.specs.declared.letter.Part.TheVariants.{Writing, Posted}
+use Rattle.mon_desk.specs.declared.letter.Part.TheVariants.{Reading, Serving, Answered, Gone}
 use Rattle.mon_desk.specs.declared.letter.View.{View}
 use Rattle.mon_desk.specs.inner.Cells.{view}
 
-module _ {A K : Type 0} where
-  abbrev pub parted : Part A → View A K → View A K
+module _ {A T K : Type 0} where
+  abbrev pub parted : Part A T → View A T K → View A T K
   parted part v = view v.about part v.misses
 
   -- one step more found the cell otherwise
-  abbrev pub missed : View A K → View A K
+  abbrev pub missed : View A T K → View A T K
   missed v = view v.about v.part (v.misses + 1)
 
 abbrev pub At : Type 0 → Type 0 → Type 0 → Type 0
-At A T K = Me (Option (Sheet A T)) (View A K)
+At A T K = Me (Option (Sheet A T)) (View A T K)
 
 abbrev pub Move : Type 0 → Type 0 → Type 0
 Move A T = Step (Option (Sheet A T))
@@ -73,5 +73,13 @@ module _ {A T K : Type 0} where
   Took asks step me found next =
       (found ≡ 2 → HasLetter asks me next) × (found ≢ 2 → next ≡ missing me)
 
+  -- the letter is answered by what the seat has
+  abbrev pub Delivered : Move A T → At A T K → ℕ → At A T K → Type 0
+  Delivered step me found next =
+      (a : A) (t : T) → me.0.part ≡ Serving a → me.1 ≡ (0, Some (Told t)) ∷ []
+      → next ≡ (parted (Answered a t) me.0, [])
+
+  -- the cell is free, which the seat had
   abbrev pub Left : Move A T → At A T K → ℕ → At A T K → Type 0
-  Left step me found next = next ≡ (parted Nothing me.0, [])
+  Left step me found next =
+      (me.0.part ≡ Writing) ⊎ (me.0.part ≡ Reading) → next ≡ (parted Gone me.0, [])

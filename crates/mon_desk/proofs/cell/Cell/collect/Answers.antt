@@ -14,14 +14,14 @@ returns-then-found-ne-TOLD g c = record {
       ((c.load-found.ensures.0 ∙ is.0, s.0), s.1);
 }
 
-pub clear-requires-clause-part : goal.clear-requires-clause-part
-clear-requires-clause-part g c =
+pub clear-sheet-requires-clause-part : goal.clear-sheet-requires-clause-part
+clear-sheet-requires-clause-part g c =
     let m = c.requires.mail in
     let l = c.load-found.ensures.2 m.0 (posted_part g.E.Errand.asks g.E.Errand.tells _ _ m.0 m.1.1) in
     inr (ap (λ n. n.0.part) (l.0 c.if-found-ne-TOLD.false).now)
 
-pub clear-requires-clause-has : goal.clear-requires-clause-has
-clear-requires-clause-has g c =
+pub clear-sheet-requires-clause-has : goal.clear-sheet-requires-clause-has
+clear-sheet-requires-clause-has g c =
     let m = c.requires.mail in
     let l = c.load-found.ensures.2 m.0 (posted_part g.E.Errand.asks g.E.Errand.tells _ _ m.0 m.1.1) in
     let h = l.0 c.if-found-ne-TOLD.false in
@@ -32,11 +32,12 @@ answer_in-requires g c =
     let m = c.requires.mail in
     let l = c.load-found.ensures.2 m.0 (posted_part g.E.Errand.asks g.E.Errand.tells _ _ m.0 m.1.1) in
     let h = l.0 c.if-found-ne-TOLD.false in
-    record { told = (h.told, one_sheet _ _ _ _ _ c.clear.ensures.had (answer_had g.E.Errand.asks g.E.Errand.tells _ _ _ m.0 m.1.1 h)) }
+    record { told = (h.told, one_sheet _ _ _ _ _ c.clear-sheet.ensures.had (answer_had g.E.Errand.asks g.E.Errand.tells _ _ _ m.0 m.1.1 h)) }
 
 pub returns : goal.returns
 returns g c = record {
   told = λ asked is.
       let l = c.load-found.ensures.2 asked (posted_part g.E.Errand.asks g.E.Errand.tells _ _ asked is.1) in
-      answer_tells g.E.Errand.asks g.E.Errand.tells _ _ _ asked _ [] is.1 (l.0 c.if-found-ne-TOLD.false) (c.clear.ensures.had ∙ ap (λ x. (0, x) ∷ []) c.answer_in.ensures.told);
+      let tells = answer_tells g.E.Errand.asks g.E.Errand.tells _ _ _ asked _ [] is.1 (l.0 c.if-found-ne-TOLD.false) (c.clear-sheet.ensures.had ∙ ap (λ x. (0, x) ∷ []) c.answer_in.ensures.told) in
+      (tells, c.clear-sheet.ensures.free);
 }
