@@ -1,31 +1,30 @@
-//! How sections are made for those who wait.
+//! How those who wait have their wishes.
 //!
-//! A waiting seat is lent by a letter in the cell of its ticket. Whoever has made a section makes
-//! those of the letters that it finds for the next tickets, each with the seat that waits for it:
-//! so sections are still made in the order of tickets, and each seat knows its own. A letter that
-//! lies there for another ticket comes back unmade. No wake-up rests on letters: who lent its seat
-//! looks again after a while.
+//! A waiting seat is lent by a letter in the cell of its ticket, for a section or for a look.
+//! Whoever has had its own wish goes through the letters that it finds for the next tickets, and
+//! does what each wishes with the seat that waits for it: so wishes are still had in the order of
+//! tickets, and each seat knows its own. A letter that lies there for another ticket comes back
+//! with nothing done. No wake-up rests on letters: who lent its seat looks again after a while.
 
-ghost use Rattle.std.specs.Prelude.{◌≡◌, ◌<◌, MatchResult, length};
+ghost use Rattle.std.specs.Prelude.{◌≡◌, ◌<◌, MatchResult};
 ghost use Rattle.mon_desk.specs.Letters.{IsMailOf, IsTaskOf, about_of};
 ghost use Rattle.mon_lock.specs.declared.lent.Lent.{Lent};
-ghost use Rattle.mon_lock.specs.Passes.{IsKnown};
-ghost use Rattle.mon_lock.specs.inner.Lending.{ComesBack, IsLent, IsMadeFor, IsReturned, MayLend};
+ghost use Rattle.mon_lock.specs.declared.view.Knowledge.{Knowledge};
+ghost use Rattle.mon_lock.specs.Passes.{IsKnown, Looks};
+ghost use Rattle.mon_lock.specs.inner.Lending.{ComesBack, IsAnswerTo, IsLent, IsMadeFor};
+ghost use Rattle.mon_lock.specs.inner.Lending.{IsReturned, MayLend, MayWish};
 ghost use Rattle.mon_lock.specs.inner.Queueing.{IsIdle};
-ghost use Rattle.mon_lock.specs.inner.Turns.{IsHolding, MakesShared};
+ghost use Rattle.mon_lock.specs.inner.Turns.{HasMonitor, IsHolding};
 
-use super::lent::{Debt, Lent, Letter, Place, Returned};
+use super::lent::{Answer, Debt, Lent, Letter, Place, Returned, Wish};
 use super::lock::Lock;
-use super::receipt::Receipt;
 use super::rule::{SERVING, Seat, Spare};
-use mon_explicit::NotReady;
 use std::sync::Wait;
 use std::time::Duration;
 use std::{hint, mem};
 
-/// How many sections whoever had the monitor makes for others, before it goes on with its own
-/// affairs.
-const MOST_MADE: u64 = 256;
+/// How many letters whoever had the monitor answers, before it goes on with its own affairs.
+const MOST_ANSWERED: u64 = 256;
 
 /// How many pauses a seat makes that is lent, before it sleeps.
 const PAUSES: u64 = 20;
@@ -34,58 +33,74 @@ const PAUSES: u64 = 20;
 const NAP: u64 = 50;
 
 impl Lock {
-    /// A section on the monitor that the seat has, and then it has no ticket.
-    fn finish(&self, seat: &mut Seat, client: u32, ticket: u64) -> Result<Receipt, NotReady>
+    /// Does what is wished with the monitor that the seat has.
+    fn grant(&self, seat: &mut Seat, wish: Wish, ticket: u64) -> Answer
         requires own { seat.old.table_id ≡ self.now.board.shared.table_id }
         requires turn { IsHolding ticket seat.old.me }
         requires known { IsKnown seat.old.me.0.known }
-        requires client { client < length seat.old.me.0.known.front.system.clients }
+        requires client { MayWish wish seat.old.me.0.known.front.system }
+        ensures own { seat.new.table_id ≡ seat.old.table_id }
+        ensures turn { HasMonitor seat.new.me }
+        ensures parts { seat.new.me.0.parts ≡ seat.old.me.0.parts }
+        ensures told { (before : Knowledge) → Looks before seat.old.me.0.known
+            → IsAnswerTo wish before seat.new.me.0.known result }
+        ensures known { IsKnown seat.new.me.0.known }
+    {
+        match wish {
+            Wish::Section(client) => Answer::Section(self.make(seat, client, ticket)),
+            Wish::Standing(client) => Answer::Standing(self.stand_now(seat, client)),
+            Wish::Closed => Answer::Closed(self.look_now(seat)),
+        }
+    }
+
+    /// Does what is wished with the monitor that the seat has, and then it has no ticket.
+    fn finish(&self, seat: &mut Seat, wish: Wish, ticket: u64) -> Answer
+        requires own { seat.old.table_id ≡ self.now.board.shared.table_id }
+        requires turn { IsHolding ticket seat.old.me }
+        requires known { IsKnown seat.old.me.0.known }
+        requires client { MayWish wish seat.old.me.0.known.front.system }
         ensures own { seat.new.table_id ≡ seat.old.table_id }
         ensures idle { IsIdle seat.new.me }
         ensures parts { seat.new.me.0.parts ≡ seat.old.me.0.parts }
-        ensures made { MakesShared client seat.old.me.0.known seat.new.me.0.known result }
+        ensures told { (before : Knowledge) → Looks before seat.old.me.0.known
+            → IsAnswerTo wish before seat.new.me.0.known result }
         ensures known { IsKnown seat.new.me.0.known }
     {
-        let result = self.make(seat, client, ticket);
+        let answer = self.grant(seat, wish, ticket);
         self.unlock(seat);
-        result
+        answer
     }
 
-    /// Makes the section of a seat that is lent, if its ticket is served.
+    /// Does what a seat that waits wishes, if its ticket is served.
+    fn try_for(&self, seat: &mut Seat, wish: Wish, ticket: u64) -> Option<Answer>
+        requires own { seat.old.table_id ≡ self.now.board.shared.table_id }
+        requires lent { MayLend wish ticket seat.old.me }
+        ensures own { seat.new.table_id ≡ seat.old.table_id }
+        ensures comes { ComesBack wish seat.old.me seat.new.me result }
+    {
+        let distance = self.call(seat, ticket);
+        if distance != 0 {
+            return None;
+        }
+        Some(self.finish(seat, wish, ticket))
+    }
+
+    /// Does what a seat wishes that is lent, if its ticket is served.
     fn make_for(&self, lent: Lent) -> Returned
         requires lent { IsLent self.now.letters.about.value lent }
         ensures returned { IsReturned self.now.letters.about.value lent result }
     {
         let Lent {
             mut seat,
-            client,
+            wish,
             ticket,
         } = lent;
-        let made = self.try_for(&mut seat, client, ticket);
-        Returned { seat, made }
+        let answer = self.try_for(&mut seat, wish, ticket);
+        Returned { seat, answer }
     }
 
-    /// Makes a section with a seat that waits, if its ticket is served.
-    fn try_for(
-        &self,
-        seat: &mut Seat,
-        client: u32,
-        ticket: u64,
-    ) -> Option<Result<Receipt, NotReady>>
-        requires own { seat.old.table_id ≡ self.now.board.shared.table_id }
-        requires lent { MayLend client ticket seat.old.me }
-        ensures own { seat.new.table_id ≡ seat.old.table_id }
-        ensures comes { ComesBack client seat.old.me seat.new.me result }
-    {
-        let distance = self.call(seat, ticket);
-        if distance != 0 {
-            return None;
-        }
-        Some(self.finish(seat, client, ticket))
-    }
-
-    /// Makes the section of the letter that is posted in the cell of this ticket, if there is one
-    /// and the ticket of the letter is served; and says whether it did.
+    /// Does what the letter wishes that is posted in the cell of this ticket, if there is one and
+    /// the ticket of the letter is served; and says whether it did.
     fn answer(&self, ticket: u64) -> bool {
         let cell = self.letters.cell(ticket);
         match cell.take() {
@@ -94,23 +109,23 @@ impl Lock {
         }
     }
 
-    /// Gives a seat back, with its section if its ticket is served; and says whether it is.
+    /// Gives a seat back, with what it wished if its ticket is served; and says whether it is.
     fn reply(&self, cell: &Place, lent: Lent, debt: Debt) -> bool
         requires about { about_of cell.now ≡ self.now.letters.about.value }
         requires lent { IsLent (about_of cell.now) lent }
         requires debt { IsTaskOf cell.now debt lent }
     {
         let returned = self.make_for(lent);
-        let made = returned.made.is_some();
+        let made = returned.answer.is_some();
         let _done = cell.answer(debt, returned);
         made
     }
 
-    /// Makes the sections of the letters that are posted for the tickets from this one on. After
-    /// many it wakes who is next instead.
+    /// Answers the letters that are posted for the tickets from this one on. After many it wakes
+    /// who is next instead.
     fn serve(&self, first: u64) {
         let mut ticket = first;
-        for _ in 0..MOST_MADE {
+        for _ in 0..MOST_ANSWERED {
             if !self.answer(ticket) {
                 return;
             }
@@ -119,59 +134,18 @@ impl Lock {
         self.letters.cell(ticket).wake();
     }
 
-    /// A section on the monitor that the seat has, and then those of the letters for the tickets
-    /// after it.
-    fn hold(&self, seat: &mut Seat, client: u32, ticket: u64) -> Result<Receipt, NotReady>
+    /// Waits with the seat, does what it wishes, and then answers the letters for the tickets after
+    /// it.
+    fn hold_late<R: Wait>(&self, rt: &R, seat: &mut Seat, wish: Wish, ticket: u64) -> Answer
         requires own { seat.old.table_id ≡ self.now.board.shared.table_id }
-        requires turn { IsHolding ticket seat.old.me }
-        requires known { IsKnown seat.old.me.0.known }
-        requires client { client < length seat.old.me.0.known.front.system.clients }
+        requires lent { MayLend wish ticket seat.old.me }
         ensures own { seat.new.table_id ≡ seat.old.table_id }
-        ensures idle { IsIdle seat.new.me }
-        ensures parts { seat.new.me.0.parts ≡ seat.old.me.0.parts }
-        ensures made { MakesShared client seat.old.me.0.known seat.new.me.0.known result }
-        ensures known { IsKnown seat.new.me.0.known }
-    {
-        let result = self.finish(seat, client, ticket);
-        self.serve(ticket.wrapping_add(1));
-        result
-    }
-
-    /// Makes a section with a seat that waits, if its ticket is served, and then those of the
-    /// letters.
-    fn try_hold(
-        &self,
-        seat: &mut Seat,
-        client: u32,
-        ticket: u64,
-    ) -> Option<Result<Receipt, NotReady>>
-        requires own { seat.old.table_id ≡ self.now.board.shared.table_id }
-        requires lent { MayLend client ticket seat.old.me }
-        ensures own { seat.new.table_id ≡ seat.old.table_id }
-        ensures comes { ComesBack client seat.old.me seat.new.me result }
-    {
-        let distance = self.call(seat, ticket);
-        if distance != 0 {
-            return None;
-        }
-        Some(self.hold(seat, client, ticket))
-    }
-
-    /// Waits with the seat, and makes the section with it.
-    fn hold_late<R: Wait>(
-        &self,
-        rt: &R,
-        seat: &mut Seat,
-        client: u32,
-        ticket: u64,
-    ) -> Result<Receipt, NotReady>
-        requires own { seat.old.table_id ≡ self.now.board.shared.table_id }
-        requires lent { MayLend client ticket seat.old.me }
-        ensures own { seat.new.table_id ≡ seat.old.table_id }
-        ensures made { IsMadeFor client seat.old.me seat.new.me result }
+        ensures made { IsMadeFor wish seat.old.me seat.new.me result }
     {
         self.wait(rt, seat, ticket);
-        self.hold(seat, client, ticket)
+        let answer = self.finish(seat, wish, ticket);
+        self.serve(ticket.wrapping_add(1));
+        answer
     }
 
     /// A seat that stands for one that is lent.
@@ -239,68 +213,61 @@ impl Lock {
         }
     }
 
-    /// Lends a seat until its section is made; or makes it, where nobody else does.
-    fn settle<R: Wait>(&self, rt: &R, lent: Lent) -> (Seat, Result<Receipt, NotReady>)
+    /// Lends a seat until its wish is done; or does it, where nobody else does.
+    fn settle<R: Wait>(&self, rt: &R, lent: Lent) -> (Seat, Answer)
         requires lent { IsLent self.now.letters.about.value lent }
         ensures own { result.0.table_id ≡ lent.seat.table_id }
-        ensures made { IsMadeFor lent.client lent.seat.me result.0.me result.1 }
+        ensures made { IsMadeFor lent.wish lent.seat.me result.0.me result.1 }
     {
-        let client = lent.client;
+        let wish = lent.wish;
         let ticket = lent.ticket;
-        let Returned { mut seat, made } = self.ask(rt, lent);
-        match made {
-            Some(result) => (seat, result),
+        let Returned { mut seat, answer } = self.ask(rt, lent);
+        match answer {
+            Some(answer) => (seat, answer),
             None => {
-                let result = self.hold_late(rt, &mut seat, client, ticket);
-                (seat, result)
+                let answer = self.hold_late(rt, &mut seat, wish, ticket);
+                (seat, answer)
             }
         }
     }
 
-    /// Lends the seat for a section until that is made; or makes it, where nobody else does.
-    fn lend<R: Wait>(
-        &self,
-        rt: &R,
-        seat: &mut Seat,
-        client: u32,
-        ticket: u64,
-    ) -> Result<Receipt, NotReady>
+    /// Lends the seat for a wish until that is done; or does it, where nobody else does.
+    fn lend<R: Wait>(&self, rt: &R, seat: &mut Seat, wish: Wish, ticket: u64) -> Answer
         requires own { seat.old.table_id ≡ self.now.board.shared.table_id }
-        requires lent { MayLend client ticket seat.old.me }
+        requires lent { MayLend wish ticket seat.old.me }
         ensures own { seat.new.table_id ≡ seat.old.table_id }
-        ensures made { IsMadeFor client seat.old.me seat.new.me result }
+        ensures made { IsMadeFor wish seat.old.me seat.new.me result }
     {
         let spare = self.spare();
         let own = mem::replace(seat, spare);
         let lent = Lent {
             seat: own,
-            client,
+            wish,
             ticket,
         };
-        let (back, result) = self.settle(rt, lent);
+        let (back, answer) = self.settle(rt, lent);
         *seat = back;
-        result
+        answer
     }
 
-    /// A section: at once if the ticket that is drawn is served, and else with the seat lent.
-    pub fn request<R: Wait>(
-        &self,
-        rt: &R,
-        seat: &mut Seat,
-        client: u32,
-    ) -> Result<Receipt, NotReady>
+    /// What is wished: at once if the ticket that is drawn is served, and then the letters for the
+    /// tickets after it are answered; else with the seat lent.
+    pub fn request<R: Wait>(&self, rt: &R, seat: &mut Seat, wish: Wish) -> Answer
         requires own { seat.old.table_id ≡ self.now.board.shared.table_id }
         requires idle { IsIdle seat.old.me }
         requires live { 0 < seat.old.me.0.parts }
         requires known { IsKnown seat.old.me.0.known }
-        requires client { client < length seat.old.me.0.known.front.system.clients }
+        requires client { MayWish wish seat.old.me.0.known.front.system }
         ensures own { seat.new.table_id ≡ seat.old.table_id }
-        ensures made { IsMadeFor client seat.old.me seat.new.me result }
+        ensures made { IsMadeFor wish seat.old.me seat.new.me result }
     {
         let ticket = self.draw(seat);
-        match self.try_hold(seat, client, ticket) {
-            Some(result) => result,
-            None => self.lend(rt, seat, client, ticket),
+        match self.try_for(seat, wish, ticket) {
+            Some(answer) => {
+                self.serve(ticket.wrapping_add(1));
+                answer
+            }
+            None => self.lend(rt, seat, wish, ticket),
         }
     }
 }

@@ -1,36 +1,56 @@
-//! Seats that are lent: whoever waits lets who has the monitor make its section, with the seat that
-//! waits.
+//! Seats that are lent: whoever waits lets who has the monitor do what it wishes, with the seat
+//! that waits.
 
 ghost use Rattle.std.specs.Prelude.{◌≡◌, None};
 
+use super::found::{Look, Stand};
 use super::receipt::Receipt;
 use super::rule::Seat;
 use mon_desk::{Cell, Desk, Errand, Mail, Task};
 use mon_explicit::NotReady;
 
-/// A seat that waits for its ticket, and the client whose section it wants.
+/// What a seat wants of its turn. Clients go by their numbers.
+#[derive(Clone, Copy)]
+pub enum Wish {
+    /// A section of this client.
+    Section(u32),
+    /// How this client stands.
+    Standing(u32),
+    /// Whether the monitor is closed.
+    Closed,
+}
+
+/// What came of a wish, which has the variant of this name.
+#[derive(Drop)]
+pub enum Answer {
+    Section(Result<Receipt, NotReady>),
+    Standing(Stand),
+    Closed(Look),
+}
+
+/// A seat that waits for its ticket, and what it wants then.
 #[derive(Drop)]
 pub struct Lent {
     pub seat: Seat,
-    pub client: u32,
+    pub wish: Wish,
     pub ticket: u64,
 }
 
-/// The seat, and what came of the section; or nothing, where its ticket isn't served yet.
+/// The seat, and what came of its wish; or nothing, where its ticket isn't served yet.
 #[derive(Drop)]
 pub struct Returned {
     pub seat: Seat,
-    pub made: Option<Result<Receipt, NotReady>>,
+    pub answer: Option<Answer>,
 }
 
 impl Lent {
-    /// The seat, for which no section was made.
+    /// The seat, with which nothing was done.
     pub fn unused(self) -> Returned
-        ensures { (result.seat ≡ self.seat) × (result.made ≡ None) }
+        ensures { (result.seat ≡ self.seat) × (result.answer ≡ None) }
     {
         Returned {
             seat: self.seat,
-            made: None,
+            answer: None,
         }
     }
 }

@@ -13,13 +13,13 @@ ghost use Rattle.mon_lock.specs.inner.Turns.{HasMonitor, IsHolding, IsMade, IsNo
 ghost use Rattle.mon_lock.specs.inner.Turns.{IsWaiting, MakesShared, TurnComes, TurnIsHere};
 
 use super::bell::Bells;
-use super::lent::Letters;
+use super::found::{Look, Stand, look_of, stand_of};
+use super::lent::{Answer, Letters, Wish};
 use super::patience::{NEAR, Patience};
 use super::receipt::Receipt;
 use super::rule::{
     Board, COUNT, Call, Draw, MACHINE, NEXT, Observe, OnePart, Publish, Release, SERVING, Seat,
 };
-use super::standing::{Standing, standing_of};
 use mon_explicit::{NotReady, Section};
 use std::sync::Wait;
 
@@ -34,20 +34,6 @@ pub struct Lock {
     ghost words: { board.shared.table_id.words ≡ 3 },
     ghost slots: { board.shared.table_id.slots ≡ 1 },
     ghost some_pass: { 0 < board.shared.key.passes },
-}
-
-/// What is found by whoever has the turn.
-#[derive(Clone, Copy)]
-pub struct Look {
-    pub closed: bool,
-    pub entries: u64,
-}
-
-/// How a client stands, as is found by whoever has the turn.
-#[derive(Clone, Copy)]
-pub struct Stand {
-    pub standing: Standing,
-    pub entries: u64,
 }
 
 impl Lock {
@@ -113,23 +99,6 @@ impl Lock {
             }
         }
         unreachable!()
-    }
-
-    /// Draws a ticket, and waits until it is served.
-    fn lock<R: Wait>(&self, rt: &R, seat: &mut Seat) -> u64
-        requires own { seat.old.table_id ≡ self.now.board.shared.table_id }
-        requires idle { IsIdle seat.old.me }
-        requires live { 0 < seat.old.me.0.parts }
-        requires known { IsKnown seat.old.me.0.known }
-        ensures own { seat.new.table_id ≡ seat.old.table_id }
-        ensures turn { IsHolding result seat.new.me }
-        ensures parts { seat.new.me.0.parts ≡ seat.old.me.0.parts }
-        ensures looks { Looks seat.old.me.0.known seat.new.me.0.known }
-        ensures known { IsKnown seat.new.me.0.known }
-    {
-        let ticket = self.draw(seat);
-        self.wait(rt, seat, ticket);
-        ticket
     }
 
     /// Makes a section on the monitor that the seat has.
@@ -214,31 +183,37 @@ impl Lock {
         ensures made { SectionsShared client seat.old.me.0.known seat.new.me.0.known result }
         ensures known { IsKnown seat.new.me.0.known }
     {
-        self.request(rt, seat, client)
+        let Answer::Section(result) = self.request(rt, seat, Wish::Section(client)) else {
+            unreachable!()
+        };
+        result
     }
 
-    /// Whether the monitor that the seat has is closed.
-    fn is_closed(&self, seat: &mut Seat) -> bool
+    /// A look at the monitor that the seat has.
+    pub fn look_now(&self, seat: &mut Seat) -> Look
         requires own { seat.old.table_id ≡ self.now.board.shared.table_id }
         requires turn { HasMonitor seat.old.me }
         ensures own { seat.new.table_id ≡ seat.old.table_id }
         ensures same { seat.new.me ≡ seat.old.me }
-        ensures closed { IsTrue result
+        ensures closed { IsTrue result.closed
             ↔ IsClosed seat.old.me.0.known.front.system seat.old.me.0.known.front.now }
-        ensures ends { IsTrue result → HasEnded seat.old.me.0.known.front }
+        ensures ends { IsTrue result.closed → HasEnded seat.old.me.0.known.front }
+        ensures entries { result.entries ≡ length seat.old.me.0.known.front.log }
     {
-        seat.slot_mut(&self.board.shared, MACHINE).closed()
+        look_of(seat.slot_mut(&self.board.shared, MACHINE))
     }
 
-    /// How long the log of the monitor is that the seat has.
-    fn entries(&self, seat: &mut Seat) -> u64
+    /// A look at how a client stands in the monitor that the seat has.
+    pub fn stand_now(&self, seat: &mut Seat, client: u32) -> Stand
         requires own { seat.old.table_id ≡ self.now.board.shared.table_id }
         requires turn { HasMonitor seat.old.me }
+        requires client { client < length seat.old.me.0.known.front.system.clients }
         ensures own { seat.new.table_id ≡ seat.old.table_id }
         ensures same { seat.new.me ≡ seat.old.me }
-        ensures entries { result ≡ length seat.old.me.0.known.front.log }
+        ensures standing { StandsAs seat.old.me.0.known.front client result.standing }
+        ensures entries { result.entries ≡ length seat.old.me.0.known.front.log }
     {
-        seat.slot_mut(&self.board.shared, MACHINE).log().len() as u64
+        stand_of(seat.slot_mut(&self.board.shared, MACHINE), client)
     }
 
     /// A look, from no ticket to no ticket.
@@ -257,23 +232,10 @@ impl Lock {
         ensures entries { result.entries ≡ seat.new.me.0.known.seen }
         ensures known { IsKnown seat.new.me.0.known }
     {
-        self.lock(rt, seat);
-        let closed = self.is_closed(seat);
-        let entries = self.entries(seat);
-        self.unlock(seat);
-        Look { closed, entries }
-    }
-
-    /// How a client stands in the monitor that the seat has.
-    fn standing_now(&self, seat: &mut Seat, client: u32) -> Standing
-        requires own { seat.old.table_id ≡ self.now.board.shared.table_id }
-        requires turn { HasMonitor seat.old.me }
-        requires client { client < length seat.old.me.0.known.front.system.clients }
-        ensures own { seat.new.table_id ≡ seat.old.table_id }
-        ensures same { seat.new.me ≡ seat.old.me }
-        ensures standing { StandsAs seat.old.me.0.known.front client result }
-    {
-        standing_of(seat.slot_mut(&self.board.shared, MACHINE), client)
+        let Answer::Closed(look) = self.request(rt, seat, Wish::Closed) else {
+            unreachable!()
+        };
+        look
     }
 
     /// A look at how a client stands, from no ticket to no ticket.
@@ -291,11 +253,10 @@ impl Lock {
         ensures entries { result.entries ≡ seat.new.me.0.known.seen }
         ensures known { IsKnown seat.new.me.0.known }
     {
-        self.lock(rt, seat);
-        let standing = self.standing_now(seat, client);
-        let entries = self.entries(seat);
-        self.unlock(seat);
-        Stand { standing, entries }
+        let Answer::Standing(stand) = self.request(rt, seat, Wish::Standing(client)) else {
+            unreachable!()
+        };
+        stand
     }
 
     /// How long the log is, with no wait.

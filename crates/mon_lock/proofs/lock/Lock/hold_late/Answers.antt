@@ -7,16 +7,16 @@ wait-requires-clause-waits g c = c.requires.lent.waits
 pub wait-requires-clause-live : goal.wait-requires-clause-live
 wait-requires-clause-live g c = c.requires.lent.live
 
-pub hold-requires-clause-turn : goal.hold-requires-clause-turn
-hold-requires-clause-turn g c = (lent_here _ _ _ _ c.requires.lent c.wait.ensures.turn).holding
+pub finish-answer-requires-clause-turn : goal.finish-answer-requires-clause-turn
+finish-answer-requires-clause-turn g c = (lent_here _ _ _ _ c.requires.lent c.wait.ensures.turn).holding
 
-pub hold-requires-clause-known : goal.hold-requires-clause-known
-hold-requires-clause-known g c = (lent_here _ _ _ _ c.requires.lent c.wait.ensures.turn).known
+pub finish-answer-requires-clause-known : goal.finish-answer-requires-clause-known
+finish-answer-requires-clause-known g c = (lent_here _ _ _ _ c.requires.lent c.wait.ensures.turn).known
 
-pub hold-requires-clause-client : goal.hold-requires-clause-client
-hold-requires-clause-client g c = lent_client _ _ _ (lent_here _ _ _ _ c.requires.lent c.wait.ensures.turn).looks c.requires.lent.client_is
+pub finish-answer-requires-clause-client : goal.finish-answer-requires-clause-client
+finish-answer-requires-clause-client g c = lent_client _ _ _ (lent_here _ _ _ _ c.requires.lent c.wait.ensures.turn).looks c.requires.lent.client_is
 
 pub returns-clause-made : goal.returns-clause-made
 returns-clause-made g c =
-    let h = c.hold.ensures in
-    lent_made _ _ _ _ _ _ (lent_here _ _ _ _ c.requires.lent c.wait.ensures.turn) h.idle h.parts h.made h.known
+    let h = c.finish-answer.ensures in
+    lent_made _ _ _ _ _ _ (lent_here _ _ _ _ c.requires.lent c.wait.ensures.turn) h.idle h.parts h.told h.known

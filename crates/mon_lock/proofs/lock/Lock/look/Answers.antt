@@ -1,43 +1,23 @@
-use Rattle.std.proofs.Common.{◌↔◌, IsTrue, length, sym, subst, ap, ◌∙◌}
-use Rattle.atomic_table.specs.Table.{Me}
-use Rattle.mon_events.specs.Logs.{IsClosed}
-use Rattle.mon_explicit.specs.Sections.{FreeMachine, HasEnded}
-use Rattle.mon_lock.specs.declared.view.Knowledge.{Knowledge}
-use Rattle.mon_lock.specs.declared.view.View.{View}
-use Rattle.mon_lock.specs.Passes.{IsKnown, Looks}
-use Rattle.mon_lock.specs.inner.Turns.{HasMonitor}
-use Rattle.mon_lock.proofs.Calling.{holding_has, looks_seen}
+use Rattle.mon_lock.proofs.Waiters.{look_had}
 use Rattle.mon_lock.proofs.lock.Lock.look.Goals as goal
 
-pub is_closed-closed-requires-clause-turn : goal.is_closed-closed-requires-clause-turn
-is_closed-closed-requires-clause-turn g c = (holding_has c.lock.result c.lock.new.seat.me c.lock.ensures.turn)
-
-pub entries-entries-requires-clause-turn : goal.entries-entries-requires-clause-turn
-entries-entries-requires-clause-turn g c = subst HasMonitor (sym c.is_closed-closed.ensures.same) (holding_has c.lock.result c.lock.new.seat.me c.lock.ensures.turn)
-
-pub unlock-requires-clause-turn : goal.unlock-requires-clause-turn
-unlock-requires-clause-turn g c = let same = c.entries-entries.ensures.same ∙ c.is_closed-closed.ensures.same in subst HasMonitor (sym same) (holding_has c.lock.result c.lock.new.seat.me c.lock.ensures.turn)
+pub returns-clause-idle : goal.returns-clause-idle
+returns-clause-idle g c = c.request.ensures.made.idle
 
 pub returns-clause-parts : goal.returns-clause-parts
-returns-clause-parts g c = let same = c.entries-entries.ensures.same ∙ c.is_closed-closed.ensures.same in c.unlock.ensures.parts ∙ (ap (λ (m : Me FreeMachine View). m.0.parts) same ∙ c.lock.ensures.parts)
+returns-clause-parts g c = c.request.ensures.made.parts
 
 pub returns-clause-looks : goal.returns-clause-looks
-returns-clause-looks g c = let same = c.entries-entries.ensures.same ∙ c.is_closed-closed.ensures.same in let known = c.unlock.ensures.known ∙ ap (λ (m : Me FreeMachine View). m.0.known) same in subst (Looks c.args.seat.now.me.0.known) (sym known) c.lock.ensures.looks
+returns-clause-looks g c = (look_had _ _ _ _ c.in-Closed.is c.request.ensures.made.told).looks
 
 pub returns-clause-closed : goal.returns-clause-closed
-returns-clause-closed g c =
-    let same = c.entries-entries.ensures.same ∙ c.is_closed-closed.ensures.same in let known = c.unlock.ensures.known ∙ ap (λ (m : Me FreeMachine View). m.0.known) same in
-    subst (λ (k : Knowledge). IsTrue c.is_closed-closed.result ↔ IsClosed k.front.system k.front.now) (sym known) c.is_closed-closed.ensures.closed
+returns-clause-closed g c = (look_had _ _ _ _ c.in-Closed.is c.request.ensures.made.told).closed
 
 pub returns-clause-ends : goal.returns-clause-ends
-returns-clause-ends g c = let same = c.entries-entries.ensures.same ∙ c.is_closed-closed.ensures.same in let known = c.unlock.ensures.known ∙ ap (λ (m : Me FreeMachine View). m.0.known) same in subst (λ (k : Knowledge). IsTrue c.is_closed-closed.result → HasEnded k.front) (sym known) c.is_closed-closed.ensures.ends
+returns-clause-ends g c = (look_had _ _ _ _ c.in-Closed.is c.request.ensures.made.told).ends
 
 pub returns-clause-entries : goal.returns-clause-entries
-returns-clause-entries g c =
-    let same = c.entries-entries.ensures.same ∙ c.is_closed-closed.ensures.same in let known = c.unlock.ensures.known ∙ ap (λ (m : Me FreeMachine View). m.0.known) same in
-    c.entries-entries.ensures.entries
-    ∙ (ap (λ (m : Me FreeMachine View). length m.0.known.front.log) c.is_closed-closed.ensures.same
-    ∙ (sym (looks_seen _ _ c.lock.ensures.looks) ∙ ap (λ (k : Knowledge). k.seen) (sym known)))
+returns-clause-entries g c = (look_had _ _ _ _ c.in-Closed.is c.request.ensures.made.told).entries
 
 pub returns-clause-known : goal.returns-clause-known
-returns-clause-known g c = let same = c.entries-entries.ensures.same ∙ c.is_closed-closed.ensures.same in let known = c.unlock.ensures.known ∙ ap (λ (m : Me FreeMachine View). m.0.known) same in subst IsKnown (sym known) c.lock.ensures.known
+returns-clause-known g c = c.request.ensures.made.known

@@ -22,4 +22,4 @@ finish-requires-clause-client c = lent_client _ _ _ (lent_turn _ _ _ _ _ c.requi
 pub returns-clause-comes : goal.returns-clause-comes
 returns-clause-comes c =
     let h = c.finish.ensures in
-    lent_made _ _ _ _ _ _ (lent_turn _ _ _ _ _ c.requires.lent c.call-distance.ensures.turn c.if-distance-ne0.false) h.idle h.parts h.made h.known
+    lent_made _ _ _ _ _ _ (lent_turn _ _ _ _ _ c.requires.lent c.call-distance.ensures.turn c.if-distance-ne0.false) h.idle h.parts h.told h.known
