@@ -93,26 +93,11 @@ drawn_made wish number me mid next answer w made = record {
 
 -- ---- an answer is that to its wish
 
-pub is_section : (client : ℕ) (before after : Knowledge) (answer : Answer) → IsAnswerTo (wishes.Section client) before after answer → (result : Result Receipt NotReady) × (answer ≡ answers.Section result)
-is_section client before after (answers.Section result) told = (result, refl)
-is_section client before after (answers.Standing stand) told = absurd told
-is_section client before after (answers.Closed look) told = absurd told
-
 pub section_had : (client : ℕ) (before after : Knowledge) (answer : Answer) (result : Result Receipt NotReady) → answer ≡ answers.Section result → IsAnswerTo (wishes.Section client) before after answer → SectionsShared client before after result
 section_had client before after answer result is told = subst (IsAnswerTo (wishes.Section client) before after) is told
 
-pub is_stand : (client : ℕ) (before after : Knowledge) (answer : Answer) → IsAnswerTo (wishes.Standing client) before after answer → (stand : Stand) × (answer ≡ answers.Standing stand)
-is_stand client before after (answers.Section result) told = absurd told
-is_stand client before after (answers.Standing stand) told = (stand, refl)
-is_stand client before after (answers.Closed look) told = absurd told
-
 pub stand_had : (client : ℕ) (before after : Knowledge) (answer : Answer) (stand : Stand) → answer ≡ answers.Standing stand → IsAnswerTo (wishes.Standing client) before after answer → FindsStand client before after stand
 stand_had client before after answer stand is told = subst (IsAnswerTo (wishes.Standing client) before after) is told
-
-pub is_look : (before after : Knowledge) (answer : Answer) → IsAnswerTo wishes.Closed before after answer → (look : Look) × (answer ≡ answers.Closed look)
-is_look before after (answers.Section result) told = absurd told
-is_look before after (answers.Standing stand) told = absurd told
-is_look before after (answers.Closed look) told = (look, refl)
 
 pub look_had : (before after : Knowledge) (answer : Answer) (look : Look) → answer ≡ answers.Closed look → IsAnswerTo wishes.Closed before after answer → FindsEnd before after look
 look_had before after answer look is told = subst (IsAnswerTo wishes.Closed before after) is told
