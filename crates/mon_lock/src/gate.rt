@@ -7,8 +7,8 @@ use std::thread::Threads;
 /// lock held.
 pub trait Gate: Sync {
     /// A worker has this client's ticket and has made so many sections. It tries a section of the
-    /// client next, unless it knows that the client rests, or another worker is at the monitor. Or
-    /// a caller of this client was given so many replies, and calls next.
+    /// client next, unless it knows that the client rests. Or a caller of this client was given so
+    /// many replies, and calls next.
     fn before<R: Threads + Wait + Sync>(&self, rt: &R, client: u32, sections: u64);
 }
 

@@ -1,9 +1,9 @@
-//! Who is awake, and who is in whose way. No clause rests on it.
+//! Who is awake. No clause rests on it.
 //!
 //! Sections are made one at a time, so one worker alone runs a monitor fastest; the others are
-//! there for when it is held at its gate. So a worker that comes while another is at the monitor
-//! goes away again, and dozes where two others are awake. Whoever leaves nobody awake at the gate
-//! wakes one, and who ends wakes all: what is to be done is never left to those that doze.
+//! there for when it is held at its gate. So a worker dozes between two turns where two others are
+//! awake. Whoever leaves nobody awake at the gate wakes one, and who ends wakes all: what is to be
+//! done is never left to those that doze.
 
 use std::sync::Wait;
 use std::sync::atomic::{AtomicU64, Ordering};
@@ -12,16 +12,14 @@ use std::sync::atomic::{AtomicU64, Ordering};
 /// looks whether it is held.
 const FEWEST_AWAKE: u64 = 2;
 
-/// How many workers are awake and not at their gates, how many doze or are about to, their bell,
-/// and how many are at the monitor. Of one worker alone nothing is counted, since nobody is in its
-/// way.
+/// How many workers are awake and not at their gates, how many doze or are about to, and their bell.
+/// Of one worker alone nothing is counted, since nobody waits for it.
 #[derive(Drop)]
 pub struct Roster {
     alone: bool,
     awake: AtomicU64,
     dozing: AtomicU64,
     rung: AtomicU64,
-    busy: AtomicU64,
 }
 
 impl Roster {
@@ -32,7 +30,6 @@ impl Roster {
             awake: AtomicU64::new(workers),
             dozing: AtomicU64::new(0),
             rung: AtomicU64::new(0),
-            busy: AtomicU64::new(0),
         }
     }
 
@@ -60,24 +57,15 @@ impl Roster {
         }
     }
 
-    /// A worker comes to the monitor. Whether no other is there.
-    pub fn come_to_monitor(&self) -> bool {
-        self.alone || self.busy.fetch_add(1, Ordering::SeqCst) == 0
-    }
-
-    /// A worker leaves the monitor.
-    pub fn leave_monitor(&self) {
-        if !self.alone {
-            self.busy.fetch_sub(1, Ordering::SeqCst);
-        }
-    }
-
     /// An awake worker dozes until it is wanted, where enough others are awake. Whether it did; it
     /// may wake for no reason.
     ///
     /// It is counted among those that doze before it is no more among the awake: who leaves nobody
     /// awake then sees it.
     pub fn doze<R: Wait>(&self, rt: &R) -> bool {
+        if !self.is_crowded() {
+            return false;
+        }
         let rung = self.rung.load(Ordering::SeqCst);
         self.dozing.fetch_add(1, Ordering::SeqCst);
         let dozes = self.lies_down();
@@ -87,6 +75,11 @@ impl Roster {
         }
         self.dozing.fetch_sub(1, Ordering::SeqCst);
         dozes
+    }
+
+    /// Whether more workers are awake than have to be.
+    fn is_crowded(&self) -> bool {
+        self.awake.load(Ordering::SeqCst) > FEWEST_AWAKE
     }
 
     /// One less is awake, where enough others are, and no other worker changed how many just now.

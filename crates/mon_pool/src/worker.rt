@@ -66,8 +66,6 @@ enum Turn {
     Rested,
     /// There was no ticket.
     Idle,
-    /// Another worker was at the monitor.
-    Crowded,
 }
 
 /// Makes sections until it is told that the monitor is closed. Nothing else ends it.
@@ -78,20 +76,18 @@ pub fn work<R: Threads + Wait + Sync, G: Gate>(rt: &R, shop: &Shop, gate: &G, wo
 {
     let backoff = Backoff::new();
     let mut idle = 0u32;
-    let mut crowded = 0u32;
     for _ in rt.forever() {
         match next_turn(rt, shop, gate, worker) {
             Turn::Made => {
                 backoff.reset();
                 idle = 0;
-                crowded = crowded.saturating_sub(1);
+                shop.roster.doze(rt);
             }
             Turn::Rested => idle = idle.saturating_add(1),
             Turn::Idle => {
                 idle = idle.saturating_add(1);
                 backoff.snooze();
             }
-            Turn::Crowded => crowded = make_way(rt, shop, crowded),
         }
         if idle >= shop.clients {
             idle = 0;
@@ -105,22 +101,6 @@ pub fn work<R: Threads + Wait + Sync, G: Gate>(rt: &R, shop: &Shop, gate: &G, wo
         }
     }
     unreachable!()
-}
-
-/// The most doublings of a pause.
-const MOST_DOUBLINGS: u32 = 10;
-
-/// A worker makes way for another. It dozes, or pauses the longer the more often it was in the way,
-/// which is answered.
-fn make_way<R: Wait>(rt: &R, shop: &Shop, crowded: u32) -> u32 {
-    if shop.roster.doze(rt) {
-        return 0;
-    }
-    let doublings = crowded.min(MOST_DOUBLINGS);
-    for _ in 0..1u32 << doublings {
-        thread::yield_now();
-    }
-    doublings + 1
 }
 
 /// Tries a section of the next client: the one whose ticket is the queue's first. A worker that is
@@ -187,8 +167,7 @@ fn take_turn<R: Threads + Wait + Sync, G: Gate>(
     turn
 }
 
-/// Tries a client whose ticket the worker has, unless the client rests, or another worker is at the
-/// monitor.
+/// Tries a client whose ticket the worker has, unless the client rests.
 fn try_client<R: Wait>(rt: &R, shop: &Shop, place: &mut Pass, client: u32) -> Turn
     requires own { IsPlace shop.now place.old }
     requires client { client < shop.now.clients }
@@ -197,18 +176,11 @@ fn try_client<R: Wait>(rt: &R, shop: &Shop, place: &mut Pass, client: u32) -> Tu
     if shop.hints.rests(client) {
         return Turn::Rested;
     }
-    let turn = if shop.roster.come_to_monitor() {
-        turn_of(try_section(rt, shop, place, client))
+    if try_section(rt, shop, place, client) {
+        Turn::Made
     } else {
-        Turn::Crowded
-    };
-    shop.roster.leave_monitor();
-    turn
-}
-
-/// What came of a try.
-fn turn_of(made: bool) -> Turn {
-    if made { Turn::Made } else { Turn::Rested }
+        Turn::Rested
+    }
 }
 
 /// Makes a section of a client whose ticket the worker has.
