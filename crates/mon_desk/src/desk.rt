@@ -10,7 +10,7 @@ use std::alloc::{AllocError, Global};
 use std::snapshot::Snapshot;
 
 /// How many cells a desk has.
-pub const CELLS: usize = 64;
+pub const CELLS: usize = 256;
 
 /// A row of cells, all opened about the same.
 #[derive(Drop)]

@@ -27,7 +27,7 @@ use std::{hint, mem};
 const MOST_ANSWERED: u64 = 256;
 
 /// How many pauses a seat makes that is lent, before it sleeps.
-const PAUSES: u64 = 20;
+const PAUSES: u64 = 4;
 
 /// How long it sleeps at a time, in microseconds.
 const NAP: u64 = 50;
