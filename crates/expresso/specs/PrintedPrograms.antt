@@ -1,20 +1,23 @@
 -- What threads do by the code that is printed of a monitor under its plan, and what the printed
 -- bodies do.
-use Rattle.std.specs.Prelude.{◌≡◌, ℕ, List, ◌∷◌, All, Some, slice_get}
+use Rattle.std.specs.Prelude.{◌≡◌, ℕ, false, List, ◌∷◌, All, Some, slice_get}
 use Rattle.mon_base.specs.declared.value.Value.{Value}
 use Rattle.mon_tree.specs.declared.tree.MonitorTree.{MonitorTree}
 use Rattle.mon_monitor.specs.declared.monitor.Block.{Block}
 use Rattle.mon_monitor.specs.Bodies.{Inputs, Memory}
+use Rattle.mon_monitor.specs.Inputs.{reads_inputs}
 use Rattle.mon_monitor.specs.MonitorParts.{MonitorParts}
 use Rattle.mon_types.specs.KeptMeaning.{expressions_in}
 use Rattle.mon_types.specs.Typed.{PlacedBlock, blocks_from}
 use Rattle.mon_implicit.specs.declared.script.Client.{Client}
 use Rattle.mon_implicit.specs.Scripted.{FitsScripts}
+use Rattle.mon_implicit.specs.Steps.{condition_truth, guard_truth}
 use Rattle.mon_events.specs.declared.plan.Plan.{Plan}
 use Rattle.mon_code.specs.Executions.{Moment}
 use Rattle.mon_code.specs.Laws.{Leads, LosesNone}
 use Rattle.mon_code.specs.LivePlans.{printed_program}
 use Rattle.mon_numbers.specs.Laws.{AreShort, CallSteps, StaysWide, scope_in}
+use Rattle.mon_numbers.specs.Tests.{printed_test}
 
 -- Any number of threads call the methods, each as often as it does, with arguments that fit. Then
 -- at each moment of each execution all that `LosesNone` lists is so: what ran is a run of the
@@ -38,6 +41,32 @@ BodiesStep tree monitor =
     → AreShort state → AreShort inputs.arguments → AreShort inputs.locals
     → CallSteps tree placed block state inputs
 
+-- A call of the function that is printed of a block's guard answers whether the guard is true: with
+-- the inputs where the guard reads any, and else without them. This is the law `printed_tests_hold`
+-- of `mon_numbers` for one monitor, and so is the next.
+abbrev pub TestsHold : MonitorTree → MonitorParts → Type 0
+TestsHold tree monitor =
+    (index : ℕ) (placed : PlacedBlock) (block : Block) (state : List Value) (inputs : Inputs)
+    → slice_get (blocks_from 0 tree.methods) index ≡ Some placed
+    → slice_get monitor.blocks index ≡ Some block
+    → printed_test tree placed (reads_inputs block.guard) state inputs
+    ≡ guard_truth monitor state index inputs
+
+-- A function that is printed without inputs serves all blocks of its condition, and the tests of
+-- notes on it: it answers whether the condition's guard is true.
+abbrev pub SharedTestsHold : MonitorTree → MonitorParts → Type 0
+SharedTestsHold tree monitor =
+    (index : ℕ) (placed : PlacedBlock) (block : Block) (other : ℕ) (waiting : Block)
+    (state : List Value) (inputs : Inputs)
+    → slice_get (blocks_from 0 tree.methods) index ≡ Some placed
+    → slice_get monitor.blocks index ≡ Some block
+    → slice_get monitor.blocks other ≡ Some waiting
+    → waiting.condition ≡ block.condition
+    → reads_inputs block.guard ≡ false
+    → (printed_test tree placed false state inputs
+    ≡ condition_truth monitor state block.condition)
+    × (printed_test tree placed false state inputs ≡ guard_truth monitor state other inputs)
+
 -- And no number that a printed guard or body makes on the way leaves 128 bits: the law
 -- `printed_numbers_are_wide` for one monitor.
 abbrev pub NumbersStayWide : MonitorTree → Type 0
@@ -52,4 +81,6 @@ NumbersStayWide tree =
 pub record IsAsPromised (tree : MonitorTree) (monitor : MonitorParts) (plan : Plan) : Type 0 where
   pub threads : ThreadsLoseNone monitor plan
   pub bodies : BodiesStep tree monitor
+  pub tests : TestsHold tree monitor
+  pub shared : SharedTestsHold tree monitor
   pub wide : NumbersStayWide tree

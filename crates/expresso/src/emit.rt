@@ -11,7 +11,7 @@ use crate::text::show_module;
 use mon_code::printed_code_loses_none;
 use mon_command::PlanChoice;
 use mon_io::{Files, Sink};
-use mon_numbers::{printed_bodies_step, printed_numbers_are_wide};
+use mon_numbers::{printed_bodies_step, printed_numbers_are_wide, printed_tests_hold};
 use std::alloc::{AllocError, Global};
 
 /// Compiles a monitor file and writes its Rust module under the plan that is placed, or the line of
@@ -30,6 +30,7 @@ pub(crate) fn emit_file<F: Files, S: Sink>(
 {
     printed_code_loses_none();
     printed_bodies_step();
+    printed_tests_hold();
     printed_numbers_are_wide();
     let found = match monitor_of(alloc, file, files, out) {
         Ok(found) => found,

@@ -15,6 +15,8 @@ returns-in-Ok-plan_of-clause-ended g c =
     let laws : PrintedLaws = record {
       threads = c.printed_code_loses_none.ensures;
       bodies = c.printed_bodies_step.ensures.steps;
+      tests = c.printed_tests_hold.ensures.own;
+      shared = c.printed_tests_hold.ensures.shared;
       wide = c.printed_numbers_are_wide.ensures.wide;
     } in
     emit_done laws c.args.file.now found.tree found.monitor plan
