@@ -1,7 +1,8 @@
 #!/usr/bin/env bash
 # Compares the running lock (SharedMonitor::section) with lock.rs, the same machine in plain Rust behind a std::sync::Mutex: sections a
 # second from 1, 2, 4 and 16 threads, and the ratio (ours / mutex). `level`: no client waits. `buffer`: they wait for each
-# other, and a thread also tries clients that are not ready. All runs of a row are interleaved.
+# other, and a thread also tries clients that are not ready. All runs of a row are interleaved. Then it prints how much later
+# than its entry a call returns: the median, and what 99 of a hundred don't exceed.
 #
 # It copies the crates that it needs, with what was kept of their proofs, into a workspace of its own, and adds the
 # program below; so it wants some gigabytes of temporary space, and takes minutes, or hours where nothing was kept.
@@ -36,11 +37,13 @@ stands_on() {
 
 # Writes the program that is measured.
 write_program() {
-  mkdir -p "$1/src" "$1/proofs/run"
+  mkdir -p "$1/src" "$1/proofs/run" "$1/proofs/moments_of"
   cat >"$1/src/main.rt" <<'PROGRAM'
 //! How many sections a second threads make on a monitor that they share.
 //!
 //! `lock_bench NAME THREADS ROUNDS`, where NAME is `level` or `buffer`: as `bench/lock.rs`.
+//! `lock_bench NAME THREADS moments`: for each section when it was over, and when the log was seen to grow, as
+//! `returned ENTRIES NANOSECONDS` and `grown ENTRIES NANOSECONDS` in the order in which each thread saw them.
 #![tactic(auto)]
 
 ghost use Rattle.std.specs.Prelude.{◌≡◌, ◌<◌, IfSome, length};
@@ -60,6 +63,7 @@ use mon_tokens::tokens;
 use mon_types::check;
 use std::alloc::{AllocError, Global};
 use std::sync::Wait;
+use std::sync::atomic::{AtomicU64, Ordering};
 use std::thread::Threads;
 use std::time::{Clock, Instant};
 use std::{env, io, thread};
@@ -67,6 +71,9 @@ use std::{env, io, thread};
 const CLIENTS: u32 = 32;
 
 const CALLS_A_CLIENT: u32 = 512;
+
+/// For how many moments a thread takes room before it starts.
+const MOST_MOMENTS: usize = 65_536;
 
 /// A monitor and its clients.
 #[derive(Clone, Copy)]
@@ -170,19 +177,47 @@ fn opened(alloc: Global, workload: Workload) -> Option<FreeMonitor>
     }
 }
 
-/// A thread's pass of a monitor, and how many sections it made.
+/// The log had so many entries by then, in nanoseconds from the start.
+#[derive(Clone, Copy)]
+struct Moment {
+    entries: u64,
+    nanoseconds: u128,
+}
+
+/// Writes down moments, from a start on.
+#[derive(Drop)]
+struct Notes {
+    start: Instant,
+    moments: Vec<Moment>,
+}
+
+impl Notes {
+    /// The log has so many entries now. Where memory runs out nothing is written down.
+    fn note<R: Clock>(&mut self, rt: &R, entries: u64) {
+        if let Ok(spent) = self.start.elapsed(rt) {
+            let moment = Moment {
+                entries,
+                nanoseconds: spent.as_nanos(),
+            };
+            if self.moments.push(moment).is_err() {}
+        }
+    }
+}
+
+/// A thread's pass of a monitor, how many sections it made, and its notes, if it makes any.
 #[derive(Drop)]
 struct Worker<'a> {
     shared: &'a SharedMonitor,
     pass: Pass,
     sections: u64,
+    notes: Option<Notes>,
     ghost own: { pass.lock ≡ shared.now.lock },
     ghost clients: { 32 ≡ length pass.known.front.system.clients },
 }
 
 impl<'a> Worker<'a> {
     /// A worker that has made no section.
-    fn of(shared: &'a SharedMonitor, pass: Pass) -> Worker<'a>
+    fn of(shared: &'a SharedMonitor, pass: Pass, notes: Option<Notes>) -> Worker<'a>
         requires own { pass.lock ≡ shared.now.lock }
         requires clients { 32 ≡ length pass.known.front.system.clients }
     {
@@ -190,16 +225,20 @@ impl<'a> Worker<'a> {
             shared,
             pass,
             sections: 0,
+            notes,
         }
     }
 
     /// A section of a client, and how many calls replied: one or none.
-    fn section<R: Wait>(&mut self, rt: &R, client: u32) -> u32
+    fn section<R: Wait + Clock>(&mut self, rt: &R, client: u32) -> u32
         requires { client < 32 }
     {
         match self.shared.section(rt, &mut self.pass, client) {
             Ok(receipt) => {
                 self.sections = self.sections.saturating_add(1);
+                if let Some(notes) = &mut self.notes {
+                    notes.note(rt, receipt.place.saturating_add(1));
+                }
                 u32::from(matches!(receipt.entry.outcome, Outcome::Replies { .. }))
             }
             Err(_) => 0,
@@ -207,7 +246,7 @@ impl<'a> Worker<'a> {
     }
 
     /// Tries the clients of this thread in turn until each has made all its calls.
-    fn work<R: Wait>(&mut self, rt: &R, first: u32, threads: u32)
+    fn work<R: Wait + Clock>(&mut self, rt: &R, first: u32, threads: u32)
         requires { 0 < threads }
     {
         let mut left = CLIENTS / threads * CALLS_A_CLIENT;
@@ -220,6 +259,23 @@ impl<'a> Worker<'a> {
             client = client_after(client, first, threads);
         }
     }
+
+    /// Notes each time that the log is seen to have grown, until nobody works.
+    fn watch<R: Wait + Clock>(&mut self, rt: &R, working: &AtomicU64) {
+        let mut last = 0;
+        for _ in rt.forever() {
+            let entries = self.shared.observe(&mut self.pass);
+            if let Some(notes) = &mut self.notes {
+                if entries > last {
+                    notes.note(rt, entries);
+                    last = entries;
+                }
+            }
+            if working.load(Ordering::SeqCst) == 0 {
+                return;
+            }
+        }
+    }
 }
 
 /// The next client of a thread: the clients of each thread are so many apart, and begin with its first.
@@ -230,15 +286,24 @@ fn client_after(client: u32, first: u32, threads: u32) -> u32 {
 
 /// A worker for each pass.
 fn hire<'a>(
+    alloc: Global,
     shared: &'a SharedMonitor,
     passes: Vec<Pass>,
+    start: Option<Instant>,
     workers: &mut Vec<Worker<'a>>,
 ) -> Result<(), AllocError>
     requires own { All (λ pass. pass.lock ≡ shared.now.lock) passes.items }
     requires clients { All (λ pass. 32 ≡ length pass.known.front.system.clients) passes.items }
 {
     for pass in passes {
-        workers.push(Worker::of(shared, pass))?;
+        let notes = match start {
+            Some(start) => Some(Notes {
+                start,
+                moments: Vec::with_capacity(alloc, MOST_MOMENTS)?,
+            }),
+            None => None,
+        };
+        workers.push(Worker::of(shared, pass, notes))?;
     }
     Ok(())
 }
@@ -255,7 +320,7 @@ fn run<R: Threads + Wait + Sync + Clock>(
 {
     let (shared, passes) = SharedMonitor::open(alloc, free, threads)?;
     let mut workers = Vec::new(alloc);
-    hire(&shared, passes, &mut workers)?;
+    hire(alloc, &shared, passes, None, &mut workers)?;
     let start = Instant::now(rt)?;
     thread::for_each_mut(
         rt,
@@ -271,9 +336,59 @@ fn run<R: Threads + Wait + Sync + Clock>(
     Ok((sections, spent.as_nanos()))
 }
 
-/// What the words ask for: a workload, so many threads, and so many rounds.
-fn asked(words: &[String]) -> Option<(Workload, u32, u32)>
-    ensures { IfSome result (λ asked. 0 < asked.1) }
+/// Has threads make sections while one more looks how long the log is: what each noted, that one last.
+fn moments_of<R: Threads + Wait + Sync + Clock>(
+    rt: &R,
+    alloc: Global,
+    free: FreeMonitor,
+    threads: u32,
+) -> io::Result<Vec<Vec<Moment>>>
+    requires clients { 32 ≡ length free.system.clients }
+    requires threads { (0 < threads) × (threads < 32) }
+{
+    let (shared, passes) = SharedMonitor::open(alloc, free, threads + 1)?;
+    let mut workers = Vec::new(alloc);
+    let start = Instant::now(rt)?;
+    hire(alloc, &shared, passes, Some(start), &mut workers)?;
+    let working = AtomicU64::new(u64::from(threads));
+    thread::for_each_mut(
+        rt,
+        workers.as_mut_slice(),
+        threads as usize + 1,
+        &|number, worker| {
+            if number >= threads as usize {
+                worker.watch(rt, &working);
+            } else {
+                worker.work(rt, (number % 32) as u32, threads);
+                working.fetch_sub(1, Ordering::SeqCst);
+            }
+        },
+    );
+    let mut all = Vec::new(alloc);
+    for worker in workers {
+        let Worker {
+            shared: _,
+            pass: _,
+            sections: _,
+            notes,
+        } = worker;
+        if let Some(Notes { start: _, moments }) = notes {
+            all.push(moments)?;
+        }
+    }
+    Ok(all)
+}
+
+/// What is measured: the time of all sections, in so many rounds, or each section's moments.
+#[derive(Clone, Copy)]
+enum Measure {
+    Rounds(u32),
+    Moments,
+}
+
+/// What the words ask for: a workload, so many threads, and what is measured.
+fn asked(words: &[String]) -> Option<(Workload, u32, Measure)>
+    ensures { IfSome result (λ asked. (0 < asked.1) × (asked.1 < 32)) }
 {
     let workload = match words.get(1)?.as_str() {
         "level" => Workload::Level,
@@ -281,33 +396,93 @@ fn asked(words: &[String]) -> Option<(Workload, u32, u32)>
         _ => return None,
     };
     let threads = words.get(2)?.parse::<u32>().ok()?;
-    let rounds = words.get(3)?.parse::<u32>().ok()?;
-    if threads == 0 || threads > 32 {
+    let word = words.get(3)?;
+    let measure = if word.as_str() == "moments" {
+        Measure::Moments
+    } else {
+        Measure::Rounds(word.parse::<u32>().ok()?)
+    };
+    if threads == 0 || threads >= 32 {
         return None;
     }
-    Some((workload, threads, rounds))
+    Some((workload, threads, measure))
 }
 
-fn main(rt: HostRuntime) -> io::Result<()> {
-    let words: Vec<String> = env::args(&rt)?.collect(rt.alloc())?;
-    let Some((workload, threads, rounds)) = asked(&words) else {
-        return println!(rt; "usage: lock_bench level|buffer THREADS ROUNDS");
-    };
+/// Prints how long the sections took, in each of so many rounds.
+fn print_rounds<R: Threads + Wait + Sync + Clock + Print>(
+    rt: &R,
+    alloc: Global,
+    workload: Workload,
+    threads: u32,
+    rounds: u32,
+) -> io::Result<()>
+    requires threads { 0 < threads }
+{
     for _ in 0..rounds {
-        let Some(free) = opened(rt.alloc(), workload) else {
+        let Some(free) = opened(alloc, workload) else {
             return println!(rt; "no monitor");
         };
-        let (sections, nanoseconds) = run(&rt, rt.alloc(), free, threads)?;
+        let (sections, nanoseconds) = run(rt, alloc, free, threads)?;
         println!(rt; "sections {sections} nanoseconds {nanoseconds}")?;
     }
     Ok(())
 }
+
+/// Prints each section's moments.
+fn print_moments<R: Threads + Wait + Sync + Clock + Print>(
+    rt: &R,
+    alloc: Global,
+    workload: Workload,
+    threads: u32,
+) -> io::Result<()>
+    requires threads { (0 < threads) × (threads < 32) }
+{
+    let Some(free) = opened(alloc, workload) else {
+        return println!(rt; "no monitor");
+    };
+    let all = moments_of(rt, alloc, free, threads)?;
+    for (number, list) in all.iter().enumerate() {
+        let kind = if number >= threads as usize {
+            "grown"
+        } else {
+            "returned"
+        };
+        print_list(rt, kind, list)?;
+    }
+    Ok(())
+}
+
+/// Prints moments of a kind.
+fn print_list<R: Print>(rt: &R, kind: &str, list: &[Moment]) -> io::Result<()> {
+    for moment in list {
+        println!(rt; "{kind} {} {}", moment.entries, moment.nanoseconds)?;
+    }
+    Ok(())
+}
+
+fn main(rt: HostRuntime) -> io::Result<()> {
+    let words: Vec<String> = env::args(&rt)?.collect(rt.alloc())?;
+    let Some((workload, threads, measure)) = asked(&words) else {
+        return println!(rt; "usage: lock_bench level|buffer THREADS ROUNDS|moments");
+    };
+    match measure {
+        Measure::Rounds(rounds) => print_rounds(&rt, rt.alloc(), workload, threads, rounds),
+        Measure::Moments => print_moments(&rt, rt.alloc(), workload, threads),
+    }
+}
 PROGRAM
-  cat >"$1/proofs/run/Answers.antt" <<'ANSWERS'
+  for name in run moments_of; do
+    write_answers "$name" >"$1/proofs/$name/Answers.antt"
+  done
+}
+
+# The answers of a function that has threads work: passes may go from one thread to another.
+write_answers() {
+  cat <<ANSWERS
 use denote.Param.Send.{sendable}
 use Rattle.std.proofs.Crossing.{crosses}
 use Rattle.mon_lock.proofs.Crossing.{pass_send, shared_sync}
-use Rattle.lock_bench.proofs.run.Goals as goal
+use Rattle.lock_bench.proofs.$1.Goals as goal
 
 pub for_each_mut-requires-send-T : goal.for_each_mut-requires-send-T
 for_each_mut-requires-send-T g c κs within =
@@ -349,5 +524,16 @@ for workload in level buffer; do
     figures=$("$here/measure.py" rates "$rounds" "$LOCK_BENCH $given" "$work/lock $given")
     read -r ours mutex ratio <<<"$figures"
     printf "$row" "$workload" "$threads" "$ours" "$mutex" "$ratio"
+  done
+done
+
+echo "from the entry of a section until its call returned, as one more thread sees the log grow: $rounds runs"
+row='%-8s %7s %10s %10s %10s\n'
+printf "$row" workload threads median_us 99th_us sections
+for workload in level buffer; do
+  for threads in 1 2 4 16; do
+    figures=$("$here/measure.py" late "$rounds" "$LOCK_BENCH $workload $threads moments")
+    read -r median last sections <<<"$figures"
+    printf "$row" "$workload" "$threads" "$median" "$last" "$sections"
   done
 done

@@ -5,12 +5,14 @@
   measure.py pair ROUNDS OURS PEER                    prints: ours_ms peer_ms ratio ours_kib peer_kib
   measure.py times ROUNDS OURS.. PEER                 prints: ours_ms.. peer_ms ratio..
   measure.py rates ROUNDS OURS.. PEER                 prints: ours_a_second.. peer_a_second ratio..
+  measure.py late ROUNDS COMMAND                      prints: median_us ninety_ninth_us sections
 
 A command is one word for the shell's quoting, as 'out/expresso_cli check a.mon'. Each number is the median of the
 rounds. The runs of a row are interleaved (ours, peer, ours, ..), so that what else the machine does hits both alike.
 A command that fails, or two of a `pair` that print different texts, end the program with a message.
 """
 
+import bisect
 import os
 import re
 import shlex
@@ -23,6 +25,9 @@ import time
 
 # What a command prints for `rates`.
 RATE = re.compile(r"sections (\d+) nanoseconds (\d+)")
+
+# What a command prints for `late`: a section was over, or the log was seen to have grown.
+MOMENT = re.compile(r"(returned|grown) (\d+) (\d+)")
 
 # Rounds for peak memory, which hardly varies.
 MEMORY_ROUNDS = 3
@@ -125,6 +130,26 @@ def rates(rounds, *commands):
     return " ".join([f"{median:.0f}" for median in medians] + [f"{ratio:.2f}" for ratio in ratios])
 
 
+def latenesses(output):
+    """For each section of an output how many nanoseconds after its entry was seen in the log its call returned."""
+    moments = [(kind, int(entries), int(spent)) for kind, entries, spent in MOMENT.findall(output)]
+    grown = [(entries, spent) for kind, entries, spent in moments if kind == "grown"]
+    found = []
+    for kind, entries, spent in moments:
+        place = bisect.bisect_left(grown, (entries, 0))
+        if kind == "returned" and place < len(grown):
+            found.append(max(0, spent - grown[place][1]))
+    return found
+
+
+def late(rounds, words):
+    """The row of a command that prints moments: how much later than its entry a call returned, in microseconds."""
+    found = sorted(one for _ in range(rounds) for one in latenesses(run(words)[2]))
+    if not found:
+        fail(f"no moments in what {shlex.join(words)} prints")
+    return f"{found[len(found) // 2] / 1e3:.1f} {found[len(found) * 99 // 100] / 1e3:.1f} {len(found)}"
+
+
 def main(words):
     """Prints the row that the words ask for."""
     match words:
@@ -136,6 +161,8 @@ def main(words):
             print(times(int(rounds), *map(shlex.split, words[2:])))
         case ["rates", rounds, _, _, *_]:
             print(rates(int(rounds), *map(shlex.split, words[2:])))
+        case ["late", rounds, command]:
+            print(late(int(rounds), shlex.split(command)))
         case _:
             sys.exit(__doc__)
 
