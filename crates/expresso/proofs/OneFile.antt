@@ -11,8 +11,7 @@ use Rattle.mon_events.specs.declared.plan.Plan.{Plan}
 use Rattle.mon_events.specs.PlanText.{plan_text}
 use Rattle.mon_text.specs.FaultText.{unread_text}
 use Rattle.mon_code.specs.Laws.{PrintedCodeLosesNone}
-use Rattle.mon_numbers.specs.Laws.{PrintedBodiesStep, PrintedNumbersAreWide, PrintedTestsHold}
-use Rattle.mon_numbers.specs.Laws.{SharedTestsHold as SharedLaw}
+use Rattle.mon_numbers.specs.Laws.{PrintedBodiesStep, PrintedNumbersAreWide, PrintedTestsHold, SharedTestsHold}
 use Rattle.mon_module.specs.Modules.{rust_text}
 use Rattle.expresso.specs.declared.status.Status.{Status}
 use Rattle.expresso.specs.declared.status.Status.TheVariants as statuses
@@ -23,7 +22,7 @@ use Rattle.mon_command.specs.CommandLine.{Command, check, compile, report, expla
 use Rattle.mon_why.specs.declared.reason.Reason.{Reason}
 use Rattle.expresso.specs.Placements.{IsChosen, IsPlacement}
 use Rattle.expresso.specs.MonitorFiles.{IsAccepted}
-use Rattle.expresso.specs.PrintedPrograms.{BodiesStep, IsAsPromised, NumbersStayWide, SharedTestsHold, TestsHold, ThreadsLoseNone}
+use Rattle.expresso.specs.PrintedPrograms.{BodiesStep, IsAsPromised, NumbersStayWide, TestsAreShared, TestsHold, ThreadsLoseNone}
 use Rattle.expresso.specs.Texts.{explained_text}
 use Rattle.expresso.specs.inner.Explaining.{IsExplained}
 use Rattle.expresso.specs.FirstFaults.{IsRefusalLine}
@@ -149,7 +148,7 @@ pub record PrintedLaws : Type 0 where
   pub threads : PrintedCodeLosesNone
   pub bodies : PrintedBodiesStep
   pub tests : PrintedTestsHold
-  pub shared : SharedLaw
+  pub shared : SharedTestsHold
   pub wide : PrintedNumbersAreWide
 
 bodies_step : PrintedBodiesStep → (bytes : List ℕ) (tree : MonitorTree) (monitor : MonitorParts) → IsAccepted bytes tree monitor → BodiesStep tree monitor
@@ -160,8 +159,8 @@ tests_hold : PrintedTestsHold → (bytes : List ℕ) (tree : MonitorTree) (monit
 tests_hold law bytes tree monitor accepted = λ index placed block state inputs at held.
     law tree monitor index placed block state inputs accepted.unbroken accepted.typed at held
 
-shared_tests_hold : SharedLaw → (bytes : List ℕ) (tree : MonitorTree) (monitor : MonitorParts) → IsAccepted bytes tree monitor → SharedTestsHold tree monitor
-shared_tests_hold law bytes tree monitor accepted = λ index placed block other waiting state inputs at held too same bare.
+tests_are_shared : SharedTestsHold → (bytes : List ℕ) (tree : MonitorTree) (monitor : MonitorParts) → IsAccepted bytes tree monitor → TestsAreShared tree monitor
+tests_are_shared law bytes tree monitor accepted = λ index placed block other waiting state inputs at held too same bare.
     law tree monitor index placed block other waiting state inputs accepted.unbroken accepted.typed at held too same bare
 
 numbers_stay_wide : PrintedNumbersAreWide → (bytes : List ℕ) (tree : MonitorTree) (monitor : MonitorParts) → IsAccepted bytes tree monitor → NumbersStayWide tree
@@ -175,7 +174,7 @@ is_as_promised laws bytes tree monitor plan accepted placement = record {
   threads = threads_lose_none laws.threads monitor plan placement;
   bodies = bodies_step laws.bodies bytes tree monitor accepted;
   tests = tests_hold laws.tests bytes tree monitor accepted;
-  shared = shared_tests_hold laws.shared bytes tree monitor accepted;
+  shared = tests_are_shared laws.shared bytes tree monitor accepted;
   wide = numbers_stay_wide laws.wide bytes tree monitor accepted;
 }
 

@@ -1,5 +1,5 @@
--- What threads do by the code that is printed of a monitor under its plan, and what the printed
--- bodies do.
+-- What threads do by the code that is printed of a monitor under its plan, what the printed bodies
+-- and tests do, and how large the numbers on the way are.
 use Rattle.std.specs.Prelude.{◌≡◌, ℕ, false, List, ◌∷◌, All, Some, slice_get}
 use Rattle.mon_base.specs.declared.value.Value.{Value}
 use Rattle.mon_tree.specs.declared.tree.MonitorTree.{MonitorTree}
@@ -43,7 +43,7 @@ BodiesStep tree monitor =
 
 -- A call of the function that is printed of a block's guard answers whether the guard is true: with
 -- the inputs where the guard reads any, and else without them. This is the law `printed_tests_hold`
--- of `mon_numbers` for one monitor, and so is the next.
+-- of `mon_numbers` for one monitor.
 abbrev pub TestsHold : MonitorTree → MonitorParts → Type 0
 TestsHold tree monitor =
     (index : ℕ) (placed : PlacedBlock) (block : Block) (state : List Value) (inputs : Inputs)
@@ -53,9 +53,9 @@ TestsHold tree monitor =
     ≡ guard_truth monitor state index inputs
 
 -- A function that is printed without inputs serves all blocks of its condition, and the tests of
--- notes on it: it answers whether the condition's guard is true.
-abbrev pub SharedTestsHold : MonitorTree → MonitorParts → Type 0
-SharedTestsHold tree monitor =
+-- notes on it: it answers whether the condition's guard is true. This is that law's other part.
+abbrev pub TestsAreShared : MonitorTree → MonitorParts → Type 0
+TestsAreShared tree monitor =
     (index : ℕ) (placed : PlacedBlock) (block : Block) (other : ℕ) (waiting : Block)
     (state : List Value) (inputs : Inputs)
     → slice_get (blocks_from 0 tree.methods) index ≡ Some placed
@@ -82,5 +82,5 @@ pub record IsAsPromised (tree : MonitorTree) (monitor : MonitorParts) (plan : Pl
   pub threads : ThreadsLoseNone monitor plan
   pub bodies : BodiesStep tree monitor
   pub tests : TestsHold tree monitor
-  pub shared : SharedTestsHold tree monitor
+  pub shared : TestsAreShared tree monitor
   pub wide : NumbersStayWide tree

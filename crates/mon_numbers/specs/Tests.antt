@@ -15,7 +15,7 @@ abbrev pub taken_inputs : Bool → Inputs → Inputs
 taken_inputs true inputs = inputs
 taken_inputs false inputs = no_inputs
 
--- what a call of it answers in a state, in the same way
+-- what a call of the printed function answers in a state, with the inputs that it takes
 abbrev pub printed_test : MonitorTree → PlacedBlock → Bool → List Value → Inputs → Bool
 printed_test tree placed reads state inputs =
     truth_in (worked (entries (guard_scope tree placed.method reads))
