@@ -10,7 +10,7 @@ use Rattle.mon_bodies.specs.Blocks.{block_name}
 abbrev pub IsBlockWord : List ℕ → Type 0
 IsBlockWord word = (word ≡ codes "can") ⊎ (word ≡ codes "run")
 
--- the number, from 1, of a block among those of its method
+-- the number, from 1 and below 2^64, of a block among those of its method
 abbrev pub IsBlockNumber : ℕ → Type 0
 IsBlockNumber number = (1 ≤ number) × (number < 2 ^ 64)
 

@@ -20,7 +20,7 @@ pub enum Wish {
     Closed,
 }
 
-/// What came of a wish, which has the variant of this name.
+/// What came of a wish: the variant has the name of the wish's.
 #[derive(Drop)]
 pub enum Answer {
     Section(Result<Receipt, NotReady>),

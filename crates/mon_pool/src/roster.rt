@@ -12,8 +12,8 @@ use std::sync::atomic::{AtomicU64, Ordering};
 /// looks whether it is held.
 const FEWEST_AWAKE: u64 = 2;
 
-/// How many workers are awake and not at their gates, how many doze or are about to, and their bell.
-/// Of one worker alone nothing is counted, since nobody waits for it.
+/// How many workers are awake and not at their gates, how many doze or are about to, and their
+/// bell. Of one worker alone nothing is counted, since nobody waits for it.
 #[derive(Drop)]
 pub struct Roster {
     alone: bool,

@@ -1,4 +1,5 @@
-//! A worker, and what it does at its turns.
+//! A worker, and what it does at its turns. Where it is alone it goes round the clients itself; else
+//! it takes their tickets from the ready queue.
 
 ghost use Rattle.std.specs.Prelude.{◌≡◌, ◌<◌, IfSome, IsTrue};
 ghost use Rattle.mon_queue.specs.Tickets.{new_pass};
@@ -9,7 +10,6 @@ use crossbeam_utils::Backoff;
 use mon_lock::{Gate, Pass};
 use mon_queue::QueuePass;
 use std::sync::Wait;
-use std::thread;
 use std::thread::Threads;
 
 /// A worker: its passes, how many sections it has made, and the client that it tries next where it
