@@ -1,4 +1,4 @@
-//! How those who wait have their wishes.
+//! How what those who wait wish for is done by whoever has the monitor.
 //!
 //! A waiting seat is lent by a letter in the cell of its ticket, for a section or for a look.
 //! Whoever has had its own wish goes through the letters that it finds for the next tickets, and
@@ -18,7 +18,7 @@ ghost use Rattle.mon_lock.specs.inner.Turns.{HasMonitor, IsHolding};
 
 use super::lent::{Answer, Debt, Lent, Letter, Place, Returned, Wish};
 use super::lock::Lock;
-use super::rule::{SERVING, Seat, Spare};
+use super::rule::{NEXT, SERVING, Seat, Spare};
 use std::sync::Wait;
 use std::time::Duration;
 use std::{hint, mem};
@@ -30,7 +30,7 @@ const MOST_ANSWERED: u64 = 256;
 const PAUSES: u64 = 4;
 
 /// How long it sleeps at a time, in microseconds.
-const NAP: u64 = 50;
+const NAP: u64 = 100;
 
 impl Lock {
     /// Does what is wished with the monitor that the seat has.
@@ -121,9 +121,12 @@ impl Lock {
         made
     }
 
-    /// Answers the letters that are posted for the tickets from this one on. After many it wakes
-    /// who is next instead.
+    /// Answers the letters that are posted for the tickets from this one on, and looks for none where
+    /// this one isn't drawn. After many it wakes who is next instead.
     fn serve(&self, first: u64) {
+        if self.board.shared.peek(NEXT) == first {
+            return;
+        }
         let mut ticket = first;
         for _ in 0..MOST_ANSWERED {
             if !self.answer(ticket) {
