@@ -70,6 +70,8 @@ use std::{env, io, thread};
 
 const CLIENTS: u32 = 32;
 
+const MOST_THREADS: u32 = 16;
+
 const CALLS_A_CLIENT: u32 = 512;
 
 /// For how many moments a thread takes room before it starts.
@@ -402,7 +404,8 @@ fn asked(words: &[String]) -> Option<(Workload, u32, Measure)>
     } else {
         Measure::Rounds(word.parse::<u32>().ok()?)
     };
-    if threads == 0 || threads >= 32 {
+    // Each thread has as many clients as the others.
+    if threads == 0 || threads > MOST_THREADS || CLIENTS % threads != 0 {
         return None;
     }
     Some((workload, threads, measure))
