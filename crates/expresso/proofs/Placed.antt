@@ -7,6 +7,7 @@ use Rattle.mon_events.specs.Configurations.{System, situation_of}
 use Rattle.mon_events.specs.Pending.{IsSystem}
 use Rattle.mon_events.specs.declared.plan.Plan.{Plan}
 use Rattle.mon_events.specs.Plans.{IsLawful, has_note, notes_at}
+use Rattle.mon_events.proofs.Counting.{lawful_by_counting}
 use Rattle.mon_events.specs.Logs.{IsLegal, IsClosed, commits_of}
 use Rattle.mon_explicit.specs.Sections.{FreeMachine, HoldsAlways, HasEnded}
 use Rattle.mon_place.specs.Relayed.{RelayedPlansAreLawful, RelayedPlansFit, RelayedPlansOmitNoMore, relay_of}
@@ -59,5 +60,5 @@ placed_run choice system next chosen same closed always ends = record {
   closed = subst (λ (s : System). IsClosed s next.now) same closed;
   run = subst (λ (s : System). IsRun s.monitor s.clients (commits_of next.log) (situation_of next.now)) same always.run;
   ends = subst (λ (s : System). Ends s.monitor s.clients (situation_of next.now)) same
-      (ends (subst (λ (s : System). IsLawful s.monitor s.plan) (sym same) chosen.lawful));
+      (ends (lawful_by_counting next.system.monitor next.system.plan (subst (λ (s : System). IsLawful s.monitor s.plan) (sym same) chosen.lawful)));
 }

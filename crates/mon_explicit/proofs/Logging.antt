@@ -13,12 +13,13 @@ use Rattle.mon_events.specs.declared.plan.Plan.{Plan}
 use Rattle.mon_events.specs.declared.event.Event.TheVariants as events
 use Rattle.mon_events.specs.declared.event.Stage.{Stage}
 use Rattle.mon_events.specs.declared.log.Entry.{Entry}
-use Rattle.mon_events.specs.Plans.{IsLawful, FitsPlan}
+use Rattle.mon_events.specs.Plans.{FitsPlan}
+use Rattle.mon_events.specs.Counts.{IsLawfulByCounting}
 use Rattle.mon_events.specs.Configurations.{System, Phase, Standing, Configuration, StandsAt, put, idle_at, situation_of}
 use Rattle.mon_events.specs.Configurations.Phase.{Idle, Entering, Waiting, Woken, Inside, Notifying}
 use Rattle.mon_events.specs.Events.{WakesSpuriously}
 use Rattle.mon_events.specs.Pending.{IsSystem, IsSound}
-use Rattle.mon_events.specs.Laws.{HasLawfulPlan}
+use Rattle.mon_events.specs.Laws.{HasCountingPlan}
 use Rattle.mon_events.specs.Logs.{IsSection, IsLegal, IsClosed, WaitsSince, is_wait_of, says_waits, rests, is_spurious_entry}
 use Rattle.mon_events.specs.Logs.IsSection.{waited, refused, replied}
 use Rattle.mon_events.specs.Logs.IsLegal.{empty, sectioned, woken}
@@ -62,7 +63,7 @@ always machine is clients legal settled few most =
     let sound = sound_of system machine.log machine.now is legal in
     let commits = legal_commits system machine.log machine.now legal in
     let bound : length machine.log ≤ room_of machine = omega (arith, log_bounded system is machine.log machine.now legal, few) in
-    let kept = λ (lawful : IsLawful system.monitor system.plan). legal_keeps system (IsKeptPending system) (kept_lasts system (record { is = is; lawful = lawful })) machine.log machine.now legal in
+    let kept = λ (lawful : IsLawfulByCounting system.monitor system.plan). legal_keeps system (IsKeptPending system) (kept_lasts system (record { is = is; lawful = lawful })) machine.log machine.now legal in
     let product : all_blocks system.monitor system.clients * length system.clients ≤ 65536 * 32 = mul-le-mul (blocks_few system.monitor system.clients is.rule clients) clients.few in
     record {
       rule = record { is = is; clients = clients; legal = legal; free = settled.free; commits = commits; spurious = few; extra = most; bounded = bound; covered = λ lawful. (kept lawful).covered };
@@ -76,7 +77,7 @@ always machine is clients legal settled few most =
 pub ended : (machine : FreeMachine) → HoldsAlways machine → IsClosed machine.system machine.now → HasEnded machine
 ended machine holds closed lawful =
     let system = machine.system in
-    let set : HasLawfulPlan system = record { is = holds.rule.is; lawful = lawful } in
+    let set : HasCountingPlan system = record { is = holds.rule.is; lawful = lawful } in
     closed_ends system machine.now set (legal_keeps system (IsKeptPending system) (kept_lasts system set) machine.log machine.now holds.rule.legal) closed
 
 -- ---- spurious entries

@@ -17,7 +17,7 @@ use Rattle.mon_explicit.specs.declared.position.Position.{Position}
 use Rattle.mon_events.specs.Configurations.{Phase, Standing, Configuration, StandsAt, put}
 use Rattle.mon_events.specs.Configurations.Phase.{Idle, Entering, Woken}
 use Rattle.mon_events.specs.Events.{IsEvent, WantsLock}
-use Rattle.mon_events.specs.Laws.{HasLawfulPlan}
+use Rattle.mon_events.specs.Laws.{HasCountingPlan}
 use Rattle.mon_events.proofs.Ending.{wake_is_pending, stuck_ends}
 use Rattle.mon_explicit.specs.Machines.{Machine, IsMachine, KeepsWakeUps, NotAllowed}
 use Rattle.mon_explicit.specs.inner.Positions.{phase_of, standing_of, machine_of, PositionAt, WantsLockAt}
@@ -172,7 +172,7 @@ none_is (Some client) is = absurd (cc is)
 
 pub keeps_wake_ups : (machine : Machine) → IsMachine machine → KeepsWakeUps machine
 keeps_wake_ups machine rule lawful =
-    let set : HasLawfulPlan machine.system = record { is = rule.is; lawful = lawful } in record {
+    let set : HasCountingPlan machine.system = record { is = rule.is; lawful = lawful } in record {
       pending = wake_is_pending machine.system machine.now set rule.sound (rule.covered lawful);
       ends = stuck_ends machine.system machine.now set rule.sound (rule.covered lawful);
     }

@@ -7,7 +7,7 @@ use Rattle.mon_events.specs.declared.plan.Plan.{Plan}
 use Rattle.mon_events.specs.declared.event.Event.{Event}
 use Rattle.mon_events.specs.declared.event.Stage.{Stage}
 use Rattle.mon_events.specs.declared.event.Stage.TheVariants as stages
-use Rattle.mon_events.specs.Plans.{IsLawful}
+use Rattle.mon_events.specs.Counts.{IsLawfulByCounting}
 use Rattle.mon_events.specs.Configurations.{System, Phase, Configuration, initial, system_under}
 use Rattle.mon_events.specs.Configurations.{situation_of}
 use Rattle.mon_events.specs.Configurations.Phase.{Idle, Entering, Waiting, Woken, Inside, Notifying}
@@ -27,7 +27,7 @@ pub record IsMachine (machine : Machine) : Type 0 where
   pub is : IsSystem machine.system
   pub clients : AreClients machine.system.clients
   pub sound : IsSound machine.system machine.now
-  pub covered : IsLawful machine.system.monitor machine.system.plan
+  pub covered : IsLawfulByCounting machine.system.monitor machine.system.plan
       → IsCovered machine.system machine.now
 
 -- no wake-up is lost: one is pending, and where the machine is stuck its run is at its end
@@ -36,9 +36,10 @@ pub record LosesNoWakeUp (machine : Machine) : Type 0 where
   pub ends : IsStuck machine.system machine.now
       → Ends machine.system.monitor machine.system.clients (situation_of machine.now)
 
--- under a lawful plan no wake-up is lost
+-- under a lawful plan, or one that is lawful by counting, no wake-up is lost
 abbrev pub KeepsWakeUps : Machine → Type 0
-KeepsWakeUps machine = IsLawful machine.system.monitor machine.system.plan → LosesNoWakeUp machine
+KeepsWakeUps machine =
+    IsLawfulByCounting machine.system.monitor machine.system.plan → LosesNoWakeUp machine
 
 -- the machine at the start
 abbrev pub opened : MonitorParts → Plan → List Client → Machine

@@ -11,7 +11,7 @@ use Rattle.mon_implicit.specs.Runs.{IsRun, Ends}
 use Rattle.mon_events.specs.declared.plan.Plan.{Plan}
 use Rattle.mon_events.specs.declared.log.Entry.{Entry}
 use Rattle.mon_events.specs.declared.log.Outcome.TheVariants as outcomes
-use Rattle.mon_events.specs.Plans.{IsLawful}
+use Rattle.mon_events.specs.Counts.{IsLawfulByCounting}
 use Rattle.mon_events.specs.Configurations.{System, Phase, Standing, Configuration, StandsAt}
 use Rattle.mon_events.specs.Configurations.{initial, situation_of, system_under}
 use Rattle.mon_events.specs.Configurations.Phase.{Idle, Waiting, Woken}
@@ -43,9 +43,9 @@ room_of machine =
     all_blocks machine.system.monitor machine.system.clients * length machine.system.clients
     + 2 * machine.extra
 
--- under a lawful plan
+-- under a lawful plan, or one that is lawful by counting
 abbrev pub HasLawful : System → Type 0
-HasLawful system = IsLawful system.monitor system.plan
+HasLawful system = IsLawfulByCounting system.monitor system.plan
 
 -- The rule of every such monitor: its log is legal and leads to its configuration, in which no one
 -- owns the lock.
