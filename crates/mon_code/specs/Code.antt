@@ -12,25 +12,43 @@ use Rattle.mon_events.specs.declared.plan.Plan.{Plan}
 use Rattle.mon_events.specs.Plans.{notes_at}
 use Rattle.mon_events.specs.Configurations.{block_condition}
 
--- ---- operations; each stands for a statement of Rust, with `m` for the block's name
+-- ---- operations; each stands for a statement of Rust
 
+-- There `can_m` and `run_m` are the functions of a block's guard and body, and `can_c` is that of
+-- the guard of a condition's first block, and the condition's variable. They are handed the
+-- parameters and locals that they take, as in `can_m(amount, seen)` and `run_m(amount, &mut seen)`.
+-- `lock` and `wait` are functions of the module, which call `Mutex::lock` and `Condvar::wait`.
+--
+-- Of what else is printed, `State::START`, with which the mutex begins, is the state at the `start`
+-- of an execution (specs/Executions). A method's head, and after it `let mut seen: i64 = 0;` for
+-- each local, are the move `Calls`; its end is the move `Returns`. The last line of a method is
+-- what its last block answered: `answer`, or none where it has no result; `Ok(answer)` where a body
+-- of the method may overflow; `Some(answer)` where its calls try; `Ok(Some(answer))` where both is
+-- so. In these three it is `()` in place of `answer` where there is no result.
+
+-- what a thread does in a call, by one statement
 pub data Op : Type 0 where
-  -- `let mut state = lock(&self.state);`
+  -- `let mut state = lock(&self.state);`: the mutex is taken
   Lock : Op
-  -- `while !state.can_m() { state = wait(&self.can_m, state); }`: the guard of a block, on a
-  -- condition
+  -- `while !state.can_m() { state = wait(&self.can_c, state); }`: the guard of a block, on a
+  -- condition; where the condition reads no inputs, the test is `can_c()`
   WaitUntil : (block condition : ℕ) → Op
-  -- `if !state.can_m() { return None; }`: the guard of a block; the answer is `Ok(None)` where a
-  -- call of the method may overflow
+  -- `if !state.can_m() { return None; }`: the guard of a block, tested as above; the answer is
+  -- `Ok(None)` where a body of the method may overflow. The `return` drops the guard of the mutex:
+  -- this is the `Unlock` that the move `Refuses` leaves to do
   ElseRefuse : (block : ℕ) → Op
-  -- `let Ok(answer) = state.run_m() else { .. return Err(Overflow); };`: the body of a block, and
-  -- the notes that are made where it overflows; `state.run_m();` where it can't, and no `answer` is
-  -- kept where the method returns none
+  -- the body of a block, and the notes that are made where it overflows:
+  -- `let answer = state.run_m();` where it can't overflow;
+  -- `let answer = state.run_m()?;` where it may and there are no such notes;
+  -- `let Ok(answer) = state.run_m() else { self.can_c.notify_one(); return Err(Overflow); };` where
+  -- there are. Where it has no result it is `state.run_m();`, `state.run_m()?;` and
+  -- `let Ok(()) = ..`. The `?` and the `return` of an overflow drop the guard of the mutex: this is
+  -- the `Unlock` that ends `telling_code`
   Run : (block : ℕ) (otherwise : List Note) → Op
-  -- `self.can_m.notify_one();`, or `notify_all` where the note is for all; where it is tested, in
-  -- an `if` on the guard of its condition
+  -- `self.can_c.notify_one();`, or `notify_all` where the note is for all; where it is tested, in
+  -- `if state.can_c() { .. }`
   Notify : (note : Note) → Op
-  -- `drop(state);`: the guard of the mutex is dropped
+  -- `drop(state);`: the guard of the mutex is dropped, which gives the mutex back
   Unlock : Op
 
 -- ---- whether anyone ever waits on a condition: its guard is not `true`
