@@ -1,0 +1,230 @@
+// Made by `expresso emit`. Change the monitor, and not this file.
+
+use std::sync::{Condvar, Mutex, MutexGuard, PoisonError};
+
+/// The monitor `MapGate`. Threads share it by reference. A call waits for its guard, unless it tries.
+#[allow(dead_code, non_camel_case_types, clippy::upper_case_acronyms)]
+pub struct MapGate {
+    state: Mutex<State>,
+    /// For calls that wait until `!writing && queued == 0`.
+    can_start_read: Condvar,
+    /// For calls that wait until `readers == 0 && !writing`.
+    can2_start_write: Condvar,
+}
+
+#[rustfmt::skip]
+#[allow(dead_code, clippy::style)]
+impl MapGate {
+    /// The monitor at its start.
+    #[must_use]
+    pub const fn new() -> Self {
+        Self {
+            state: Mutex::new(State::START),
+            can_start_read: Condvar::new(),
+            can2_start_write: Condvar::new(),
+        }
+    }
+
+    /// Waits until `!writing && queued == 0`.
+    ///
+    /// Wakes nobody.
+    ///
+    /// # Errors
+    ///
+    /// [`Overflow`] where a number would leave 64 bits. Then nothing changes.
+    pub fn start_read(&self) -> Result<(), Overflow> {
+        let mut state = lock(&self.state);
+        while !state.can_start_read() {
+            state = wait(&self.can_start_read, state);
+        }
+        let Ok(()) = state.run_start_read() else {
+            self.can_start_read.notify_one();
+            return Err(Overflow);
+        };
+        drop(state);
+        Ok(())
+    }
+
+    /// Answers `None` where `!writing && queued == 0` is false.
+    ///
+    /// Wakes nobody.
+    ///
+    /// # Errors
+    ///
+    /// [`Overflow`] where a number would leave 64 bits. Then nothing changes.
+    pub fn try_start_read(&self) -> Result<Option<()>, Overflow> {
+        let mut state = lock(&self.state);
+        if !state.can_start_read() {
+            return Ok(None);
+        }
+        let Ok(()) = state.run_start_read() else {
+            self.can_start_read.notify_one();
+            return Err(Overflow);
+        };
+        drop(state);
+        Ok(Some(()))
+    }
+
+    /// Does not wait.
+    ///
+    /// Wakes one call that waits until `readers == 0 && !writing`, where that now holds.
+    ///
+    /// # Errors
+    ///
+    /// [`Overflow`] where a number would leave 64 bits. Then nothing changes.
+    pub fn end_read(&self) -> Result<(), Overflow> {
+        let mut state = lock(&self.state);
+        state.run_end_read()?;
+        if state.can2_start_write() {
+            self.can2_start_write.notify_one();
+        }
+        drop(state);
+        Ok(())
+    }
+
+    /// Does not wait.
+    ///
+    /// Wakes nobody.
+    ///
+    /// Then waits until `readers == 0 && !writing`.
+    ///
+    /// Wakes all calls that wait until `!writing && queued == 0`, where that now holds.
+    ///
+    /// # Errors
+    ///
+    /// [`Overflow`] where a number would leave 64 bits. Its block then changes nothing, and no later one runs.
+    pub fn start_write(&self) -> Result<(), Overflow> {
+        let mut state = lock(&self.state);
+        state.run_start_write()?;
+        drop(state);
+        let mut state = lock(&self.state);
+        while !state.can2_start_write() {
+            state = wait(&self.can2_start_write, state);
+        }
+        let Ok(()) = state.run2_start_write() else {
+            self.can2_start_write.notify_one();
+            return Err(Overflow);
+        };
+        if state.can_start_read() {
+            self.can_start_read.notify_all();
+        }
+        drop(state);
+        Ok(())
+    }
+
+    /// Does not wait.
+    ///
+    /// Wakes all calls that wait until `!writing && queued == 0`, where that now holds.
+    /// Wakes one call that waits until `readers == 0 && !writing`, where that now holds.
+    pub fn end_write(&self) {
+        let mut state = lock(&self.state);
+        state.run_end_write();
+        if state.can_start_read() {
+            self.can_start_read.notify_all();
+        }
+        if state.can2_start_write() {
+            self.can2_start_write.notify_one();
+        }
+        drop(state);
+    }
+}
+
+impl Default for MapGate {
+    fn default() -> Self {
+        Self::new()
+    }
+}
+
+impl std::fmt::Debug for MapGate {
+    fn fmt(&self, f: &mut std::fmt::Formatter<'_>) -> std::fmt::Result {
+        let state = *self
+            .state
+            .lock()
+            .unwrap_or_else(std::sync::PoisonError::into_inner);
+        f.debug_struct(std::any::type_name::<Self>())
+            .field("state", &state)
+            .finish_non_exhaustive()
+    }
+}
+
+/// The fields of the monitor.
+#[derive(Clone, Copy, Debug)]
+#[allow(dead_code)]
+struct State {
+    readers: i64,
+    queued: i64,
+    writing: bool,
+}
+
+// The guards and bodies, with expressions as the monitor has them.
+#[rustfmt::skip]
+#[allow(unused, unused_comparisons, clippy::all, clippy::pedantic)]
+impl State {
+    const START: Self = Self {
+        readers: 0,
+        queued: 0,
+        writing: false,
+    };
+
+    fn can_start_read(&self) -> bool {
+        !self.writing && self.queued == 0
+    }
+
+    fn run_start_read(&mut self) -> Result<(), Overflow> {
+        self.readers = narrow(i128::from(self.readers) + 1)?;
+        Ok(())
+    }
+
+    fn run_end_read(&mut self) -> Result<(), Overflow> {
+        self.readers = narrow(i128::from(self.readers) - 1)?;
+        Ok(())
+    }
+
+    fn run_start_write(&mut self) -> Result<(), Overflow> {
+        self.queued = narrow(i128::from(self.queued) + 1)?;
+        Ok(())
+    }
+
+    fn can2_start_write(&self) -> bool {
+        self.readers == 0 && !self.writing
+    }
+
+    fn run2_start_write(&mut self) -> Result<(), Overflow> {
+        self.queued = narrow(i128::from(self.queued) - 1)?;
+        self.writing = true;
+        Ok(())
+    }
+
+    fn run_end_write(&mut self) {
+        self.writing = false;
+    }
+}
+
+/// Locks the state. Nothing panics while it is locked, so there is no poison to heed.
+fn lock(state: &Mutex<State>) -> MutexGuard<'_, State> {
+    state.lock().unwrap_or_else(PoisonError::into_inner)
+}
+
+/// Gives the lock back and waits on the condition, in one step, and takes the lock again.
+fn wait<'a>(condition: &Condvar, state: MutexGuard<'a, State>) -> MutexGuard<'a, State> {
+    condition
+        .wait(state)
+        .unwrap_or_else(PoisonError::into_inner)
+}
+
+/// A number would have left 64 bits.
+#[derive(Clone, Copy, Debug, PartialEq, Eq)]
+pub struct Overflow;
+
+impl std::fmt::Display for Overflow {
+    fn fmt(&self, f: &mut std::fmt::Formatter<'_>) -> std::fmt::Result {
+        f.write_str("a number would leave 64 bits")
+    }
+}
+
+impl std::error::Error for Overflow {}
+
+/// The number, where it has 64 bits.
+fn narrow(number: i128) -> Result<i64, Overflow> {
+    i64::try_from(number).map_err(|_| Overflow)
+}
