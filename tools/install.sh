@@ -99,7 +99,14 @@ build() {
     mkdir -p "$cache" || fail "no folder $cache"
     exec 9>"$cache/lock"
     flock -n 9 || fail "another call is building in $cache"
-    find "$cache" -type f \( -name '*.rt' -o -name '*.antt' \) -not -path '*/out/*' -delete
+    # Of an earlier call only what was proved is left, of crates that are still there.
+    for crate in "$cache"/crates/*/; do
+        crate=$(basename "$crate")
+        case " ${crates[*]} " in
+            *" $crate "*) rm -rf "$cache/crates/$crate"/{src,specs,proofs} "$cache/crates/$crate"/out/expresso_cli ;;
+            *) rm -rf "$cache/crates/$crate" ;;
+        esac
+    done
     files | xargs -0 cp --parents -t "$cache" || fail "no room for the sources in $cache"
     cp HANDLES "$cache" || fail "no room in $cache"
     for crate in "${crates[@]}"; do
@@ -107,6 +114,7 @@ build() {
     done >"$cache/crates.txt"
     (cd "$cache" && exec "$rt" all check --jobs "$jobs" 2>&1 9>&-) | tee "$cache/log" | while IFS= read -r line; do
         case $line in
+            '== summary') ;;
             '== '*)
                 at=$((at + 1))
                 say "$at of ${#crates[@]}: ${line#== }, $(((SECONDS - begin + 30) / 60)) minutes"

@@ -57,7 +57,9 @@ case $1 in
             echo "== ${line%%[: ]*}"
             echo x >>"$MADE/calls"
             [ "${line%%[: ]*}" != "$fails" ] || exit 1
+            mkdir -p "crates/${line%%[: ]*}/out"
         done <crates.txt
+        echo "== summary"
         ;;
     run)
         mkdir -p out
@@ -84,9 +86,12 @@ breaks "a prefix in a file" "you may not make files in" "$installer" file/prefix
 echo mon_text >"$made/fails"
 breaks "a proof that fails" "not everything was proved" "$installer" prefix
 same "a proof that fails"
+mkdir -p "$XDG_CACHE_HOME/expresso/crates/that_was/out"
 echo link >"$made/fails"
 breaks "a program that isn't built" "the program was not built" "$installer" prefix
 same "a program that isn't built"
+[ -d "$XDG_CACHE_HOME/expresso/crates/mon_list/out" ] || fail "a program that isn't built: what was proved is gone"
+[ ! -e "$XDG_CACHE_HOME/expresso/crates/that_was" ] || fail "a crate that is no longer there: its folder is left"
 : >"$made/fails"
 mv usage whole_usage
 echo usage: >usage
@@ -97,7 +102,7 @@ mv whole_usage usage
 : >"$made/calls"
 holds "an install" "$installer" prefix
 grep -q "^Proving .* crates, .* at a time: about .* minutes" "$made/said" || fail "an install: it doesn't say how long it takes"
-grep -q "^[0-9]* of [0-9]*: expresso_cli, [0-9]* minutes$" "$made/said" || fail "an install: it doesn't say how far it is"
+grep -q "^\([0-9]*\) of \1: expresso_cli, [0-9]* minutes$" "$made/said" || fail "an install: it doesn't say how far it is"
 [ ! -e "$XDG_CACHE_HOME/expresso" ] || fail "an install: its folder is left"
 prefix/bin/expresso | cmp - usage || fail "an install: not the program that was built"
 for file in bin/expresso $("$made/copy/tools/manual.py" list); do
