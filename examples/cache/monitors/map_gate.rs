@@ -6,9 +6,9 @@ use std::sync::{Condvar, Mutex, MutexGuard, PoisonError};
 #[allow(dead_code, non_camel_case_types, clippy::upper_case_acronyms)]
 pub struct MapGate {
     state: Mutex<State>,
-    /// For calls that wait until `!writing && queued == 0`.
+    /// For calls that wait until `state >= 0 && queued == 0`.
     can_start_read: Condvar,
-    /// For calls that wait until `readers == 0 && !writing`.
+    /// For calls that wait until `state == 0`.
     can2_start_write: Condvar,
 }
 
@@ -25,7 +25,7 @@ impl MapGate {
         }
     }
 
-    /// Waits until `!writing && queued == 0`.
+    /// Waits until `state >= 0 && queued == 0`.
     ///
     /// Wakes nobody.
     ///
@@ -45,7 +45,7 @@ impl MapGate {
         Ok(())
     }
 
-    /// Answers `None` where `!writing && queued == 0` is false.
+    /// Answers `None` where `state >= 0 && queued == 0` is false.
     ///
     /// Wakes nobody.
     ///
@@ -67,7 +67,7 @@ impl MapGate {
 
     /// Does not wait.
     ///
-    /// Wakes one call that waits until `readers == 0 && !writing`, where that now holds.
+    /// Wakes one call that waits until `state == 0`, where that now holds.
     ///
     /// # Errors
     ///
@@ -86,9 +86,9 @@ impl MapGate {
     ///
     /// Wakes nobody.
     ///
-    /// Then waits until `readers == 0 && !writing`.
+    /// Then waits until `state == 0`.
     ///
-    /// Wakes all calls that wait until `!writing && queued == 0`, where that now holds.
+    /// Wakes nobody.
     ///
     /// # Errors
     ///
@@ -105,27 +105,22 @@ impl MapGate {
             self.can2_start_write.notify_one();
             return Err(Overflow);
         };
-        if state.can_start_read() {
-            self.can_start_read.notify_all();
-        }
         drop(state);
         Ok(())
     }
 
     /// Does not wait.
     ///
-    /// Wakes all calls that wait until `!writing && queued == 0`, where that now holds.
-    /// Wakes one call that waits until `readers == 0 && !writing`, where that now holds.
+    /// Wakes all calls that wait until `state >= 0 && queued == 0`, where that now holds.
+    /// Wakes one call that waits until `state == 0`.
     pub fn end_write(&self) {
         let mut state = lock(&self.state);
         state.run_end_write();
         if state.can_start_read() {
             self.can_start_read.notify_all();
         }
-        if state.can2_start_write() {
-            self.can2_start_write.notify_one();
-        }
         drop(state);
+        self.can2_start_write.notify_one();
     }
 }
 
@@ -151,9 +146,8 @@ impl std::fmt::Debug for MapGate {
 #[derive(Clone, Copy, Debug)]
 #[allow(dead_code)]
 struct State {
-    readers: i64,
+    state: i64,
     queued: i64,
-    writing: bool,
 }
 
 // The guards and bodies, with expressions as the monitor has them.
@@ -161,22 +155,23 @@ struct State {
 #[allow(unused, unused_comparisons, clippy::all, clippy::pedantic)]
 impl State {
     const START: Self = Self {
-        readers: 0,
+        state: 0,
         queued: 0,
-        writing: false,
     };
 
     fn can_start_read(&self) -> bool {
-        !self.writing && self.queued == 0
+        self.state >= 0 && self.queued == 0
     }
 
     fn run_start_read(&mut self) -> Result<(), Overflow> {
-        self.readers = narrow(i128::from(self.readers) + 1)?;
+        self.state = narrow(i128::from(self.state) + 1)?;
         Ok(())
     }
 
     fn run_end_read(&mut self) -> Result<(), Overflow> {
-        self.readers = narrow(i128::from(self.readers) - 1)?;
+        if self.state > 0 {
+            self.state = narrow(i128::from(self.state) - 1)?;
+        }
         Ok(())
     }
 
@@ -186,17 +181,21 @@ impl State {
     }
 
     fn can2_start_write(&self) -> bool {
-        self.readers == 0 && !self.writing
+        self.state == 0
     }
 
     fn run2_start_write(&mut self) -> Result<(), Overflow> {
-        self.queued = narrow(i128::from(self.queued) - 1)?;
-        self.writing = true;
+        let mut next = *self;
+        next.state = -1;
+        if next.queued > 0 {
+            next.queued = narrow(i128::from(next.queued) - 1)?;
+        }
+        *self = next;
         Ok(())
     }
 
     fn run_end_write(&mut self) {
-        self.writing = false;
+        self.state = 0;
     }
 }
 
