@@ -1,8 +1,8 @@
 #!/usr/bin/env python3
 """`tools/completions_check.py SHELL PREFIX ROWS` tries the completions below PREFIX in bash, zsh or fish.
 
-A row of ROWS is a line that is typed, `|`, and the words that its last word may become, in the folder at hand. Prints each
-row that comes out otherwise, and fails where there is one.
+A row of ROWS is a line that is typed, `|`, and the words that its last word may become, in the folder at hand. Prints
+each row that comes out otherwise, and fails where there is one.
 """
 
 import os
@@ -34,7 +34,8 @@ print end >>{offered}
 def by_bash(prefix, line):
     # Bash takes a `=` for a word of its own.
     words = line.replace("=", " = ").split(" ")
-    ran = subprocess.run(["bash", "--norc", "-c", BASH, "bash", prefix, *words], capture_output=True, text=True, check=True)
+    command = ["bash", "--norc", "-c", BASH, "bash", prefix, *words]
+    ran = subprocess.run(command, capture_output=True, text=True, check=True)
     return [word + "/" * os.path.isdir(word) for word in ran.stdout.split()]
 
 

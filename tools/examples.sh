@@ -1,7 +1,8 @@
 #!/usr/bin/env bash
 # Has the program print the module of each monitor of examples/, which must be the one that is kept there. Then, where
-# cargo is installed, each project is built without a warning, tested and run, with no network: with the modules that are
-# kept, and with those that the program prints. Fails where one of them does, or prints what examples/README.md hasn't.
+# cargo is installed, each project is built without a warning, tested and run, with no network: with the modules that
+# are kept, and with those that the program prints. Fails where one of them does, or prints what examples/README.md
+# hasn't.
 cd "$(dirname "$0")/.." || exit 1
 program=$PWD/crates/expresso_cli/out/expresso_cli
 made=$(mktemp -d) || exit 1

@@ -1,8 +1,8 @@
 #!/usr/bin/env python3
 """Checks that README.md and docs/GUIDE.md show what the program prints: `tools/guide_check.py [PROGRAM]`.
 
-1. Where a document says that a command prints something, and a block of lines follows, the command prints these lines. A
-   line `...` stands for any lines.
+1. Where a document says that a command prints something, and a block of lines follows, the command prints these lines.
+   A line `...` stands for any lines.
 2. Each monitor of GUIDE's advice has the plan and the reasons that stand there.
 3. Each message in GUIDE's tables comes of the slips that stand beside it.
 4. Each command that README lists does its work.
@@ -96,7 +96,8 @@ def readme(checker):
     checker.wants("README", 0, log[log.index("A.1 "):], ["simulate", "data/buffer.mon", "data/two.cl"])
     buffer = (HOME / "data" / "buffer.mon").read_text()
     four = checker.file("four.mon", buffer.replace("CAP = 1", "CAP = 4"))
-    checker.wants("README", 0, "condition 1 broadcast: count < CAP\ncondition 2 broadcast: count > 0\n", ["compile", four])
+    both = "condition 1 broadcast: count < CAP\ncondition 2 broadcast: count > 0\n"
+    checker.wants("README", 0, both, ["compile", four])
     wrong = checker.file("wrong.mon", buffer.replace("< CAP", "< CAPACITY"))
     checker.wants("README", 1, f"refused: {wrong}:4:35: unknown name\n", ["check", wrong])
     listed = next(it for it in blocks if "# the plan\n" in it)
@@ -123,13 +124,15 @@ def advice(checker):
     size = re.search(r"^sed '(.*)' job_gate\.mon >", GUIDE, re.M)[1]
     gate = (ROOT / "examples" / "jobs" / "monitors" / "job_gate.mon").read_text()
     larger = subprocess.run(["sed", size], input=gate, capture_output=True, text=True, check=True).stdout
-    checker.wants("GUIDE", 0, "monitor LargeJobGate {\n  const CAP = 64;\n", ["check", checker.file("large.mon", larger)])
+    large = checker.file("large.mon", larger)
+    checker.wants("GUIDE", 0, "monitor LargeJobGate {\n  const CAP = 64;\n", ["check", large])
 
 
 def slips(checker):
     """Each message of GUIDE's table on refusals."""
     for message, head, fields in slip_monitors():
-        monitor = checker.file("slip.mon", f"monitor M {{ int x = 0; bool held = false; const C = 2; {fields} {head} }}\n")
+        fields = f"int x = 0; bool held = false; const C = 2; {fields}"
+        monitor = checker.file("slip.mon", f"monitor M {{ {fields} {head} }}\n")
         checker.wants("GUIDE", 1, "", ["check", monitor])
         if not checker.run(["check", monitor])[1].endswith(f": {message}\n"):
             checker.faults.append(f"GUIDE: not `{message}`, but {checker.run(['check', monitor])[1]}of {head} {fields}")
@@ -159,8 +162,8 @@ def audits(checker):
     """The plan that GUIDE shows, and each message of its table on plans."""
     lock = next(it for it in re.findall(BLOCK, GUIDE, re.M) if it.startswith("plan Lock\n"))
     whole = lock.replace("release: none", "release: 1 signal")
-    level = "monitor Level { int x = 0; method reach(int n) waituntil (n <= x) { } method add() waituntil (true) { x = x + 1; } }"
-    level = checker.file("level.mon", level)
+    reach, add = "method reach(int n) waituntil (n <= x) { }", "method add() waituntil (true) { x = x + 1; }"
+    level = checker.file("level.mon", f"monitor Level {{ int x = 0; {reach} {add} }}")
     four = checker.file("four.mon", (HOME / "data" / "buffer.mon").read_text().replace("CAP = 1", "CAP = 4"))
     plan, signals = checker.run(["compile", four])[1], checker.run(["compile", four, "--relay"])[1]
     reading = checker.run(["compile", level])[1]

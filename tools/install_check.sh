@@ -1,10 +1,10 @@
 #!/usr/bin/env bash
-# Checks the manual, and tools/install.sh on a copy of the checkout: with an `rt` that proves nothing, since `rt ci` does,
-# and leaves a program that only prints its usage. Fails where an installed file is missing or wrong, where a second call
-# does something, or where a call that fails leaves anything below its prefix.
+# Checks the manual, and tools/install.sh on a copy of the checkout: with an `rt` that proves nothing, since `rt ci`
+# does, and leaves a program that only prints its usage. Fails where an installed file is missing or wrong, where a
+# second call does something, or where a call that fails leaves anything below its prefix.
 #
-# Then the manual page is rendered where groff, man or mandoc is installed, and the completions are tried in bash, and in
-# zsh and fish where they are installed.
+# Then the manual page is rendered where groff, man or mandoc is installed, and the completions are tried in bash, zsh
+# and fish, where they are installed.
 cd "$(dirname "$0")/.." || exit 1
 program=$PWD/crates/expresso_cli/out/expresso_cli
 made=$(mktemp -d) || exit 1
@@ -44,7 +44,8 @@ same() {
     [ "$(picture)" = "$before" ] || fail "$1: something is left below the prefix: $(picture)"
 }
 
-if [ -x "$program" ]; then holds "the manual" tools/manual.py check "$program"; else holds "the manual" tools/manual.py check; fi
+[ -x "$program" ] || program=''
+holds "the manual" tools/manual.py check ${program:+"$program"}
 
 # An `rt` that proves nothing. $MADE/fails names what it fails in, and $MADE/calls counts the crates that it was given.
 cat >"$RT" <<'STUB'
@@ -101,8 +102,8 @@ mv whole_usage usage
 
 : >"$made/calls"
 holds "an install" "$installer" prefix
-grep -q "^Proving .* crates, .* at a time: about .* minutes" "$made/said" || fail "an install: it doesn't say how long it takes"
-grep -q "^\([0-9]*\) of \1: expresso_cli, [0-9]* minutes$" "$made/said" || fail "an install: it doesn't say how far it is"
+grep -q "^Proving .* crates, .* at a time: about .* minutes" "$made/said" || fail "an install: how long does it take?"
+grep -q "^\([0-9]*\) of \1: expresso_cli, [0-9]* minutes$" "$made/said" || fail "an install: how far is it?"
 [ ! -e "$XDG_CACHE_HOME/expresso" ] || fail "an install: its folder is left"
 prefix/bin/expresso | cmp - usage || fail "an install: not the program that was built"
 for file in bin/expresso $("$made/copy/tools/manual.py" list); do
@@ -158,7 +159,7 @@ if has mandoc; then
     tried+=' mandoc'
 fi
 if has man; then
-    (PATH="$made/prefix/bin:$PATH" MANPAGER=cat MANWIDTH=80 man expresso >page.txt 2>page.warnings) || fail "man: no page"
+    PATH="$made/prefix/bin:$PATH" MANPAGER=cat man expresso >page.txt 2>page.warnings || fail "man: no page"
     [ ! -s page.warnings ] || fail "man warns: $(cat page.warnings)"
     grep -q "compile monitors" page.txt || fail "man shows another page"
     tried+=' man'

@@ -2,9 +2,9 @@
 """Makes the manual page and the completions of `expresso` from tools/manual.txt.
 
 `tools/manual.py write FOLDER` writes them below FOLDER, each where an installed program's stands.
-`tools/manual.py list` prints where that is. `tools/manual.py check [PROGRAM]` fails where manual.txt hasn't the usage of
-README.md, or of what PROGRAM prints; where it describes a command, a value or an option that the usage hasn't, or lacks
-one that it has; and where its exit statuses are not those of the program's sources.
+`tools/manual.py list` prints where that is. `tools/manual.py check [PROGRAM]` fails where manual.txt hasn't the usage
+of README.md, or of what PROGRAM prints; where it describes a command, a value or an option that the usage hasn't, or
+lacks one that it has; and where its exit statuses are not those of the program's sources.
 """
 
 import itertools
@@ -92,15 +92,21 @@ def filled(lines):
 
 def paragraphs(lines, first, later):
     """The lines of an entry: the request `first` begins its first paragraph, and `later` each other one."""
-    made, begins = [], first
-    for is_verbatim, group in itertools.groupby(lines, lambda line: line[:4] == "    " or line and None):
-        if is_verbatim:
+    made = []
+    for kind, group in itertools.groupby(lines, kind_of_line):
+        if kind == "verbatim":
             made += [".PP", ".RS 4", ".nf", *(shielded(roff(line[4:])) for line in group), ".fi", ".RE"]
-            begins = later
-        elif is_verbatim is None:
-            made += [begins] * bool(begins) + filled(group)
-            begins = later
+        elif kind == "text":
+            begins = later if made else first
+            made += ([begins] if begins else []) + filled(group)
     return made
+
+
+def kind_of_line(line):
+    """Whether a line stands as it is, is of a paragraph, or ends one."""
+    if line.startswith("    "):
+        return "verbatim"
+    return "text" if line else "end"
 
 
 def placeholders(text):
@@ -132,7 +138,7 @@ def page_of(manual):
             made += [f".SH {entry.kind.upper()}"]
         elif entry.kind == "command":
             made += item(forms[entry.name], entry)
-        elif entry.kind == "value" and entry.name.split()[0] in manual.globs and "*" in entry.name:
+        elif entry.kind == "value" and "*" in entry.name:
             made += item(entry.name.split()[0], entry)
         elif entry.kind in ("option", "status"):
             made += item(entry.name, entry)
@@ -242,7 +248,8 @@ def zsh_of(manual):
             "case $state in", "    command)", "        local -a commands=("]
     commands = manual.words("command")
     made += ["            " + quoted(f"{command}:{plain(commands[command])}") for command, _, _ in manual.forms]
-    made += ["        )", "        _describe command commands", "        ;;", "    argument)", "        case $words[1] in"]
+    made += ["        )", "        _describe command commands", "        ;;"]
+    made += ["    argument)", "        case $words[1] in"]
     for command, names, options in manual.forms:
         specs = []
         for option, value in options:
@@ -313,9 +320,9 @@ def fish_of(manual):
             if manual.globs[name]:
                 places.setdefault((name, at), []).append(command)
     for (option, value), found in takers.items():
-        made.append(f"complete -c expresso -n '__expresso_is {' '.join(found)}; and not __fish_contains_opt {option[2:]}' "
-                    f"-l {option[2:]} {'-x ' if value else ''}"
-                    f"-d {quoted(plain(about[option]))}\n")
+        own = option.removeprefix("--")
+        made.append(f"complete -c expresso -n '__expresso_is {' '.join(found)}; and not __fish_contains_opt {own}' "
+                    f"-l {own} {'-x ' if value else ''}-d {quoted(plain(about[option]))}\n")
     for (name, at), found in places.items():
         ending = manual.globs[name].lstrip("*")
         action = f"-xa '(__expresso_files {ending})'" if ending else "-F"
@@ -339,7 +346,8 @@ def statuses_of_sources():
     """The numbers with which the program exits: those of its statuses, and those that `main` gives itself."""
     exit_status = (ROOT / "crates" / "expresso" / "specs" / "Exit.antt").read_text()
     main = (ROOT / "crates" / "expresso_cli" / "src" / "main.rt").read_text()
-    return re.findall(r"^exit_status \w+ = (\d+)", exit_status, re.M) + re.findall(r"^const \w+: u8 = (\d+);", main, re.M)
+    own = re.findall(r"^const \w+: u8 = (\d+);", main, re.M)
+    return re.findall(r"^exit_status \w+ = (\d+)", exit_status, re.M) + own
 
 
 def faults(manual, program):
