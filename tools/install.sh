@@ -15,7 +15,7 @@ record=share/expresso/installed
 # another, in minutes (docs/ARCHITECTURE.md); and the most room that they take meanwhile, in GB.
 work=110
 chain=30
-room=8
+room=10
 stage=''
 made_folders=()
 
