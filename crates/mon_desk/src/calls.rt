@@ -142,12 +142,15 @@ impl<A, T, K, E: Errand<A, T, K>> Cell<A, T, K, E> {
         Ok((asked, free))
     }
 
-    /// Sleeps while a letter is posted in this cell, and no longer than this. It may also return
-    /// for no reason.
+    /// Sleeps while the letter in this cell stands as it does, unless that is answered, and no
+    /// longer than this. It may also return for no reason.
     pub fn rest<R: Wait>(&self, rt: &R, longest: Duration) {
-        self.board
-            .shared
-            .park_timeout(rt, STANDING, ASKED as u32, longest);
+        let shared = &self.board.shared;
+        // Were it to wait on one word alone, a letter that stands otherwise would keep it awake.
+        let found = shared.peek(STANDING);
+        if found == ASKED || found == TAKEN {
+            shared.park_timeout(rt, STANDING, found as u32, longest);
+        }
     }
 
     /// Wakes whoever sleeps at this cell.
