@@ -198,7 +198,7 @@ module _ {A T K : Type 0} (asks : K → A → Type 0) (tells : K → A → T →
   pub seeks : (slots : ℕ) → Enters Rule slots 0 (λ n w. Sought (step {S = Option (Sheet A T)} slots 0 0 0 none) (newcomer about, []) n (w, []))
   seeks slots s r _ _ = dite (ℕ_discrete (get_or s.words 0 0) 2)
       (λ hit. (newcomer about, came s r (newcomer about) refl refl, ((λ _. refl), (λ other. absurd (other hit)))))
-      (λ miss. (missed (newcomer about), came s r (missed (newcomer about)) refl refl, ((λ same. absurd (miss same)), (λ _. refl))))
+      (λ miss. (missed (get_or s.words 0 0) (newcomer about), came s r (missed (get_or s.words 0 0) (newcomer about)) refl refl, ((λ same. absurd (miss same)), (λ _. refl))))
 
   -- ---- steps that change how the letter stands
 
@@ -237,7 +237,7 @@ module _ {A T K : Type 0} (asks : K → A → Type 0) (tells : K → A → T →
   pub begins : (slots id : ℕ) (me : At A T K) → me.0.part ≡ Nothing → Allows Rule slots id me 0 (λ n. either (eqb n 0) 1 n) (Began (step slots 0 0 1 none) me)
   begins slots id me nothing s r _ at _ = exchanged (get_or s.words 0 0) 0 1 (Owes id me (Began (step slots 0 0 1 none) me) s)
       (begun id me s r at nothing)
-      (λ miss. (missed me.0, keeps, tt, quiet s r id me.0 (missed me.0) at refl refl, ((λ same. absurd (miss same)), (λ _. refl))))
+      (λ miss. (missed (get_or s.words 0 0) me.0, keeps, tt, quiet s r id me.0 (missed (get_or s.words 0 0) me.0) at refl refl, ((λ same. absurd (miss same)), (λ _. refl))))
 
   wrote : (id : ℕ) (me : At A T K) (a : A) (s : St) (r : Rule s) → get_elem? s.views id ≡ some me.0 → asks me.0.about a → me.0.part ≡ Writing → me.1 ≡ (0, Some (Asked a)) ∷ []
       → Rule (stepped s 0 2 id me.1 (parted (Posted a) me.0) gives)
@@ -288,7 +288,7 @@ module _ {A T K : Type 0} (asks : K → A → Type 0) (tells : K → A → T →
         h.3,
         λ b part'. ((λ _. record { told = h.0; tells_it = subst (λ x. tells me.0.about x h.0) (same_posted a b (sym part ∙ part')) h.1; now = refl }), (λ other. absurd (other hit))),
       ))
-      (λ miss. (missed me.0, keeps, tt, quiet s r id me.0 (missed me.0) at refl refl, λ b part'. ((λ same. absurd (miss same)), (λ _. refl))))
+      (λ miss. (missed (get_or s.words 0 0) me.0, keeps, tt, quiet s r id me.0 (missed (get_or s.words 0 0) me.0) at refl refl, λ b part'. ((λ same. absurd (miss same)), (λ _. refl))))
 
   -- ---- a letter is had back
 
@@ -312,7 +312,7 @@ module _ {A T K : Type 0} (asks : K → A → Type 0) (tells : K → A → T →
   pub withdraws : (slots id : ℕ) (me : At A T K) (a : A) → me.0.part ≡ Posted a → Allows Rule slots id me 0 (λ n. either (eqb n 2) 1 n) (Withdrew (step slots 0 2 1 none) me)
   withdraws slots id me a part s r _ at _ = exchanged (get_or s.words 0 0) 2 1 (Owes id me (Withdrew (step slots 0 2 1 none) me) s)
       (regained slots id me a s r at part)
-      (λ miss. (missed me.0, keeps, tt, quiet s r id me.0 (missed me.0) at refl refl, λ b part'. ((λ same. absurd (miss same)), (λ _. refl))))
+      (λ miss. (missed (get_or s.words 0 0) me.0, keeps, tt, quiet s r id me.0 (missed (get_or s.words 0 0) me.0) at refl refl, λ b part'. ((λ same. absurd (miss same)), (λ _. refl))))
 
   -- ---- a letter is taken
 
@@ -336,7 +336,7 @@ module _ {A T K : Type 0} (asks : K → A → Type 0) (tells : K → A → T →
   pub gets : (slots id : ℕ) (me : At A T K) → me.0.part ≡ Nothing → Allows Rule slots id me 0 (λ n. either (eqb n 2) 3 n) (Took asks (step slots 0 2 3 none) me)
   gets slots id me nothing s r _ at _ = exchanged (get_or s.words 0 0) 2 3 (Owes id me (Took asks (step slots 0 2 3 none) me) s)
       (taken_by slots id me s r at nothing)
-      (λ miss. (missed me.0, keeps, tt, quiet s r id me.0 (missed me.0) at refl refl, ((λ same. absurd (miss same)), (λ _. refl))))
+      (λ miss. (missed (get_or s.words 0 0) me.0, keeps, tt, quiet s r id me.0 (missed (get_or s.words 0 0) me.0) at refl refl, ((λ same. absurd (miss same)), (λ _. refl))))
 
   -- ---- a part ends
 
@@ -393,23 +393,24 @@ module _ {A T K : Type 0} (asks : K → A → Type 0) (tells : K → A → T →
   -- ---- what a look tells
 
   -- the seat posted this letter
-  pub posted_part : (me : At A T K) (a : A) → me ≡ (view about (Posted a) me.0.misses, []) → me.0.part ≡ Posted a
+  pub posted_part : (me : At A T K) (a : A) → me ≡ (view about (Posted a) me.0.misses me.0.found, []) → me.0.part ≡ Posted a
   posted_part me a is = ap (λ (m : At A T K). m.0.part) is
 
   -- a letter whose answer isn't there is still posted
-  pub still_posted : (me next : At A T K) (a : A) → me ≡ (view about (Posted a) me.0.misses, []) → next ≡ missing me
-      → (next ≡ (view about (Posted a) next.0.misses, [])) × (next.0.misses ≡ me.0.misses + 1)
-  still_posted me next a is now =
+  pub still_posted : (found : ℕ) (me next : At A T K) (a : A) → me ≡ (view about (Posted a) me.0.misses me.0.found, []) → next ≡ missing found me
+      → (next ≡ (view about (Posted a) next.0.misses next.0.found, [])) × (next.0.misses ≡ me.0.misses + 1) × (next.0.found ≡ found)
+  still_posted found me next a is now =
       let more : next.0.misses ≡ me.0.misses + 1 = ap (λ (m : At A T K). m.0.misses) now in
-      let next_is : next ≡ (view about (Posted a) (me.0.misses + 1), []) = now ∙ ap (λ (m : At A T K). (missed m.0, m.1)) is in
-      (next_is ∙ ap (λ n. (view about (Posted a) n, [])) (sym more), more)
+      let saw : next.0.found ≡ found = ap (λ (m : At A T K). m.0.found) now in
+      let next_is : next ≡ (view about (Posted a) (me.0.misses + 1) found, []) = now ∙ ap (λ (m : At A T K). (missed found m.0, m.1)) is in
+      (next_is ∙ (ap (λ n. (view about (Posted a) n found, [])) (sym more) ∙ ap (λ n. (view about (Posted a) next.0.misses n, [])) (sym saw)), more, saw)
 
   -- the sheet that has the answer
-  pub answer_had : (me next : At A T K) (a : A) → me ≡ (view about (Posted a) me.0.misses, []) → (h : HasAnswer tells a me next) → next.1 ≡ (0, Some (Told h.told)) ∷ []
+  pub answer_had : (me next : At A T K) (a : A) → me ≡ (view about (Posted a) me.0.misses me.0.found, []) → (h : HasAnswer tells a me next) → next.1 ≡ (0, Some (Told h.told)) ∷ []
   answer_had me next a is h = ap (λ (m : At A T K). m.1) h.now ∙ ap (λ (m : At A T K). (0, Some (Told h.told)) ∷ m.1) is
 
   -- what is had tells it
-  pub answer_tells : (me next : At A T K) (a : A) (t : T) (l : List (ℕ × Option (Sheet A T))) → me ≡ (view about (Posted a) me.0.misses, []) → HasAnswer tells a me next → next.1 ≡ (0, Some (Told t)) ∷ l → tells about a t
+  pub answer_tells : (me next : At A T K) (a : A) (t : T) (l : List (ℕ × Option (Sheet A T))) → me ≡ (view about (Posted a) me.0.misses me.0.found, []) → HasAnswer tells a me next → next.1 ≡ (0, Some (Told t)) ∷ l → tells about a t
   answer_tells me next a t l is h has =
       let same : h.told ≡ t = same_told h.told t (one_sheet next.1 [] l (Some (Told h.told)) (Some (Told t)) (answer_had me next a is h) has) in
       subst (λ x. tells about a x) same (subst (λ (k : K). tells k a h.told) (ap (λ (m : At A T K). m.0.about) is) h.tells_it)

@@ -1,5 +1,5 @@
 -- Who has a part in a letter.
-use Rattle.std.specs.Prelude.{◌≡◌, ◌+◌, [], ◌∷◌, None}
+use Rattle.std.specs.Prelude.{◌≡◌, ◌≢◌, ◌+◌, ℕ, [], ◌∷◌, None}
 use Rattle.mon_desk.specs.declared.cell.Cell.{Cell}
 use Rattle.mon_desk.specs.declared.letter.Part.TheVariants.{Posted, Serving, Answered, Gone}
 use Rattle.mon_desk.specs.declared.letter.Mail.{Mail}
@@ -18,25 +18,33 @@ module _ {A T K E : Type 0} where
   abbrev pub IsMailOf : Cell A T K E → Mail A T K → A → Type 0
   IsMailOf cell mail letter =
       (mail.seat.table_id ≡ cell.board.shared.table_id)
-      × (mail.seat.me ≡ (view (about_of cell) (Posted letter) mail.seat.me.0.misses, []))
+      × (mail.seat.me
+      ≡ (view (about_of cell) (Posted letter) mail.seat.me.0.misses mail.seat.me.0.found, []))
 
-  -- The mail is still that of this letter. One step more found the letter otherwise than it wanted
-  -- it.
-  abbrev pub IsKeptIn : Cell A T K E → Mail A T K → Mail A T K → A → Type 0
-  IsKeptIn cell before after letter =
-      IsMailOf cell after letter × (after.seat.me.0.misses ≡ before.seat.me.0.misses + 1)
+  -- The mail is still that of this letter. One step more wanted to find this word in the cell, and
+  -- found another.
+  abbrev pub IsKeptIn : Cell A T K E → ℕ → Mail A T K → Mail A T K → A → Type 0
+  IsKeptIn cell wanted before after letter =
+      IsMailOf cell after letter
+      × (after.seat.me.0.misses ≡ before.seat.me.0.misses + 1)
+      × (after.seat.me.0.found ≢ wanted)
 
   -- the task is to answer this letter, which was taken from this cell
   abbrev pub IsTaskOf : Cell A T K E → Task A T K → A → Type 0
   IsTaskOf cell task letter =
       (task.seat.table_id ≡ cell.board.shared.table_id)
       × (task.seat.me
-      ≡ (view (about_of cell) (Serving letter) task.seat.me.0.misses, (0, None) ∷ []))
+      ≡ (
+        view (about_of cell) (Serving letter) task.seat.me.0.misses task.seat.me.0.found,
+        (0, None) ∷ [],
+      ))
 
-  -- one step of a seat found this cell otherwise than it wanted it
-  abbrev pub IsMissOf : Cell A T K E → Miss A T K → Type 0
-  IsMissOf cell miss =
-      (miss.seat.table_id ≡ cell.board.shared.table_id) × (miss.seat.me.0.misses ≡ 1)
+  -- one step of a seat wanted to find this word in the cell, and found another
+  abbrev pub IsMissOf : Cell A T K E → ℕ → Miss A T K → Type 0
+  IsMissOf cell wanted miss =
+      (miss.seat.table_id ≡ cell.board.shared.table_id)
+      × (miss.seat.me.0.misses ≡ 1)
+      × (miss.seat.me.0.found ≢ wanted)
 
   -- a step of this cell answered the letter by this
   abbrev pub IsDoneOf : Cell A T K E → Done A T K → A → T → Type 0

@@ -4,6 +4,7 @@ ghost use Rattle.std.specs.Prelude.{◌≡◌, ◌+◌, ◌⊎◌, ◌∷◌, []
 ghost use Rattle.mon_desk.specs.declared.letter.Sheet.{Sheet};
 ghost use Rattle.mon_desk.specs.declared.letter.Sheet.TheVariants.{Told};
 ghost use Rattle.mon_desk.specs.declared.letter.Part.TheVariants.{Writing, Reading};
+ghost use Rattle.mon_desk.specs.declared.rule.TheConstants.{ASKED, FREE, TOLD};
 ghost use Rattle.mon_desk.specs.Letters.{IsDoneOf, IsFreeOf, IsKeptIn, IsMailOf, IsMissOf, IsTaskOf};
 ghost use Rattle.mon_desk.specs.Letters.{about_of};
 
@@ -32,7 +33,7 @@ impl<A, T, K, E: Errand<A, T, K>> Cell<A, T, K, E> {
         requires asks { E.asks (about_of self.now) asked }
         ensures posted { MatchResult result
             (λ mail. IsMailOf self.now mail asked)
-            (λ back. (back.0 ≡ asked) × IsMissOf self.now back.1) }
+            (λ back. (back.0 ≡ asked) × IsMissOf self.now FREE back.1) }
     {
         let shared = &self.board.shared;
         let (_found, mut seat) = shared.load_new_seat::<Come>(STANDING);
@@ -65,7 +66,7 @@ impl<A, T, K, E: Errand<A, T, K>> Cell<A, T, K, E> {
         ensures taken { MatchResult result
             (λ had. E.asks (about_of self.now) had.0
             × IsTaskOf self.now had.1 had.0)
-            (λ miss. IsMissOf self.now miss) }
+            (λ miss. IsMissOf self.now ASKED miss) }
     {
         let shared = &self.board.shared;
         let (posted, mut seat) = shared.load_new_seat::<Seek>(STANDING);
@@ -108,7 +109,7 @@ impl<A, T, K, E: Errand<A, T, K>> Cell<A, T, K, E> {
             → IsMailOf self.now mail asked
             → MatchResult result
             (λ had. E.tells (about_of self.now) asked had.0 × IsFreeOf self.now had.1)
-            (λ back. IsKeptIn self.now mail back asked) }
+            (λ back. IsKeptIn self.now TOLD mail back asked) }
     {
         let Mail { mut seat } = mail;
         let found = self.board.shared.load::<Look<E>>(&mut seat, STANDING);
@@ -127,7 +128,7 @@ impl<A, T, K, E: Errand<A, T, K>> Cell<A, T, K, E> {
             → IsMailOf self.now mail asked
             → MatchResult result
             (λ had. (had.0 ≡ asked) × IsFreeOf self.now had.1)
-            (λ back. IsKeptIn self.now mail back asked) }
+            (λ back. IsKeptIn self.now ASKED mail back asked) }
     {
         let Mail { mut seat } = mail;
         let shared = &self.board.shared;

@@ -33,6 +33,8 @@ pub struct View<A, T, K> {
     pub part: Part<A, T>,
     /// How many of its steps found the cell otherwise than they wanted it.
     pub misses: u64,
+    /// The word that the last of them found.
+    pub found: u64,
 }
 
 /// A seat at a cell.

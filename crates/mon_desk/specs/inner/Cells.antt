@@ -11,11 +11,12 @@ use Rattle.mon_desk.specs.declared.letter.Part.TheVariants.{Nothing, Writing, Po
 use Rattle.mon_desk.specs.declared.letter.Part.TheVariants.{Reading, Serving, Answered, Gone}
 use Rattle.mon_desk.specs.declared.letter.View.{View}
 
-abbrev pub view : {A T K : Type 0} → K → Part A T → ℕ → View A T K
-view about part misses = record { about = about; part = part; misses = misses }
+abbrev pub view : {A T K : Type 0} → K → Part A T → ℕ → ℕ → View A T K
+view about part misses found =
+    record { about = about; part = part; misses = misses; found = found }
 
 abbrev pub newcomer : {A T K : Type 0} → K → View A T K
-newcomer about = view about Nothing 0
+newcomer about = view about Nothing 0 0
 
 -- ---- how a letter stands
 

@@ -11,11 +11,11 @@ use Rattle.mon_desk.specs.inner.Cells.{view}
 
 module _ {A T K : Type 0} where
   abbrev pub parted : Part A T → View A T K → View A T K
-  parted part v = view v.about part v.misses
+  parted part v = view v.about part v.misses v.found
 
-  -- one step more found the cell otherwise
-  abbrev pub missed : View A T K → View A T K
-  missed v = view v.about v.part (v.misses + 1)
+  -- one step more found the cell otherwise: with this word
+  abbrev pub missed : ℕ → View A T K → View A T K
+  missed found v = view v.about v.part (v.misses + 1) found
 
 abbrev pub At : Type 0 → Type 0 → Type 0 → Type 0
 At A T K = Me (Option (Sheet A T)) (View A T K)
@@ -24,21 +24,21 @@ abbrev pub Move : Type 0 → Type 0 → Type 0
 Move A T = Step (Option (Sheet A T))
 
 module _ {A T K : Type 0} where
-  abbrev pub missing : At A T K → At A T K
-  missing me = (missed me.0, me.1)
+  abbrev pub missing : ℕ → At A T K → At A T K
+  missing found me = (missed found me.0, me.1)
 
   abbrev pub Came : Move A T → At A T K → ℕ → At A T K → Type 0
   Came step me found next = next ≡ me
 
   -- a letter is posted, or the step missed
   abbrev pub Sought : Move A T → At A T K → ℕ → At A T K → Type 0
-  Sought step me found next = (found ≡ 2 → next ≡ me) × (found ≢ 2 → next ≡ missing me)
+  Sought step me found next = (found ≡ 2 → next ≡ me) × (found ≢ 2 → next ≡ missing found me)
 
   -- the seat has the cell, which is empty, if it was free
   abbrev pub Began : Move A T → At A T K → ℕ → At A T K → Type 0
   Began step me found next =
       (found ≡ 0 → next ≡ (parted Writing me.0, (0, None) ∷ me.1))
-      × (found ≢ 0 → next ≡ missing me)
+      × (found ≢ 0 → next ≡ missing found me)
 
   -- what the seat wrote is posted
   abbrev pub Wrote : Move A T → At A T K → ℕ → At A T K → Type 0
@@ -54,14 +54,14 @@ module _ {A T K : Type 0} where
   abbrev pub Looked : (K → A → T → Type 0) → Move A T → At A T K → ℕ → At A T K → Type 0
   Looked tells step me found next =
       (a : A) → me.0.part ≡ Posted a
-      → (found ≡ 4 → HasAnswer tells a me next) × (found ≢ 4 → next ≡ missing me)
+      → (found ≡ 4 → HasAnswer tells a me next) × (found ≢ 4 → next ≡ missing found me)
 
   -- the seat has its letter, if nobody took it
   abbrev pub Withdrew : Move A T → At A T K → ℕ → At A T K → Type 0
   Withdrew step me found next =
       (a : A) → me.0.part ≡ Posted a
       → (found ≡ 2 → next ≡ (parted Writing me.0, (0, Some (Asked a)) ∷ me.1))
-      × (found ≢ 2 → next ≡ missing me)
+      × (found ≢ 2 → next ≡ missing found me)
 
   -- the seat has a letter, which may be asked
   pub record HasLetter (asks : K → A → Type 0) (me next : At A T K) : Type 0 where
@@ -71,7 +71,7 @@ module _ {A T K : Type 0} where
 
   abbrev pub Took : (K → A → Type 0) → Move A T → At A T K → ℕ → At A T K → Type 0
   Took asks step me found next =
-      (found ≡ 2 → HasLetter asks me next) × (found ≢ 2 → next ≡ missing me)
+      (found ≡ 2 → HasLetter asks me next) × (found ≢ 2 → next ≡ missing found me)
 
   -- the letter is answered by what the seat has
   abbrev pub Delivered : Move A T → At A T K → ℕ → At A T K → Type 0

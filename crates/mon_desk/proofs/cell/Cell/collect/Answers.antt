@@ -1,4 +1,4 @@
-use Rattle.std.proofs.Common.{[], ◌∷◌, rules, ap, ◌∙◌, inr, Some}
+use Rattle.std.proofs.Common.{[], ◌∷◌, rules, ap, sym, ◌∙◌, inr, Some}
 use Rattle.mon_desk.specs.declared.letter.Sheet.TheVariants.{Told}
 use Rattle.mon_desk.proofs.Keeping.{looks, posted_part, still_posted, answer_had, answer_tells, one_sheet}
 use Rattle.mon_desk.proofs.cell.Cell.collect.Goals as goal
@@ -10,8 +10,8 @@ pub returns-then-found-ne-TOLD : goal.returns-then-found-ne-TOLD
 returns-then-found-ne-TOLD g c = record {
   told = λ asked is.
       let l = c.load-found.ensures.2 asked (posted_part g.E.Errand.asks g.E.Errand.tells _ _ asked is.1) in
-      let s = still_posted g.E.Errand.asks g.E.Errand.tells _ _ _ asked is.1 (l.1 c.if-found-ne-TOLD.true) in
-      ((c.load-found.ensures.0 ∙ is.0, s.0), s.1);
+      let s = still_posted g.E.Errand.asks g.E.Errand.tells _ _ _ _ asked is.1 (l.1 c.if-found-ne-TOLD.true) in
+      ((c.load-found.ensures.0 ∙ is.0, s.0), s.1, λ same. c.if-found-ne-TOLD.true (sym s.2 ∙ same));
 }
 
 pub clear-sheet-requires-clause-part : goal.clear-sheet-requires-clause-part
