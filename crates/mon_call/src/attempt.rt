@@ -57,22 +57,23 @@ fn make_section<R: Wait>(
     ensures always { IsKnown caller.new.known }
 {
     parkers.enter(rt);
+    let unparked = parkers.unparked(client);
     let made = monitor.section(rt, caller, client);
     parkers.note(made);
     parkers.leave();
-    tell_made(rt, parkers, made);
+    tell_made(rt, parkers, made, unparked);
     reply_of(made)
 }
 
-/// Unparks the clients that a section woke, or parks the caller of a client that waits, unless all
-/// rest.
-fn tell_made<R: Wait>(rt: &R, parkers: &Parkers, made: Result<Receipt, NotReady>) {
+/// Unparks the clients that a section woke, or parks the caller of a client that waits, and that was
+/// unparked so often before the section, unless all rest.
+fn tell_made<R: Wait>(rt: &R, parkers: &Parkers, made: Result<Receipt, NotReady>, unparked: u64) {
     let Ok(receipt) = made else { return };
     match receipt.entry.outcome {
         Outcome::Replies { reply: _, woken } => parkers.unpark(woken),
         Outcome::Waits => {
             if !parkers.all_rest() {
-                parkers.park(rt, receipt.entry.client);
+                parkers.park(rt, receipt.entry.client, unparked);
             }
         }
         Outcome::Spurious => {}
@@ -158,16 +159,24 @@ fn look<R: Wait>(
         return None;
     }
     parkers.enter(rt);
+    let unparked = parkers.unparked(client);
     let standing = monitor.standing(rt, caller, client);
     parkers.leave();
-    tell_standing(rt, parkers, client, standing);
+    tell_standing(rt, parkers, client, standing, unparked);
     end_of(standing, caller.seen())
 }
 
-/// Parks the caller of a client that waits, and unparks all where a client is stalled.
-fn tell_standing<R: Wait>(rt: &R, parkers: &Parkers, client: u32, standing: Standing) {
+/// Parks the caller of a client that waits, and that was unparked so often before the look; and
+/// unparks all where a client is stalled.
+fn tell_standing<R: Wait>(
+    rt: &R,
+    parkers: &Parkers,
+    client: u32,
+    standing: Standing,
+    unparked: u64,
+) {
     match standing {
-        Standing::Waits => parkers.park(rt, client),
+        Standing::Waits => parkers.park(rt, client, unparked),
         Standing::Stalled => parkers.unpark_all(),
         _ => {}
     }

@@ -1,9 +1,11 @@
 //! Parkers: a caller whose client waits sleeps until someone says that the client was woken.
 //!
-//! A token is only a hint: what a caller answers comes from the lock alone, and no clause rests on
-//! a token. No caller is left parked. Who wakes a client sets its token *after* the section that
-//! woke it. So a caller that saw its client wait before that section finds the token set when it
-//! parks, or is woken; and one that looked after it saw the client woken.
+//! How often a client was woken is only a hint: what a caller answers comes from the lock alone, and
+//! no clause rests on it. No caller is left parked. A caller reads how often its client was woken
+//! *before* it makes a section or looks, and sleeps only as long as that is unchanged; and whoever
+//! wakes a client counts it *after* the section that woke it. So a caller that saw its client wait
+//! before that section finds another count when it parks, or is woken; and one that looked after it
+//! saw the client woken. Nobody takes back what was counted, so all callers of one client find it.
 //!
 //! Whether all clients rest is known behind the door, by a bit for each. A bit is set where its
 //! client waits, and may be set where it is in its last call. So a caller whose client waits need
@@ -17,43 +19,38 @@ use std::alloc::{AllocError, Global};
 use std::sync::Wait;
 use std::sync::atomic::{AtomicU64, Ordering};
 
-/// A token that isn't set.
-const UNSET: u64 = 0;
-
-/// A token that is set.
-const SET: u64 = 1;
-
-/// A client's token, on which its caller sleeps, and how many calls the client has.
+/// How often a client was unparked, on which its callers sleep, and how many calls the client has.
 #[derive(Drop)]
 struct Parker {
-    token: AtomicU64,
+    unparked: AtomicU64,
     calls: usize,
 }
 
 impl Parker {
-    /// A parker whose token isn't set.
+    /// A parker of a client that was never unparked.
     fn new(calls: usize) -> Parker {
         Parker {
-            token: AtomicU64::new(UNSET),
+            unparked: AtomicU64::new(0),
             calls,
         }
     }
 
-    /// Sleeps until the token is set, and clears it.
-    fn park<R: Wait>(&self, rt: &R) {
+    /// Sleeps as long as the client was unparked so often.
+    fn park<R: Wait>(&self, rt: &R, unparked: u64) {
         for _ in rt.forever() {
-            if self.token.swap(UNSET, Ordering::SeqCst) == SET {
+            if self.unparked.load(Ordering::SeqCst) != unparked {
                 return;
             }
-            self.token.park(rt, UNSET as u32);
+            self.unparked
+                .park(rt, (unparked & u64::from(u32::MAX)) as u32);
         }
         unreachable!()
     }
 
-    /// Sets the token, and wakes all who sleep on it: several callers may call for one client.
+    /// Counts, and wakes all who sleep: several callers may call for one client.
     fn unpark(&self) {
-        self.token.store(SET, Ordering::SeqCst);
-        self.token.wake_all();
+        self.unparked.fetch_add(1, Ordering::SeqCst);
+        self.unparked.wake_all();
     }
 }
 
@@ -135,10 +132,18 @@ impl Parkers {
         }
     }
 
-    /// Sleeps until someone unparks the client, or did so since its caller last slept.
-    pub fn park<R: Wait>(&self, rt: &R, client: u32) {
+    /// How often a client was unparked, for `park`: read before the caller makes a section or looks.
+    pub fn unparked(&self, client: u32) -> u64 {
+        match self.clients.get(client as usize) {
+            Some(parker) => parker.unparked.load(Ordering::SeqCst),
+            None => 0,
+        }
+    }
+
+    /// Sleeps until someone unparks the client, or did so since it was unparked so often.
+    pub fn park<R: Wait>(&self, rt: &R, client: u32, unparked: u64) {
         if let Some(parker) = self.clients.get(client as usize) {
-            parker.park(rt);
+            parker.park(rt, unparked);
         }
     }
 
