@@ -11,6 +11,7 @@ ghost use Rattle.mon_call.specs.inner.Callings.{IsCalling};
 use super::blocking::{BlockingMonitor, Caller};
 use super::crew::{Calling, call_all, dismiss, gather};
 use super::hall::Hall;
+use super::start::Start;
 use mon_explicit::FreeMonitor;
 use mon_lock::Gate;
 use std::alloc::{AllocError, Global};
@@ -20,9 +21,10 @@ use std::thread::Threads;
 
 /// Makes the calls of all clients, each client's in a thread of its own, until each client is over
 /// or stalled. The gate is called ahead of each call, with no lock held and the number of replies
-/// that the client was given. The answer is closed for every schedule of the threads, and has no
-/// spurious entry more than before. It takes all memory first, and fails only for want of memory;
-/// the monitor is dropped then.
+/// that the client was given. Where the system starts too few threads, the sections are made one
+/// after the other, and the gate is not called. The answer is closed for every schedule of the
+/// threads, and has no spurious entry more than before. It takes all memory first, and fails only
+/// for want of memory; the monitor is dropped then.
 pub fn run_callers<R: Threads + Wait + Sync, G: Gate>(
     rt: &R,
     alloc: Global,
@@ -39,7 +41,11 @@ pub fn run_callers<R: Threads + Wait + Sync, G: Gate>(
     let mut crew = Vec::with_capacity(alloc, threads)?;
     let mut back = Vec::with_capacity(alloc, threads)?;
     let (monitor, callers) = BlockingMonitor::open(alloc, free)?;
-    let hall = Hall { monitor, clients };
+    let hall = Hall {
+        monitor,
+        clients,
+        start: Start::new(),
+    };
     gather(&hall, callers, &mut crew);
     call_in_threads(rt, &hall, gate, crew.as_mut_slice());
     dismiss(rt, &hall, crew, &mut back);

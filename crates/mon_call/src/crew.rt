@@ -133,7 +133,8 @@ fn make_section<R: Wait>(rt: &R, hall: &Hall, caller: &mut Caller, client: u32)
     let _made = hall.monitor.shared().section(rt, caller, client);
 }
 
-/// Makes the calls of a client until it is over or stalled. The gate is called ahead of each.
+/// Makes the calls of a client until it is over or stalled, once all callers have come. The gate is
+/// called ahead of each.
 pub fn call_all<R: Threads + Wait + Sync, G: Gate>(
     rt: &R,
     hall: &Hall,
@@ -146,6 +147,9 @@ pub fn call_all<R: Threads + Wait + Sync, G: Gate>(
     let client = calling.client;
     // A monitor without clients has one caller, which makes no call.
     if client >= hall.clients {
+        return;
+    }
+    if !hall.start.come(rt, u64::from(hall.clients)) {
         return;
     }
     for _ in rt.forever() {

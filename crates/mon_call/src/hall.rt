@@ -3,12 +3,14 @@
 ghost use Rattle.std.specs.Prelude.{◌≡◌, length};
 
 use super::blocking::BlockingMonitor;
+use super::start::Start;
 
-/// What threads share: the monitor, and how many clients there are.
+/// What threads share: the monitor, how many clients there are, and their callers' start.
 #[derive(Drop)]
 pub struct Hall {
     pub monitor: BlockingMonitor,
     pub clients: u32,
+    pub start: Start,
     ghost every: { length monitor.start.system.clients ≡ clients },
 }
 
@@ -20,6 +22,7 @@ impl Hall {
         let Hall {
             monitor,
             clients: _,
+            start: _,
         } = self;
         monitor
     }

@@ -16,6 +16,7 @@ mod crew;
 mod door;
 mod hall;
 mod parkers;
+mod start;
 
 pub use blocking::{BlockingMonitor, Caller};
 pub use callers::run_callers;
