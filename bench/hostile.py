@@ -1,7 +1,7 @@
 #!/usr/bin/env python3
 """Hostile use: the built program over devices, files, words and a memory that fail, or that are made to hurt.
 
-  hostile.py [TABLE..]      every table, or these: writes reads texts calls memory devices
+  hostile.py [TABLE..]      every table, or these: writes reads texts calls memory threads devices
   EXPRESSO=PROGRAM          this program, in place of crates/expresso_cli/out/expresso_cli
   SECONDS=N                 the processor's time that one long file may take, in place of 0.1
 
@@ -20,8 +20,8 @@ import threading
 
 from hostile_grammar import line_of, line_that_refuses, place_of
 from hostile_rows import (
-    BUFFER, BUILT, CHECK, COMMANDS, COMPILE, DONE, LOCK, LOCK_PLAN, LONGEST, NOBODY, OTHER_WORDS, OUT_OF_MEMORY,
-    PRODUCT, Program, READERS_AND_WRITERS, READ_FAULT, REFUSAL, REFUSED, RUN, Row, SIMULATE, STALL, STALLED, STRESS,
+    BUFFER, BUILT, CHECK, COMMANDS, COMPILE, DONE, LETTERS, LOCK, LOCK_PLAN, LONGEST, NOBODY, OTHER_WORDS, OUT_OF_MEMORY,
+    PRODUCT, Program, READERS_AND_WRITERS, READ_FAULT, REFUSAL, REFUSED, RUN, Row, SIMULATE, STALL, STALLED, STRESS, SUMMARY,
     TURNS, TWO, TWO_LOCKS, Table, UNREADABLE, USAGE, USAGE_TEXT, WRITE_FAULT, named, two,
 )
 
@@ -477,6 +477,48 @@ def memory(program, table):
     table.each(jobs)
 
 
+# Threads that are not made.
+
+# From which start of a thread on none is made.
+STARTS = [1, 2, 3, 5, 9]
+
+# As many clients as there may be, half of which wait for what the others do.
+CROWD = b"".join(b"client %c { repeat 8 { %s(); } }\n" % pair for pair in zip(LETTERS, [b"put", b"get"] * 16))
+CROWD_CALLS = 8 * len(LETTERS)
+CROWD_END = b"\ndone\nstate count=0\n"
+CROWD_RUNS = RUN._replace(words=["run", "m.mon", "c.cl"], files=two(BUFFER, CROWD))
+CROWD_BLOCKS = CROWD_RUNS._replace(words=["block", "m.mon", "c.cl"])
+
+
+def is_summary(text):
+    """Whether a text is that of `stress`."""
+    return text == SUMMARY
+
+
+def has_all_replies(text):
+    """Whether a text has a reply of each call of the crowd, and the end."""
+    return text.endswith(CROWD_END) and text.count(b"() = ") == CROWD_CALLS
+
+
+def has_few_threads(program, table, row, workers, start, holds):
+    """A row of so many workers, none of whose threads is made from this start on: it ends as with all of them."""
+    found = program.row(row, THREAD=start, EVER=1)
+    case = named(row, f"no thread from start {start} on")
+    table.demand(case, found, found.status == row.status and holds(found.text))
+    table.demand(f"{case}, which is refused", found, found.refused or start >= workers)
+
+
+def threads(program, table):
+    """No thread is made from a start on, and the work is done by those that there are."""
+    rows = [(CROWD_BLOCKS, len(LETTERS), has_all_replies)]
+    for workers in (2, 4, 16):
+        words = [*CROWD_RUNS.words, "--workers", str(workers)]
+        rows.append((CROWD_RUNS._replace(words=words), workers, has_all_replies))
+        rows.append((STRESS._replace(words=["stress", "3", "--workers", str(workers)]), workers, is_summary))
+    jobs = [(row, workers, start, holds) for row, workers, holds in rows for start in STARTS]
+    table.each([(has_few_threads, program, table, *job) for job in jobs])
+
+
 # Devices, names and words of the system.
 
 LONG_RUN = Row(
@@ -640,7 +682,10 @@ def devices(program, table):
     table.each(jobs)
 
 
-TABLES = {"writes": writes, "reads": reads, "texts": texts, "calls": calls, "memory": memory, "devices": devices}
+TABLES = {
+    "writes": writes, "reads": reads, "texts": texts, "calls": calls, "memory": memory, "threads": threads,
+    "devices": devices,
+}
 
 
 def refuses(program):

@@ -6,6 +6,7 @@ import os
 import pathlib
 import re
 import shutil
+import string
 import subprocess
 import tempfile
 import threading
@@ -43,6 +44,9 @@ READERS_AND_WRITERS = MONITORS["READERS_AND_WRITERS"]
 TWO, TWO_LOCKS = CLIENTS["TWO"], CLIENTS["TWO_LOCKS"]
 PRODUCT = b"monitor M { int x = 0; int y = 0; method m() waituntil (x * y < 4) { } }"
 PUT_GET = b"client A { put(); get(); }"
+
+# The names of as many clients as there may be.
+LETTERS = string.ascii_letters[:32].encode()
 
 TWO_RUN = b"""A.1 put() = -
 B.1 get() = -
