@@ -4,6 +4,9 @@
 //! there for when it is held at its gate. So a worker dozes between two turns where two others are
 //! awake. Whoever leaves nobody awake at the gate wakes one, and who ends wakes all: what is to be
 //! done is never left to those that doze.
+//!
+//! A worker is counted from when it begins, since one whose thread the system refused may begin
+//! after others have ended.
 
 use std::sync::Wait;
 use std::sync::atomic::{AtomicU64, Ordering};
@@ -23,14 +26,19 @@ pub struct Roster {
 }
 
 impl Roster {
-    /// So many workers, all awake.
+    /// So many workers, none of whom has begun.
     pub fn new(workers: u64) -> Roster {
         Roster {
             alone: workers == 1,
-            awake: AtomicU64::new(workers),
+            awake: AtomicU64::new(0),
             dozing: AtomicU64::new(0),
             rung: AtomicU64::new(0),
         }
+    }
+
+    /// A worker begins, and is awake.
+    pub fn begin(&self) {
+        self.awake.fetch_add(1, Ordering::SeqCst);
     }
 
     /// Whether there is one worker alone.
@@ -66,15 +74,20 @@ impl Roster {
         if !self.is_crowded() {
             return false;
         }
-        let rung = self.rung.load(Ordering::SeqCst);
+        let rung = self.rung();
         self.dozing.fetch_add(1, Ordering::SeqCst);
         let dozes = self.lies_down();
         if dozes {
-            self.rung.park(rt, (rung & u64::from(u32::MAX)) as u32);
+            self.rung.park(rt, rung);
             self.awake.fetch_add(1, Ordering::SeqCst);
         }
         self.dozing.fetch_sub(1, Ordering::SeqCst);
         dozes
+    }
+
+    /// How often the bell was rung, modulo 2^32.
+    fn rung(&self) -> u32 {
+        (self.rung.load(Ordering::SeqCst) & u64::from(u32::MAX)) as u32
     }
 
     /// Whether more workers are awake than have to be.

@@ -74,6 +74,7 @@ pub fn work<R: Threads + Wait + Sync, G: Gate>(rt: &R, shop: &Shop, gate: &G, wo
     requires own { IsWorker shop.now worker.old }
     ensures finished { HasFinished shop.now worker.new }
 {
+    shop.roster.begin();
     let backoff = Backoff::new();
     let mut idle = 0u32;
     for _ in rt.forever() {
