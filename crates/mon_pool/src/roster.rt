@@ -6,14 +6,19 @@
 //! done is never left to those that doze.
 //!
 //! A worker is counted from when it begins, since one whose thread the system refused may begin
-//! after others have ended.
+//! after others have ended. One that is to stay awake and finds nothing to do, as where a gate holds
+//! the others, naps for a short time: it is still counted as awake, since it looks again by itself.
 
 use std::sync::Wait;
 use std::sync::atomic::{AtomicU64, Ordering};
+use std::time::Duration;
 
 /// The fewest workers that stay awake, where there are so many: one at the monitor, and one that
 /// looks whether it is held.
 const FEWEST_AWAKE: u64 = 2;
+
+/// How long a nap is, in microseconds.
+const NAP: u64 = 1_000;
 
 /// How many workers are awake and not at their gates, how many doze or are about to, and their
 /// bell. Of one worker alone nothing is counted, since nobody waits for it.
@@ -83,6 +88,12 @@ impl Roster {
         }
         self.dozing.fetch_sub(1, Ordering::SeqCst);
         dozes
+    }
+
+    /// An awake worker that has found nothing to do waits for a short time, or until one ends.
+    pub fn nap<R: Wait>(&self, rt: &R) {
+        self.rung
+            .park_timeout(rt, self.rung(), Duration::from_micros(NAP));
     }
 
     /// How often the bell was rung, modulo 2^32.

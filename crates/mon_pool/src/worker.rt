@@ -97,11 +97,21 @@ pub fn work<R: Threads + Wait + Sync, G: Gate>(rt: &R, shop: &Shop, gate: &G, wo
                 return;
             }
             if !shop.roster.doze(rt) {
-                backoff.snooze();
+                pause(rt, shop, &backoff);
             }
         }
     }
     unreachable!()
+}
+
+/// A worker that went round all clients in vain, and has to stay awake, waits: for moments at first,
+/// and then it naps.
+fn pause<R: Wait>(rt: &R, shop: &Shop, backoff: &Backoff) {
+    if backoff.is_completed() {
+        shop.roster.nap(rt);
+    } else {
+        backoff.snooze();
+    }
 }
 
 /// Tries a section of the next client: the one whose ticket is the queue's first. A worker that is
