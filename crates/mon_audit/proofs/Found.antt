@@ -8,7 +8,6 @@ use Rattle.mon_monitor.specs.declared.candidate.Candidate.{Candidate}
 use Rattle.mon_monitor.specs.declared.claim.Claim.{Claim}
 use Rattle.mon_monitor.specs.declared.claim.Claim.TheVariants as claims
 use Rattle.mon_monitor.specs.declared.monitor.Block.{Block}
-use Rattle.mon_monitor.specs.Candidates.{AreSomeOf, candidates_of}
 use Rattle.mon_monitor.specs.Conditions.{HasCondition}
 use Rattle.mon_monitor.specs.MonitorParts.{MonitorParts, IsMonitor}
 use Rattle.mon_monitor.specs.Triples.{Keeps}
@@ -64,16 +63,16 @@ moved monitor plan kept wanted found is are first =
     subst (λ (one : List Candidate). IsFirstOpen monitor one (asked_claims monitor plan) found) is
     (subst (λ (all : List Claim). IsFirstOpen monitor kept all found) are first)
 
-pub unproved_of : Laws → (monitor : MonitorParts) (plan : Plan) (kept : List Candidate) (wanted : List Claim) (claim : Claim) → kept ≡ plan.kept
-    → wanted ≡ asked_claims monitor plan → AreSomeOf plan.kept (candidates_of monitor) → IsLawfulAtSight monitor plan
+pub unproved_of : (monitor : MonitorParts) (plan : Plan) (kept : List Candidate) (wanted : List Claim) (claim : Claim) → kept ≡ plan.kept
+    → wanted ≡ asked_claims monitor plan → IsLawfulAtSight monitor plan
     → IsFirstOpen monitor kept wanted (Some claim) → IsFirstUnproved monitor plan claim
-unproved_of laws monitor plan kept wanted claim is are some sight first =
+unproved_of monitor plan kept wanted claim is are sight first =
     let own = moved monitor plan kept wanted (Some claim) is are first in record {
       sight = sight;
       place = own.place;
       here = own.here;
       before = own.before;
-      unproved = λ holds. laws.open_are_hard monitor claim plan.kept some (own.unproved holds);
+      unproved = own.unproved;
     }
 
 pub proved_of : Laws → (monitor : MonitorParts) (plan : Plan) (kept : List Candidate) (wanted : List Claim) → IsMonitor monitor → IsPlanOf monitor plan → kept ≡ plan.kept

@@ -1,5 +1,5 @@
--- Where no claim of the monitor is hard, nothing else than that it is lawful is found of a lawful
--- plan.
+-- Where no query of a claim may stay open under what a lawful plan keeps, nothing else than that it
+-- is lawful is found of it.
 use Rattle.std.proofs.Common.{◌≡◌, inl, inr, ℕ, ◌+◌, ◌-◌, ◌<◌, ◌≤◌, Bool, true, false, not, ◌&&◌, List, [], ◌++◌, map, length, Option, Some, None, refl, sym, ap, subst, ◌∙◌, arith}
 use Rattle.std.specs.Prelude.{All, IsSomeAnd, slice_get, unwrap_or}
 use Rattle.std.specs.List.{Contains, filter, flat_map, enumerate_from}
@@ -19,7 +19,7 @@ use Rattle.mon_events.specs.declared.plan.Note.{Note}
 use Rattle.mon_events.specs.declared.plan.Plan.{Plan}
 use Rattle.mon_events.specs.Plans.{IsLawful, condition_kind, has_note, notes_at}
 use Rattle.mon_wp.specs.PlainClaims.{IsClaimOf}
-use Rattle.mon_prune.specs.Hardness.{HasNoHardClaim}
+use Rattle.mon_prune.specs.Hardness.{HasNoOpenClaim, MayBeKept}
 use Rattle.mon_prune.specs.Invariants.{keeps_claims}
 use Rattle.mon_place.specs.Backing.{backed_claims, block_numbers, condition_numbers, kind_claims, reads_none, unnoted_claims, untested_claims, waits_at}
 use Rattle.mon_recheck.specs.Reports.{IsPlanOf}
@@ -130,7 +130,7 @@ false_nowhere monitor kept place all here = by_found (slice_get kept place) refl
     by_found (Some candidate) is fails =
         true≢false (sym (all_at (λ (one : Candidate). candidate_truth (start_of monitor) one ≡ true) kept place candidate is all) ∙ fails)
 
-pub found_of_lawful : (monitor : MonitorParts) (plan : Plan) (finding : Finding) → IsMonitor monitor → IsPlanOf monitor plan → HasNoHardClaim monitor
+pub found_of_lawful : (monitor : MonitorParts) (plan : Plan) (finding : Finding) → IsMonitor monitor → IsPlanOf monitor plan → HasNoOpenClaim monitor plan.kept
     → IsLawful monitor plan → IsFinding monitor plan finding → finding ≡ findings.Lawful
 found_of_lawful monitor plan findings.Lawful rule of none lawful is = refl
 found_of_lawful monitor plan (findings.Start kept) rule of none lawful is = absurd (false_nowhere monitor plan.kept kept lawful.inductive.starts is.here)
@@ -139,3 +139,7 @@ found_of_lawful monitor plan (findings.Kind condition) rule of none lawful is =
 found_of_lawful monitor plan (findings.Unproved claim) rule of none lawful is =
     let told = all_at (IsTold monitor plan) (asked_claims monitor plan) is.place claim is.here (asked_told monitor plan rule of lawful is.sight) in
     absurd (none claim told.0 (is.unproved told.1))
+
+-- what a lawful plan keeps may be kept
+pub may_be_kept : (monitor : MonitorParts) (plan : Plan) → IsPlanOf monitor plan → IsLawful monitor plan → MayBeKept monitor plan.kept
+may_be_kept monitor plan of lawful = record { candidates = of.kept; starts = lawful.inductive.starts }

@@ -14,8 +14,8 @@ use Rattle.mon_events.specs.declared.plan.Plan.{Plan}
 use Rattle.mon_events.specs.Plans.{EachNoteOn, IsCondition, IsLawful, WakesAll, condition_kind}
 use Rattle.mon_events.specs.Plans.{has_note, notes_at}
 use Rattle.mon_wp.specs.PlainClaims.{IsConditionNumber}
-use Rattle.mon_prune.specs.Hardness.{IsHard}
 use Rattle.mon_place.specs.Backing.{HasCertificate, backed_claims}
+use Rattle.mon_place.specs.Exact.{IsOpenUnder}
 use Rattle.mon_recheck.specs.Verdicts.{IsLawfulAtSight}
 use Rattle.mon_audit.specs.declared.finding.Finding.{Finding}
 use Rattle.mon_audit.specs.declared.finding.Finding.TheVariants as findings
@@ -61,13 +61,13 @@ abbrev pub asked_claims : MonitorParts → Plan → List Claim
 asked_claims monitor plan = filter (is_asked plan) (backed_claims monitor plan)
 
 -- nothing is wrong at sight, and this is the first claim without a certificate: it does not hold,
--- or it is hard
+-- or its query may stay open under what the plan keeps
 pub record IsFirstUnproved (monitor : MonitorParts) (plan : Plan) (claim : Claim) : Type 0 where
   pub sight : IsLawfulAtSight monitor plan
   pub place : ℕ
   pub here : slice_get (asked_claims monitor plan) place ≡ Some claim
   pub before : All (HasCertificate monitor plan.kept) (take place (asked_claims monitor plan))
-  pub unproved : Holds monitor plan.kept claim → IsHard monitor claim
+  pub unproved : Holds monitor plan.kept claim → IsOpenUnder monitor plan claim
 
 -- the plan is lawful, and each claim that is asked of it has a certificate
 pub record IsProved (monitor : MonitorParts) (plan : Plan) : Type 0 where

@@ -4,7 +4,7 @@ ghost use Rattle.std.specs.Prelude.{◌≡◌, ◌↔◌, IfOk};
 ghost use Rattle.mon_events.specs.Plans.{IsLawful};
 ghost use Rattle.mon_monitor.specs.Candidates.{AllHold};
 ghost use Rattle.mon_monitor.specs.MonitorParts.{start_of};
-ghost use Rattle.mon_prune.specs.Hardness.{HasNoHardClaim};
+ghost use Rattle.mon_prune.specs.Hardness.{HasNoHardClaim, HasNoOpenClaim};
 ghost use Rattle.mon_recheck.specs.Reports.{IsPlanOf};
 ghost use Rattle.mon_recheck.specs.Verdicts.{IsLawfulAtSight};
 ghost use Rattle.mon_audit.specs.declared.finding.Finding.TheVariants.{Lawful};
@@ -17,7 +17,7 @@ use super::sight::{first_false, first_unsuited};
 use mon_cert::refuted_formula_is_false;
 use mon_events::Plan;
 use mon_monitor::Monitor;
-use mon_prune::{candidates_have_formulas, open_claims_are_hard};
+use mon_prune::candidates_have_formulas;
 use mon_wp::refuted_query_is_valid;
 use std::alloc::{AllocError, Global};
 
@@ -28,8 +28,9 @@ use std::alloc::{AllocError, Global};
 /// is false there, and then the first such one; a condition exactly where all kept ones are true at
 /// the start and the kind of a condition or a note on it doesn't suit it, and then the first such
 /// condition. A claim is found unproved only where neither is so. It is the first for which no
-/// certificate is found: it doesn't hold, or it is hard. So where no claim of the monitor is hard a
-/// plan is found lawful exactly where it is.
+/// certificate is found: it doesn't hold, or its query may stay open under what the plan keeps. So
+/// where none may, as where no claim of the monitor is hard, a plan is found lawful exactly where it
+/// is.
 ///
 /// A claim is asked for each kept candidate with each block, for each block with each condition on
 /// which it has no note, and for each condition of kind signal with each block that waits at it and
@@ -38,6 +39,8 @@ pub fn audit(alloc: Global, monitor: &Monitor, plan: &Plan) -> Result<Finding, A
     requires { IsPlanOf monitor.now plan.now }
     ensures finding { IfOk result (IsFinding monitor.now plan.now) }
     ensures exact { IfOk result (λ finding. HasNoHardClaim monitor.now
+        → (finding ≡ Lawful) ↔ IsLawful monitor.now plan.now) }
+    ensures none_open { IfOk result (λ finding. HasNoOpenClaim monitor.now plan.now.kept
         → (finding ≡ Lawful) ↔ IsLawful monitor.now plan.now) }
 {
     let _blocks = monitor.blocks();
@@ -79,7 +82,6 @@ fn asked(alloc: Global, monitor: &Monitor, plan: &Plan) -> Result<Finding, Alloc
     let _blocks = monitor.blocks();
     refuted_formula_is_false();
     refuted_query_is_valid();
-    open_claims_are_hard();
     candidates_have_formulas(monitor);
     let claims = asked_claims(alloc, monitor, plan)?;
     match first_unproved(alloc, monitor, plan.kept.items(), &claims)? {

@@ -10,10 +10,14 @@ ghost use Rattle.mon_audit.specs.declared.finding.Finding.{Finding};
 ghost use Rattle.mon_audit.specs.declared.finding.Finding.TheVariants.{Lawful};
 ghost use Rattle.mon_audit.specs.Findings.{IsFinding};
 
+use mon_prune::easy_monitors_have_no_open_claim;
+
 /// Where no claim of the monitor is hard, as none of a small one is, what is found of a lawful plan
 /// is that it is lawful.
 pub fn lawful_plans_are_found()
     ensures { (monitor : MonitorParts) (plan : Plan) (finding : Finding)
         → IsMonitor monitor → IsPlanOf monitor plan → HasNoHardClaim monitor
         → IsLawful monitor plan → IsFinding monitor plan finding → finding ≡ Lawful }
-{}
+{
+    easy_monitors_have_no_open_claim();
+}

@@ -1,5 +1,5 @@
--- A plan that the prover's answers make fits, is lawful and licensed, and exact where no claim of
--- the monitor is hard.
+-- A plan that the prover's answers make fits, is lawful and licensed, and exact where it keeps the
+-- greatest invariant, under which no query may stay open.
 use Rattle.std.proofs.Common.{◌≡◌, ◌==◌, ◌↔◌, inl, ℕ, ◌-◌, ◌<◌, ◌≤◌, Bool, true, false, List, [], ◌∷◌, length, get_or, Option, Some, None, refl, sym, ap, subst, ◌∙◌, arith}
 use Rattle.std.specs.Prelude.{All, slice_get, IsSomeAnd, unwrap_or, ◌||◌}
 use Rattle.std.proofs.lemmas.Bool.{true≢false, eqb-true}
@@ -22,9 +22,10 @@ use Rattle.mon_events.specs.PlanText.{note_kind}
 use Rattle.mon_events.specs.Plans.{IsCondition as IsThere, FitsNote, FitsNotes, FitsPlan, IsLawful, IsUntestedBroadcast, condition_kind, has_note, notes_at}
 use Rattle.mon_events.proofs.Facing.{at_index, all_at, is_some_and}
 use Rattle.mon_wp.specs.PlainClaims.{IsBlockNumber, IsClaimOf, IsConditionNumber, ReadsNone, WaitsAt}
-use Rattle.mon_prune.specs.Hardness.{HasNoHardClaim, IsHard}
+use Rattle.mon_prune.specs.Hardness.{HasNoOpenClaim, MayBeKept}
+use Rattle.mon_prune.specs.Invariants.{IsGreatest}
 use Rattle.mon_place.specs.Backing.{HasCertificate}
-use Rattle.mon_place.specs.Exact.{HasHardBlock, HaveTheirKinds, IsExact, IsLicensed, MaySignal, NeedsTest}
+use Rattle.mon_place.specs.Exact.{HasOpenBlock, HaveTheirKinds, IsExact, IsLicensed, IsOpenUnder, MaySignal, NeedsTest}
 use Rattle.mon_place.specs.inner.Answers.{AreNotes, IsAnswered, IsKindOf, IsNote, IsUnproved}
 use Rattle.mon_place.proofs.Lists.{in_numbered, all_numbers}
 use Rattle.mon_place.proofs.Backed.{Laws, held, unnoted_backed, signals_backed, untested_backed}
@@ -185,52 +186,48 @@ plan_lawful laws monitor plan rule answered = record {
 
 -- ---- the plan is licensed
 
-hard_from : Laws → (monitor : MonitorParts) (plan : Plan) (claim : Claim) → IsAnswered monitor plan → IsUnproved monitor plan.kept claim → Holds monitor plan.kept claim → IsHard monitor claim
-hard_from laws monitor plan claim answered unproved holds = laws.open_are_hard monitor claim plan.kept answered.invariant.candidates (unproved holds)
-
-unneeded_hard : Laws → (monitor : MonitorParts) (plan : Plan) (block condition : ℕ) → IsAnswered monitor plan → has_note (notes_at plan block) condition ≡ true
-    → NoneNeeded monitor plan.kept block condition → IsHard monitor (claims.NoNote block condition)
-unneeded_hard laws monitor plan block condition answered has needless =
+unneeded_open : (monitor : MonitorParts) (plan : Plan) (block condition : ℕ) → IsAnswered monitor plan → has_note (notes_at plan block) condition ≡ true
+    → NoneNeeded monitor plan.kept block condition → IsOpenUnder monitor plan (claims.NoNote block condition)
+unneeded_open monitor plan block condition answered has needless =
     let Q = λ (note : Note). IsUnproved monitor plan.kept (claims.NoNote block note.condition) in
     let found = note_on Q (notes_at plan block) condition has (each_note Q monitor plan block answered (λ note known. known.needed)) in
-    hard_from laws monitor plan (claims.NoNote block condition) answered
-    (subst (λ (one : ℕ). IsUnproved monitor plan.kept (claims.NoNote block one)) found.1 found.2) needless
+    subst (λ (one : ℕ). IsUnproved monitor plan.kept (claims.NoNote block one)) found.1 found.2 needless
 
-unsignalled_hard : Laws → (monitor : MonitorParts) (plan : Plan) (condition : ℕ) → IsAnswered monitor plan → condition_kind plan condition ≡ Some kinds.Broadcast
-    → MaySignal monitor plan condition → HasHardBlock monitor condition
-unsignalled_hard laws monitor plan condition answered kind may =
-    let left = kind_known monitor plan condition kinds.Broadcast answered may.reads_none.0 kind may.reads_none in record {
-      block = left.block;
-      waits = left.waits;
-      hard = hard_from laws monitor plan (claims.One condition left.block) answered left.unproved (may.enough left.block left.waits);
-    }
+unsignalled_open : (monitor : MonitorParts) (plan : Plan) (condition : ℕ) → IsAnswered monitor plan → condition_kind plan condition ≡ Some kinds.Broadcast
+    → MaySignal monitor plan condition → HasOpenBlock monitor plan condition
+unsignalled_open monitor plan condition answered kind may =
+    let left = kind_known monitor plan condition kinds.Broadcast answered may.reads_none.0 kind may.reads_none in
+    record { block = left.block; waits = left.waits; stays_open = left.unproved (may.enough left.block left.waits) }
 
 their_kinds : (monitor : MonitorParts) (plan : Plan) → IsAnswered monitor plan → HaveTheirKinds plan
 their_kinds monitor plan answered = λ block.
     each_note (λ (note : Note). condition_kind plan note.condition ≡ Some (note_kind note.all)) monitor plan block answered (λ note known. known.kind)
 
-pub plan_licensed : Laws → (monitor : MonitorParts) (plan : Plan) → IsMonitor monitor → IsAnswered monitor plan → IsLicensed monitor plan
-plan_licensed laws monitor plan rule answered = record {
+pub plan_licensed : (monitor : MonitorParts) (plan : Plan) → IsAnswered monitor plan → IsLicensed monitor plan
+plan_licensed monitor plan answered = record {
   easy_kept = answered.easy_kept;
-  noted = λ block condition has needless. unneeded_hard laws monitor plan block condition answered has needless;
-  broadcasts = λ condition kind may. unsignalled_hard laws monitor plan condition answered kind may;
+  noted = λ block condition has needless. unneeded_open monitor plan block condition answered has needless;
+  broadcasts = λ condition kind may. unsignalled_open monitor plan condition answered kind may;
   kinds = their_kinds monitor plan answered;
   tested = λ block.
-      each_note (λ (note : Note). note.tested ≡ true → NoTestNeeded monitor plan.kept block note.condition → IsHard monitor (claims.NoTest block note.condition)) monitor plan block answered
-      (λ note known tested needless. hard_from laws monitor plan (claims.NoTest block note.condition) answered (known.tests tested).unproved needless);
+      each_note (λ (note : Note). note.tested ≡ true → NoTestNeeded monitor plan.kept block note.condition → IsOpenUnder monitor plan (claims.NoTest block note.condition)) monitor plan block answered
+      (λ note known tested needless. (known.tests tested).unproved needless);
 }
 
--- ---- the plan of a monitor with no hard claim is exact
+-- ---- a plan that keeps the greatest invariant, under which no query may stay open, is exact
+
+pub may_be_kept : (monitor : MonitorParts) (plan : Plan) → IsAnswered monitor plan → MayBeKept monitor plan.kept
+may_be_kept monitor plan answered = record { candidates = answered.invariant.candidates; starts = answered.invariant.inductive.starts }
 
 -- what isn't proved fails
-fails : Laws → (monitor : MonitorParts) (plan : Plan) (claim : Claim) → IsAnswered monitor plan → HasNoHardClaim monitor → IsClaimOf monitor claim
+fails : (monitor : MonitorParts) (plan : Plan) (claim : Claim) → HasNoOpenClaim monitor plan.kept → IsClaimOf monitor claim
     → IsUnproved monitor plan.kept claim → Holds monitor plan.kept claim → ⊥
-fails laws monitor plan claim answered easy is_claim unproved holds = easy claim is_claim (hard_from laws monitor plan claim answered unproved holds)
+fails monitor plan claim easy is_claim unproved holds = easy claim is_claim (unproved holds)
 
-exactly_noted : Laws → (monitor : MonitorParts) (plan : Plan) (block condition : ℕ) → IsMonitor monitor → IsAnswered monitor plan → HasNoHardClaim monitor
+exactly_noted : Laws → (monitor : MonitorParts) (plan : Plan) (block condition : ℕ) → IsMonitor monitor → IsAnswered monitor plan → HasNoOpenClaim monitor plan.kept
     → IsBlockNumber monitor block → IsConditionNumber monitor condition → (has_note (notes_at plan block) condition ≡ true) ↔ (NoneNeeded monitor plan.kept block condition → ⊥)
 exactly_noted laws monitor plan block condition rule answered easy within is = (
-  λ has needless. easy (claims.NoNote block condition) (within, is) (unneeded_hard laws monitor plan block condition answered has needless),
+  λ has needless. easy (claims.NoNote block condition) (within, is) (unneeded_open monitor plan block condition answered has needless),
   λ needed. by_test (has_note (notes_at plan block) condition) refl (λ none. needed (none_needed laws monitor plan block condition rule answered within is.0 is.1 none)),
 )
   where
@@ -238,7 +235,7 @@ exactly_noted laws monitor plan block condition rule answered easy within is = (
     by_test true told never = refl
     by_test false told never = absurd (never told)
 
-exactly_signals : Laws → (monitor : MonitorParts) (plan : Plan) (condition : ℕ) → IsMonitor monitor → IsAnswered monitor plan → HasNoHardClaim monitor
+exactly_signals : Laws → (monitor : MonitorParts) (plan : Plan) (condition : ℕ) → IsMonitor monitor → IsAnswered monitor plan → HasNoOpenClaim monitor plan.kept
     → IsConditionNumber monitor condition → (condition_kind plan condition ≡ Some kinds.Signal) ↔ MaySignal monitor plan condition
 exactly_signals laws monitor plan condition rule answered easy is =
     let many = answered.many_kinds in
@@ -255,10 +252,10 @@ exactly_signals laws monitor plan condition rule answered easy is =
     by_kind : (kind : CondKind) → slice_get plan.kinds (condition - 1) ≡ Some kind → MaySignal monitor plan condition → slice_get plan.kinds (condition - 1) ≡ Some kinds.Signal
     by_kind kinds.Signal there may = there
     by_kind kinds.Broadcast there may =
-        let hard = unsignalled_hard laws monitor plan condition answered there may in
-        absurd (easy (claims.One condition hard.block) (may.reads_none, hard.waits) hard.hard)
+        let left = unsignalled_open monitor plan condition answered there may in
+        absurd (easy (claims.One condition left.block) (may.reads_none, left.waits) left.stays_open)
 
-exactly_tested : Laws → (monitor : MonitorParts) (plan : Plan) (block : ℕ) (notes : List Note) → IsMonitor monitor → IsAnswered monitor plan → HasNoHardClaim monitor
+exactly_tested : Laws → (monitor : MonitorParts) (plan : Plan) (block : ℕ) (notes : List Note) → IsMonitor monitor → IsAnswered monitor plan → HasNoOpenClaim monitor plan.kept
     → slice_get plan.notes block ≡ Some notes → All (λ note. (note.tested ≡ true) ↔ NeedsTest monitor plan block note) notes
 exactly_tested laws monitor plan block notes rule answered easy there =
     let known = (notes_known monitor plan block notes answered there).each in
@@ -275,7 +272,7 @@ exactly_tested laws monitor plan block notes rule answered easy there =
       λ tested.
           let test = known.tests tested in record {
             reads_none = test.reads_none;
-            needed = λ needless. fails laws monitor plan (claims.NoTest block note.condition) answered easy (within, test.reads_none) test.unproved needless;
+            needed = λ needless. fails monitor plan (claims.NoTest block note.condition) easy (within, test.reads_none) test.unproved needless;
           },
       λ needs. by_test note.tested refl
           (λ untested. needs.needed (held laws monitor plan.kept (claims.NoTest block note.condition) rule within (proved untested needs.reads_none))),
@@ -285,9 +282,9 @@ exactly_tested laws monitor plan block notes rule answered easy there =
         by_test true told never = refl
         by_test false told never = absurd (never told)
 
-pub plan_exact : Laws → (monitor : MonitorParts) (plan : Plan) → IsMonitor monitor → IsAnswered monitor plan → HasNoHardClaim monitor → IsExact monitor plan
-plan_exact laws monitor plan rule answered easy = record {
-  greatest = answered.greatest easy;
+pub plan_exact : Laws → (monitor : MonitorParts) (plan : Plan) → IsMonitor monitor → IsAnswered monitor plan → HasNoOpenClaim monitor plan.kept → IsGreatest monitor plan.kept → IsExact monitor plan
+plan_exact laws monitor plan rule answered easy greatest = record {
+  greatest = greatest;
   noted = λ block condition within is. exactly_noted laws monitor plan block condition rule answered easy within is;
   signals = λ condition is. exactly_signals laws monitor plan condition rule answered easy is;
   kinds = their_kinds monitor plan answered;

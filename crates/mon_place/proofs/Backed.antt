@@ -15,7 +15,6 @@ use Rattle.mon_monitor.specs.declared.claim.Claim.TheVariants as claims
 use Rattle.mon_monitor.specs.declared.query.Query.{Query}
 use Rattle.mon_monitor.specs.declared.monitor.Block.{Block}
 use Rattle.mon_monitor.specs.declared.monitor.Condition.{Condition}
-use Rattle.mon_monitor.specs.Candidates.{candidates_of}
 use Rattle.mon_monitor.specs.MonitorParts.{MonitorParts, IsMonitor}
 use Rattle.mon_monitor.specs.Queries.{query_of}
 use Rattle.mon_monitor.specs.Triples.{Holds, IsValidQuery}
@@ -23,10 +22,9 @@ use Rattle.mon_events.specs.declared.plan.CondKind.{CondKind}
 use Rattle.mon_events.specs.declared.plan.CondKind.TheVariants as kinds
 use Rattle.mon_events.specs.declared.plan.Note.{Note}
 use Rattle.mon_events.specs.declared.plan.Plan.{Plan}
-use Rattle.mon_events.specs.Plans.{AreSomeOf, condition_kind, has_note}
+use Rattle.mon_events.specs.Plans.{condition_kind, has_note}
 use Rattle.mon_wp.specs.NegatedQueries.{negated_query}
 use Rattle.mon_wp.specs.PlainClaims.{ReadsNone, WaitsAt}
-use Rattle.mon_prune.specs.Hardness.{IsHard, MayStayOpen}
 use Rattle.mon_prune.specs.Invariants.{keeps_claims}
 use Rattle.mon_place.specs.declared.placed.Proof.{Proof}
 use Rattle.mon_place.specs.Backing.{AreProofs, HasCertificate, IsBacked, backed_claims, block_numbers, kind_claims, reads_none, unnoted_claims, untested_claims, waits_at}
@@ -40,8 +38,6 @@ pub record Laws : Type 0 where
   pub refuted_is_false : (formula : Formula) (cert : Cert) (v : Valuation) → Refutes formula cert → truth_of v formula ≡ false
   pub refuted_is_valid : (monitor : MonitorParts) (query : Query) → IsMonitor monitor → query.block < length monitor.blocks
       → ((v : Valuation) → truth_of v (negated_query monitor query) ≡ false) → IsValidQuery monitor query
-  pub open_are_hard : (monitor : MonitorParts) (claim : Claim) (kept : List Candidate) → AreSomeOf kept (candidates_of monitor)
-      → MayStayOpen monitor (query_of monitor kept claim) → IsHard monitor claim
 
 pub held : Laws → (monitor : MonitorParts) (kept : List Candidate) (claim : Claim) → IsMonitor monitor → (query_of monitor kept claim).block < length monitor.blocks
     → HasCertificate monitor kept claim → Holds monitor kept claim

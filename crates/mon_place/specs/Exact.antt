@@ -1,7 +1,10 @@
--- Exact plans, and licensed plans, which fall short of exact only where a query is hard.
+-- Exact plans, and licensed plans, which fall short of exact only where a query may stay open under
+-- what they keep.
 use Rattle.std.specs.Prelude.{◌≡◌, ◌↔◌, ℕ, true, Some, All}
+use Rattle.mon_monitor.specs.declared.claim.Claim.{Claim}
 use Rattle.mon_monitor.specs.declared.claim.Claim.TheVariants as claims
 use Rattle.mon_monitor.specs.MonitorParts.{MonitorParts}
+use Rattle.mon_monitor.specs.Queries.{query_of}
 use Rattle.mon_monitor.specs.Triples.{NoneNeeded, OneEnough, NoTestNeeded}
 use Rattle.mon_events.specs.declared.plan.CondKind.TheVariants as kinds
 use Rattle.mon_events.specs.declared.plan.Note.{Note}
@@ -9,7 +12,7 @@ use Rattle.mon_events.specs.declared.plan.Plan.{Plan}
 use Rattle.mon_events.specs.PlanText.{note_kind}
 use Rattle.mon_events.specs.Plans.{condition_kind, has_note, notes_at}
 use Rattle.mon_wp.specs.PlainClaims.{IsBlockNumber, IsConditionNumber, ReadsNone, WaitsAt}
-use Rattle.mon_prune.specs.Hardness.{IsHard}
+use Rattle.mon_prune.specs.Hardness.{MayStayOpen}
 use Rattle.mon_prune.specs.Invariants.{ContainsEasy, IsGreatest}
 
 -- each note has its condition's kind
@@ -45,25 +48,29 @@ pub record IsExact (monitor : MonitorParts) (plan : Plan) : Type 0 where
   pub tested : (block : ℕ) → All (λ note. (note.tested
       ≡ true) ↔ NeedsTest monitor plan block note) (notes_at plan block)
 
--- some block that waits at the condition has a hard query of one waiter
-pub record HasHardBlock (monitor : MonitorParts) (condition : ℕ) : Type 0 where
+-- the prover may leave the query of the claim open, under what the plan keeps
+abbrev pub IsOpenUnder : MonitorParts → Plan → Claim → Type 0
+IsOpenUnder monitor plan claim = MayStayOpen monitor (query_of monitor plan.kept claim)
+
+-- some block waits at the condition whose query of one waiter may stay open
+pub record HasOpenBlock (monitor : MonitorParts) (plan : Plan) (condition : ℕ) : Type 0 where
   pub block : ℕ
   pub waits : WaitsAt monitor block condition
-  pub hard : IsHard monitor (claims.One condition block)
+  pub stays_open : IsOpenUnder monitor plan (claims.One condition block)
 
 pub record IsLicensed (monitor : MonitorParts) (plan : Plan) : Type 0 where
-  -- each invariant none of whose queries is hard is kept
+  -- each invariant none of whose queries may stay open is kept
   pub easy_kept : ContainsEasy monitor plan.kept
-  -- a note that isn't needed stands only where that query is hard
+  -- a note that isn't needed stands only where that query may stay open
   pub noted : (block condition : ℕ) → has_note (notes_at plan block) condition ≡ true
       → NoneNeeded monitor plan.kept block condition
-      → IsHard monitor (claims.NoNote block condition)
-  -- a condition that may be of kind signal is of kind broadcast only where a query of its blocks is
-  -- hard
+      → IsOpenUnder monitor plan (claims.NoNote block condition)
+  -- a condition that may be of kind signal is of kind broadcast only where a query of its blocks
+  -- may stay open
   pub broadcasts : (condition : ℕ) → condition_kind plan condition ≡ Some kinds.Broadcast
-      → MaySignal monitor plan condition → HasHardBlock monitor condition
+      → MaySignal monitor plan condition → HasOpenBlock monitor plan condition
   pub kinds : HaveTheirKinds plan
-  -- a note that needs no test is tested only where that query is hard
+  -- a note that needs no test is tested only where that query may stay open
   pub tested : (block : ℕ) → All (λ note. note.tested ≡ true
       → NoTestNeeded monitor plan.kept block note.condition
-      → IsHard monitor (claims.NoTest block note.condition)) (notes_at plan block)
+      → IsOpenUnder monitor plan (claims.NoTest block note.condition)) (notes_at plan block)

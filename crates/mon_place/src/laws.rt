@@ -4,18 +4,20 @@ ghost use Rattle.std.specs.Prelude.{◌≡◌};
 ghost use Rattle.mon_events.specs.declared.plan.Plan.{Plan};
 ghost use Rattle.mon_events.specs.Plans.{FitsPlan, IsLawful};
 ghost use Rattle.mon_monitor.specs.MonitorParts.{MonitorParts, IsMonitor};
-ghost use Rattle.mon_prune.specs.Hardness.{HasNoHardClaim, IsSmall};
+ghost use Rattle.mon_prune.specs.Hardness.{HasNoHardClaim, HasNoOpenClaim, IsSmall};
+ghost use Rattle.mon_prune.specs.Invariants.{IsGreatest};
 ghost use Rattle.mon_place.specs.Exact.{IsExact, IsLicensed};
 ghost use Rattle.mon_place.specs.Relayed.{RelayedPlansAreLawful, RelayedPlansFit};
 ghost use Rattle.mon_place.specs.Relayed.{RelayedPlansOmitNoMore, RelayedSectionsWakeOne};
 ghost use Rattle.mon_place.specs.inner.Answers.{IsAnswered};
 
 use mon_cert::refuted_formula_is_false;
-use mon_prune::open_claims_are_hard;
+use mon_prune::easy_monitors_have_no_open_claim;
 use mon_wp::refuted_query_is_valid;
 
-/// A plan that the prover's answers make fits, is lawful and licensed, and exact where no claim of
-/// the monitor is hard, as none of a small one is.
+/// A plan that the prover's answers make fits, is lawful and licensed, and exact where it keeps the
+/// greatest invariant, under which no query may stay open: so where no claim of the monitor is hard,
+/// as none of a small one is.
 pub(crate) fn answered_plans_are_placed()
     ensures fits { (monitor : MonitorParts) (plan : Plan) → IsMonitor monitor
         → IsAnswered monitor plan → FitsPlan monitor plan }
@@ -27,10 +29,13 @@ pub(crate) fn answered_plans_are_placed()
         → IsAnswered monitor plan → IsSmall monitor → IsExact monitor plan }
     ensures none_hard { (monitor : MonitorParts) (plan : Plan) → IsMonitor monitor
         → IsAnswered monitor plan → HasNoHardClaim monitor → IsExact monitor plan }
+    ensures none_open { (monitor : MonitorParts) (plan : Plan) → IsMonitor monitor
+        → IsAnswered monitor plan → HasNoOpenClaim monitor plan.kept
+        → IsGreatest monitor plan.kept → IsExact monitor plan }
 {
     refuted_formula_is_false();
     refuted_query_is_valid();
-    open_claims_are_hard();
+    easy_monitors_have_no_open_claim();
 }
 
 /// A monitor has one exact plan at most.

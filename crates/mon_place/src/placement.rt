@@ -2,7 +2,8 @@
 
 ghost use Rattle.std.specs.Prelude.{◌≡◌, ◌++◌, IfOk, map};
 ghost use Rattle.mon_events.specs.Plans.{FitsPlan, IsLawful};
-ghost use Rattle.mon_prune.specs.Hardness.{HasNoHardClaim, IsSmall};
+ghost use Rattle.mon_prune.specs.Hardness.{HasNoHardClaim, HasNoOpenClaim, IsSmall};
+ghost use Rattle.mon_prune.specs.Invariants.{IsGreatest};
 ghost use Rattle.mon_place.specs.Backing.{AreProofs, IsBacked, backed_claims};
 ghost use Rattle.mon_place.specs.Exact.{IsExact, IsLicensed};
 ghost use Rattle.mon_place.specs.inner.Answers.{AreAskable, IsAnswered, proof_of_kept};
@@ -24,8 +25,9 @@ use std::alloc::{AllocError, Global};
 /// certificate is found that none is needed. A condition is of kind signal where its guard reads no
 /// inputs and after each block that waits at it one waiter is enough, and else of kind broadcast;
 /// each note has its condition's kind. A note on a condition that reads no inputs is tested unless
-/// a certificate is found that no test is needed. So the plan is lawful; where no claim is hard it
-/// is exact, and else it does more than it has to only where a hard query leaves that open.
+/// a certificate is found that no test is needed. So the plan is lawful, and it does more than it
+/// has to only where a query may stay open under what it keeps: where none may and that is the
+/// greatest invariant it is exact, and so where no claim is hard.
 ///
 /// Placing signals by such triples is due to K. Ferles, J. Van Geffen, I. Dillig and Y.
 /// Smaragdakis, "Symbolic Reasoning for Automatic Signal Placement" (PLDI 2018).
@@ -36,6 +38,8 @@ pub fn place(alloc: Global, monitor: &Monitor) -> Result<PlacedPlan, AllocError>
     ensures exact { IfOk result (λ placed. IsSmall monitor.now → IsExact monitor.now placed.plan) }
     ensures none_hard { IfOk result (λ placed. HasNoHardClaim monitor.now
         → IsExact monitor.now placed.plan) }
+    ensures none_open { IfOk result (λ placed. HasNoOpenClaim monitor.now placed.plan.kept
+        → IsGreatest monitor.now placed.plan.kept → IsExact monitor.now placed.plan) }
     ensures backed { IfOk result (λ placed. IsBacked monitor.now placed.plan) }
     ensures proofs { IfOk result (λ placed. AreProofs monitor.now placed.plan.kept
         (backed_claims monitor.now placed.plan) placed.proofs) }

@@ -1,4 +1,3 @@
-mod Cubes
 mod HardClaims
 mod ListSteps
 mod OpenQueries

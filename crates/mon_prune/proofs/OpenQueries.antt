@@ -70,10 +70,11 @@ general_open : (monitor : MonitorParts) (query : Query) → Fails monitor query 
 general_open monitor query fails has valid = by_light (is_light (rows_of_literals has.cube))
   where
     by_light : IsLightCube (rows_of_literals has.cube) ⊎ (IsLightCube (rows_of_literals has.cube) → ⊥) → MayStayOpen monitor query
-    by_light (inr never) = heavy (record { cube = has.cube; is_cube = has.is_cube; general = has.general; heavy = never })
+    by_light (inr never) = heavy (record { cube = has.cube; is_cube = has.is_cube; no_clash = has.no_clash; general = has.general; heavy = never })
     by_light (inl light) = fractions (record {
       cube = has.cube;
       is_cube = has.is_cube;
+      no_clash = has.no_clash;
       general = has.general;
       light = light;
       fractions = has.light light;

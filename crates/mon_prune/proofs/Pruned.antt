@@ -10,11 +10,11 @@ use Rattle.mon_monitor.specs.MonitorParts.{MonitorParts, start_of}
 use Rattle.mon_monitor.specs.Triples.{Keeps}
 use Rattle.mon_wp.proofs.FewerKept.{more_keep_valid, some_contained}
 use Rattle.mon_prune.specs.declared.kept.Kept.{Kept}
-use Rattle.mon_prune.specs.Hardness.{HasNoHardClaim}
-use Rattle.mon_prune.specs.Invariants.{ContainsEasy, IsGreatest, IsInvariant, NoneIsHard}
+use Rattle.mon_prune.specs.Hardness.{HasNoHardClaim, MayBeKept}
+use Rattle.mon_prune.specs.Invariants.{ContainsEasy, IsGreatest, IsInvariant, NoneMayStayOpen}
 use Rattle.mon_prune.specs.inner.Asking.{MustStay}
 use Rattle.mon_prune.specs.inner.Pruning.{IsLeft, IsRoundOf}
-use Rattle.mon_prune.proofs.HardClaims.{open_hard}
+use Rattle.mon_prune.proofs.HardClaims.{none_open}
 use Rattle.mon_prune.proofs.SomeOf.{filter_contains, remove_contains, some_filter, some_hold, some_remove, some_same, some_trans}
 
 -- ---- at the start
@@ -30,16 +30,19 @@ left_first monitor = record {
 
 -- ---- after a round
 
--- a candidate of an invariant that is contained in what was left, and none of whose claims is hard,
--- has to stay
+may_be_kept : (monitor : MonitorParts) (kept : List Candidate) → IsLeft monitor kept → MayBeKept monitor kept
+may_be_kept monitor kept left = record { candidates = left.candidates; starts = left.starts }
+
+-- a candidate of an invariant that is contained in what was left, and none of whose queries may stay
+-- open, has to stay
 stays : (monitor : MonitorParts) (kept other : List Candidate) (one : Candidate)
-    → AreSomeOf kept (candidates_of monitor) → IsInvariant monitor other → NoneIsHard monitor other → All (Contains kept) other → Contains other one
+    → MayBeKept monitor kept → IsInvariant monitor other → NoneMayStayOpen monitor other → All (Contains kept) other → Contains other one
     → MustStay monitor kept one
-stays monitor kept other one some invariant none within is = record {
+stays monitor kept other one may invariant none within is = record {
   keep = λ block low.
       more_keep_valid monitor (claims.Keeps one block) other kept within
       (All-contains (λ candidate. Keeps monitor other candidate block) other one (invariant.inductive.keeps block low) is);
-  easy = λ block low. record { closed = λ open_query. none one block is low (open_hard monitor (claims.Keeps one block) kept some open_query) };
+  easy = λ block low. record { closed = λ open_query. none kept may within one block is low open_query };
 }
 
 pub left_some : (monitor : MonitorParts) (kept next : List Candidate)
@@ -50,7 +53,7 @@ left_some monitor kept next left some stay = record {
   easy = λ other invariant none k d low.
       let within = left.easy other invariant none in
       All-contains (λ candidate. MustStay monitor kept candidate → Contains next candidate) kept (get_or other k d) stay (within k d low)
-      (stays monitor kept other (get_or other k d) left.candidates invariant none within (Contains-get_or other k d low));
+      (stays monitor kept other (get_or other k d) (may_be_kept monitor kept left) invariant none within (Contains-get_or other k d low));
 }
 
 pub left_after : (monitor : MonitorParts) (kept next : List Candidate) (proofs : List Kept)
@@ -90,11 +93,11 @@ greatest_left monitor kept invariant easy none = record {
   invariant = invariant;
   exactly = λ candidate. (
     (λ is. record { kept = kept; invariant = invariant; contains = is }),
-    (λ some. All-contains (Contains kept) some.kept candidate (easy some.kept some.invariant (none_hard some.kept some.invariant)) some.contains),
+    (λ some. All-contains (Contains kept) some.kept candidate (easy some.kept some.invariant (none_stays_open some.kept some.invariant)) some.contains),
   );
 }
   where
-    none_hard : (other : List Candidate) → IsInvariant monitor other → NoneIsHard monitor other
-    none_hard other known = λ candidate block is low.
-        none (claims.Keeps candidate block)
+    none_stays_open : (other : List Candidate) → IsInvariant monitor other → NoneMayStayOpen monitor other
+    none_stays_open other known = λ more may others candidate block is low.
+        none_open monitor more may none (claims.Keeps candidate block)
         (All-contains (Contains (candidates_of monitor)) other candidate (some_contained other (candidates_of monitor) known.candidates) is, low)

@@ -13,7 +13,7 @@ use Rattle.mon_monitor.specs.Queries.{query_of}
 use Rattle.mon_monitor.specs.Triples.{IsInductive, IsValidQuery}
 use Rattle.mon_wp.specs.NegatedQueries.{negated_query}
 use Rattle.mon_prune.specs.declared.kept.Kept.{Kept}
-use Rattle.mon_prune.specs.Hardness.{IsHard, MayStayOpen}
+use Rattle.mon_prune.specs.Hardness.{MayBeKept, MayStayOpen}
 
 -- ---- certificates
 
@@ -53,16 +53,18 @@ pub record IsInvariant (monitor : MonitorParts) (kept : List Candidate) : Type 0
   pub candidates : AreSomeOf kept (candidates_of monitor)
   pub inductive : IsInductive monitor kept
 
--- no claim that a block keeps one of these candidates is hard
-abbrev pub NoneIsHard : MonitorParts → List Candidate → Type 0
-NoneIsHard monitor kept = (candidate : Candidate) (block : ℕ)
-    → Contains kept candidate → block < length monitor.blocks
-    → IsHard monitor (claims.Keeps candidate block) → ⊥
+-- of a block that keeps one of these candidates no query may stay open, whatever may be kept with
+-- them
+abbrev pub NoneMayStayOpen : MonitorParts → List Candidate → Type 0
+NoneMayStayOpen monitor others =
+    (kept : List Candidate) → MayBeKept monitor kept → All (Contains kept) others
+    → (candidate : Candidate) (block : ℕ) → Contains others candidate → block < length monitor.blocks
+    → MayStayOpen monitor (query_of monitor kept (claims.Keeps candidate block)) → ⊥
 
--- it contains each invariant none of whose claims is hard
+-- it contains each invariant none of whose queries may stay open
 abbrev pub ContainsEasy : MonitorParts → List Candidate → Type 0
 ContainsEasy monitor kept = (other : List Candidate)
-    → IsInvariant monitor other → NoneIsHard monitor other → All (Contains kept) other
+    → IsInvariant monitor other → NoneMayStayOpen monitor other → All (Contains kept) other
 
 -- some invariant contains the candidate
 pub record IsInSome (monitor : MonitorParts) (candidate : Candidate) : Type 0 where

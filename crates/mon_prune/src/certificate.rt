@@ -13,9 +13,9 @@ use std::alloc::{AllocError, Global};
 
 /// A certificate that refutes the negation of a query, which is then valid. There is none only
 /// where the query is not valid, or is not negated within the limits of [`negated`] to a formula of
-/// at most 1,024 cubes, or where that formula has a cube with a row that is no difference row, and
-/// that cube isn't light, or is light and has a solution in fractions and none in whole numbers
-/// (`specs/Hardness`). It fails only for want of memory.
+/// at most 1,024 cubes, or where that formula has a cube without a clash, with a row that is no
+/// difference row, and that cube isn't light, or is light and has a solution in fractions and none
+/// in whole numbers (`specs/Hardness`). It fails only for want of memory.
 pub fn certificate_of(
     alloc: Global,
     monitor: &Monitor,

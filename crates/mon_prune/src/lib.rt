@@ -23,7 +23,7 @@ mod starts;
 
 pub use certificate::certificate_of;
 pub use kept::{Invariant, Kept};
-pub use laws::{open_claims_are_hard, plain_claims_are_not_hard};
+pub use laws::{easy_monitors_have_no_open_claim, open_claims_are_hard, plain_claims_are_not_hard};
 pub use listing::candidates;
 pub use pruning::invariant;
 pub use starts::{are_true_at_start, candidates_have_formulas};

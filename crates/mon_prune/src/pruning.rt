@@ -36,9 +36,9 @@ fn pruned(alloc: Global, monitor: &Monitor, first: Vec<Candidate>) -> Result<Rou
 
 /// The candidates that are true at the start and that each block keeps under all of them, with a
 /// proof for each of them and each block. It contains every invariant of the monitor's candidates
-/// none of whose claims is hard, and so where no claim of the monitor is hard it is the greatest
-/// invariant of its candidates. The makers of queries take what is kept. It fails only for want of
-/// memory.
+/// none of whose queries may stay open, whatever may be kept with it, and so where no claim of the
+/// monitor is hard it is the greatest invariant of its candidates. The makers of queries take what
+/// is kept. It fails only for want of memory.
 ///
 /// The candidates that are false at the start are dropped, and then those that some block is not
 /// found to keep under all that are left. Each is dropped at once, and a claim is asked again only

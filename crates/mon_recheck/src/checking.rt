@@ -14,7 +14,7 @@ use super::sight::is_lawful_at_sight;
 use mon_cert::{Cert, accepts, refuted_formula_is_false};
 use mon_events::Plan;
 use mon_monitor::{Candidate, Claim, Monitor};
-use mon_prune::{candidates_have_formulas, open_claims_are_hard};
+use mon_prune::candidates_have_formulas;
 use mon_wp::{claim_query, negated, refuted_query_is_valid};
 use std::alloc::{AllocError, Global};
 
@@ -34,7 +34,6 @@ pub fn recheck(alloc: Global, monitor: &Monitor, report: &Report) -> Result<Verd
     let _blocks = monitor.blocks();
     refuted_formula_is_false();
     refuted_query_is_valid();
-    open_claims_are_hard();
     candidates_have_formulas(monitor);
     if !is_lawful_at_sight(monitor, &report.plan) {
         return Ok(Verdict::Unlawful);

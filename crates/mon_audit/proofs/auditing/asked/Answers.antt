@@ -32,12 +32,7 @@ pub returns-in-Some : goal.returns-in-Some
 returns-in-Some c =
     let monitor = c.args.monitor.now in
     let kept = c.items.result.now in
-    let laws : Laws = record {
-      refuted_is_false = c.refuted_formula_is_false.ensures;
-      refuted_is_valid = c.refuted_query_is_valid.ensures;
-      open_are_hard = c.open_claims_are_hard.ensures;
-    } in
-    unproved_of laws monitor c.args.plan.now kept c.deref.result.now c.in-Some.claim c.items.ensures (c.deref.ensures.value ∙ c.in_ok-claims.ensures) c.requires.plan.kept c.requires.sight
+    unproved_of monitor c.args.plan.now kept c.deref.result.now c.in-Some.claim c.items.ensures (c.deref.ensures.value ∙ c.in_ok-claims.ensures) c.requires.sight
     (subst (IsFirstOpen monitor kept c.deref.result.now) c.in-Some.is c.in_ok-claim.ensures)
 
 pub returns : goal.returns
@@ -47,7 +42,6 @@ returns c =
     let laws : Laws = record {
       refuted_is_false = c.refuted_formula_is_false.ensures;
       refuted_is_valid = c.refuted_query_is_valid.ensures;
-      open_are_hard = c.open_claims_are_hard.ensures;
     } in
     proved_of laws monitor c.args.plan.now kept c.deref.result.now c.blocks-blocks.ensures.rule c.requires.plan c.items.ensures (c.deref.ensures.value ∙ c.in_ok-claims.ensures) c.requires.sight
     (subst (IsFirstOpen monitor kept c.deref.result.now) c.in-None.is c.in_ok-claim.ensures)

@@ -1,13 +1,17 @@
+use Rattle.mon_monitor.specs.MonitorParts.{MonitorParts, IsMonitor}
+use Rattle.mon_events.specs.declared.plan.Plan.{Plan}
+use Rattle.mon_prune.specs.Hardness.{HasNoHardClaim}
+use Rattle.mon_place.specs.Exact.{IsExact}
+use Rattle.mon_place.specs.inner.Answers.{IsAnswered}
 use Rattle.mon_place.proofs.Backed.{Laws}
-use Rattle.mon_place.proofs.Answered.{plan_exact, plan_fits, plan_lawful, plan_licensed}
+use Rattle.mon_place.proofs.Answered.{may_be_kept, plan_exact, plan_fits, plan_lawful, plan_licensed}
 use Rattle.mon_place.proofs.laws.answered_plans_are_placed.Goals as goal
-use Rattle.mon_place.proofs.laws.answered_plans_are_placed.Goals.{After-open_claims_are_hard}
+use Rattle.mon_place.proofs.laws.answered_plans_are_placed.Goals.{After-easy_monitors_have_no_open_claim}
 
-laws : (c : After-open_claims_are_hard) → Laws
+laws : (c : After-easy_monitors_have_no_open_claim) → Laws
 laws c = record {
   refuted_is_false = c.refuted_formula_is_false.ensures;
   refuted_is_valid = c.refuted_query_is_valid.ensures;
-  open_are_hard = c.open_claims_are_hard.ensures;
 }
 
 pub returns-clause-fits : goal.returns-clause-fits
@@ -17,10 +21,18 @@ pub returns-clause-lawful : goal.returns-clause-lawful
 returns-clause-lawful c = plan_lawful (laws c)
 
 pub returns-clause-licensed : goal.returns-clause-licensed
-returns-clause-licensed c = plan_licensed (laws c)
+returns-clause-licensed c = λ monitor plan rule answered. plan_licensed monitor plan answered
+
+easy_exact : After-easy_monitors_have_no_open_claim → (monitor : MonitorParts) (plan : Plan) → IsMonitor monitor → IsAnswered monitor plan → HasNoHardClaim monitor → IsExact monitor plan
+easy_exact c monitor plan rule answered none =
+    plan_exact (laws c) monitor plan rule answered
+    (c.easy_monitors_have_no_open_claim.ensures monitor plan.kept (may_be_kept monitor plan answered) none) (answered.greatest none)
 
 pub returns-clause-exact : goal.returns-clause-exact
-returns-clause-exact c = λ monitor plan rule answered small. plan_exact (laws c) monitor plan rule answered small.easy
+returns-clause-exact c = λ monitor plan rule answered small. easy_exact c monitor plan rule answered small.easy
 
 pub returns-clause-none_hard : goal.returns-clause-none_hard
-returns-clause-none_hard c = plan_exact (laws c)
+returns-clause-none_hard c = easy_exact c
+
+pub returns-clause-none_open : goal.returns-clause-none_open
+returns-clause-none_open c = plan_exact (laws c)

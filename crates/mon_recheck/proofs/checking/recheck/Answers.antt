@@ -35,7 +35,6 @@ returns c =
     let laws : Laws = record {
       refuted_is_false = c.refuted_formula_is_false.ensures;
       refuted_is_valid = c.refuted_query_is_valid.ensures;
-      open_are_hard = c.open_claims_are_hard.ensures;
     } in
     let sight = c.is_lawful_at_sight.ensures.0 c.if-not-is_lawful_at_sight.false in
     let checked =
