@@ -29,8 +29,8 @@ use std::alloc::{AllocError, Global};
 /// the start and the kind of a condition or a note on it doesn't suit it, and then the first such
 /// condition. A claim is found unproved only where neither is so. It is the first for which no
 /// certificate is found: it doesn't hold, or its query may stay open under what the plan keeps. So
-/// where none may, as where no claim of the monitor is hard, a plan is found lawful exactly where it
-/// is.
+/// where none may, as where no claim of the monitor is hard, a plan is found lawful exactly where
+/// it is.
 ///
 /// A claim is asked for each kept candidate with each block, for each block with each condition on
 /// which it has no note, and for each condition of kind signal with each block that waits at it and

@@ -16,8 +16,8 @@ use mon_prune::easy_monitors_have_no_open_claim;
 use mon_wp::refuted_query_is_valid;
 
 /// A plan that the prover's answers make fits, is lawful and licensed, and exact where it keeps the
-/// greatest invariant, under which no query may stay open: so where no claim of the monitor is hard,
-/// as none of a small one is.
+/// greatest invariant, under which no query may stay open: so where no claim of the monitor is
+/// hard, as none of a small one is.
 pub(crate) fn answered_plans_are_placed()
     ensures fits { (monitor : MonitorParts) (plan : Plan) → IsMonitor monitor
         → IsAnswered monitor plan → FitsPlan monitor plan }

@@ -58,7 +58,8 @@ pub record IsInvariant (monitor : MonitorParts) (kept : List Candidate) : Type 0
 abbrev pub NoneMayStayOpen : MonitorParts → List Candidate → Type 0
 NoneMayStayOpen monitor others =
     (kept : List Candidate) → MayBeKept monitor kept → All (Contains kept) others
-    → (candidate : Candidate) (block : ℕ) → Contains others candidate → block < length monitor.blocks
+    → (candidate : Candidate) (block : ℕ)
+    → Contains others candidate → block < length monitor.blocks
     → MayStayOpen monitor (query_of monitor kept (claims.Keeps candidate block)) → ⊥
 
 -- it contains each invariant none of whose queries may stay open

@@ -18,8 +18,8 @@ pub fn open_claims_are_hard()
         → MayStayOpen monitor (query_of monitor kept claim) → IsHard monitor claim }
 {}
 
-/// Where no claim of the monitor is hard, no query of one may stay open, whichever of the candidates
-/// that are true at the start are kept.
+/// Where no claim of the monitor is hard, no query of one may stay open, whichever of the
+/// candidates that are true at the start are kept.
 pub fn easy_monitors_have_no_open_claim()
     ensures { (monitor : MonitorParts) (kept : List Candidate)
         → MayBeKept monitor kept
