@@ -26,3 +26,4 @@ pub mod ProgramEnded
 pub mod Keeping
 pub mod FileParts
 pub mod Rechecked
+pub mod ShortMoments

@@ -11,7 +11,8 @@ use Rattle.mon_events.specs.declared.plan.Plan.{Plan}
 use Rattle.mon_events.specs.PlanText.{plan_text}
 use Rattle.mon_text.specs.FaultText.{unread_text}
 use Rattle.mon_code.specs.Laws.{PrintedCodeLosesNone}
-use Rattle.mon_numbers.specs.Laws.{PrintedBodiesStep, PrintedNumbersAreWide, PrintedTestsHold, SharedTestsHold}
+use Rattle.mon_code.specs.LivePlans.{printed_program}
+use Rattle.mon_numbers.specs.Laws.{PrintedBodiesStep, PrintedNumbersAreWide, PrintedTestsHold, SharedTestsHold, StartsAreShort}
 use Rattle.mon_module.specs.Modules.{rust_text}
 use Rattle.expresso.specs.declared.status.Status.{Status}
 use Rattle.expresso.specs.declared.status.Status.TheVariants as statuses
@@ -22,7 +23,7 @@ use Rattle.mon_command.specs.CommandLine.{Command, check, compile, report, expla
 use Rattle.mon_why.specs.declared.reason.Reason.{Reason}
 use Rattle.expresso.specs.Placements.{IsChosen, IsPlacement}
 use Rattle.expresso.specs.MonitorFiles.{IsAccepted}
-use Rattle.expresso.specs.PrintedPrograms.{BodiesStep, IsAsPromised, NumbersStayWide, TestsAreShared, TestsHold, ThreadsLoseNone}
+use Rattle.expresso.specs.PrintedPrograms.{BodiesStep, IsAsPromised, MomentsStayShort, NumbersStayWide, StartIsShort, TestsAreShared, TestsHold, ThreadsLoseNone}
 use Rattle.expresso.specs.Texts.{explained_text}
 use Rattle.expresso.specs.inner.Explaining.{IsExplained}
 use Rattle.expresso.specs.FirstFaults.{IsRefusalLine}
@@ -33,6 +34,7 @@ use Rattle.expresso.specs.inner.Input.{CommandsEndOn, WorksOn}
 use Rattle.expresso.proofs.Telling.{told, is_told, accepted_told, line_told, holds_same}
 use Rattle.expresso.proofs.FirstFaults.{OneSpelling, NoSpelling, OneTree, no_line}
 use Rattle.expresso.proofs.Outcomes.{written_since}
+use Rattle.expresso.proofs.ShortMoments.{moments_short}
 use Rattle.expresso.proofs.Ending.{memory_ended, no_bytes_ended, refused_ended, work_ended}
 
 -- ---- the commands that work on one file
@@ -150,6 +152,7 @@ pub record PrintedLaws : Type 0 where
   pub tests : PrintedTestsHold
   pub shared : SharedTestsHold
   pub wide : PrintedNumbersAreWide
+  pub starts : StartsAreShort
 
 bodies_step : PrintedBodiesStep → (bytes : List ℕ) (tree : MonitorTree) (monitor : MonitorParts) → IsAccepted bytes tree monitor → BodiesStep tree monitor
 bodies_step law bytes tree monitor accepted = λ index placed block state inputs at held short short_arguments short_locals.
@@ -169,6 +172,13 @@ numbers_stay_wide law bytes tree monitor accepted = λ index placed arguments me
     (record { bytes = bytes; tokens = accepted.tokens; short = accepted.short; spelled = accepted.spelled; derived = accepted.derived })
     accepted.unbroken at short short_state short_locals
 
+start_is_short : StartsAreShort → (bytes : List ℕ) (tree : MonitorTree) (monitor : MonitorParts) → IsAccepted bytes tree monitor → StartIsShort monitor
+start_is_short law bytes tree monitor accepted = law tree monitor accepted.unbroken accepted.typed
+
+moments_stay_short : PrintedBodiesStep → StartsAreShort → (bytes : List ℕ) (tree : MonitorTree) (monitor : MonitorParts) (plan : Plan) → IsAccepted bytes tree monitor → MomentsStayShort monitor plan
+moments_stay_short bodies starts bytes tree monitor plan accepted = λ clients last pass leads.
+    moments_short tree (printed_program monitor plan clients) accepted.typed.blocks (bodies_step bodies bytes tree monitor accepted) (start_is_short starts bytes tree monitor accepted) pass last leads
+
 is_as_promised : PrintedLaws → (bytes : List ℕ) (tree : MonitorTree) (monitor : MonitorParts) (plan : Plan) → IsAccepted bytes tree monitor → IsPlacement monitor plan → IsAsPromised tree monitor plan
 is_as_promised laws bytes tree monitor plan accepted placement = record {
   threads = threads_lose_none laws.threads monitor plan placement;
@@ -176,6 +186,8 @@ is_as_promised laws bytes tree monitor plan accepted placement = record {
   tests = tests_hold laws.tests bytes tree monitor accepted;
   shared = tests_are_shared laws.shared bytes tree monitor accepted;
   wide = numbers_stay_wide laws.wide bytes tree monitor accepted;
+  starts = start_is_short laws.starts bytes tree monitor accepted;
+  moments = moments_stay_short laws.bodies laws.starts bytes tree monitor plan accepted;
 }
 
 pub emit_done : PrintedLaws → (file : List ℕ) (tree : MonitorTree) (monitor : MonitorParts) (plan : Plan) (files files_now : FilesSeen) (result : Status) (out out_now : SinkSeen)

@@ -1,19 +1,19 @@
 -- What threads do by the code that is printed of a monitor under its plan, what the printed bodies
--- and tests do, and how large the numbers on the way are.
+-- and tests do, and how large the numbers are that are kept and made on the way.
 use Rattle.std.specs.Prelude.{◌≡◌, ℕ, false, List, ◌∷◌, All, Some, slice_get}
 use Rattle.mon_base.specs.declared.value.Value.{Value}
 use Rattle.mon_tree.specs.declared.tree.MonitorTree.{MonitorTree}
 use Rattle.mon_monitor.specs.declared.monitor.Block.{Block}
 use Rattle.mon_monitor.specs.Bodies.{Inputs, Memory}
 use Rattle.mon_monitor.specs.Inputs.{reads_inputs}
-use Rattle.mon_monitor.specs.MonitorParts.{MonitorParts}
+use Rattle.mon_monitor.specs.MonitorParts.{MonitorParts, locals_in, start_of}
 use Rattle.mon_types.specs.KeptMeaning.{expressions_in}
 use Rattle.mon_types.specs.Typed.{PlacedBlock, blocks_from}
 use Rattle.mon_implicit.specs.declared.script.Client.{Client}
 use Rattle.mon_implicit.specs.Scripted.{FitsScripts}
 use Rattle.mon_implicit.specs.Steps.{condition_truth, guard_truth}
 use Rattle.mon_events.specs.declared.plan.Plan.{Plan}
-use Rattle.mon_code.specs.Executions.{Moment}
+use Rattle.mon_code.specs.Executions.{Frame, IsThread, Moment, Position}
 use Rattle.mon_code.specs.Laws.{Leads, LosesNone}
 use Rattle.mon_code.specs.LivePlans.{printed_program}
 use Rattle.mon_numbers.specs.Laws.{AreShort, CallSteps, StaysWide, scope_in}
@@ -77,6 +77,34 @@ NumbersStayWide tree =
     → All (StaysWide (scope_in tree placed) arguments memory)
     (placed.block.guard ∷ expressions_in placed.block.body)
 
+-- ---- executions keep numbers within 64 bits, which is what bodies and widths ask for
+
+-- The state at the start is within 64 bits, and so are the locals with which a call begins. This is
+-- the clause `starts` of `printed_bodies_step` for one monitor.
+abbrev pub StartIsShort : MonitorParts → Type 0
+StartIsShort monitor =
+    AreShort (start_of monitor)
+    × ((method : ℕ) → AreShort (locals_in (slice_get monitor.methods method)))
+
+-- the arguments of all calls are within 64 bits, as `i64` are
+abbrev pub PassShort : List Client → Type 0
+PassShort clients = All (λ client. All (λ call. AreShort call.inputs) client.calls) clients
+
+-- the state and what each thread has for locals are within 64 bits
+pub record IsShortMoment (now : Moment) : Type 0 where
+  pub state : AreShort now.state
+  pub locals : (thread : ℕ) (frame : Frame) (position : Position)
+      → IsThread now.threads thread frame position → AreShort frame.locals
+
+-- Where threads pass such arguments, each moment of each execution is so: there each printed body
+-- does its block's step, and no number on the way leaves 128 bits.
+abbrev pub MomentsStayShort : MonitorParts → Plan → Type 0
+MomentsStayShort monitor plan =
+    (clients : List Client) (last : Moment) → PassShort clients
+    → Leads (printed_program monitor plan clients) last → IsShortMoment last
+
+-- ---- what is promised
+
 -- What is promised of the module that is printed of a monitor under a plan, beside its text.
 pub record IsAsPromised (tree : MonitorTree) (monitor : MonitorParts) (plan : Plan) : Type 0 where
   pub threads : ThreadsLoseNone monitor plan
@@ -84,3 +112,5 @@ pub record IsAsPromised (tree : MonitorTree) (monitor : MonitorParts) (plan : Pl
   pub tests : TestsHold tree monitor
   pub shared : TestsAreShared tree monitor
   pub wide : NumbersStayWide tree
+  pub starts : StartIsShort monitor
+  pub moments : MomentsStayShort monitor plan

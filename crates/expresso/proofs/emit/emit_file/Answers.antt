@@ -18,6 +18,7 @@ returns-in-Ok-plan_of-clause-ended g c =
       tests = c.printed_tests_hold.ensures.own;
       shared = c.printed_tests_hold.ensures.shared;
       wide = c.printed_numbers_are_wide.ensures.wide;
+      starts = c.printed_bodies_step.ensures.starts;
     } in
     emit_done laws c.args.file.now found.tree found.monitor plan
     (g.F.Files.seen c.args.files.now) (g.F.Files.seen c.monitor_of.new.files) _ (g.S.Sink.seen c.args.out.now) _ c.in-Ok.ensures.holds c.in-Ok-plan_of.ensures c.in-Ok.ensures.quiet.steady

@@ -1,0 +1,162 @@
+-- Executions keep numbers within 64 bits.
+use Rattle.std.proofs.Common.{◌≡◌, ℕ, zero, suc, ◌+◌, List, [], ◌∷◌, map, Option, Some, None, refl, sym, subst, ◌∙◌, inl, inr}
+use Rattle.std.specs.Prelude.{All, IsSomeAnd, slice_get}
+use Rattle.std.proofs.lemmas.List.Elements.{All-nil, All-head, All-tail}
+use Rattle.std.proofs.lemmas.Option.{none-some, same_Some}
+use Rattle.mon_base.specs.declared.value.Value.{Value}
+use Rattle.mon_base.specs.declared.value.Value.TheVariants as values
+use Rattle.mon_tree.specs.declared.tree.Decl.{Decl}
+use Rattle.mon_tree.specs.declared.tree.MonitorTree.{MonitorTree}
+use Rattle.mon_monitor.specs.declared.monitor.Block.{Block}
+use Rattle.mon_monitor.specs.Bodies.{Inputs, Memory}
+use Rattle.mon_types.specs.Typed.{AreBlocksOf, PlacedBlock, blocks_from}
+use Rattle.mon_implicit.specs.declared.commit.Reply.{Reply}
+use Rattle.mon_implicit.specs.declared.commit.Reply.TheVariants as replies
+use Rattle.mon_implicit.specs.declared.script.Call.{Call}
+use Rattle.mon_implicit.specs.declared.script.Client.{Client}
+use Rattle.mon_implicit.specs.Scripted.{calls_of}
+use Rattle.mon_implicit.specs.Steps.{BlockSteps, given, held, reply_of}
+use Rattle.mon_events.specs.declared.plan.Note.{Note}
+use Rattle.mon_code.specs.Executions.{AreNotified, Executes, Frame, IsMove, IsThread, Moment, Position, Program, RunsBody, Thread, call_of, goes, new_thread, start}
+use Rattle.mon_code.specs.Executions.Position.{Notified}
+use Rattle.mon_code.specs.Executions.IsMove.{calls, takes, passes, falls_asleep, wakes, retakes, refuses, runs_body, notifies, unlocks, returns}
+use Rattle.mon_code.specs.Executions.Executes.{none_yet, one_more}
+use Rattle.mon_code.proofs.Lists.{came}
+use Rattle.mon_code.proofs.Views.{thread_before}
+use Rattle.mon_numbers.specs.Laws.{AreShort, CallSteps}
+use Rattle.expresso.specs.PrintedPrograms.{BodiesStep, IsShortMoment, PassShort, StartIsShort}
+
+-- ---- lists and options
+
+all_at : {X : Type 0} (P : X → Type 0) (xs : List X) (index : ℕ) (x : X) → All P xs → slice_get xs index ≡ Some x → P x
+all_at P [] index x each is = absurd (none-some x is)
+all_at P (first ∷ xs) zero x each is = subst P (same_Some first x is) (All-head P first xs each)
+all_at P (first ∷ xs) (suc index) x each is = all_at P xs index x (All-tail P first xs each) is
+
+some_there : {X : Type 0} (o : Option X) (P : X → Type 0) → IsSomeAnd o P → (x : X) × (o ≡ Some x) × P x
+some_there None P is = absurd is
+some_there (Some x) P is = (x, refl, is)
+
+-- ---- a step of a block
+
+no_overflow : (result : Option Value) → replies.Overflow ≡ reply_of result → ⊥
+no_overflow None is = cc
+no_overflow (Some (values.Int number)) is = cc
+no_overflow (Some (values.Bool truth)) is = cc
+
+same_next : (block : Block) (inputs : Inputs) (state : List Value) (reply other : Reply) (next also : Memory) → BlockSteps block inputs state reply next → BlockSteps block inputs state other also → next ≡ also
+same_next block inputs state reply other next also (inl one) (inl two) = one.2 ∙ sym two.2
+same_next block inputs state reply other next also (inl one) (inr two) = absurd (one.0 two.0)
+same_next block inputs state reply other next also (inr one) (inl two) = absurd (two.0 one.0)
+same_next block inputs state reply other next also (inr one) (inr two) = one.2 ∙ sym two.2
+
+-- what a step reaches is short, as what the printed body leaves is
+abbrev AreShortIn : Memory → Type 0
+AreShortIn memory = AreShort memory.state × AreShort memory.locals
+
+step_short : (tree : MonitorTree) (placed : PlacedBlock) (block : Block) (state : List Value) (inputs : Inputs) (reply : Reply) (next : Memory) → CallSteps tree placed block state inputs → AreShort inputs.locals
+    → BlockSteps block inputs state reply next → AreShortIn next
+step_short tree placed block state inputs reply next call short_locals steps =
+    let does = call.0 in
+    let same : does.next ≡ next = same_next block inputs state _ reply does.next next does.steps steps in
+    subst AreShortIn same (
+      subst AreShort does.reaches does.short,
+      elim does.steps [
+        | inl whole ↦ subst AreShort (does.keeps (λ over. no_overflow _ (sym over ∙ whole.1))) does.short_locals
+        | inr over ↦ subst (λ (memory : Memory). AreShort memory.locals) (sym over.2) short_locals
+      ],
+    )
+
+-- the placed block of a block
+placed_there : (declared : List Decl) (row : List PlacedBlock) (blocks : List Block) → AreBlocksOf declared row blocks → (index : ℕ) (block : Block) → slice_get blocks index ≡ Some block → (placed : PlacedBlock) × (slice_get row index ≡ Some placed)
+placed_there declared [] [] are index block at = absurd (none-some block at)
+placed_there declared [] (first ∷ blocks) are index block at = absurd are
+placed_there declared (placed ∷ row) [] are index block at = absurd (none-some block at)
+placed_there declared (placed ∷ row) (first ∷ blocks) are zero block at = (placed, refl)
+placed_there declared (placed ∷ row) (first ∷ blocks) are (suc index) block at = placed_there declared row blocks are.1 index block at
+
+-- ---- threads
+
+abbrev AreShortThreads : List Thread → Type 0
+AreShortThreads threads = (thread : ℕ) (frame : Frame) (position : Position) → IsThread threads thread frame position → AreShort frame.locals
+
+goes_short : (threads : List Thread) (thread : ℕ) (frame : Frame) (position : Position) → AreShortThreads threads → AreShort frame.locals → AreShortThreads (goes threads thread frame position)
+goes_short threads thread frame position short new other others_frame others_position at =
+    elim (came threads thread (record { frame = frame; position = position }) other (record { frame = others_frame; position = others_position }) at) [
+      | inl here ↦ subst (λ (one : Thread). AreShort one.frame.locals) (sym here.1) new
+      | inr there ↦ short other others_frame others_position there.1
+    ]
+
+-- one that goes on with its own locals
+keeps_short : (threads : List Thread) (thread : ℕ) (frame new : Frame) (was position : Position) → AreShortThreads threads → IsThread threads thread frame was → new.locals ≡ frame.locals → AreShortThreads (goes threads thread new position)
+keeps_short threads thread frame new was position short at same = goes_short threads thread new position short (subst AreShort (sym same) (short thread frame was at))
+
+new_short : (clients : List Client) → AreShortThreads (map (λ client. new_thread) clients)
+new_short [] thread frame position at = absurd (none-some _ at)
+new_short (client ∷ clients) zero frame position at = subst (λ (one : Thread). AreShort one.frame.locals) (same_Some new_thread _ at) (All-nil _)
+new_short (client ∷ clients) (suc thread) frame position at = new_short clients thread frame position at
+
+-- ---- what a thread calls
+
+short_call : (clients : List Client) → PassShort clients → (thread past : ℕ) (call : Call) → slice_get (calls_of clients thread) past ≡ Some call → AreShort call.inputs
+short_call [] pass thread past call at = absurd (none-some call at)
+short_call (first ∷ more) pass zero past call at = all_at (λ (one : Call). AreShort one.inputs) first.calls past call (All-head (λ (client : Client). All (λ (one : Call). AreShort one.inputs) client.calls) first more pass) at
+short_call (first ∷ more) pass (suc thread) past call at = short_call more (All-tail (λ (client : Client). All (λ (one : Call). AreShort one.inputs) client.calls) first more pass) thread past call at
+
+-- ---- moves
+
+module _ (tree : MonitorTree) (program : Program) (blocks : AreBlocksOf tree.decls (blocks_from 0 tree.methods) program.monitor.blocks) (bodies : BodiesStep tree program.monitor) (starts : StartIsShort program.monitor)
+    (pass : PassShort program.clients) where
+  abbrev IsRunBy : Frame → Moment → ℕ → Reply → List Value → List Value → Call → Type 0
+  IsRunBy frame before block reply state locals call =
+      IsSomeAnd (slice_get program.monitor.blocks block) (λ which. BlockSteps which (given call.inputs frame.locals) before.state reply (held state locals))
+
+  body_short : (thread : ℕ) (frame : Frame) (before next : Moment) → IsShortMoment before → (move : RunsBody program thread frame before next) → AreShortIn (held move.state move.locals)
+  body_short thread frame before next short move =
+      let called = some_there (call_of program thread frame) (IsRunBy frame before move.block move.reply move.state move.locals) move.steps in
+      let ran = some_there (slice_get program.monitor.blocks move.block) (λ (which : Block). BlockSteps which (given called.0.inputs frame.locals) before.state move.reply (held move.state move.locals)) called.2 in
+      let placed = placed_there tree.decls (blocks_from 0 tree.methods) program.monitor.blocks blocks move.block ran.0 ran.1 in
+      let inputs = given called.0.inputs frame.locals in
+      let locals = short.locals thread frame _ move.at in
+      step_short tree placed.0 ran.0 before.state inputs move.reply (held move.state move.locals)
+      (bodies move.block placed.0 ran.0 before.state inputs placed.1 ran.1 short.state (short_call program.clients pass thread frame.past called.0 called.1) locals)
+      locals ran.2
+
+  woken_short : (now : Moment) (note : Note) (woken : List Thread) → AreShortThreads now.threads → AreNotified program now note woken → AreShortThreads woken
+  woken_short now note woken short (inl one) =
+      subst AreShortThreads (sym one.becomes) (keeps_short now.threads one.target one.target_frame one.target_frame _ (Notified one.block note.condition one.rest) short one.sleeps refl)
+  woken_short now note woken short (inr (inl each)) =
+      subst AreShortThreads (sym each.becomes) (λ thread frame position at. elim (thread_before note.condition now.threads thread frame position at) [
+        | inl same ↦ short thread frame position same
+        | inr slept ↦ short thread frame _ slept.2
+      ])
+  woken_short now note woken short (inr (inr nobody)) = subst AreShortThreads (sym nobody.becomes) short
+
+  move_short : (before next : Moment) → IsShortMoment before → IsMove program before next → IsShortMoment next
+  move_short before next short (calls thread frame move) =
+      subst IsShortMoment (sym move.becomes) (record { state = short.state; locals = goes_short before.threads thread _ _ short.locals (starts.1 move.call.method) })
+  move_short before next short (takes thread frame move) =
+      subst IsShortMoment (sym move.becomes) (record { state = short.state; locals = keeps_short before.threads thread frame frame _ _ short.locals move.at refl })
+  move_short before next short (passes thread frame move) =
+      subst IsShortMoment (sym move.becomes) (record { state = short.state; locals = keeps_short before.threads thread frame frame _ _ short.locals move.at refl })
+  move_short before next short (falls_asleep thread frame move) =
+      subst IsShortMoment (sym move.becomes) (record { state = short.state; locals = keeps_short before.threads thread frame frame _ _ short.locals move.at refl })
+  move_short before next short (wakes thread frame move) =
+      subst IsShortMoment (sym move.becomes) (record { state = short.state; locals = keeps_short before.threads thread frame frame _ _ short.locals move.at refl })
+  move_short before next short (retakes thread frame move) =
+      subst IsShortMoment (sym move.becomes) (record { state = short.state; locals = keeps_short before.threads thread frame frame _ _ short.locals move.at refl })
+  move_short before next short (refuses thread frame move) =
+      subst IsShortMoment (sym move.becomes) (record { state = short.state; locals = keeps_short before.threads thread frame (record frame { answer = replies.Refused }) _ _ short.locals move.at refl })
+  move_short before next short (runs_body thread frame move) =
+      let both = body_short thread frame before next short move in
+      subst IsShortMoment (sym move.becomes) (record { state = both.0; locals = goes_short before.threads thread _ _ short.locals both.1 })
+  move_short before next short (notifies thread frame move) =
+      subst IsShortMoment (sym move.becomes) (record { state = short.state; locals = goes_short move.woken thread frame _ (woken_short before move.note move.woken short.locals move.notified) (short.locals thread frame _ move.at) })
+  move_short before next short (unlocks thread frame move) =
+      subst IsShortMoment (sym move.becomes) (record { state = short.state; locals = keeps_short before.threads thread frame frame _ _ short.locals move.at refl })
+  move_short before next short (returns thread frame move) =
+      subst IsShortMoment (sym move.becomes) (record { state = short.state; locals = keeps_short before.threads thread frame (record frame { past = frame.past + 1 }) _ _ short.locals move.at refl })
+
+  pub moments_short : (last : Moment) → Executes program (start program) last → IsShortMoment last
+  moments_short last none_yet = record { state = starts.0; locals = new_short program.clients }
+  moments_short last (one_more middle end so_far move) = move_short middle end (moments_short middle so_far) move
