@@ -26,4 +26,7 @@ pub mod ProgramEnded
 pub mod Keeping
 pub mod FileParts
 pub mod Rechecked
+pub mod LawfulFits
+pub mod CheckedPlans
+pub mod OneReport
 pub mod ShortMoments

@@ -1,4 +1,4 @@
--- A schedule has one simulation under a plan, and a small monitor one plan.
+-- A schedule has one simulation under a plan, and a monitor without a hard claim one plan.
 use Rattle.std.proofs.Common.{◌≡◌, ℕ, List, sym, ap, subst, ◌∙◌}
 use Rattle.mon_monitor.specs.MonitorParts.{MonitorParts}
 use Rattle.mon_implicit.specs.declared.script.Client.{Client}
@@ -6,7 +6,7 @@ use Rattle.mon_events.specs.declared.plan.Plan.{Plan}
 use Rattle.mon_events.specs.Plans.{FitsPlan}
 use Rattle.mon_events.specs.declared.log.Entry.{Entry}
 use Rattle.mon_events.specs.Configurations.{System, Configuration, system_under}
-use Rattle.mon_prune.specs.Hardness.{IsSmall}
+use Rattle.mon_prune.specs.Hardness.{HasNoHardClaim}
 use Rattle.mon_place.specs.Exact.{IsExact}
 use Rattle.mon_text.specs.Laws.{plan_and_log_text}
 use Rattle.mon_explicit.specs.Sections.{FreeMachine, opened_free}
@@ -45,24 +45,24 @@ pub one_last : OneByRounds → OneDrawn → (choice : PlanChoice) (system : Syst
 one_last by_rounds drawn choice system schedule log other last also one two =
     ap (λ (machine : FreeMachine). machine.now) (same_end by_rounds drawn choice system schedule log other last also one two)
 
--- ---- small monitors
+-- ---- monitors without a hard claim
 
-abbrev OneExactPlan : Type 0
+abbrev pub OneExactPlan : Type 0
 OneExactPlan = (monitor : MonitorParts) (plan other : Plan) → FitsPlan monitor plan → FitsPlan monitor other → IsExact monitor plan → IsExact monitor other → plan ≡ other
 
-pub one_placement : OneExactPlan → (monitor : MonitorParts) (plan other : Plan) → IsSmall monitor → IsPlacement monitor plan → IsPlacement monitor other → plan ≡ other
-one_placement one_exact monitor plan other small one two = one_exact monitor plan other one.fits two.fits (one.exact small) (two.exact small)
+pub one_placement : OneExactPlan → (monitor : MonitorParts) (plan other : Plan) → HasNoHardClaim monitor → IsPlacement monitor plan → IsPlacement monitor other → plan ≡ other
+one_placement one_exact monitor plan other easy one two = one_exact monitor plan other one.fits two.fits (one.exact easy) (two.exact easy)
 
 -- and so one plan that is asked for
-one_chosen : OneExactPlan → (choice : PlanChoice) (monitor : MonitorParts) (plan other : Plan) → IsSmall monitor → IsChosen choice monitor plan → IsChosen choice monitor other → plan ≡ other
-one_chosen one_exact choice monitor plan other small one two =
-    one.is ∙ ap (chosen_of monitor choice) (one_placement one_exact monitor one.placed two.placed small one.placement two.placement) ∙ sym two.is
+one_chosen : OneExactPlan → (choice : PlanChoice) (monitor : MonitorParts) (plan other : Plan) → HasNoHardClaim monitor → IsChosen choice monitor plan → IsChosen choice monitor other → plan ≡ other
+one_chosen one_exact choice monitor plan other easy one two =
+    one.is ∙ ap (chosen_of monitor choice) (one_placement one_exact monitor one.placed two.placed easy one.placement two.placement) ∙ sym two.is
 
-pub one_text : OneExactPlan → OneByRounds → OneDrawn → (choice : PlanChoice) (monitor : MonitorParts) (clients : List Client) (schedule : Schedule) (plan other : Plan) (log others : List Entry) (last also : Configuration) → IsSmall monitor
+pub one_text : OneExactPlan → OneByRounds → OneDrawn → (choice : PlanChoice) (monitor : MonitorParts) (clients : List Client) (schedule : Schedule) (plan other : Plan) (log others : List Entry) (last also : Configuration) → HasNoHardClaim monitor
     → IsSimulation choice (system_under monitor clients plan) schedule log last → IsSimulation choice (system_under monitor clients other) schedule others also
     → plan_and_log_text (system_under monitor clients plan) log last ≡ plan_and_log_text (system_under monitor clients other) others also
-one_text one_exact by_rounds drawn choice monitor clients schedule plan other log others last also small one two =
-    let plans = one_chosen one_exact choice monitor plan other small one.placed.chosen two.placed.chosen in
+one_text one_exact by_rounds drawn choice monitor clients schedule plan other log others last also easy one two =
+    let plans = one_chosen one_exact choice monitor plan other easy one.placed.chosen two.placed.chosen in
     let moved = subst (λ (placed : Plan). IsSimulation choice (system_under monitor clients placed) schedule others also) (sym plans) two in
     let logs = one_log by_rounds drawn choice (system_under monitor clients plan) schedule log others last also one moved in
     let ends = one_last by_rounds drawn choice (system_under monitor clients plan) schedule log others last also one moved in

@@ -51,6 +51,7 @@ module _ (held : List ℕ → Option (List ℕ)) (monitor_file clients_file moni
     few = shown.placed.few;
     lawful = shown.placed.chosen.lawful;
     chosen = shown.placed.chosen.is;
+    placed_fits = shown.placed.chosen.placement.fits;
     placed_lawful = shown.placed.chosen.placement.lawful;
     omits = shown.placed.chosen.omits;
     backed = shown.placed.chosen.placement.backed;

@@ -12,10 +12,10 @@ use Rattle.mon_events.specs.declared.plan.Plan.{Plan}
 use Rattle.mon_events.specs.Configurations.{Configuration, situation_of}
 use Rattle.mon_events.specs.Logs.{IsLegal, IsClosed, commits_of}
 use Rattle.mon_events.specs.Pending.{IsSystem}
-use Rattle.mon_events.specs.Plans.{IsLawful, has_note, notes_at}
+use Rattle.mon_events.specs.Plans.{FitsPlan, IsLawful, has_note, notes_at}
 use Rattle.mon_events.specs.PlanText.{plan_text}
 use Rattle.mon_explicit.specs.Sections.{spurious_in}
-use Rattle.mon_prune.specs.Hardness.{IsSmall}
+use Rattle.mon_prune.specs.Hardness.{HasNoHardClaim}
 use Rattle.mon_place.specs.Backing.{IsBacked}
 use Rattle.mon_place.specs.Exact.{IsExact, IsLicensed}
 use Rattle.mon_text.specs.LogText.{log_text}
@@ -54,8 +54,9 @@ pub record IsHeadlineText (choice : PlanChoice) (monitor_bytes clients_bytes : L
   -- `mon_events`.)
   pub lawful : IsLawful monitor plan
   -- It is the plan that was placed, or with `--relay` that one with its signals relayed. The placed
-  -- one is lawful too.
+  -- one fits the monitor and is lawful too.
   pub chosen : plan ≡ chosen_of monitor choice placed
+  pub placed_fits : FitsPlan monitor placed
   pub placed_lawful : IsLawful monitor placed
   -- Every notification that the plan omits is one that the placed plan omits. Each of those has an
   -- accepted certificate, and so has each other claim that the placed plan rests on.
@@ -65,8 +66,9 @@ pub record IsHeadlineText (choice : PlanChoice) (monitor_bytes clients_bytes : L
   -- Each note of the placed plan has its condition's kind, each invariant without a hard query is
   -- kept, and what the placed plan does beyond need has a hard query.
   pub licensed : IsLicensed monitor placed
-  -- Where the monitor is small the placed plan is exactly what the queries say.
-  pub exact : IsSmall monitor → IsExact monitor placed
+  -- Where no claim of the monitor is hard, as of a small one, the placed plan is exactly what the
+  -- queries say. (So `report` prints the certificates of this plan: the law `runs_are_reported`.)
+  pub exact : HasNoHardClaim monitor → IsExact monitor placed
   -- The log is a legal log of the explicit machine of this plan, and ends closed.
   pub legal : IsLegal (system_under monitor clients plan) log last
   pub closed : IsClosed (system_under monitor clients plan) last

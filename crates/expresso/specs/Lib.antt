@@ -7,10 +7,11 @@ pub mod MonitorFiles
 pub mod ClientFiles
 pub mod ReportFiles
 pub mod PlanFiles
-pub mod PrintedReports
 pub mod PrintedPrograms
+pub mod CheckedPlans
 pub mod Texts
 pub mod Answers
 pub mod Headline
+pub mod PrintedReports
 pub mod Exit
 pub mod inner

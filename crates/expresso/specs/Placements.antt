@@ -5,7 +5,7 @@ use Rattle.mon_command.specs.declared.plan_choice.PlanChoice.TheVariants.{Placed
 use Rattle.mon_monitor.specs.MonitorParts.{MonitorParts, IsMonitor}
 use Rattle.mon_events.specs.declared.plan.Plan.{Plan}
 use Rattle.mon_events.specs.Plans.{FitsPlan, IsLawful, has_note, notes_at}
-use Rattle.mon_prune.specs.Hardness.{IsSmall}
+use Rattle.mon_prune.specs.Hardness.{HasNoHardClaim}
 use Rattle.mon_place.specs.Backing.{IsBacked}
 use Rattle.mon_place.specs.Exact.{IsExact, IsLicensed}
 use Rattle.mon_place.specs.Relayed.{relay_of}
@@ -19,8 +19,8 @@ pub record IsPlacement (monitor : MonitorParts) (plan : Plan) : Type 0 where
   pub backed : IsBacked monitor plan
   -- it does more than it has to only where a hard query leaves that open
   pub licensed : IsLicensed monitor plan
-  -- for a small monitor it does exactly what it has to
-  pub exact : IsSmall monitor → IsExact monitor plan
+  -- where no claim of the monitor is hard, as of a small one, it does exactly what it has to
+  pub exact : HasNoHardClaim monitor → IsExact monitor plan
 
 -- the plan that is asked for, where this one is placed
 abbrev pub chosen_of : MonitorParts → PlanChoice → Plan → Plan

@@ -1,7 +1,10 @@
--- Files that hold what `report` printed.
+-- Files that hold what `report` printed, and what `report` and `run` print of one file.
 use Rattle.std.specs.Prelude.{◌≡◌, ◌≤◌, ℕ, List, Option, Some, length}
 use Rattle.mon_prune.specs.Hardness.{HasNoHardClaim}
+use Rattle.mon_command.specs.declared.plan_choice.PlanChoice.{PlanChoice}
+use Rattle.expresso.specs.declared.status.Status.{Status}
 use Rattle.expresso.specs.Answers.{IsReportText}
+use Rattle.expresso.specs.Headline.{IsHeadlineText}
 use Rattle.expresso.specs.ReportFiles.{OTHER_BYTES}
 
 -- The text is what `report` printed of a file, no claim of whose monitor is hard. Later that file
@@ -13,3 +16,13 @@ pub record IsPrintedReport (held later : List ℕ
   pub short : length text ≤ OTHER_BYTES
   pub same : later file ≡ Some printed.holds.bytes
   pub there : later report_file ≡ Some text
+
+-- One text is what `run` or `block` printed of a monitor none of whose claims is hard, and another
+-- is what `report` printed of a file with the same bytes.
+pub record AreRunAndReport (choice : PlanChoice) (status : Status)
+    (held : List ℕ → Option (List ℕ)) (file clients_bytes text report_text : List ℕ) : Type 0 where
+  pub bytes : List ℕ
+  pub run : IsHeadlineText choice bytes clients_bytes status text
+  pub report : IsReportText held file report_text
+  pub same : held file ≡ Some bytes
+  pub easy : HasNoHardClaim run.monitor

@@ -1,27 +1,32 @@
 //! What follows from the definitions alone.
 
-ghost use Rattle.std.specs.Prelude.{◌≡◌, ℕ, List, Option, length};
+ghost use Rattle.std.specs.Prelude.{◌≡◌, ℕ, List, Option, Some, length};
 ghost use Rattle.mon_tree.specs.declared.tree.MonitorTree.{MonitorTree};
 ghost use Rattle.mon_monitor.specs.MonitorParts.{MonitorParts};
 ghost use Rattle.mon_implicit.specs.declared.script.Client.{Client};
 ghost use Rattle.mon_events.specs.declared.log.Entry.{Entry};
 ghost use Rattle.mon_events.specs.declared.plan.Plan.{Plan};
 ghost use Rattle.mon_events.specs.Configurations.{System, Configuration, system_under};
-ghost use Rattle.mon_prune.specs.Hardness.{IsSmall};
+ghost use Rattle.mon_prune.specs.Hardness.{HasNoHardClaim};
 ghost use Rattle.mon_text.specs.Laws.{plan_and_log_text};
 ghost use Rattle.mon_command.specs.declared.plan_choice.PlanChoice.{PlanChoice};
 ghost use Rattle.mon_recheck.specs.declared.report.Verdict.TheVariants.{Accepted};
 ghost use Rattle.mon_recheck.specs.Splits.{HasNoLoneParts};
 ghost use Rattle.mon_recheck.specs.Verdicts.{verdict_text};
-ghost use Rattle.mon_command.specs.CommandLine.{recheck};
+ghost use Rattle.mon_place.specs.Backing.{AreProofs, backed_claims};
+ghost use Rattle.mon_command.specs.CommandLine.{audit, recheck};
 ghost use Rattle.mon_command.specs.declared.schedule.Schedule.{Schedule};
+ghost use Rattle.expresso.specs.declared.status.Status.{Status};
 ghost use Rattle.expresso.specs.Answers.{IsDoneText, IsRefusedText};
+ghost use Rattle.expresso.specs.CheckedPlans.{IsSafePlan, IsSafeReport};
 ghost use Rattle.expresso.specs.MonitorFiles.{IsAccepted};
 ghost use Rattle.expresso.specs.ClientFiles.{AreAccepted};
 ghost use Rattle.expresso.specs.Placements.{IsPlacement};
-ghost use Rattle.expresso.specs.PrintedReports.{IsPrintedReport};
+ghost use Rattle.expresso.specs.PrintedReports.{AreRunAndReport, IsPrintedReport};
 ghost use Rattle.expresso.specs.Simulations.{IsSimulation};
 
+use mon_code::printed_code_loses_none;
+use mon_events::{legal_logs_run, no_wakeup_is_lost};
 use mon_place::one_exact_plan;
 use mon_recheck::printed_reports_are_accepted;
 use mon_simulate::{one_drawn_log, one_log_by_rounds};
@@ -65,14 +70,14 @@ pub fn one_simulation()
     one_drawn_log();
 }
 
-/// A small monitor is compiled to one plan, so its clients have one simulation by a schedule and a
-/// choice of the plan, and `simulate` has one text.
+/// A monitor none of whose claims is hard, as of a small one, is compiled to one plan, so its
+/// clients have one simulation by a schedule and a choice of the plan, and `simulate` has one text.
 pub fn one_simulated_text()
-    ensures plans { (monitor : MonitorParts) (plan other : Plan) → IsSmall monitor
+    ensures plans { (monitor : MonitorParts) (plan other : Plan) → HasNoHardClaim monitor
         → IsPlacement monitor plan → IsPlacement monitor other → plan ≡ other }
     ensures texts { (choice : PlanChoice) (monitor : MonitorParts) (clients : List Client)
         (schedule : Schedule) (plan other : Plan) (log others : List Entry)
-        (last also : Configuration) → IsSmall monitor
+        (last also : Configuration) → HasNoHardClaim monitor
         → IsSimulation choice (system_under monitor clients plan) schedule log last
         → IsSimulation choice (system_under monitor clients other) schedule others also
         → plan_and_log_text (system_under monitor clients plan) log last
@@ -105,4 +110,43 @@ pub fn printed_reports_are_rechecked()
     one_spelling();
     derives_one_tree();
     printed_reports_are_accepted();
+}
+
+/// Where no claim of a monitor is hard, `report` prints the certificates of the very plan that
+/// `run` and `block` place: of the same bytes they place the same plan, and each claim that it
+/// rests on has its certificate among those printed.
+pub fn runs_are_reported()
+    ensures plans { (choice : PlanChoice) (status : Status) (held : List ℕ → Option (List ℕ))
+        (file clients_bytes text report_text : List ℕ)
+        (is : AreRunAndReport choice status held file clients_bytes text report_text)
+        → is.run.placed ≡ is.report.placed.plan }
+    ensures proofs { (choice : PlanChoice) (status : Status) (held : List ℕ → Option (List ℕ))
+        (file clients_bytes text report_text : List ℕ)
+        (is : AreRunAndReport choice status held file clients_bytes text report_text)
+        → AreProofs is.run.monitor is.run.placed.kept
+        (backed_claims is.run.monitor is.run.placed) is.report.placed.proofs }
+{
+    one_spelling();
+    derives_one_tree();
+    one_exact_plan();
+}
+
+/// What `recheck` accepts, and what `audit` calls lawful, loses no wake-up: the bytes of the one
+/// file are a monitor's, those of the other are of a plan that fits it and is lawful, and whatever
+/// clients call that fits the monitor, no wake-up of them is lost under the plan.
+pub fn checked_plans_lose_no_wakeup()
+    ensures reports { (held : List ℕ → Option (List ℕ))
+        (monitor_file report_file text monitor_bytes report_bytes : List ℕ)
+        → held monitor_file ≡ Some monitor_bytes → held report_file ≡ Some report_bytes
+        → IsDoneText held (recheck monitor_file report_file) text
+        → IsSafeReport monitor_bytes report_bytes }
+    ensures plans { (held : List ℕ → Option (List ℕ))
+        (monitor_file plan_file text monitor_bytes plan_bytes : List ℕ)
+        → held monitor_file ≡ Some monitor_bytes → held plan_file ≡ Some plan_bytes
+        → IsDoneText held (audit monitor_file plan_file) text
+        → IsSafePlan monitor_bytes plan_bytes }
+{
+    no_wakeup_is_lost();
+    legal_logs_run();
+    printed_code_loses_none();
 }

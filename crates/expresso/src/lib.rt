@@ -16,9 +16,11 @@
 //! Its clause `headline` is `specs/Headline`: what `run` and `block` promise. `specs/ProgramEnds`
 //! says what every call promises, `specs/Answers` what each command prints, and `specs/Exit` which
 //! number stands for a [`Status`]. [`without_threads`] does what needs no threads, with no runtime:
-//! so it returns. That bytes stand for one monitor and one list of clients, that a schedule has one
-//! simulation, which for a small monitor has one text, and that `recheck` accepts what `report`
-//! printed of such a monitor, are the laws of `laws`.
+//! so it returns. The laws of `laws` say that bytes stand for one monitor and one list of clients,
+//! that a schedule has one simulation, that no wake-up is lost under what `recheck` accepts or
+//! `audit` calls lawful, and, of a monitor none of whose claims is hard, that a simulation has one
+//! text, that `report` prints the certificates of the plan of a run, and that `recheck` accepts
+//! them.
 #![tactic(auto)]
 
 mod audit;
@@ -46,7 +48,8 @@ mod work;
 
 pub use laws::{
     accepted_monitors_have_no_lone_part, accepts_one_client_list, accepts_one_monitor,
-    one_simulated_text, one_simulation, printed_reports_are_rechecked,
+    checked_plans_lose_no_wakeup, one_simulated_text, one_simulation,
+    printed_reports_are_rechecked, runs_are_reported,
 };
 pub use program::{expresso, without_threads};
 pub use status::{Status, exit_status};

@@ -1,0 +1,90 @@
+-- What `recheck` accepts and `audit` calls lawful loses no wake-up.
+use Rattle.std.proofs.Common.{◌≡◌, ℕ, List, Option, Some, subst}
+use Rattle.mon_tree.specs.declared.tree.MonitorTree.{MonitorTree}
+use Rattle.mon_syntax.specs.Grammar.{IsParsed}
+use Rattle.mon_syntax.proofs.NameLaws.{monitor_named}
+use Rattle.mon_monitor.specs.MonitorParts.{MonitorParts, IsMonitor}
+use Rattle.mon_types.proofs.MonitorMade.{typed_is_monitor}
+use Rattle.mon_types.proofs.Small.{parsed_has_blocks}
+use Rattle.mon_implicit.specs.declared.script.Client.{Client}
+use Rattle.mon_implicit.specs.Scripted.{FitsScripts}
+use Rattle.mon_events.specs.declared.plan.Plan.{Plan}
+use Rattle.mon_events.specs.Plans.{FitsPlan, IsLawful}
+use Rattle.mon_events.specs.Configurations.{system_under}
+use Rattle.mon_events.specs.Laws.{ClosedIsTheEnd, HasLawfulPlan, StuckIsTheEnd, WakesArePending}
+use Rattle.mon_code.specs.Laws.{PrintedCodeLosesNone}
+use Rattle.expresso.proofs.LawfulFits.{lawful_fits}
+use Rattle.mon_command.specs.CommandLine.{audit, recheck}
+use Rattle.expresso.specs.MonitorFiles.{IsAccepted}
+use Rattle.expresso.specs.PlanFiles.{MayBeLawful}
+use Rattle.expresso.specs.ReportFiles.{IsRechecked}
+use Rattle.expresso.specs.Answers.{IsDoneText}
+use Rattle.expresso.specs.CheckedPlans.{IsSafePlan, IsSafeReport, LosesNoWakeup}
+use Rattle.expresso.proofs.Telling.{holds_same}
+
+-- the laws of events and of code
+pub record WakeLaws : Type 0 where
+  pub pending : WakesArePending
+  pub ends : StuckIsTheEnd
+  pub closed : ClosedIsTheEnd
+  pub threads : PrintedCodeLosesNone
+
+-- ---- one monitor and one plan
+
+has_lawful_plan : (monitor : MonitorParts) (plan : Plan) (clients : List Client) → IsMonitor monitor → FitsPlan monitor plan → IsLawful monitor plan → FitsScripts monitor clients → HasLawfulPlan (system_under monitor clients plan)
+has_lawful_plan monitor plan clients is fits lawful scripts = record { is = record { rule = is; scripts = scripts; plan = fits }; lawful = lawful }
+
+loses_none : WakeLaws → (monitor : MonitorParts) (plan : Plan) → IsMonitor monitor → FitsPlan monitor plan → IsLawful monitor plan → LosesNoWakeup monitor plan
+loses_none laws monitor plan is fits lawful = record {
+  is = is;
+  fits = fits;
+  lawful = lawful;
+  pending = λ clients events last scripts happened. laws.pending (system_under monitor clients plan) events last (has_lawful_plan monitor plan clients is fits lawful scripts) happened;
+  ends = λ clients events last scripts happened stuck. laws.ends (system_under monitor clients plan) events last (has_lawful_plan monitor plan clients is fits lawful scripts) happened stuck;
+  closed = λ clients log last scripts legal closed. laws.closed (system_under monitor clients plan) log last (has_lawful_plan monitor plan clients is fits lawful scripts) legal closed;
+  threads = λ clients last scripts leads. laws.threads monitor plan clients last is scripts fits lawful leads;
+}
+
+-- ---- files
+
+-- the monitor of a file keeps the rule of a monitor
+accepted_is_monitor : (bytes : List ℕ) (tree : MonitorTree) (monitor : MonitorParts) → IsAccepted bytes tree monitor → IsMonitor monitor
+accepted_is_monitor bytes tree monitor accepted =
+    let parsed : IsParsed tree = record { bytes = bytes; tokens = accepted.tokens; short = accepted.short; spelled = accepted.spelled; derived = accepted.derived } in
+    typed_is_monitor tree monitor accepted.unbroken (monitor_named bytes accepted.tokens tree accepted.spelled accepted.derived) (parsed_has_blocks tree parsed) accepted.typed
+
+pub safe_report : WakeLaws → (held : List ℕ → Option (List ℕ)) (monitor_file report_file text monitor_bytes report_bytes : List ℕ) → held monitor_file ≡ Some monitor_bytes → held report_file ≡ Some report_bytes
+    → IsDoneText held (recheck monitor_file report_file) text → IsSafeReport monitor_bytes report_bytes
+safe_report laws held monitor_file report_file text monitor_bytes report_bytes monitor_tells report_tells done =
+    let report = done.line.report in
+    let accepted : IsAccepted monitor_bytes done.tree done.monitor = subst (λ (b : List ℕ). IsAccepted b done.tree done.monitor)
+    (holds_same held monitor_file monitor_bytes done.holds.bytes monitor_tells done.holds.told) done.holds.accepted in
+    let rechecked : IsRechecked report_bytes done.monitor report = subst (λ (b : List ℕ). IsRechecked b done.monitor report)
+    (holds_same held report_file report_bytes done.bytes report_tells done.told) done.line.rechecked in
+    record {
+      tree = done.tree;
+      monitor = done.monitor;
+      report = report;
+      accepted = accepted;
+      rechecked = rechecked;
+      safe = loses_none laws done.monitor report.plan (accepted_is_monitor monitor_bytes done.tree done.monitor accepted)
+          (lawful_fits done.monitor report.plan rechecked.is.read.is.plan rechecked.accepted.lawful) rechecked.accepted.lawful;
+    }
+
+pub safe_plan : WakeLaws → (held : List ℕ → Option (List ℕ)) (monitor_file plan_file text monitor_bytes plan_bytes : List ℕ) → held monitor_file ≡ Some monitor_bytes → held plan_file ≡ Some plan_bytes
+    → IsDoneText held (audit monitor_file plan_file) text → IsSafePlan monitor_bytes plan_bytes
+safe_plan laws held monitor_file plan_file text monitor_bytes plan_bytes monitor_tells plan_tells done =
+    let plan = done.line.plan in
+    let accepted : IsAccepted monitor_bytes done.tree done.monitor = subst (λ (b : List ℕ). IsAccepted b done.tree done.monitor)
+    (holds_same held monitor_file monitor_bytes done.holds.bytes monitor_tells done.holds.told) done.holds.accepted in
+    let audited : MayBeLawful plan_bytes done.monitor plan = subst (λ (b : List ℕ). MayBeLawful b done.monitor plan)
+    (holds_same held plan_file plan_bytes done.bytes plan_tells done.told) done.line.found in
+    record {
+      tree = done.tree;
+      monitor = done.monitor;
+      plan = plan;
+      accepted = accepted;
+      audited = audited;
+      safe = loses_none laws done.monitor plan (accepted_is_monitor monitor_bytes done.tree done.monitor accepted)
+          (lawful_fits done.monitor plan audited.is.read.is audited.lawful.lawful) audited.lawful.lawful;
+    }

@@ -1,0 +1,64 @@
+-- What is true of the plans that `recheck` accepts and `audit` calls lawful.
+use Rattle.std.specs.Prelude.{ℕ, List}
+use Rattle.mon_tree.specs.declared.tree.MonitorTree.{MonitorTree}
+use Rattle.mon_monitor.specs.MonitorParts.{MonitorParts, IsMonitor}
+use Rattle.mon_implicit.specs.declared.script.Client.{Client}
+use Rattle.mon_implicit.specs.Scripted.{FitsScripts}
+use Rattle.mon_implicit.specs.Runs.{Ends}
+use Rattle.mon_events.specs.declared.event.Event.{Event}
+use Rattle.mon_events.specs.declared.log.Entry.{Entry}
+use Rattle.mon_events.specs.declared.plan.Plan.{Plan}
+use Rattle.mon_events.specs.Plans.{FitsPlan, IsLawful}
+use Rattle.mon_events.specs.Configurations.{Configuration, situation_of, system_under}
+use Rattle.mon_events.specs.Events.{AreEvents}
+use Rattle.mon_events.specs.Logs.{IsLegal, IsClosed}
+use Rattle.mon_events.specs.Pending.{WakePending, IsStuck}
+use Rattle.mon_recheck.specs.declared.report.Report.{Report}
+use Rattle.expresso.specs.MonitorFiles.{IsAccepted}
+use Rattle.expresso.specs.PlanFiles.{MayBeLawful}
+use Rattle.expresso.specs.PrintedPrograms.{ThreadsLoseNone}
+use Rattle.expresso.specs.ReportFiles.{IsRechecked}
+
+-- Whatever clients call that fits the monitor, under the plan no wake-up of them is lost.
+pub record LosesNoWakeup (monitor : MonitorParts) (plan : Plan) : Type 0 where
+  pub is : IsMonitor monitor
+  pub fits : FitsPlan monitor plan
+  pub lawful : IsLawful monitor plan
+  -- Whatever events come from the start, spurious wake-ups among them: where no one owns the lock
+  -- and a client waits whose guard is true, some client is woken on its condition.
+  pub pending : (clients : List Client) (events : List Event) (last : Configuration)
+      → FitsScripts monitor clients → AreEvents (system_under monitor clients plan) events last
+      → WakePending (system_under monitor clients plan) last
+  -- Where nothing but a spurious wake-up can happen, no client may step.
+  pub ends : (clients : List Client) (events : List Event) (last : Configuration)
+      → FitsScripts monitor clients → AreEvents (system_under monitor clients plan) events last
+      → IsStuck (system_under monitor clients plan) last
+      → Ends monitor clients (situation_of last)
+  -- Nor may one where a legal log is closed.
+  pub closed : (clients : List Client) (log : List Entry) (last : Configuration)
+      → FitsScripts monitor clients → IsLegal (system_under monitor clients plan) log last
+      → IsClosed (system_under monitor clients plan) last
+      → Ends monitor clients (situation_of last)
+  -- And threads lose none by the code of the plan.
+  pub threads : ThreadsLoseNone monitor plan
+
+-- The bytes are a monitor's, and those of a report of it: its certificates refute what they should,
+-- and its plan loses no wake-up. (No other monitor has these bytes, and no other report of it: the
+-- law `accepts_one_monitor`, and `only` of `IsTextOfReport`.)
+pub record IsSafeReport (monitor_bytes report_bytes : List ℕ) : Type 0 where
+  pub tree : MonitorTree
+  pub monitor : MonitorParts
+  pub report : Report
+  pub accepted : IsAccepted monitor_bytes tree monitor
+  pub rechecked : IsRechecked report_bytes monitor report
+  pub safe : LosesNoWakeup monitor report.plan
+
+-- The bytes are a monitor's, and those of a plan of it that loses no wake-up. (No other plan of it
+-- has these bytes: `only` of `IsTextOfPlan`.)
+pub record IsSafePlan (monitor_bytes plan_bytes : List ℕ) : Type 0 where
+  pub tree : MonitorTree
+  pub monitor : MonitorParts
+  pub plan : Plan
+  pub accepted : IsAccepted monitor_bytes tree monitor
+  pub audited : MayBeLawful plan_bytes monitor plan
+  pub safe : LosesNoWakeup monitor plan
