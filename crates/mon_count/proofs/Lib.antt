@@ -1,0 +1,4 @@
+mod TiedForms
+pub mod GuardRows
+pub mod Answering
+mod Measured
