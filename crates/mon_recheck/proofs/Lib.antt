@@ -7,17 +7,11 @@ pub mod PlacedTexts
 pub mod Accepted
 pub mod SmallReports
 pub mod Answered
-pub mod CertParts
-pub mod Numbers
-pub mod Readings
 pub mod Fronts
 pub mod KeptLines
 pub mod NoteLines
 pub mod PlanParts
 pub mod ReportParts
-mod FewerSplits
-pub mod LoneParts
-mod Nested
 mod PrintedReports
 mod TypedNumbers
 mod ProofLines

@@ -13,7 +13,7 @@ use Rattle.mon_events.specs.PlanText.{plan_text}
 use Rattle.mon_place.specs.Backing.{backed_claims}
 use Rattle.mon_text.proofs.Cuts.{same_first}
 use Rattle.mon_recheck.specs.declared.report.Report.{Report}
-use Rattle.mon_recheck.specs.Nesting.{IsRead}
+use Rattle.mon_outline.specs.Readings.{IsRead}
 use Rattle.mon_recheck.specs.Readings.{IsReadable, IsReportRead}
 use Rattle.mon_recheck.specs.Reports.{IsPlanOf, claim_text, proof_text, proofs_text}
 use Rattle.mon_recheck.specs.inner.Reading.{Anything, AreFor, IsAfterKept, IsFront, IsNoFront, IsWithProofs}

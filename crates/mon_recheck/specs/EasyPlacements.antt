@@ -5,15 +5,13 @@ use Rattle.mon_events.specs.Plans.{FitsPlan, IsLawful}
 use Rattle.mon_prune.specs.Hardness.{HasNoHardClaim}
 use Rattle.mon_place.specs.declared.placed.PlacedPlan.{PlacedPlan}
 use Rattle.mon_place.specs.Backing.{AreProofs, backed_claims}
-use Rattle.mon_recheck.specs.Nesting.{HasTypedNumbers}
-use Rattle.mon_recheck.specs.Splits.{HasNoLoneParts}
+use Rattle.mon_outline.specs.Outlines.{HasTypedNumbers}
 
--- No claim of the monitor is hard, no formula of it has a lone part, and the lawful plan was placed
--- with a proof of each claim that it rests on.
+-- No claim of the monitor is hard, and the lawful plan was placed with a proof of each claim that
+-- it rests on.
 pub record IsEasyPlacement (monitor : MonitorParts) (placed : PlacedPlan) : Type 0 where
   pub is : IsMonitor monitor
   pub easy : HasNoHardClaim monitor
-  pub parts : HasNoLoneParts monitor
   pub fits : FitsPlan monitor placed.plan
   pub lawful : IsLawful monitor placed.plan
   pub proofs : AreProofs monitor placed.plan.kept (backed_claims monitor placed.plan) placed.proofs

@@ -3,6 +3,4 @@ pub mod Verdicts
 pub mod Readings
 pub mod inner
 pub mod EasyPlacements
-pub mod Nesting
-pub mod Splits
 pub mod Lines

@@ -1,11 +1,11 @@
 -- What a reading of a text of a plan or of a report says.
 use Rattle.std.specs.Prelude.{◌≡◌, ℕ, List, All, Option, Some, None}
 use Rattle.mon_cert.specs.declared.cert.Cert.{Cert}
+use Rattle.mon_outline.specs.Outlines.{HasTypedNumbers}
 use Rattle.mon_monitor.specs.MonitorParts.{MonitorParts}
 use Rattle.mon_events.specs.declared.plan.Plan.{Plan}
 use Rattle.mon_events.specs.PlanText.{plan_text}
 use Rattle.mon_recheck.specs.declared.report.Report.{Report}
-use Rattle.mon_recheck.specs.Nesting.{IsNested, MOST_LEVELS}
 use Rattle.mon_recheck.specs.Reports.{IsPlanOf, IsReport, report_text}
 
 -- the bytes are the text of this plan of the monitor, and of no other
@@ -21,9 +21,9 @@ IsPlanRead monitor bytes (Some plan) = IsTextOfPlan monitor bytes plan
 IsPlanRead monitor bytes None =
     (plan : Plan) → IsPlanOf monitor plan → plan_text monitor plan ≡ bytes → ⊥
 
--- a certificate that nests within the limit, with numbers of their types
+-- a certificate with numbers of their types, as each in memory is, however deep it nests
 abbrev pub IsReadable : Cert → Type 0
-IsReadable cert = IsNested MOST_LEVELS cert
+IsReadable cert = HasTypedNumbers cert
 
 -- the bytes are the text of this report with readable certificates, and of no other
 pub record IsTextOfReport (monitor : MonitorParts) (bytes : List ℕ) (report : Report) :

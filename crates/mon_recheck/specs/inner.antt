@@ -1,4 +1,3 @@
 pub mod Sight
 pub mod Checks
-pub mod CertParts
 pub mod Reading

@@ -11,9 +11,10 @@ ghost use Rattle.mon_recheck.specs.inner.Checks.{IsAnswer, IsFirstOpen, MayAsk};
 use super::claims::claims_of;
 use super::report::{Report, Verdict};
 use super::sight::is_lawful_at_sight;
-use mon_cert::{Cert, accepts, refuted_formula_is_false};
+use mon_cert::refuted_formula_is_false;
 use mon_events::Plan;
 use mon_monitor::{Candidate, Claim, Monitor};
+use mon_outline::{Outline, is_refuted};
 use mon_prune::candidates_have_formulas;
 use mon_wp::{claim_query, negated, refuted_query_is_valid};
 use std::alloc::{AllocError, Global};
@@ -68,7 +69,7 @@ fn first_open(
     monitor: &Monitor,
     kept: &[Candidate],
     claims: &[Claim],
-    certs: &[Cert],
+    certs: &[Outline],
 ) -> Result<Option<usize>, AllocError>
     requires kept { list_all is_expressible kept.now ≡ true }
     requires claims { All (MayAsk monitor.now) claims.now }
@@ -92,7 +93,7 @@ fn is_proved(
     monitor: &Monitor,
     kept: &[Candidate],
     claim: Claim,
-    cert: &Cert,
+    cert: &Outline,
 ) -> Result<bool, AllocError>
     requires kept { list_all is_expressible kept.now ≡ true }
     requires claim { MayAsk monitor.now claim }
@@ -100,7 +101,7 @@ fn is_proved(
 {
     let query = claim_query(alloc, monitor, kept, claim)?;
     match negated(alloc, monitor, &query)? {
-        Some(formula) => accepts(alloc, &formula, cert),
+        Some(formula) => is_refuted(alloc, &formula, cert),
         None => Ok(false),
     }
 }

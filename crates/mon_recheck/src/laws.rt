@@ -1,19 +1,13 @@
 //! What follows from the definitions alone.
 
-ghost use Rattle.std.specs.Prelude.{◌≡◌, ◌<◌, ◌≤◌, ℕ, suc, ◌+◌, true, length, map, List, Option};
+ghost use Rattle.std.specs.Prelude.{◌≡◌, ℕ, ◌+◌, length, map, Option};
 ghost use Rattle.std.specs.Prelude.{Some, slice_get};
-ghost use Rattle.mon_linear.specs.declared.formula.Formula.{Formula};
-ghost use Rattle.mon_linear.specs.Measures.{cubes_of};
 ghost use Rattle.mon_cert.specs.declared.cert.Cert.{Cert};
-ghost use Rattle.mon_cert.specs.Refutes.{Refutes};
-ghost use Rattle.mon_monitor.specs.declared.candidate.Candidate.{Candidate};
 ghost use Rattle.mon_monitor.specs.declared.claim.Claim.{Claim};
 ghost use Rattle.mon_monitor.specs.MonitorParts.{MonitorParts, IsMonitor};
-ghost use Rattle.mon_monitor.specs.Queries.{query_of};
 ghost use Rattle.mon_events.specs.declared.plan.Plan.{Plan};
 ghost use Rattle.mon_events.specs.Plans.{FitsPlan, IsLawful};
 ghost use Rattle.mon_events.specs.PlanText.{plan_text};
-ghost use Rattle.mon_wp.specs.NegatedQueries.{negated_query};
 ghost use Rattle.mon_prune.specs.Hardness.{HasNoHardClaim};
 ghost use Rattle.mon_place.specs.declared.placed.PlacedPlan.{PlacedPlan};
 ghost use Rattle.mon_place.specs.Backing.{AreProofs, backed_claims};
@@ -22,11 +16,9 @@ ghost use Rattle.mon_recheck.specs.declared.report.Verdict.{Verdict};
 ghost use Rattle.mon_recheck.specs.declared.report.Verdict.TheVariants.{Accepted};
 ghost use Rattle.mon_recheck.specs.EasyPlacements.{IsEasyPlacement};
 ghost use Rattle.mon_recheck.specs.Lines.{IsLineOf, lines_in};
-ghost use Rattle.mon_recheck.specs.Nesting.{HasTypedNumbers, IsNested};
 ghost use Rattle.mon_recheck.specs.Readings.{IsReportRead};
 ghost use Rattle.mon_recheck.specs.Reports.{IsPlanOf, IsReport, placed_text, proof_text};
 ghost use Rattle.mon_recheck.specs.Reports.{proofs_of, report_of, report_text};
-ghost use Rattle.mon_recheck.specs.Splits.{HasNoLoneParts, has_no_lone_part, splits_of};
 ghost use Rattle.mon_recheck.specs.Verdicts.{IsOpen, IsUnproved, IsVerdict, plan_lines};
 
 use mon_wp::fewer_kept_are_no_harder;
@@ -57,25 +49,8 @@ pub fn easy_reports_are_accepted()
     fewer_kept_are_no_harder();
 }
 
-/// A certificate that refutes a formula has a level more than the formula has splits, at most.
-pub fn certificates_nest_by_splits()
-    ensures { (formula : Formula) (cert : Cert)
-        → Refutes formula cert → HasTypedNumbers cert → IsNested (suc (splits_of formula)) cert }
-{}
-
-/// A formula without lone parts has fewer splits than cubes. The negated query of a claim has no
-/// more, where no formula of the monitor has a lone part.
-pub fn splits_are_few()
-    ensures formulas { (formula : Formula) → has_no_lone_part formula ≡ true
-        → splits_of formula < cubes_of formula }
-    ensures queries { (monitor : MonitorParts) (kept : List Candidate) (claim : Claim)
-        → HasNoLoneParts monitor
-        → splits_of (negated_query monitor (query_of monitor kept claim))
-        ≤ cubes_of (negated_query monitor (query_of monitor kept claim)) }
-{}
-
-/// Where no claim of the monitor is hard, and no formula of it has a lone part, what
-/// [`write_report`] writes of a placed plan is read as its report, and accepted.
+/// Where no claim of the monitor is hard, what [`write_report`] writes of a placed plan is read as
+/// its report, and accepted.
 ///
 /// [`write_report`]: super::write_report
 pub fn printed_reports_are_accepted()

@@ -6,12 +6,11 @@
 //! that isn't proved is named by its line in the report's text (`specs/Lines`, `laws`).
 //! [`write_report`] writes the report of a plan that was placed (`specs/Reports`), and
 //! [`write_verdict`] the line of what a check says. Where no claim of the monitor is hard, what was
-//! written of a placed plan is read again as its report, and accepted (`laws`): its certificates
-//! nest no deeper than a reader goes, since a formula has fewer splits than cubes (`specs/Splits`).
+//! written of a placed plan is read again as its report, and accepted (`laws`). The certificates of
+//! a report are kept as lists, so how deep they nest is of no concern.
 #![tactic(auto)]
 
 mod after;
-mod certificates;
 mod checking;
 mod claims;
 mod conditions;
@@ -27,12 +26,11 @@ mod shown;
 mod sight;
 mod writing;
 
-pub use certificates::MOST_NESTING;
 pub use checking::recheck;
 pub use claims::{claims_of, has_note};
 pub use laws::{
-    certificates_nest_by_splits, easy_reports_are_accepted, placed_text_is_report_text,
-    printed_reports_are_accepted, report_lines_are_numbered, splits_are_few,
+    easy_reports_are_accepted, placed_text_is_report_text, printed_reports_are_accepted,
+    report_lines_are_numbered,
 };
 pub use making::report_of;
 pub use plan_reading::read_plan;

@@ -6,6 +6,7 @@ ghost use Rattle.mon_recheck.specs.Reports.{report_of};
 use super::report::Report;
 use mon_cert::Cert;
 use mon_list::Seq;
+use mon_outline::{Outline, outlined};
 use mon_place::{PlacedPlan, Proof};
 use std::alloc::{AllocError, Global};
 
@@ -23,12 +24,12 @@ pub fn report_of(alloc: Global, placed: PlacedPlan) -> Result<Report, AllocError
 }
 
 /// The certificates of proofs.
-fn certs_of(alloc: Global, proofs: Vec<Proof>) -> Result<Vec<Cert>, AllocError>
+fn certs_of(alloc: Global, proofs: Vec<Proof>) -> Result<Vec<Outline>, AllocError>
     ensures { IfOk result (λ certs. certs.items ≡ map (λ proof. proof.cert) proofs.items) }
 {
     let mut certs = Vec::new(alloc);
     for proof in proofs {
-        certs.push(cert_of(proof))?;
+        certs.push(outlined(alloc, cert_of(proof))?)?;
     }
     Ok(certs)
 }

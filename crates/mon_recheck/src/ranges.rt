@@ -1,7 +1,7 @@
 //! The numbers of certificates, which are of their types.
 
 ghost use Rattle.std.specs.Prelude.{◌<◌, ◌^◌, All};
-ghost use Rattle.mon_recheck.specs.Nesting.{HasTypedNumbers, IsCombine, IsFactor};
+ghost use Rattle.mon_outline.specs.Outlines.{HasTypedNumbers, IsCombine, IsFactor};
 
 use mon_cert::{Cert, Combine};
 use mon_place::{PlacedPlan, Proof};

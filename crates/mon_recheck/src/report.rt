@@ -1,14 +1,14 @@
 //! Reports, and what a check says of one.
 
-use mon_cert::Cert;
 use mon_events::Plan;
 use mon_list::Seq;
+use mon_outline::Outline;
 
 /// A plan, and a certificate for each claim that it rests on, in the order of the claims.
 #[derive(Debug, Drop)]
 pub struct Report {
     pub plan: Plan,
-    pub proofs: Seq<Cert>,
+    pub proofs: Seq<Outline>,
 }
 
 /// What a check says of a report.

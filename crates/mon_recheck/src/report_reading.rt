@@ -10,19 +10,18 @@ ghost use Rattle.mon_recheck.specs.inner.Reading.{Anything, AreFor, IsAfter, IsF
 ghost use Rattle.mon_recheck.specs.inner.Reading.{IsWithProofs};
 
 use super::after::after_piece;
-use super::certificates::read_cert;
 use super::claims::claims_of;
 use super::plan_reading::plan_front;
 use super::report::Report;
 use super::shown::claim_head;
-use mon_cert::Cert;
 use mon_events::Plan;
 use mon_list::Seq;
 use mon_monitor::{Claim, Monitor};
+use mon_outline::{Outline, read_outline};
 use std::alloc::{AllocError, Global};
 
-/// The report whose text the bytes are, with certificates that nest within `MOST_NESTING` levels,
-/// or none where they are no such report's text. It fails only for want of memory.
+/// The report whose text the bytes are, or none where they are no report's text. It fails only for
+/// want of memory, however deep certificates nest.
 pub fn read_report(
     alloc: Global,
     monitor: &Monitor,
@@ -54,7 +53,7 @@ fn with_proofs(
 }
 
 /// The report, where nothing is left after it.
-fn whole_report(plan: Plan, proofs: Vec<Cert>, rest: &[u8]) -> Option<Report>
+fn whole_report(plan: Plan, proofs: Vec<Outline>, rest: &[u8]) -> Option<Report>
     ensures { MatchOption result (rest.now ≡ [] → ⊥)
         (λ report. (report.plan ≡ plan) × (report.proofs ≡ proofs.items) × (rest.now ≡ [])) }
 {
@@ -74,7 +73,7 @@ fn read_proofs<'a>(
     monitor: &Monitor,
     claims: &[Claim],
     bytes: &'a [u8],
-) -> Result<Option<(Vec<Cert>, &'a [u8])>, AllocError>
+) -> Result<Option<(Vec<Outline>, &'a [u8])>, AllocError>
     ensures { IfOk result (λ found. MatchOption found
         (IsNoFront (List Cert) (AreFor claims.now IsReadable) Anything
         (proofs_text monitor.now claims.now) bytes.now)
@@ -101,7 +100,7 @@ fn read_proof<'a>(
     monitor: &Monitor,
     claim: Claim,
     bytes: &'a [u8],
-) -> Result<Option<(Cert, &'a [u8])>, AllocError>
+) -> Result<Option<(Outline, &'a [u8])>, AllocError>
     ensures { IfOk result (λ found. MatchOption found
         (IsNoFront Cert IsReadable Anything (proof_text monitor.now claim) bytes.now)
         (λ read. IsFront Cert IsReadable Anything (proof_text monitor.now claim)
@@ -129,21 +128,21 @@ fn after_claim<'a>(
 
 /// The certificate that stands at the front of the bytes, and what is left after it and a line
 /// feed.
-fn read_line<'a>(alloc: Global, bytes: &'a [u8]) -> Result<Option<(Cert, &'a [u8])>, AllocError>
+fn read_line<'a>(alloc: Global, bytes: &'a [u8]) -> Result<Option<(Outline, &'a [u8])>, AllocError>
     ensures { IfOk result (λ found. MatchOption found
         (IsNoFront Cert IsReadable Anything (λ cert. cert_text cert ++ codes "\n")
         bytes.now)
         (λ read. IsFront Cert IsReadable Anything
         (λ cert. cert_text cert ++ codes "\n") bytes.now read.0 read.1.now)) }
 {
-    match read_cert(alloc, bytes)? {
+    match read_outline(alloc, bytes)? {
         Some((cert, rest)) => Ok(ended(cert, rest)),
         None => Ok(None),
     }
 }
 
 /// The certificate, where a line feed stands after it, and what is left.
-fn ended<'a>(cert: Cert, bytes: &'a [u8]) -> Option<(Cert, &'a [u8])>
+fn ended<'a>(cert: Outline, bytes: &'a [u8]) -> Option<(Outline, &'a [u8])>
     ensures { MatchOption result ((rest : List ℕ) → codes "\n" ++ rest ≡ bytes.now → ⊥)
         (λ read. (read.0 ≡ cert) × (codes "\n" ++ read.1.now ≡ bytes.now)) }
 {

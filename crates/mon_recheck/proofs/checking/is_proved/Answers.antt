@@ -4,8 +4,8 @@ use Rattle.mon_recheck.proofs.checking.is_proved.Goals as goal
 
 pub returns-in-Some : goal.returns-in-Some
 returns-in-Some c =
-    answer_some c.args.monitor.now c.args.kept.now c.args.claim c.args.cert.now c.in_ok-query.query c.in-Some.formula c.accepts.result c.in_ok-query.ensures.made
-    (sym c.in_ok-formula.ensures.negated ∙ c.in-Some.is) c.accepts.ensures.exact
+    answer_some c.args.monitor.now c.args.kept.now c.args.claim c.args.cert.now c.in_ok-query.query c.in-Some.formula c.is_refuted.result c.in_ok-query.ensures.made
+    (sym c.in_ok-formula.ensures.negated ∙ c.in-Some.is) c.is_refuted.ensures
 
 pub returns : goal.returns
 returns c =

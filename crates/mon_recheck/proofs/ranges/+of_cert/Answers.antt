@@ -1,6 +1,6 @@
 use Rattle.std.proofs.Common.{arith, subst}
 use Rattle.std.proofs.lemmas.List.Elements.{All-more}
-use Rattle.mon_recheck.specs.Nesting.{HasTypedNumbers}
+use Rattle.mon_outline.specs.Outlines.{HasTypedNumbers}
 use Rattle.mon_recheck.proofs.Pairs.{all_taken}
 use Rattle.mon_recheck.proofs.TypedNumbers.{chain_typed, clash_typed, split_typed}
 use Rattle.mon_recheck.proofs.ranges.+of_cert.Goals as goal

@@ -1,7 +1,7 @@
 use Rattle.std.proofs.Common.{arith, pos}
 use Rattle.std.proofs.lemmas.List.Elements.{All-more}
 use Rattle.mon_cert.specs.declared.cert.Combine.{Combine}
-use Rattle.mon_recheck.specs.Nesting.{IsCombine}
+use Rattle.mon_outline.specs.Outlines.{IsCombine}
 use Rattle.mon_recheck.proofs.Pairs.{all_taken}
 use Rattle.mon_recheck.proofs.ranges.of_combines.Goals as goal
 

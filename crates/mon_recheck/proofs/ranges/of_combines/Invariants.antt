@@ -1,6 +1,6 @@
 use Rattle.std.proofs.Common.{take}
 use Rattle.std.specs.Prelude.{All}
-use Rattle.mon_recheck.specs.Nesting.{IsCombine}
+use Rattle.mon_outline.specs.Outlines.{IsCombine}
 use Rattle.mon_recheck.proofs.ranges.of_combines.Given as goal
 
 abbrev pub invariant-loop-combine : goal.invariant-loop-combine

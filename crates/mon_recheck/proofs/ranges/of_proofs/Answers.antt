@@ -1,7 +1,7 @@
 use Rattle.std.proofs.Common.{arith, subst}
 use Rattle.std.proofs.lemmas.List.Elements.{All-more}
 use Rattle.mon_place.specs.declared.placed.Proof.{Proof}
-use Rattle.mon_recheck.specs.Nesting.{HasTypedNumbers}
+use Rattle.mon_outline.specs.Outlines.{HasTypedNumbers}
 use Rattle.mon_recheck.proofs.Pairs.{all_taken}
 use Rattle.mon_recheck.proofs.ranges.of_proofs.Goals as goal
 

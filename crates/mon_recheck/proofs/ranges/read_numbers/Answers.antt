@@ -1,7 +1,7 @@
 use Rattle.std.proofs.Common.{List, subst}
 use Rattle.std.specs.Prelude.{All}
 use Rattle.mon_place.specs.declared.placed.Proof.{Proof}
-use Rattle.mon_recheck.specs.Nesting.{HasTypedNumbers}
+use Rattle.mon_outline.specs.Outlines.{HasTypedNumbers}
 use Rattle.mon_recheck.proofs.ranges.read_numbers.Goals as goal
 
 pub returns : goal.returns

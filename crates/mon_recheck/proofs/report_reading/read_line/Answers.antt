@@ -1,6 +1,6 @@
 use Rattle.std.proofs.Common.{subst}
 use Rattle.mon_cert.specs.CertText.{cert_text}
-use Rattle.mon_recheck.specs.Nesting.{IsRead}
+use Rattle.mon_outline.specs.Readings.{IsRead}
 use Rattle.mon_recheck.specs.Readings.{IsReadable}
 use Rattle.mon_recheck.proofs.ReportParts.{line_found, line_none}
 use Rattle.mon_recheck.proofs.report_reading.read_line.Goals as goal

@@ -1,0 +1,7 @@
+pub mod Readings
+pub mod NumberLemmas
+pub mod NodeParts
+pub mod OutlineForms
+pub mod ByNodes
+pub mod BranchLemmas
+pub mod ListLemmas

@@ -1,0 +1,3 @@
+pub mod Outlines
+pub mod Readings
+pub mod inner
