@@ -16,7 +16,7 @@ use Rattle.mon_text.specs.FaultText.{not_report_text, other_too_long_text}
 use Rattle.mon_recheck.specs.declared.report.Report.{Report}
 use Rattle.mon_recheck.specs.declared.report.Verdict.{Verdict}
 use Rattle.mon_recheck.specs.declared.report.Verdict.TheVariants as verdicts
-use Rattle.mon_recheck.specs.Nesting.{HasTypedNumbers}
+use Rattle.mon_outline.specs.Outlines.{HasTypedNumbers}
 use Rattle.mon_recheck.specs.Readings.{IsReportRead}
 use Rattle.mon_recheck.specs.Reports.{IsReport, placed_text, proofs_of, report_of, report_text}
 use Rattle.mon_recheck.specs.Verdicts.{AreChecked, IsOpen, IsProof, IsVerdict, verdict_text}

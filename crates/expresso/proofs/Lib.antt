@@ -24,7 +24,6 @@ pub mod Ranges
 pub mod GivenWords
 pub mod ProgramEnded
 pub mod Keeping
-pub mod FileParts
 pub mod Rechecked
 pub mod LawfulFits
 pub mod CheckedPlans

@@ -3,7 +3,6 @@ use Rattle.std.proofs.Common.{◌≡◌, ◌≤◌, ℕ, List, length, Option, S
 use Rattle.std.specs.Prelude.{unwrap_or}
 use Rattle.std.proofs.lemmas.List.{length-map}
 use Rattle.mon_tree.specs.declared.tree.MonitorTree.{MonitorTree}
-use Rattle.mon_tokens.specs.Words.{words}
 use Rattle.mon_syntax.specs.Grammar.{IsMonitorFile}
 use Rattle.mon_rules.specs.Rules.{faults_of}
 use Rattle.mon_monitor.specs.MonitorParts.{MonitorParts}
@@ -22,7 +21,6 @@ use Rattle.expresso.specs.MonitorFiles.{IsAccepted}
 use Rattle.expresso.specs.ReportFiles.{IsAcceptance, IsAcceptanceLine, IsReportRefusalLine}
 use Rattle.expresso.specs.Answers.{HoldsMonitor, IsMonitorRefusal, IsRecheckRefusal, IsRecheckText, IsReportText}
 use Rattle.expresso.specs.PrintedReports.{IsPrintedReport}
-use Rattle.expresso.proofs.FileParts.{typed_fine}
 use Rattle.expresso.proofs.FirstFaults.{OneSpelling, NoSpelling, OneTree, no_line}
 use Rattle.expresso.proofs.OneMonitor.{one_monitor}
 use Rattle.expresso.proofs.Telling.{holds_same}
@@ -39,7 +37,6 @@ easy_placement : (held : List ℕ → Option (List ℕ)) (file text : List ℕ) 
 easy_placement held file text is easy = record {
   is = is.placement.is;
   easy = easy;
-  parts = typed_fine is.tree is.monitor (words is.holds.bytes is.holds.accepted.tokens) is.holds.accepted.derived is.holds.accepted.typed;
   fits = is.placement.fits;
   lawful = is.placement.lawful;
   proofs = is.proofs;

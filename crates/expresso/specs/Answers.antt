@@ -42,7 +42,7 @@ use Rattle.expresso.specs.PlanFiles.{IsAudited, IsLawfulLine, IsPlanRefusalLine,
 use Rattle.mon_place.specs.declared.placed.PlacedPlan.{PlacedPlan}
 use Rattle.mon_place.specs.Backing.{AreProofs, backed_claims}
 use Rattle.mon_recheck.specs.declared.report.Report.{Report}
-use Rattle.mon_recheck.specs.Nesting.{HasTypedNumbers}
+use Rattle.mon_outline.specs.Outlines.{HasTypedNumbers}
 use Rattle.mon_recheck.specs.Reports.{report_of, report_text}
 use Rattle.mon_why.specs.declared.reason.Reason.{Reason}
 use Rattle.mon_why.specs.Reasons.{IsReason}

@@ -11,7 +11,6 @@ ghost use Rattle.mon_prune.specs.Hardness.{HasNoHardClaim};
 ghost use Rattle.mon_text.specs.Laws.{plan_and_log_text};
 ghost use Rattle.mon_command.specs.declared.plan_choice.PlanChoice.{PlanChoice};
 ghost use Rattle.mon_recheck.specs.declared.report.Verdict.TheVariants.{Accepted};
-ghost use Rattle.mon_recheck.specs.Splits.{HasNoLoneParts};
 ghost use Rattle.mon_recheck.specs.Verdicts.{verdict_text};
 ghost use Rattle.mon_place.specs.Backing.{AreProofs, backed_claims};
 ghost use Rattle.mon_command.specs.CommandLine.{audit, recheck};
@@ -87,12 +86,6 @@ pub fn one_simulated_text()
     one_log_by_rounds();
     one_drawn_log();
 }
-
-/// No formula of an accepted file's monitor has an all or an any of exactly one part.
-pub fn accepted_monitors_have_no_lone_part()
-    ensures { (bytes : List ℕ) (tree : MonitorTree) (monitor : MonitorParts)
-        → IsAccepted bytes tree monitor → HasNoLoneParts monitor }
-{}
 
 /// What `report` printed of a monitor without a hard claim is never refused by `recheck`, which
 /// prints that it accepts as many claims as were proved.

@@ -47,9 +47,8 @@ mod turns;
 mod work;
 
 pub use laws::{
-    accepted_monitors_have_no_lone_part, accepts_one_client_list, accepts_one_monitor,
-    checked_plans_lose_no_wakeup, one_simulated_text, one_simulation,
-    printed_reports_are_rechecked, runs_are_reported,
+    accepts_one_client_list, accepts_one_monitor, checked_plans_lose_no_wakeup, one_simulated_text,
+    one_simulation, printed_reports_are_rechecked, runs_are_reported,
 };
 pub use program::{expresso, without_threads};
 pub use status::{Status, exit_status};
