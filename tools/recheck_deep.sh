@@ -1,0 +1,55 @@
+#!/usr/bin/env bash
+# Has each build of the program check reports whose certificates nest deep, within 2 MB of stack.
+# Fails where a line or a status is not the one that is due.
+cd "$(dirname "$0")/../crates/expresso_cli" || exit 1
+made=$(mktemp -d) || exit 1
+trap 'rm -rf "$made"' EXIT
+
+# copies COUNT TEXT: the text so often
+copies() {
+    local text
+    printf -v text "%$1s" ''
+    printf '%s' "${text// /$2}"
+}
+
+# judge STATUS LINE: what is said of the monitor and the report
+judge() {
+    local said
+    said=$(ulimit -s 2048 && "$program" recheck "$made/monitor" "$made/report"; echo "status $?")
+    if [ "$said" != "$2"$'\n'"status $1" ]; then
+        printf '%s\n' "${program##*/}, of a deep report:" "$said" "where it must be:" "$2" "status $1"
+        exit 1
+    fi
+}
+
+# nest COUNT SPLIT: the report of the monitor, with so many splits before its first certificate
+nest() {
+    local first
+    first=$(grep -n -m 1 '^proof ' "$made/whole" | cut -d : -f 1)
+    {
+        sed -n "1,$((first - 1))p" "$made/whole"
+        sed -n "${first}p" "$made/whole" | sed 's/: .*/: /' | tr -d '\n'
+        copies "$1" "$2"
+        sed -n "${first}p" "$made/whole" | sed 's/.*: //'
+        sed -n "$((first + 1)),\$p" "$made/whole"
+    } >"$made/report"
+}
+
+for program in "$PWD/out/expresso_cli" "$PWD/out/expresso_cli.by-rattle"; do
+    if [ ! -x "$program" ]; then
+        echo "${program##*/} was not left here"
+        exit 1
+    fi
+    # What no split of the claim's query matches is open, however deep.
+    "$program" check data/lock.mon >"$made/monitor" || exit 1
+    "$program" report data/lock.mon >"$made/whole" || exit 1
+    nest 200000 'split 1 '
+    judge 1 "rejected: line $(grep -n -m 1 '^proof ' "$made/whole" | cut -d : -f 1)"
+    # Each any of the guard is split in two, of which the first part is closed at once.
+    echo "monitor Deep { bool f = true; bool g = true; method m() waituntil (f && !f$(copies 4200 '&&(f||g)')) { } }" >"$made/monitor"
+    "$program" report "$made/monitor" >"$made/whole" || exit 1
+    closing=$(sed -n 's/^proof none m 1: //p' "$made/whole")
+    nest 4200 "split 2 $closing "
+    judge 0 "accepted $(grep -c '^proof ' "$made/whole") claims"
+done
+echo "reports with certificates of 4,200 and 200,000 levels are checked within 2 MB of stack"
