@@ -59,6 +59,8 @@ enum Check {
     Closed(bool),
     /// How long its log is.
     Length(usize),
+    /// How long its log may become, and how many of its entries may be spurious.
+    Room(usize, u64),
 }
 
 impl Running {
@@ -69,6 +71,7 @@ impl Running {
             Check::Spurious(client, answer) => self.spurious(client) == Some(answer),
             Check::Closed(closed) => self.free.closed() == closed,
             Check::Length(length) => self.free.log().len() == length,
+            Check::Room(room, extra) => self.free.room() == room && self.free.extra() == extra,
         }
     }
 
@@ -107,6 +110,8 @@ fn waits_at(place: u64) -> Result<Section, NotReady> {
 #[test]
 fn a_client_that_waits_is_woken_by_nothing_once(rt: HostRuntime) -> Result<(), Fail> {
     let checks = [
+        // One call of one client, and two entries for the spurious wake-up.
+        Check::Room(3, 1),
         Check::Section(0, waits_at(0)),
         Check::Spurious(0, Ok(())),
         Check::Closed(false),
