@@ -1,6 +1,13 @@
--- The forms of two variables that the tests make.
+-- The forms that the tests make: of one variable and of two.
 use Rattle.std.specs.Prelude.{ℕ, ℤ, [], ◌∷◌}
 use Rattle.mon_linear.specs.Linear.{Linear}
+
+-- times * x + constant, where x has place 1
+abbrev pub one_variable : ℤ → ℤ → Linear
+one_variable times constant = record {
+  terms = record { place = 1; times = times } ∷ [];
+  constant = constant;
+}
 
 -- The form of two terms and a constant.
 abbrev pub pair_of : ℕ → ℤ → ℕ → ℤ → ℤ → Linear

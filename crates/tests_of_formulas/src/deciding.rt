@@ -136,3 +136,16 @@ fn light_cubes_have_twelve_rows(rt: HostRuntime) -> Result<(), Fail> {
     assert!(rt; !are_light(rt.alloc(), &[row; 13])?);
     Ok(())
 }
+
+/// How many rows are handed back of those that are told.
+fn rows_back(alloc: Global, told: &[Told]) -> Result<usize, Fail> {
+    let rows = rows_of(alloc, told)?;
+    let kept = kept_rows(alloc, &rows)?;
+    Ok(kept.into_rows().len())
+}
+
+#[test]
+fn rows_that_are_kept_are_handed_back(rt: HostRuntime) -> Result<(), Fail> {
+    assert_eq!(rt; rows_back(rt.alloc(), &TWELVE)?, 12);
+    Ok(())
+}

@@ -1,4 +1,4 @@
-//! Which rows are difference rows.
+//! Which rows are difference rows, and which forms are the same.
 
 use super::shapes::form;
 use mon_linear::{Lin, Term, is_difference};
@@ -45,5 +45,27 @@ fn rows_of_one_variable_or_a_difference_are_found(rt: HostRuntime) -> Result<(),
         assert_eq!(rt; is_found(rt.alloc(), terms)?, found, "of {terms:?}");
     }
     assert!(rt; !is_three_found(rt.alloc())?);
+    Ok(())
+}
+
+/// Whether the form of these terms, and 5, is that of the others, and this constant.
+fn is_same(
+    alloc: Global,
+    one: &[(u32, i128)],
+    other: &[(u32, i128)],
+    constant: i128,
+) -> Result<bool, Fail> {
+    let form_of_one = form(alloc, one, 5)?;
+    let form_of_other = form(alloc, other, constant)?;
+    Ok(form_of_one.is_same(&form_of_other))
+}
+
+#[test]
+fn forms_of_the_same_numbers_are_the_same(rt: HostRuntime) -> Result<(), Fail> {
+    let terms = [(1, 1), (4, -1)];
+    assert!(rt; is_same(rt.alloc(), &terms, &terms, 5)?);
+    assert!(rt; !is_same(rt.alloc(), &terms, &terms, 4)?);
+    assert!(rt; !is_same(rt.alloc(), &terms, &[(1, 1), (4, -2)], 5)?);
+    assert!(rt; !is_same(rt.alloc(), &terms, &[(1, 1)], 5)?);
     Ok(())
 }

@@ -9,6 +9,8 @@ mod deciding;
 #[cfg(test)]
 mod differences;
 #[cfg(test)]
+mod range;
+#[cfg(test)]
 mod refuting;
 #[cfg(test)]
 mod shapes;

@@ -11,7 +11,7 @@ use std::alloc::{AllocError, Global};
 use std::test::Fail;
 
 /// `2^95`
-const BOUND: i128 = 1 << 95;
+pub(crate) const BOUND: i128 = 1 << 95;
 
 /// A part of a formula told by plain data.
 #[derive(Clone, Copy)]
