@@ -18,6 +18,7 @@
 //! ```text
 //!     | LINE          a line as it stands here, and a line feed
 //!     = NAME          the text of this name
+//!     front N NAME    so many of its first bytes
 //!     bytes BYTES     bytes with escapes, and no line feed
 //!     repeat N BYTES  so many copies of them
 //!     fill N BYTE     this byte until there are so many bytes
@@ -84,7 +85,10 @@ fn key_of(line: &str) -> (&str, &str) {
 
 fn is_part(line: &str) -> bool {
     let (key, _) = key_of(line);
-    matches!(key, "|" | "=" | "bytes" | "repeat" | "fill" | "..")
+    matches!(
+        key,
+        "|" | "=" | "front" | "bytes" | "repeat" | "fill" | ".."
+    )
 }
 
 fn says_something(line: &str) -> bool {
@@ -248,6 +252,7 @@ fn append_part(scope: Scope<'_>, out: &mut Vec<u8>, part: &str) -> Result<()> {
             out.push(b'\n')?;
         }
         "=" => append_text(scope, out, rest.as_bytes())?,
+        "front" => append_front(scope, out, rest)?,
         "bytes" => append_escaped(scope, out, rest.as_bytes(), 0)?,
         "repeat" => append_copies(scope, out, rest)?,
         "fill" => fill(scope, out, rest)?,
@@ -261,6 +266,19 @@ fn number_of(scope: Scope<'_>, digits: &str) -> Result<u64> {
         Ok(number) => Ok(number),
         Err(_) => Err(fault_of(scope.line, "no number:", digits)),
     }
+}
+
+/// Appends so many of the first bytes of a text.
+fn append_front(scope: Scope<'_>, out: &mut Vec<u8>, rest: &str) -> Result<()> {
+    let (digits, name) = key_of(rest);
+    let length = number_of(scope, digits)? as usize;
+    let mut whole = Vec::new(scope.alloc);
+    append_text(scope, &mut whole, name.as_bytes())?;
+    match whole.get(..length) {
+        Some(front) => out.extend_from_slice(front)?,
+        None => return Err(fault(scope.line, "a front is no longer than its text")),
+    }
+    Ok(())
 }
 
 fn append_copies(scope: Scope<'_>, out: &mut Vec<u8>, rest: &str) -> Result<()> {
