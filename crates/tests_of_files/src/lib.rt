@@ -1,5 +1,6 @@
-//! Tests of devices, of the texts of faults, and of the canonical form of client files. Which tokens
-//! and files there are, and how monitors are printed, is said by the rows of the crate `rows`.
+//! Tests of devices, of the texts of faults, of copies of trees, and of the canonical form of client
+//! files. Which tokens and files there are, and how monitors are printed, is said by the rows of the
+//! crate `rows`.
 //!
 //! There are only tests. What they ask for was taken by hand from the rules of the two languages.
 #![tactic(auto)]
@@ -12,3 +13,5 @@ mod faults;
 mod printing;
 #[cfg(test)]
 mod standard_output;
+#[cfg(test)]
+mod trees;
