@@ -1,0 +1,266 @@
+//! Which plans come of placed ones by counting.
+
+use mon_counted::count_plan;
+use mon_events::Plan;
+use mon_io::MemSink;
+use mon_monitor::Monitor;
+use mon_place::place;
+use mon_text::write_plan;
+use samples::checked;
+use std::alloc::Global;
+use std::test::Fail;
+
+/// Whether the text of the plan is this.
+fn is_text_of(alloc: Global, monitor: &Monitor, plan: &Plan, text: &[u8]) -> bool {
+    let Ok(mut sink) = MemSink::open(alloc, 4096, Vec::new(alloc)) else {
+        return false;
+    };
+    match write_plan(monitor, plan, &mut sink) {
+        Ok(()) => sink.bytes() == text,
+        Err(_) => false,
+    }
+}
+
+/// Whether the counted plan of the monitor of a text has this text.
+fn counts_to(alloc: Global, text: &[u8], plan: &[u8]) -> Option<bool> {
+    let monitor = checked(alloc, text)?;
+    let placed = place(alloc, &monitor).ok()?;
+    let counted = count_plan(alloc, &monitor, &placed.plan).ok()?;
+    Some(is_text_of(alloc, &monitor, &counted.plan, plan))
+}
+
+/// Whether the placed plan of the monitor of a text has this text, and so has the counted one.
+fn stays(alloc: Global, text: &[u8], plan: &[u8]) -> Option<bool> {
+    let monitor = checked(alloc, text)?;
+    let placed = place(alloc, &monitor).ok()?;
+    let same = is_text_of(alloc, &monitor, &placed.plan, plan);
+    Some(same && counts_to(alloc, text, plan)?)
+}
+
+// ---- monitors, each with the plan that comes of its placed one
+
+const BUFFER_OF_FOUR: &[u8] = b"monitor Buffer {
+  const CAP = 4;
+  int count = 0;
+  method put() waituntil (count < CAP) {
+    count = count + 1;
+  }
+  method get() waituntil (count > 0) {
+    count = count - 1;
+  }
+}
+";
+
+// Each block leaves its own condition counted with no note, and the other's with one signal.
+const BUFFER_COUNTED: &[u8] = b"plan Buffer
+keep count >= 0
+keep count <= 4
+condition 1 signal: count < CAP
+condition 2 signal: count > 0
+block put: 2 signal
+block get: 1 signal
+";
+
+#[test]
+fn a_buffer_of_four_signals_once_for_each_slot(rt: HostRuntime) {
+    assert_eq!(rt;
+        counts_to(rt.alloc(), BUFFER_OF_FOUR, BUFFER_COUNTED),
+        Some(true)
+    );
+}
+
+const SEMAPHORE: &[u8] = b"monitor Semaphore {
+  int free = 2;
+  method acquire() waituntil (free > 0) {
+    free = free - 1;
+  }
+  method release() waituntil (true) {
+    free = free + 1;
+  }
+  method releaseTwo() waituntil (true) {
+    free = free + 2;
+  }
+}
+";
+
+// After `releaseTwo` two more may pass, for which one signal is not enough.
+const SEMAPHORE_COUNTED: &[u8] = b"plan Semaphore
+keep free >= 0
+condition 1 signal: free > 0
+condition 2 broadcast: true
+block acquire: none
+block release: 1 signal
+block releaseTwo: 1 broadcast
+";
+
+#[test]
+fn a_semaphore_signals_once_for_a_permit_and_broadcasts_for_two(rt: HostRuntime) {
+    assert_eq!(rt;
+        counts_to(rt.alloc(), SEMAPHORE, SEMAPHORE_COUNTED),
+        Some(true)
+    );
+}
+
+const READERS_WRITERS: &[u8] = b"monitor ReadersWriters {
+  int readers = 0;
+  int queued = 0;
+  bool writing = false;
+  method startRead() waituntil (!writing && queued == 0) {
+    readers = readers + 1;
+  }
+  method endRead() waituntil (readers > 0) {
+    readers = readers - 1;
+  }
+  method ask() waituntil (true) {
+    queued = queued + 1;
+  }
+  method startWrite() waituntil (readers == 0 && !writing && queued > 0) {
+    writing = true;
+    queued = queued - 1;
+  }
+  method endWrite() waituntil (writing) {
+    writing = false;
+  }
+}
+";
+
+// Any number of readers may start where one may, so condition 1 is not counted. `startRead` gives
+// one more that may end, and `endRead` takes one.
+const READERS_WRITERS_COUNTED: &[u8] = b"plan ReadersWriters
+keep readers >= 0
+keep readers >= -1
+keep queued >= 0
+keep queued >= -1
+condition 1 broadcast: !writing && queued == 0
+condition 2 signal: readers > 0
+condition 3 broadcast: true
+condition 4 signal: readers == 0 && !writing && queued > 0
+condition 5 signal: writing
+block startRead: 2 signal
+block endRead: 4 signal tested
+block ask: 4 signal tested
+block startWrite: 5 signal
+block endWrite: 1 broadcast tested, 4 signal tested
+";
+
+#[test]
+fn readers_are_still_woken_by_a_broadcast(rt: HostRuntime) {
+    let counted = counts_to(rt.alloc(), READERS_WRITERS, READERS_WRITERS_COUNTED);
+    assert_eq!(rt; counted, Some(true));
+}
+
+const JOBS: &[u8] = b"monitor Jobs {
+  const CAP = 4;
+  int queued = 0;
+  bool open = true;
+  method put() waituntil (queued < CAP || !open) {
+    if (open) {
+      queued = queued + 1;
+    }
+  }
+  method take() waituntil (queued > 0 || !open) {
+    if (open) {
+      queued = queued - 1;
+    }
+  }
+  method close() waituntil (true) {
+    open = false;
+  }
+}
+";
+
+// Where the queue is closed any number may pass, and `close` broadcasts.
+const JOBS_COUNTED: &[u8] = b"plan Jobs
+keep queued >= 0
+keep queued <= 4
+condition 1 signal: queued < CAP || !open
+condition 2 signal: queued > 0 || !open
+condition 3 broadcast: true
+block put: 2 signal
+block take: 1 signal
+block close: 1 broadcast, 2 broadcast
+";
+
+#[test]
+fn a_job_queue_broadcasts_where_it_is_closed(rt: HostRuntime) {
+    assert_eq!(rt; counts_to(rt.alloc(), JOBS, JOBS_COUNTED), Some(true));
+}
+
+const LATCH: &[u8] = b"monitor Latch {
+  int left = 3;
+  method down() waituntil (left > 0) {
+    left = left - 1;
+  }
+  method pass() waituntil (left == 0) {
+  }
+}
+";
+
+// Who passes takes nothing, so all may pass: condition 2 is not counted. `down` takes one of those
+// that may go down.
+const LATCH_COUNTED: &[u8] = b"plan Latch
+keep left >= 0
+keep left <= 3
+keep left >= -1
+condition 1 signal: left > 0
+condition 2 broadcast: left == 0
+block down: 2 broadcast tested
+block pass: none
+";
+
+#[test]
+fn a_latch_opens_by_a_broadcast(rt: HostRuntime) {
+    assert_eq!(rt; counts_to(rt.alloc(), LATCH, LATCH_COUNTED), Some(true));
+}
+
+const TWO_AT_ONCE: &[u8] = b"monitor Pairs {
+  int free = 0;
+  method takeTwo() waituntil (free >= 2) {
+    free = free - 2;
+  }
+  method give() waituntil (true) {
+    free = free + 1;
+  }
+}
+";
+
+// One that is given lets one more pass at most; where none was free it lets nobody pass.
+const TWO_AT_ONCE_COUNTED: &[u8] = b"plan Pairs
+keep free >= 0
+condition 1 signal: free >= 2
+condition 2 broadcast: true
+block takeTwo: none
+block give: 1 signal tested
+";
+
+#[test]
+fn one_that_is_given_lets_one_pass_at_most(rt: HostRuntime) {
+    assert_eq!(rt;
+        counts_to(rt.alloc(), TWO_AT_ONCE, TWO_AT_ONCE_COUNTED),
+        Some(true)
+    );
+}
+
+const PEEK: &[u8] = b"monitor Shelf {
+  int items = 0;
+  method peek() waituntil (items > 0) {
+  }
+  method put() waituntil (true) {
+    items = items + 1;
+  }
+}
+";
+
+// `peek` takes nothing, so whoever passes would have to see to the next one.
+const PEEK_PLACED: &[u8] = b"plan Shelf
+keep items >= 0
+condition 1 broadcast: items > 0
+condition 2 broadcast: true
+block peek: none
+block put: 1 broadcast
+";
+
+#[test]
+fn a_condition_whose_block_takes_nothing_stays_as_it_was(rt: HostRuntime) {
+    assert_eq!(rt; stays(rt.alloc(), PEEK, PEEK_PLACED), Some(true));
+}
