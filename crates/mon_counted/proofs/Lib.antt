@@ -1,3 +1,4 @@
 pub mod Table
 pub mod Answered
 pub mod Counting
+pub mod ExactCounts

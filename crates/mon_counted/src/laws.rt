@@ -1,5 +1,6 @@
 //! What follows from the prover's answers.
 
+ghost use Rattle.mon_counted.specs.Exact.{CountedIsExact};
 ghost use Rattle.mon_counted.specs.inner.Answers.{AnsweredColumnsCount, AnsweredColumnsFit};
 ghost use Rattle.mon_counted.specs.inner.Answers.{AnsweredColumnsLicense};
 
@@ -16,3 +17,10 @@ pub(crate) fn answered_columns_count()
     answers_count();
     counting_applies();
 }
+
+/// A counted plan is exact where the prover may leave no question open: a condition that was of
+/// kind broadcast is of kind signal exactly where it may be counted, and then a block has no note
+/// on it exactly where it needs none, and a signal exactly where one is enough.
+pub fn counted_plans_are_exact()
+    ensures { CountedIsExact }
+{}

@@ -8,11 +8,12 @@ ghost use Rattle.mon_events.specs.Plans.{FitsPlan, IsLawful};
 ghost use Rattle.mon_events.specs.Counts.{IsLawfulByCounting};
 ghost use Rattle.mon_place.specs.Relayed.{note_on};
 ghost use Rattle.mon_counted.specs.Counted.{AreBacked, IsCountedFrom, told_note, told_on};
+ghost use Rattle.mon_counted.specs.Exact.{HasNoOpenQuestion, IsExactlyCounted};
 ghost use Rattle.mon_counted.specs.Counted.{counted_kind, counted_kinds, counted_notes, counted_of};
 
 use super::columns::columns_of;
 use super::counted::{CountedPlan, Told};
-use super::laws::answered_columns_count;
+use super::laws::{answered_columns_count, counted_plans_are_exact};
 use mon_events::{CondKind, Note, NoteList, Plan};
 use mon_list::Seq;
 use mon_monitor::{Candidate, Monitor};
@@ -39,11 +40,14 @@ pub fn count_plan(
     ensures fits { IfOk result (λ it. FitsPlan monitor.now it.plan) }
     ensures lawful { IfOk result (λ it. IsLawfulByCounting monitor.now it.plan) }
     ensures counted { IfOk result (λ it. IsCountedFrom monitor.now placed.now it.plan) }
+    ensures exact { IfOk result (λ it. HasNoOpenQuestion monitor.now placed.now.kept
+        → IsExactlyCounted monitor.now placed.now it.plan) }
     ensures plan { IfOk result (λ it. it.plan ≡ counted_of placed.now it.columns) }
     ensures backed { IfOk result (λ it. AreBacked monitor.now placed.now it.columns) }
 {
     let _blocks = monitor.blocks();
     answered_columns_count();
+    counted_plans_are_exact();
     candidates_have_formulas(monitor);
     let columns = columns_of(alloc, monitor, placed)?;
     let plan = counted_plan(alloc, placed, &columns)?;

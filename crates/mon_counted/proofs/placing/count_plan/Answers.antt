@@ -36,6 +36,15 @@ returns-clause-counted c =
     (c.answered_columns_count.ensures.counted monitor placed c.deref.result.now c.blocks-blocks.ensures.rule c.requires.fits
     (subst (AreColumns monitor placed) (sym c.deref.ensures.value) c.in_ok-columns.ensures))
 
+pub returns-clause-exact : goal.returns-clause-exact
+returns-clause-exact c = λ none.
+    let monitor = c.args.monitor.now in
+    let placed = c.args.placed.now in
+    c.counted_plans_are_exact.ensures monitor placed c.in_ok-plan.plan
+    (subst (IsCountedFrom monitor placed) (sym c.in_ok-plan.ensures)
+    (c.answered_columns_count.ensures.counted monitor placed c.deref.result.now c.blocks-blocks.ensures.rule c.requires.fits
+    (subst (AreColumns monitor placed) (sym c.deref.ensures.value) c.in_ok-columns.ensures))) none
+
 pub returns-clause-backed : goal.returns-clause-backed
 returns-clause-backed c =
     let monitor = c.args.monitor.now in

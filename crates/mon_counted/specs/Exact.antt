@@ -1,0 +1,51 @@
+-- Exactly counted plans: what may be counted is, and with no more notes and broadcasts than needed.
+use Rattle.std.specs.Prelude.{◌≡◌, ◌↔◌, ℕ, false, List, Some, None}
+use Rattle.mon_monitor.specs.declared.candidate.Candidate.{Candidate}
+use Rattle.mon_monitor.specs.MonitorParts.{MonitorParts}
+use Rattle.mon_events.specs.declared.plan.CondKind.TheVariants as kinds
+use Rattle.mon_events.specs.declared.plan.Note.{Note}
+use Rattle.mon_events.specs.declared.plan.Plan.{Plan}
+use Rattle.mon_events.specs.Plans.{notes_at, condition_kind}
+use Rattle.mon_wp.specs.PlainClaims.{IsBlockNumber, IsConditionNumber}
+use Rattle.mon_place.specs.Relayed.{note_on}
+use Rattle.mon_count.specs.declared.question.Question.{Question}
+use Rattle.mon_count.specs.declared.question.Question.TheVariants as questions
+use Rattle.mon_count.specs.Questions.{IsSo, MayAskQuestion}
+use Rattle.mon_counted.specs.Counted.{IsCountedFrom, IsOpen, IsUnnoted, MayCount}
+
+-- the prover may leave no question open
+abbrev pub HasNoOpenQuestion : MonitorParts → List Candidate → Type 0
+HasNoOpenQuestion monitor kept =
+    (question : Question) → MayAskQuestion monitor question → IsOpen monitor kept question → ⊥
+
+-- One signal is enough for the condition: the block leaves it counted with one, and lets in one at
+-- most where nobody could pass.
+pub record IsOneEnough (monitor : MonitorParts) (plan : Plan) (condition block : ℕ) : Type 0 where
+  pub gives : IsSo monitor plan.kept (questions.Gives condition block)
+  pub first : IsSo monitor plan.kept (questions.First condition block)
+
+-- what a block has on a condition that was of kind broadcast and is of kind signal
+pub record IsExactlyTold (monitor : MonitorParts) (placed counted : Plan) (condition block : ℕ) :
+    Type 0 where
+  -- no note exactly where none was placed, and the block leaves it counted with none
+  pub unnoted : (note_on (notes_at counted block) condition
+      ≡ None) ↔ IsUnnoted monitor placed condition block
+  -- a signal exactly where one is enough
+  pub signals : (note : Note) → note_on (notes_at counted block) condition ≡ Some note
+      → (note.all ≡ false) ↔ IsOneEnough monitor placed condition block
+
+pub record IsExactlyCounted (monitor : MonitorParts) (placed counted : Plan) : Type 0 where
+  -- a condition that was of kind broadcast is of kind signal exactly where it may be counted
+  pub made_signal : (condition : ℕ) → IsConditionNumber monitor condition
+      → condition_kind placed condition ≡ Some kinds.Broadcast
+      → (condition_kind counted condition ≡ Some kinds.Signal) ↔ MayCount monitor placed condition
+  pub told : (condition block : ℕ) → IsConditionNumber monitor condition
+      → condition_kind placed condition ≡ Some kinds.Broadcast
+      → condition_kind counted condition ≡ Some kinds.Signal → IsBlockNumber monitor block
+      → IsExactlyTold monitor placed counted condition block
+
+-- where no question may stay open a plan that is counted is so exactly
+abbrev pub CountedIsExact : Type 0
+CountedIsExact =
+    (monitor : MonitorParts) (placed counted : Plan) → IsCountedFrom monitor placed counted
+    → HasNoOpenQuestion monitor placed.kept → IsExactlyCounted monitor placed counted
