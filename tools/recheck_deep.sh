@@ -7,9 +7,7 @@ trap 'rm -rf "$made"' EXIT
 
 # copies COUNT TEXT: the text so often
 copies() {
-    local text
-    printf -v text "%$1s" ''
-    printf '%s' "${text// /$2}"
+    yes "$2" | head -n "$1" | tr -d '\n'
 }
 
 # judge STATUS LINE: what is said of the monitor and the report
