@@ -43,11 +43,19 @@ for program in "$PWD/out/expresso_cli" "$PWD/out/expresso_cli.by-rattle"; do
     "$program" report data/lock.mon >"$made/whole" || exit 1
     nest 200000 'split 1 '
     judge 1 "rejected: line $(grep -n -m 1 '^proof ' "$made/whole" | cut -d : -f 1)"
-    # Each any of the guard is split in two, of which the first part is closed at once.
-    echo "monitor Deep { bool f = true; bool g = true; method m() waituntil (f && !f$(copies 4200 '&&(f||g)')) { } }" >"$made/monitor"
-    "$program" report "$made/monitor" >"$made/whole" || exit 1
-    closing=$(sed -n 's/^proof none m 1: //p' "$made/whole")
-    nest 4200 "split 2 $closing "
-    judge 0 "accepted $(grep -c '^proof ' "$made/whole") claims"
+    # Each any of the guard is split in two, of which the first part is closed at once. No prover
+    # makes such a report: the guard has too many cubes.
+    echo "monitor Deep { bool f = true; bool g = true; method m() waituntil (f && !f$(copies 4200 '&&(f||g)')) { } }" >"$made/deep"
+    "$program" check "$made/deep" >"$made/monitor" || exit 1
+    {
+        "$program" compile "$made/monitor" | sed 's/^block m: .*/block m: none/'
+        echo "proof none m 1: clash 0 1"
+    } >"$made/whole"
+    nest 4200 'split 2 clash 0 1 '
+    judge 0 'accepted 1 claims'
+    if [ "$(../../tools/recheck.py "$made/monitor" "$made/report")" != 'accepted 1 claims' ]; then
+        echo "the second reader does not accept the deep report"
+        exit 1
+    fi
 done
 echo "reports with certificates of 4,200 and 200,000 levels are checked within 2 MB of stack"
