@@ -1,13 +1,15 @@
 #!/usr/bin/env python3
-"""Makes docs/DEFINITIONS.md and docs/HEADLINE.md from the comments, clauses and definitions of the crates.
+"""Makes docs/HEADLINE.md, and on demand a list of all, from the comments, clauses and definitions of the crates.
 
-    tools/definitions.py            writes both
-    tools/definitions.py --check    fails where one is not what would be written
+    tools/definitions.py                writes docs/HEADLINE.md
+    tools/definitions.py --check        fails where that is not what would be written
+    tools/definitions.py --all [FILE]   prints all definitions and public calls, or writes them to a file
 
-Above the line that says so each document is written by hand, and kept. What a definition says is the comment above it
-in specs/; tools/sentences.txt has the sentences of those that have none, or whose comment says less.
+Above the line that says so docs/HEADLINE.md is written by hand, and kept. What a definition says is the comment above
+it in specs/; tools/sentences.txt has the sentences of those that have none, or whose comment says less.
 """
 
+import os
 import pathlib
 import re
 import sys
@@ -20,6 +22,7 @@ import reading  # noqa: E402
 
 ROOT = reading.ROOT
 SENTENCES = ROOT / "tools" / "sentences.txt"
+HEADLINE = ROOT / "docs" / "HEADLINE.md"
 MARK = "<!-- From here on made by tools/definitions.py. -->"
 WIDEST = 100
 SHORT = 160
@@ -80,15 +83,23 @@ def said(definition):
     return f"by its equations ({definition.heading})" if definition.heading else "by its equations"
 
 
+# The folder from which links lead.
+folder = HEADLINE.parent
+
+
+def place(path):
+    return os.path.relpath(ROOT / path, folder)
+
+
 def link(definition):
-    return f"[`{definition.spec.replace('.', '/')}`](../{definition.path})"
+    return f"[`{definition.spec.replace('.', '/')}`]({place(definition.path)}#L{definition.line})"
 
 
 def names(items):
     return ", ".join(f"`{item}`" for item in items)
 
 
-# ---- docs/DEFINITIONS.md
+# ---- all definitions and public calls
 
 
 def beneath(given):
@@ -165,8 +176,17 @@ def section(crate, cited):
     return lines if len(lines) > 2 else []
 
 
+ALL = """# Definitions
+
+What a reader must believe, a crate at a time, lower ones first: each definition that a public call or type cites, with
+what it says, its file in specs/, and what cites it; the names of what these are made of; and each public call, with
+what it asks of its caller and what it promises, by the names of its clauses. `its clause` is one without a name that
+speaks in the library's words alone. Definitions in specs/inner/ serve private contracts.
+"""
+
+
 def definitions_document():
-    cited, lines = citing(), []
+    cited, lines = citing(), ALL.split("\n")
     for crate in reading.crates():
         if not crate.startswith("tests_of_"):
             lines += section(crate, cited)
@@ -222,7 +242,7 @@ def types_table(types):
         for at, line in enumerate(lines):
             if re.match(rf"pub(?:\([a-z]+\))? (?:struct|enum) {name}\b", line):
                 does = reading.documentation(lines, at).replace("|", "\\|")
-                rows[crate, name] = f"| `{name}` | {does} | [`{crate}`](../{source.relative_to(ROOT)}) |"
+                rows[crate, name] = f"| `{name}` | {does} | [`{crate}`]({place(source)}) |"
     return ["| Type | What it is | Crate |", "|---|---|---|", *(rows[key] for key in sorted(rows)), ""]
 
 
@@ -243,19 +263,25 @@ def headline_document():
 # ---- both
 
 
-def documents():
-    yield ROOT / "docs" / "DEFINITIONS.md", definitions_document
-    yield ROOT / "docs" / "HEADLINE.md", headline_document
+def made():
+    """What docs/HEADLINE.md should be: its head, and what is made."""
+    head = HEADLINE.read_text().partition(MARK)[0]
+    return "\n".join([head.rstrip(), "", MARK, "", *headline_document()]).rstrip() + "\n"
 
 
-def made(path, maker):
-    """What the document should be: its head, and what is made."""
-    head = path.read_text().partition(MARK)[0]
-    return "\n".join([head.rstrip(), "", MARK, "", *maker()]).rstrip() + "\n"
+def write_all(name):
+    """The list of all, to a file, or else printed with links from the top of the repository."""
+    global folder
+    folder = pathlib.Path(name).resolve().parent if name else ROOT
+    text = "\n".join(definitions_document()).rstrip() + "\n"
+    if name:
+        pathlib.Path(name).write_text(text)
+    else:
+        print(text, end="")
 
 
 def faults():
-    """What is wrong with the documents and the sentences, a line each."""
+    """What is wrong with docs/HEADLINE.md, the sentences and the comments, a line each."""
     definitions = reading.definitions()
     for key in sentences():
         if key not in definitions:
@@ -263,18 +289,22 @@ def faults():
     for key in citing():
         if not (sentences().get(key) or definitions[key].comment):
             yield f"{definitions[key].path}: `{key[2]}`, which a public clause cites, has no comment"
-    for path, maker in documents():
-        if path.read_text() != made(path, maker):
-            yield f"{path.relative_to(ROOT)}: not what tools/definitions.py makes; run it"
+    if HEADLINE.read_text() != made():
+        yield f"{HEADLINE.relative_to(ROOT)}: not what tools/definitions.py makes; run it"
 
 
 def main():
-    if sys.argv[1:] == ["--check"]:
+    words = sys.argv[1:]
+    if words == ["--check"]:
         found = list(faults())
         print("\n".join(found) or "definitions: as they are made")
         return 1 if found else 0
-    for path, maker in documents():
-        path.write_text(made(path, maker))
+    if words[:1] == ["--all"] and len(words) <= 2:
+        write_all(words[1] if words[1:] else "")
+    elif words:
+        sys.exit(__doc__)
+    else:
+        HEADLINE.write_text(made())
     return 0
 
 

@@ -190,6 +190,7 @@ class Definition:
     name: str
     comment: str
     heading: str
+    line: int
     text: str
     fields: list
 
@@ -237,21 +238,21 @@ def joined(comment):
 
 
 def blocks(lines):
-    """Each definition as its comment, the heading that it stands under, and its lines."""
+    """Each definition as its comment, the heading that it stands under, the number of its line, and its lines."""
     comment, heading, block = [], "", None
-    for line in [*lines, "-- ----"]:
+    for number, line in enumerate([*lines, "-- ----"], start=1):
         begins = DEFINITION.match(line)
         if block and (begins or line.startswith("--")):
             yield block
             block = None
         if begins:
-            block, comment = (joined(comment), heading, [line]), []
+            block, comment = (joined(comment), heading, number, [line]), []
         elif line.startswith("-- ----"):
             heading, comment = line.strip("- "), []
         elif line.startswith("--"):
             comment.append(line)
         elif block:
-            block[2].append(line)
+            block[3].append(line)
         elif not line.strip():
             comment = []
 
@@ -277,12 +278,12 @@ def definitions():
     found = {}
     for crate in crates():
         for path, spec in spec_files(crate):
-            for comment, heading, block in blocks(path.read_text().split("\n")):
+            for comment, heading, line, block in blocks(path.read_text().split("\n")):
                 name = DEFINITION.match(block[0]).group(1)
                 told = re.match(r"(?:pub )?(?:record|data) ", block[0])
                 fields = fields_of(block) if told else []
                 found[crate, spec, name] = Definition(
-                    crate, spec, name, comment, heading, "\n".join(block).rstrip(), fields
+                    crate, spec, name, comment, heading, line, "\n".join(block).rstrip(), fields
                 )
     return found
 
