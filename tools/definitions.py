@@ -152,8 +152,8 @@ def row_of_call(call):
     return f"| `{call.name}` | {does} | {'; '.join(asks)} | {'; '.join(promises)} |"
 
 
-def paragraph(text):
-    return textwrap.wrap(text, WIDEST, break_long_words=False, break_on_hyphens=False)
+def paragraph(text, indent=""):
+    return textwrap.wrap(text, WIDEST, subsequent_indent=indent, break_long_words=False, break_on_hyphens=False)
 
 
 def section(crate, cited):
@@ -190,10 +190,10 @@ def definitions_document():
     for crate in reading.crates():
         if not crate.startswith("tests_of_"):
             lines += section(crate, cited)
-    return lines
+    return lines + ends_document()
 
 
-# ---- docs/HEADLINE.md
+# ---- how every command ends, in the list of all
 
 
 class Reader:
@@ -246,17 +246,151 @@ def types_table(types):
     return ["| Type | What it is | Crate |", "|---|---|---|", *(rows[key] for key in sorted(rows)), ""]
 
 
-def headline_document():
+def theorem():
     definitions = reading.definitions()
-    headline, text = (definitions["expresso", "Headline", name] for name in ("Headline", "IsHeadlineText"))
-    ends = definitions["expresso", "ProgramEnds", "ProgramEnds"]
+    return (definitions["expresso", "Headline", name] for name in ("Headline", "IsHeadlineText"))
+
+
+def ends_document():
+    """The theorem, and how every command ends, from the top down."""
+    headline, text = theorem()
+    ends = reading.definitions()["expresso", "ProgramEnds", "ProgramEnds"]
     reader = Reader()
     reader.told |= {headline.key, text.key, ends.key}
-    lines = ["## The theorem", "", *shown(headline), *shown(text)]
-    lines += ["## What it supposes", "", *reader.table(headline, headline.code)]
-    lines += ["## What it says of the text", "", *reader.chapters(text)]
+    lines = ["## The theorem, from the top down", "", *reader.table(headline, headline.code)]
+    lines += reader.chapters(text)
     lines += ["## How every command ends", "", *shown(ends), *reader.chapters(ends)]
-    lines += ["## Types of the code", "", *types_table(reader.types)]
+    return [*lines, "## Types of the code", "", *types_table(reader.types)]
+
+
+# ---- docs/HEADLINE.md
+
+# What stands there as code, by subject: crate, file and names.
+CODE = """
+A plan is lawful
+  mon_events Plans IsLawful WakesAll EachNoteOn IsUntestedBroadcast
+  mon_monitor Triples IsInductive
+What is asked of a block
+  mon_monitor Triples Keeps NoneNeeded OneEnough NoTestNeeded IsValidQuery
+  mon_monitor Bodies IsValid
+  mon_monitor Queries keeps_query none_needed_query one_enough_query no_test_query
+A plan is backed, and a certificate refutes
+  mon_place Backing IsBacked HasCertificate Certifies backed_claims
+  mon_cert Refutes Refutes RefutesFrom closes are_opposite chain_closes chain_goes is_absurd
+A run of the implicit monitor
+  mon_implicit Runs IsRun IsRunBy IsNextCommit Ends CanAct
+  mon_implicit Places may_step IsStep IsCallStep IsRefusal
+  mon_implicit Steps IsBlockStep BlockSteps
+The seven events
+  mon_events Events IsEvent Begins Locks WantsLock Waits Runs Refuses StepsInside notes_after
+  mon_events Events Notifies Wakes WakesOne WakesEach WakesNobody fires Unlocks WakesSpuriously
+A legal log, and where it ends
+  mon_events Logs IsLegal IsSection IsBegun IsNotified IsChosen IsFirstWaiter IsClosed rests
+No wake-up is lost
+  mon_events Pending WakePending IsStuck
+Lawful by counting
+  mon_events Counts IsLawfulByCounting IsPassedOn IsCounted LeavesCounted slack
+"""
+# What another document says in words: of which nothing beneath is told.
+ELSEWHERE = {
+    ("mon_command", "CommandLine", "Takes"): "../README.md#commands",
+    ("mon_tokens", "Spelling", "Spells"): "RULES.md#the-grammar",
+    ("mon_syntax", "Grammar", "Derives"): "RULES.md#the-grammar",
+    ("mon_syntax", "ClientGrammar", "DerivesClients"): "RULES.md#the-grammar",
+    ("mon_rules", "Rules", "faults_of"): "RULES.md#what-is-printed-where-a-rule-is-broken",
+    ("mon_script", "Faults", "faults_of"): "RULES.md#what-is-printed-where-a-rule-is-broken",
+    ("mon_events", "PlanText", "plan_text"): "GUIDE.md#how-to-read-a-plan",
+    ("mon_text", "LogText", "log_text"): "GUIDE.md#how-to-read-a-log",
+}
+
+
+def by_subject():
+    """Each subject with its definitions that stand as code."""
+    found = {}
+    for line in CODE.strip().split("\n"):
+        if line.startswith(" "):
+            crate, spec, *names_there = line.split()
+            found[subject] += [reading.definitions()[crate, spec, name] for name in names_there]
+        else:
+            subject = line
+            found[subject] = []
+    return found
+
+
+def to_line(definition):
+    return f"[`{definition.name}`]({place(definition.path)}#L{definition.line})"
+
+
+def code_blocks(definitions):
+    """Definitions as they stand, each behind a link to its line."""
+    for definition in definitions:
+        comment = definition.comment[:1].upper() + definition.comment[1:].rstrip(".")
+        yield from paragraph(f"{to_line(definition)}: {comment}." if comment else f"{to_line(definition)}:")
+        yield from ["", "```", *definition.text.split("\n"), "```", ""]
+
+
+def has_words(definition):
+    """Whether more is said of it than its equations."""
+    return bool(sentences().get(definition.key) or definition.comment)
+
+
+class Teller:
+    """Goes down through definitions, tells each once, and those without words in the item of their parent."""
+
+    def __init__(self, told):
+        self.told, self.rows = set(told), []
+
+    def go(self, parent, text, row=None):
+        for definition in reading.beneath(parent, text)[0]:
+            if definition.key in self.told:
+                continue
+            self.told.add(definition.key)
+            own = row
+            if has_words(definition) or row is None:
+                own = [definition]
+                self.rows.append(own)
+            else:
+                row.append(definition)
+            if definition.key not in ELSEWHERE:
+                self.go(definition, definition.code, own)
+
+    def items(self):
+        rows, self.rows = self.rows, []
+        lines = []
+        for first, *folded in rows:
+            lines += paragraph(f"- {to_line(first)}: {self.words(first, folded)}", "  ")
+        return [*lines, ""] if lines else []
+
+    def words(self, first, folded):
+        text = said(first).replace("\\|", "|")
+        if first.key in ELSEWHERE:
+            target = ELSEWHERE[first.key]
+            text += f" ([{pathlib.Path(target.partition('#')[0]).stem}]({target}))"
+        if folded:
+            text += "; by " + ", ".join(map(to_line, folded))
+        return text
+
+
+def headline_document():
+    headline, text = theorem()
+    subjects = by_subject()
+    inside = [definition for found in subjects.values() for definition in found]
+    teller = Teller(definition.key for definition in [headline, text, *inside])
+    lines = ["## The theorem", "", *code_blocks([headline, text])]
+    for subject, found in subjects.items():
+        lines += [f"## {subject}", "", *code_blocks(found)]
+    lines += ["## What these are made of", ""]
+    teller.go(headline, headline.code)
+    lines += ["### `Headline`", "", *teller.items()]
+    for name, _, field in text.fields:
+        teller.go(text, field)
+        items = teller.items()
+        lines += [f"### `{name}`", "", *items] if items else []
+    for subject, found in subjects.items():
+        for definition in found:
+            teller.go(definition, definition.code)
+        items = teller.items()
+        lines += [f"### {subject}, more", "", *items] if items else []
     return lines
 
 
