@@ -324,8 +324,9 @@ def to_line(definition):
 def code_blocks(definitions):
     """Definitions as they stand, each behind a link to its line."""
     for definition in definitions:
-        comment = definition.comment[:1].upper() + definition.comment[1:].rstrip(".")
-        yield from paragraph(f"{to_line(definition)}: {comment}." if comment else f"{to_line(definition)}:")
+        text = sentences().get(definition.key) or definition.comment
+        text = text[:1].upper() + text[1:].rstrip(".")
+        yield from paragraph(f"{to_line(definition)}: {text}." if text else f"{to_line(definition)}:")
         yield from ["", "```", *definition.text.split("\n"), "```", ""]
 
 
