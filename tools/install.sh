@@ -12,7 +12,7 @@ cd "$(dirname "$0")/.." || exit 1
 rt=${RT:-rt}
 record=share/expresso/installed
 # What the proofs of the program take, in minutes of one processor, and the longest chain of crates that wait for one
-# another, in minutes (docs/ARCHITECTURE.md); and the most room that they take meanwhile, in GB.
+# another, in minutes (bench/README.md); and the most room that they take meanwhile, in GB.
 work=110
 chain=30
 room=10
