@@ -298,10 +298,12 @@ ELSEWHERE = {
     ("mon_syntax", "Grammar", "Derives"): "RULES.md#the-grammar",
     ("mon_syntax", "ClientGrammar", "DerivesClients"): "RULES.md#the-grammar",
     ("mon_rules", "Rules", "faults_of"): "RULES.md#what-is-printed-where-a-rule-is-broken",
+    ("mon_monitor", "MonitorParts", "IsMonitor"): "RULES.md",
     ("mon_script", "Faults", "faults_of"): "RULES.md#what-is-printed-where-a-rule-is-broken",
     ("mon_forms", "Sense", "sense"): "PROMISES.md#from-bytes-to-monitors-and-clients",
     ("mon_prune", "Hardness", "MayStayOpen"): "PROMISES.md#queries-and-certificates",
     ("mon_prune", "Hardness", "IsHard"): "PROMISES.md#queries-and-certificates",
+    ("mon_wp", "NegatedQueries", "negated_query"): "PROMISES.md#queries-and-certificates",
     ("mon_events", "PlanText", "plan_text"): "GUIDE.md#how-to-read-a-plan",
     ("mon_text", "LogText", "log_text"): "GUIDE.md#how-to-read-a-log",
 }
