@@ -300,7 +300,7 @@ ELSEWHERE = {
     ("mon_rules", "Rules", "faults_of"): "RULES.md#what-is-printed-where-a-rule-is-broken",
     ("mon_monitor", "MonitorParts", "IsMonitor"): "RULES.md",
     ("mon_script", "Faults", "faults_of"): "RULES.md#what-is-printed-where-a-rule-is-broken",
-    ("mon_forms", "Sense", "sense"): "PROMISES.md#from-bytes-to-monitors-and-clients",
+    ("mon_types", "Typed", "IsTyped"): "PROMISES.md#from-bytes-to-monitors-and-clients",
     ("mon_prune", "Hardness", "MayStayOpen"): "PROMISES.md#queries-and-certificates",
     ("mon_prune", "Hardness", "IsHard"): "PROMISES.md#queries-and-certificates",
     ("mon_wp", "NegatedQueries", "negated_query"): "PROMISES.md#queries-and-certificates",
