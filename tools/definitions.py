@@ -304,6 +304,7 @@ ELSEWHERE = {
     ("mon_prune", "Hardness", "MayStayOpen"): "PROMISES.md#queries-and-certificates",
     ("mon_prune", "Hardness", "IsHard"): "PROMISES.md#queries-and-certificates",
     ("mon_wp", "NegatedQueries", "negated_query"): "PROMISES.md#queries-and-certificates",
+    ("mon_monitor", "Candidates", "candidates_of"): "GUIDE.md#how-to-read-a-plan",
     ("mon_place", "Relayed", "relay_of"): "ARCHITECTURE.md#the-words",
     ("mon_events", "PlanText", "plan_text"): "GUIDE.md#how-to-read-a-plan",
     ("mon_text", "LogText", "log_text"): "GUIDE.md#how-to-read-a-log",
