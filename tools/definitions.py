@@ -312,16 +312,22 @@ ELSEWHERE = {
 
 
 def by_subject():
-    """Each subject with its definitions that stand as code."""
+    """Each subject with the keys of its definitions that stand as code."""
     found = {}
     for line in CODE.strip().split("\n"):
         if line.startswith(" "):
             crate, spec, *names_there = line.split()
-            found[subject] += [reading.definitions()[crate, spec, name] for name in names_there]
+            found[subject] += [(crate, spec, name) for name in names_there]
         else:
             subject = line
             found[subject] = []
     return found
+
+
+def unknown():
+    """Each definition named above that isn't there."""
+    wanted = [key for keys in by_subject().values() for key in keys] + list(ELSEWHERE)
+    return [key for key in wanted if key not in reading.definitions()]
 
 
 def to_line(definition):
@@ -381,7 +387,7 @@ class Teller:
 
 def headline_document():
     headline, text = theorem()
-    subjects = by_subject()
+    subjects = {name: [reading.definitions()[key] for key in keys] for name, keys in by_subject().items()}
     inside = [definition for found in subjects.values() for definition in found]
     teller = Teller(definition.key for definition in [headline, text, *inside])
     lines = ["## The theorem", "", *code_blocks([headline, text])]
@@ -431,7 +437,9 @@ def faults():
     for key in citing():
         if not (sentences().get(key) or definitions[key].comment):
             yield f"{definitions[key].path}: `{key[2]}`, which a public clause cites, has no comment"
-    if HEADLINE.read_text() != made():
+    for key in unknown():
+        yield f"tools/definitions.py: `{'.'.join(key)}` is no definition"
+    if not unknown() and HEADLINE.read_text() != made():
         yield f"{HEADLINE.relative_to(ROOT)}: not what tools/definitions.py makes; run it"
 
 
