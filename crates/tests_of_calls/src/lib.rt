@@ -1,5 +1,5 @@
-//! Tests of calls that block: how the calls of one caller end, one after the other, and callers
-//! that wait for the last of them, each in a thread of its own.
+//! Tests of calls that block: how the calls of one caller end, one after the other, callers that
+//! wait for the last of them, and several callers for one client, each in a thread of its own.
 //!
 //! There are only tests.
 #![tactic(auto)]
@@ -10,3 +10,5 @@ mod barrier;
 mod commits;
 #[cfg(test)]
 mod opening;
+#[cfg(test)]
+mod several;
