@@ -10,7 +10,7 @@ from dataclasses import dataclass, field
 
 ROOT = pathlib.Path(__file__).resolve().parent.parent
 ROWS = ROOT / "crates" / "rows"
-PARTS = {"|", "=", "bytes", "repeat", "fill", ".."}
+PARTS = {"|", "=", "front", "bytes", "repeat", "fill", ".."}
 ESCAPE = re.compile(rb"\\(?:x([0-9a-fA-F]{2})|\(([^)]*)\)|(.))", re.S)
 LETTERS = {b"n": b"\n", b"r": b"\r", b"t": b"\t", b"s": b" ", b"e": b""}
 
@@ -86,6 +86,8 @@ class Tables:
             return rest.encode() + b"\n"
         if key == "=":
             return self.texts[rest]
+        if key == "front":
+            return self.texts[more][: int(first)]
         if key == "bytes":
             return self.unescaped(rest.encode())
         if key == "repeat":
