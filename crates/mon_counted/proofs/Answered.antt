@@ -125,14 +125,18 @@ backed_told monitor kept condition block is_noted telling.Broadcast is = tt
 backed_column : (monitor : MonitorParts) (plan : Plan) (condition : ℕ) (column : Option (List Told)) → IsColumn monitor plan condition column
     → IsColumnBacked monitor plan.kept condition column
 backed_column monitor plan condition None is = tt
-backed_column monitor plan condition (Some column) is =
-    All-weaker (IsToldAt monitor plan condition) (λ (one : ℕ × Told). IsBacked monitor plan.kept condition one.0 one.1)
-    (λ one known. backed_told monitor plan.kept condition one.0 (has_note (notes_at plan one.0) condition) one.1 known) (enumerate_from 0 column) is.told
+backed_column monitor plan condition (Some column) is = record {
+  many = is.many;
+  each = All-weaker (IsToldAt monitor plan condition) (λ (one : ℕ × Told). IsBacked monitor plan.kept condition one.0 one.1)
+      (λ one known. backed_told monitor plan.kept condition one.0 (has_note (notes_at plan one.0) condition) one.1 known) (enumerate_from 0 column) is.told;
+}
 
 pub backed : (monitor : MonitorParts) (plan : Plan) (columns : List (Option (List Told))) → AreColumns monitor plan columns → AreBacked monitor plan columns
-backed monitor plan columns are =
-    All-weaker (λ (one : ℕ × Option (List Told)). IsColumn monitor plan one.0 one.1) (λ (one : ℕ × Option (List Told)). IsColumnBacked monitor plan.kept one.0 one.1)
-    (λ one known. backed_column monitor plan one.0 one.1 known) (enumerate_from 1 columns) are.each
+backed monitor plan columns are = record {
+  many = are.many;
+  each = All-weaker (λ (one : ℕ × Option (List Told)). IsColumn monitor plan one.0 one.1) (λ (one : ℕ × Option (List Told)). IsColumnBacked monitor plan.kept one.0 one.1)
+      (λ one known. backed_column monitor plan one.0 one.1 known) (enumerate_from 1 columns) are.each;
+}
 
 -- ---- one block
 

@@ -147,6 +147,7 @@ counted_notes columns block notes =
     (told_on condition block (column_at columns condition) (note_on notes condition)))
     (range_with_len 1 (length columns))
 
+-- the plan with what a table says of each counted condition and block
 abbrev pub counted_of : Plan → List (Option (List Told)) → Plan
 counted_of placed columns = record {
   kept = placed.kept;
@@ -170,13 +171,19 @@ IsBacked monitor kept condition block (telling.Signal gives first) =
     × Certifies monitor kept (questions.First condition block) first
 IsBacked monitor kept condition block telling.Broadcast = Unit {0}
 
--- of each block
+-- what each block of the monitor has on a condition that is counted
+pub record IsWholeColumn (monitor : MonitorParts) (kept : List Candidate) (condition : ℕ)
+    (column : List Told) : Type 0 where
+  pub many : length column ≡ length monitor.blocks
+  pub each : All (λ one. IsBacked monitor kept condition one.0 one.1) (enumerate_from 0 column)
+
 abbrev pub IsColumnBacked : MonitorParts → List Candidate → ℕ → Option (List Told) → Type 0
 IsColumnBacked monitor kept condition None = Unit {0}
-IsColumnBacked monitor kept condition (Some column) =
-    All (λ one. IsBacked monitor kept condition one.0 one.1) (enumerate_from 0 column)
+IsColumnBacked monitor kept condition (Some column) = IsWholeColumn monitor kept condition column
 
--- of each condition that is counted, the first of which has number 1
-abbrev pub AreBacked : MonitorParts → Plan → List (Option (List Told)) → Type 0
-AreBacked monitor plan columns =
-    All (λ one. IsColumnBacked monitor plan.kept one.0 one.1) (enumerate_from 1 columns)
+-- of each condition of the monitor whether it is counted, and what each block then has on it; the
+-- first has number 1
+pub record AreBacked (monitor : MonitorParts) (plan : Plan) (columns : List (Option (List Told))) :
+    Type 0 where
+  pub many : length columns ≡ length monitor.conditions
+  pub each : All (λ one. IsColumnBacked monitor plan.kept one.0 one.1) (enumerate_from 1 columns)

@@ -1,4 +1,5 @@
--- Exactly counted plans: what may be counted is, and with no more notes and broadcasts than needed.
+-- Exactly counted plans: what may be counted is, with no note but those that are placed or needed,
+-- and with no broadcast where a signal is enough.
 use Rattle.std.specs.Prelude.{◌≡◌, ◌↔◌, ℕ, false, List, Some, None}
 use Rattle.mon_monitor.specs.declared.candidate.Candidate.{Candidate}
 use Rattle.mon_monitor.specs.MonitorParts.{MonitorParts}
@@ -34,6 +35,8 @@ pub record IsExactlyTold (monitor : MonitorParts) (placed counted : Plan) (condi
   pub signals : (note : Note) → note_on (notes_at counted block) condition ≡ Some note
       → (note.all ≡ false) ↔ IsOneEnough monitor placed condition block
 
+-- what may be counted is, with a note exactly where one is placed or needed, and a signal exactly
+-- where one is enough
 pub record IsExactlyCounted (monitor : MonitorParts) (placed counted : Plan) : Type 0 where
   -- a condition that was of kind broadcast is of kind signal exactly where it may be counted
   pub made_signal : (condition : ℕ) → IsConditionNumber monitor condition
