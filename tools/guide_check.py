@@ -24,8 +24,9 @@ BLOCK = r"^```\w*\n((?s:.*?))^```\n"
 # Of each slip the message that it is to get: bodies, guards and whole heads of a monitor with the fields `int x`,
 # `bool held` and the constant `C`, and a method `m(int n)`.
 BODIES = {
-    "no token starts here": ['x = "a";', "x = x % 2;", "if (held & held) { }", "x = \u00e9;", f"x = {'a' * 33};"],
-    "syntax": ["x = 1", "x += 1;", "if (held) { } else if (held) { }"],
+    "no token starts here": ['x = "a";', "x = x % 2;", "if (held & held) { }", "x = \u00e9;", f"x = {'a' * 33};",
+                             "x = x / 2;", "/* why */", "\ufeff"],
+    "syntax": ["x = 1", "x += 1;", "if (held) { } else if (held) { }", "let y = x;", "int y = x;", "if (held) x = 1;"],
     "unknown name": ["x = y;"],
     "not a field": ["n = 1;", "C = 1;"],
     "wrong type": ["if (held == true) { }", "if (x) { }"],
@@ -34,16 +35,18 @@ BODIES = {
     "number too large": ["x = 9223372036854775808;"],
 }
 HEADS = {
+    "no token starts here": ["method m(n: int) waituntil (true) { }"],
     "syntax": ["method m() waituntil (x = 1) { }", "method m() waituntil (0 < x < 2) { }", "method m() { x = 1; }",
-               "method m() waituntil (true) { } int y = 0;", "method local() waituntil (true) { }"],
+               "method m() -> int waituntil (true) { return x; }", "method m() waituntil (true) { } int y = 0;",
+               "method local() waituntil (true) { }"],
     "unknown name": ["method a(int k) waituntil (true) { } method b() waituntil (true) { x = k; }"],
     "name used twice": ["method m(int x) waituntil (true) { }", "method x() waituntil (true) { }"],
 }
-FIELDS = {"syntax": ["int y;", "const A = C + 1;"]}
+FIELDS = {"syntax": ["int y;", "const A = C + 1;", "int b = C;"]}
 CLIENTS = {"unknown method": "client A { nope(); }", "wrong number of arguments": "client A { acquire(1); }"}
 OTHER_WORDS = ["check data/lock.mon --relay", "run data/lock.mon data/locks.cl --relay --relay",
                "simulate data/lock.mon data/locks.cl --spurious 3", "run data/lock.mon data/locks.cl --workers 17",
-               "check data/lock.mon data/lock.mon"]
+               "check data/lock.mon data/lock.mon", "run data/lock.mon"]
 
 
 class Checker:
