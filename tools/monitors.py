@@ -80,7 +80,7 @@ def read_monitor(text):
     try:
         return monitor_of(text)
     except (AttributeError, LookupError, TypeError, ValueError):
-        print("the monitor is not in canonical form", file=sys.stderr)
+        print("the monitor is not in canonical form, as `expresso check` prints it", file=sys.stderr)
         raise SystemExit(2) from None
 
 

@@ -134,8 +134,12 @@ def verdict(monitor, text):
 
 def main(monitor, report):
     sys.setrecursionlimit(10 ** 6)
-    monitor = read_monitor(pathlib.Path(monitor).read_text("ascii"))
-    text = pathlib.Path(report).read_bytes().decode("latin-1")
+    try:
+        shown, text = (pathlib.Path(one).read_bytes().decode("latin-1") for one in (monitor, report))
+    except OSError as fault:
+        print(f"read fault: {fault.filename}")
+        return 3
+    monitor = read_monitor(shown)
     try:
         line = verdict(monitor, text)
     except (LookupError, ValueError):
@@ -147,4 +151,7 @@ def main(monitor, report):
 
 
 if __name__ == "__main__":
+    if len(sys.argv) != 3:
+        print(__doc__, end="", file=sys.stderr)
+        sys.exit(2)
     sys.exit(main(*sys.argv[1:]))
