@@ -177,7 +177,11 @@ while [ $# -gt 0 ]; do
             shift
             ;;
         --remove) wants_removal=1 ;;
-        -*) fail "no such option: $1; its first lines say what there is" ;;
+        -h | --help)
+            sed -n '2,/^[^#]/s/^# \{0,1\}//p' tools/install.sh
+            exit
+            ;;
+        -*) fail "no such option: $1; --help says what there is" ;;
         *)
             [ -z "$prefix" ] || fail "one PREFIX is enough"
             prefix=$1

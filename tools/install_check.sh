@@ -82,6 +82,10 @@ before=$(picture)
 breaks "no rt" "there is no /nowhere/rt on the path" env RT=/nowhere/rt "$installer" prefix
 same "no rt"
 : >"$made/file"
+breaks "another option" "no such option: --nope" "$installer" prefix --nope
+holds "its help" "$installer" --help
+grep -q "^tools/install.sh \[PREFIX\] --remove " "$made/said" || fail "its help: $(cat "$made/said")"
+same "its help"
 breaks "a file as prefix" "you may not make files in" "$installer" file
 breaks "a prefix in a file" "you may not make files in" "$installer" file/prefix
 echo mon_text >"$made/fails"
