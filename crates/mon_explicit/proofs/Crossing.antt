@@ -4,13 +4,12 @@ use Rattle.std.proofs.Crossing.{crosses}
 use Rattle.circular_buffer.proofs.Crosses.{Cells-send, Deed-send}
 use Rattle.mon_linear.proofs.formula.Formula.TheLaws.TheKnot.{crosses as formula_crosses}
 use Rattle.mon_monitor.proofs.monitor.Stmt.TheLaws.TheKnot.{crosses as statement_crosses}
-use Rattle.mon_tree.proofs.tree.Expr.TheLaws.TheKnot.{crosses as expression_crosses}
 use Rattle.mon_explicit.specs.contracts.config.Config as config
 use Rattle.mon_explicit.specs.contracts.rings.Rings as rings
 use Rattle.mon_explicit.specs.contracts.free.FreeMonitor as free
 
 config_send : IsSend config.the_field.row
-config_send = search (crosses, formula_crosses, statement_crosses, expression_crosses, sendable) depth 60 fits 20000
+config_send = search (crosses, formula_crosses, statement_crosses, sendable) depth 60 fits 20000
 
 rings_send : IsSend rings.the_field.row
 rings_send = search (sendable, crosses, Cells-send, Deed-send) depth 40

@@ -83,7 +83,6 @@ pub struct Config {
 impl Model for Config {
     ghost use Rattle.std.specs.Prelude.{vec_capacity};
     ghost use Rattle.std.specs.Coded.{codes};
-    ghost use Rattle.mon_tree.specs.contracts.tree.Expr as expression;
     ghost use Rattle.mon_linear.specs.contracts.formula.Formula as formula;
     ghost use Rattle.mon_monitor.specs.contracts.monitor.Stmt as statement;
     ghost use Rattle.mon_explicit.specs.Machines.{Machine, IsMachine};
@@ -91,7 +90,7 @@ impl Model for Config {
 
     ghost Value = { Machine };
 
-    ghost coded = { Prim.hlevel (codes, expression.the_row.coded, formula.the_row.coded, statement.the_row.coded) };
+    ghost coded = { Prim.hlevel (codes, formula.the_row.coded, statement.the_row.coded) };
 
     ghost view = { λ c. machine_of c.monitor c.plan c.scripts c.state c.owner c.commits.items c.positions.items };
 

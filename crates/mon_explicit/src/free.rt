@@ -38,7 +38,6 @@ pub struct FreeMonitor {
 impl Model for FreeMonitor {
     ghost use Rattle.std.specs.Prelude.{vec_capacity};
     ghost use Rattle.std.specs.Coded.{codes};
-    ghost use Rattle.mon_tree.specs.contracts.tree.Expr as expression;
     ghost use Rattle.mon_linear.specs.contracts.formula.Formula as formula;
     ghost use Rattle.mon_monitor.specs.contracts.monitor.Stmt as statement;
     ghost use Rattle.mon_explicit.specs.Sections.{FreeMachine};
@@ -46,7 +45,7 @@ impl Model for FreeMonitor {
 
     ghost Value = { FreeMachine };
 
-    ghost coded = { Prim.hlevel (codes, expression.the_row.coded, formula.the_row.coded, statement.the_row.coded) };
+    ghost coded = { Prim.hlevel (codes, formula.the_row.coded, statement.the_row.coded) };
 
     ghost view = { λ f. free_of f.config f.log.items f.extra };
 

@@ -17,7 +17,6 @@ pub struct Pass {
 
 impl Model for Pass {
     ghost use Rattle.std.specs.Coded.{codes};
-    ghost use Rattle.mon_tree.specs.contracts.tree.Expr as expression;
     ghost use Rattle.mon_linear.specs.contracts.formula.Formula as formula;
     ghost use Rattle.mon_monitor.specs.contracts.monitor.Stmt as statement;
     ghost use Rattle.mon_lock.specs.Passes.{PassView};
@@ -25,7 +24,7 @@ impl Model for Pass {
 
     ghost Value = { PassView };
 
-    ghost coded = { Prim.hlevel (codes, expression.the_row.coded, formula.the_row.coded, statement.the_row.coded) };
+    ghost coded = { Prim.hlevel (codes, formula.the_row.coded, statement.the_row.coded) };
 
     ghost view = { λ p. pass_view p.seat };
 

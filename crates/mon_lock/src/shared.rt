@@ -31,14 +31,13 @@ pub struct SharedMonitor {
 
 impl Model for SharedMonitor {
     ghost use Rattle.std.specs.Coded.{codes};
-    ghost use Rattle.mon_tree.specs.contracts.tree.Expr as expression;
     ghost use Rattle.mon_linear.specs.contracts.formula.Formula as formula;
     ghost use Rattle.mon_monitor.specs.contracts.monitor.Stmt as statement;
     ghost use Rattle.mon_lock.specs.Passes.{SharedView};
 
     ghost Value = { SharedView };
 
-    ghost coded = { Prim.hlevel (codes, expression.the_row.coded, formula.the_row.coded, statement.the_row.coded) };
+    ghost coded = { Prim.hlevel (codes, formula.the_row.coded, statement.the_row.coded) };
 
     ghost view = { λ m. record {
       lock = m.lock.board.shared.table_id;
