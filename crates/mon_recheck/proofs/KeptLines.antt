@@ -12,7 +12,7 @@ use Rattle.mon_monitor.specs.declared.candidate.Candidate.TheVariants as candida
 use Rattle.mon_monitor.specs.declared.monitor.Field.{Field}
 use Rattle.mon_events.specs.PlanText.{candidate_text, field_name, flag_mark, kept_text}
 use Rattle.mon_events.proofs.CandidatePlaces.{is_low, kept_low}
-use Rattle.mon_text.proofs.Lines.{same_line}
+use Rattle.mon_base.proofs.Lines.{same_line}
 use Rattle.mon_text.proofs.CandidateBounds.{start_at, IsNearStart, kept_near}
 use Rattle.mon_text.proofs.PlanLines.{IsKnown, kept_is_line, kept_line_names}
 use Rattle.mon_recheck.specs.inner.Reading.{IsAfterKept, IsFront, IsTurn}

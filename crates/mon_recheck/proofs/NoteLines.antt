@@ -14,8 +14,8 @@ use Rattle.mon_monitor.specs.MonitorParts.{MonitorParts}
 use Rattle.mon_events.specs.declared.plan.Note.{Note}
 use Rattle.mon_events.specs.PlanText.{kind_text, note_kind, note_text, notes_text, tested_text}
 use Rattle.mon_events.specs.Rising.{AreRising}
-use Rattle.mon_text.proofs.Cuts.{same_first, cut}
-use Rattle.mon_text.proofs.Numerals.{IsShort, decimal_digits, decimal_some, same_number}
+use Rattle.mon_base.proofs.Cuts.{same_first, cut}
+use Rattle.mon_base.proofs.Numerals.{IsShort, decimal_digits, decimal_some, same_number}
 use Rattle.mon_recheck.specs.Reports.{AreNotesOf, IsOnCondition}
 use Rattle.mon_recheck.specs.inner.Reading.{Anything, AreFrom, AreSomeNotesOf, IsAfterMarks, IsFront, IsLineEnd, IsNoFront, IsNoteTurn, marks_text, notes_after, sign_after}
 

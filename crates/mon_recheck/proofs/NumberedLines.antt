@@ -20,8 +20,9 @@ use Rattle.mon_events.specs.declared.plan.CondKind.{CondKind}
 use Rattle.mon_events.specs.declared.plan.Note.{Note}
 use Rattle.mon_events.specs.declared.plan.Plan.{Plan}
 use Rattle.mon_events.specs.PlanText.{block_text, condition_text, conditions_text, blocks_text, kept_text, plan_text}
-use Rattle.mon_text.proofs.Lines.{HasNoLineFeed, IsLine as IsPlainLine, both_in_line, is_in_line, words_in_line}
-use Rattle.mon_text.proofs.Names.{name_words}
+use Rattle.mon_base.specs.Lines.{is_in_line}
+use Rattle.mon_base.proofs.Lines.{HasNoLineFeed, IsLine as IsPlainLine, both_in_line, words_in_line}
+use Rattle.mon_base.proofs.Words.{name_words}
 use Rattle.mon_text.proofs.PlanLines.{block_is_line, condition_is_line}
 use Rattle.mon_recheck.specs.declared.report.Report.{Report}
 use Rattle.mon_recheck.specs.Lines.{IsLine, IsLineOf, lines_in}

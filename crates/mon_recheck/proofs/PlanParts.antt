@@ -15,7 +15,7 @@ use Rattle.mon_events.specs.declared.plan.CondKind.TheVariants as kinds
 use Rattle.mon_events.specs.declared.plan.Note.{Note}
 use Rattle.mon_events.specs.declared.plan.Plan.{Plan}
 use Rattle.mon_events.specs.PlanText.{block_name, block_text, blocks_text, condition_text, conditions_text, kept_text, notes_text, plan_text}
-use Rattle.mon_text.proofs.Cuts.{same_first}
+use Rattle.mon_base.proofs.Cuts.{same_first}
 use Rattle.mon_recheck.specs.Reports.{AreNotesOf, IsPlanOf}
 use Rattle.mon_recheck.proofs.Pairs.{at_place}
 use Rattle.mon_recheck.proofs.Fronts.{AreGoing, going_end, going_more, going_none}

@@ -19,8 +19,11 @@ use Rattle.mon_monitor.specs.declared.monitor.Field.{Field}
 use Rattle.mon_monitor.specs.declared.monitor.Method.{Method}
 use Rattle.mon_monitor.specs.MonitorParts.{MonitorParts, IsMonitor, count_in, first_in}
 use Rattle.mon_events.specs.PlanText.{block_mark, block_name, candidate_text, field_name, flag_mark, kept_text, method_name, name_in}
-use Rattle.mon_text.proofs.Lines.{HasNoLineFeed, IsLine, block_mark_in_line, both_in_line, decimal_in_line, each_in_line, is_in_line, signed_in_line, words_in_line}
-use Rattle.mon_text.proofs.Names.{field_is_named, method_words, name_words}
+use Rattle.mon_base.specs.Lines.{is_in_line}
+use Rattle.mon_base.proofs.Lines.{HasNoLineFeed, IsLine, both_in_line, decimal_in_line, each_in_line, signed_in_line, words_in_line}
+use Rattle.mon_text.proofs.Lines.{block_mark_in_line}
+use Rattle.mon_text.proofs.Names.{field_is_named, method_words}
+use Rattle.mon_base.proofs.Words.{name_words}
 use Rattle.mon_recheck.specs.Reports.{claim_text, proof_text}
 
 -- ---- names, and none where there is no such field or block

@@ -11,7 +11,7 @@ use Rattle.mon_monitor.specs.MonitorParts.{MonitorParts}
 use Rattle.mon_events.specs.declared.plan.Plan.{Plan}
 use Rattle.mon_events.specs.PlanText.{plan_text}
 use Rattle.mon_place.specs.Backing.{backed_claims}
-use Rattle.mon_text.proofs.Cuts.{same_first}
+use Rattle.mon_base.proofs.Cuts.{same_first}
 use Rattle.mon_recheck.specs.declared.report.Report.{Report}
 use Rattle.mon_outline.specs.Readings.{IsRead}
 use Rattle.mon_recheck.specs.Readings.{IsReadable, IsReportRead}

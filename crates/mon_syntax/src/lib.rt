@@ -28,6 +28,6 @@ pub use mon_tokens::{
 };
 pub use mon_tree::{
     Addend, Arg, BlockTree, ClientTree, ClientsTree, Decl, Expr, Factor, InputTree, Item, Lit,
-    MethodTree, MonitorTree, Op, StmtTree, copy_expression, copy_statement,
+    MethodTree, MonitorTree, Op, StmtTree,
 };
 pub use monitor_parser::parse_monitor;

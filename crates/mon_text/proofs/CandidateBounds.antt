@@ -28,7 +28,7 @@ use Rattle.mon_monitor.specs.MonitorParts.{MonitorParts, IsMonitor, Places, meth
 use Rattle.mon_implicit.proofs.Placed.{placed}
 use Rattle.mon_monitor.specs.Candidates.{once, opposite, bound_of, around, guard_bounds, distinct, MOST_BOUNDS, pool, bounded, kind_candidates, field_candidates, int_fields, pair_candidates, candidates_of}
 use Rattle.mon_events.specs.Plans.{AreSomeOf}
-use Rattle.mon_text.proofs.Numerals.{SMALL, IsNear}
+use Rattle.mon_base.proofs.Numerals.{SMALL, IsNear}
 
 -- ---- rows of guards: their constants are at most 2^64
 

@@ -16,8 +16,9 @@ use Rattle.mon_tree.specs.declared.tree.Expr.TheFolds.{fold-Addend, fold-Factor,
 use Rattle.mon_tree.specs.Names.{Names, all_names, expression_names, expression_names_step, addend_names_step, factor_names_step}
 use Rattle.mon_printer.specs.Canonical.{Printed, printed, printed_step, expression_text, at_level, parts_at, joined, all_texts, truth_text, addend_sign, addend_text, factor_text, op_text}
 use Rattle.mon_printer.specs.Printing.{later_factor, later_addend}
-use Rattle.mon_text.proofs.Lines.{is_in_line, HasNoLineFeed, both_in_line, words_in_line, decimal_in_line}
-use Rattle.mon_text.proofs.Names.{name_words}
+use Rattle.mon_base.specs.Lines.{is_in_line}
+use Rattle.mon_base.proofs.Lines.{HasNoLineFeed, both_in_line, words_in_line, decimal_in_line}
+use Rattle.mon_base.proofs.Words.{name_words}
 
 -- ---- names
 

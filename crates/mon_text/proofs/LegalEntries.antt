@@ -29,7 +29,7 @@ use Rattle.mon_events.specs.Logs.IsLegal.{empty, sectioned, woken}
 use Rattle.mon_events.proofs.Standings.{stands_within}
 use Rattle.mon_events.proofs.Legal.{legal_keeps, sound_lasts}
 use Rattle.mon_events.proofs.Commits.{legal_commits}
-use Rattle.mon_text.proofs.Numerals.{IsShortInt}
+use Rattle.mon_base.proofs.Numerals.{IsShortInt}
 use Rattle.mon_text.proofs.Wakes.{AreClientBits, no_client_bits}
 use Rattle.mon_text.proofs.LogLines.{IsShortReply, FitsOutcome, IsEntryAfter}
 use Rattle.mon_text.proofs.NamedLogs.{AreEntriesAfter, entries_push}

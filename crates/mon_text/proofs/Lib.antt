@@ -2,8 +2,6 @@ pub mod TurnsRows
 pub mod PlanRows
 pub mod LogRows
 pub mod SummaryRows
-pub mod Cuts
-pub mod Numerals
 pub mod Lines
 pub mod Names
 pub mod ExpressionLines

@@ -29,10 +29,12 @@ use Rattle.mon_events.specs.Logs.{commits_of}
 use Rattle.mon_events.specs.PlanText.{method_name, block_mark}
 use Rattle.mon_text.specs.TurnsText.{value_text, reply_text, client_name, called_text, numbers_text, call_text}
 use Rattle.mon_text.specs.LogText.{woken_names, wakes_text, replied_text, outcome_text, entry_text}
-use Rattle.mon_text.proofs.Cuts.{same_first, same_rest, stops, cut, all_weaker}
-use Rattle.mon_text.proofs.Numerals.{IsShortInt, is_figure, decimal_some, no_minus, signed_figures, same_signed}
-use Rattle.mon_text.proofs.Lines.{HasNoLineFeed, IsLine, words_in_line, decimal_in_line, signed_in_line, both_in_line, joined_in_line, block_mark_in_line}
-use Rattle.mon_text.proofs.Names.{name_words, method_words, client_is_named, same_client}
+use Rattle.mon_base.proofs.Cuts.{same_first, same_rest, stops, cut, all_weaker}
+use Rattle.mon_base.proofs.Numerals.{IsShortInt, is_figure, decimal_some, no_minus, signed_figures, same_signed}
+use Rattle.mon_base.proofs.Lines.{HasNoLineFeed, IsLine, words_in_line, decimal_in_line, signed_in_line, both_in_line, joined_in_line}
+use Rattle.mon_text.proofs.Lines.{block_mark_in_line}
+use Rattle.mon_text.proofs.Names.{method_words, client_is_named, same_client}
+use Rattle.mon_base.proofs.Words.{name_words}
 use Rattle.mon_text.proofs.ExpressionLines.{truth_in_line}
 use Rattle.mon_text.proofs.Wakes.{AreClientBits, wakes_in_line, same_wakes}
 

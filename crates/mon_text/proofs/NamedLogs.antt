@@ -11,7 +11,7 @@ use Rattle.mon_events.specs.Plans.{FitsPlan}
 use Rattle.mon_events.specs.PlanText.{plan_text}
 use Rattle.mon_text.specs.TurnsText.{ended_text}
 use Rattle.mon_text.specs.LogText.{entry_text, are_done, closing_text}
-use Rattle.mon_text.proofs.Lines.{same_line}
+use Rattle.mon_base.proofs.Lines.{same_line}
 use Rattle.mon_text.proofs.NamedPlans.{IsAfterKept, other_after, plan_named}
 use Rattle.mon_text.proofs.LogLines.{IsEntryAfter, entry_is_line, entry_line_names, entry_begins, no_word, no_candidate}
 

@@ -14,8 +14,8 @@ use Rattle.mon_events.specs.declared.plan.Plan.{Plan}
 use Rattle.mon_events.specs.Plans.{FitsNote, FitsNotes, FitsPlan}
 use Rattle.mon_events.specs.PlanText.{kept_text, condition_text, conditions_text, block_text, blocks_text, plan_text}
 use Rattle.mon_events.proofs.CandidatePlaces.{is_low, kept_low}
-use Rattle.mon_text.proofs.Cuts.{same_first}
-use Rattle.mon_text.proofs.Lines.{same_line}
+use Rattle.mon_base.proofs.Cuts.{same_first}
+use Rattle.mon_base.proofs.Lines.{same_line}
 use Rattle.mon_text.proofs.CandidateBounds.{start_at, IsNearStart, kept_near}
 use Rattle.mon_text.proofs.PlanLines.{IsKnown, kept_is_line, kept_line_names, condition_is_line, condition_line_names, block_is_line, block_line_names}
 

@@ -1,10 +1,11 @@
--- Names of fields, methods and clients: what their bytes are, and that each names one.
+-- Names of fields, methods and clients: that each names one.
 use Rattle.std.proofs.Common.{◌≡◌, ◌≢◌, ℕ, zero, suc, ◌+◌, ◌<◌, Bool, true, false, List, [], ◌∷◌, ◌++◌, length, map, get_or, sym, refl, ◌∙◌, arith, inl, inr, length-append, subst}
 use Rattle.std.specs.Prelude.{AllPairs, slice_get}
 use Rattle.std.specs.List.{list_all}
 use Rattle.std.proofs.lemmas.Bool.{and_parts, and_from, or_left, cases_order, false≢true}
 use Rattle.std.proofs.lemmas.List.{length-map, get_or-map, get_or-append-add}
-use Rattle.mon_base.specs.Identifiers.{is_letter, is_digit, is_word_byte, is_spelled, IsIdentifier}
+use Rattle.mon_base.specs.Identifiers.{is_word_byte, IsIdentifier}
+use Rattle.mon_base.proofs.Words.{name_words}
 use Rattle.mon_monitor.specs.declared.monitor.Field.{Field}
 use Rattle.mon_monitor.specs.declared.monitor.Method.{Method}
 use Rattle.mon_monitor.specs.MonitorParts.{MonitorParts, IsMonitor, names_of}
@@ -12,33 +13,6 @@ use Rattle.mon_implicit.specs.declared.script.Client.{Client}
 use Rattle.mon_implicit.specs.Scripted.{AreClients}
 use Rattle.mon_events.specs.PlanText.{field_name, method_name}
 use Rattle.mon_text.specs.TurnsText.{client_name}
-
--- ---- the bytes of a name
-
-letter_is_word : (byte : ℕ) → is_letter byte ≡ true → is_word_byte byte ≡ true
-letter_is_word byte is = or_left (is_letter byte) (is_digit byte) is
-
-spelled_words : (name : List ℕ) → is_spelled name ≡ true → list_all is_word_byte name ≡ true
-spelled_words [] is = refl
-spelled_words (first ∷ more) is =
-    let parts = and_parts (is_letter first) (list_all is_word_byte more) is in
-    and_from (is_word_byte first) (list_all is_word_byte more) (letter_is_word first parts.0) parts.1
-
-pub name_words : (name : List ℕ) → IsIdentifier name → list_all is_word_byte name ≡ true
-name_words name is = spelled_words name is.spelled
-
-abbrev pub begins_with_letter : List ℕ → Bool
-begins_with_letter [] = false
-begins_with_letter (first ∷ more) = is_letter first
-
-spelled_begins : (name rest : List ℕ) → is_spelled name ≡ true
-    → begins_with_letter (name ++ rest) ≡ true
-spelled_begins [] rest is = absurd (false≢true is)
-spelled_begins (first ∷ more) rest is = (and_parts (is_letter first) (list_all is_word_byte more) is).0
-
-pub name_begins : (name rest : List ℕ) → IsIdentifier name
-    → begins_with_letter (name ++ rest) ≡ true
-name_begins name rest is = spelled_begins name rest is.spelled
 
 -- ---- one of distinct names
 

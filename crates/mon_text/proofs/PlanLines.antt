@@ -22,10 +22,12 @@ use Rattle.mon_events.specs.declared.plan.Note.{Note}
 use Rattle.mon_events.specs.Plans.{FitsNote}
 use Rattle.mon_events.specs.PlanText.{field_name, method_name, block_mark, name_in, block_name, flag_mark, candidate_text, kept_text, kind_text, condition_text, note_kind, tested_text, note_text, notes_text, block_text}
 use Rattle.mon_events.proofs.CandidatePlaces.{is_low}
-use Rattle.mon_text.proofs.Cuts.{same_first, same_rest, stops, cut, all_append, all_weaker}
-use Rattle.mon_text.proofs.Numerals.{IsShort, is_figure, decimal_digits, signed_figures, same_number, same_near}
-use Rattle.mon_text.proofs.Lines.{HasNoLineFeed, IsLine, words_in_line, decimal_in_line, signed_in_line, both_in_line, joined_in_line, block_mark_in_line}
-use Rattle.mon_text.proofs.Names.{begins_with_letter, name_words, name_begins, field_is_named, same_field, method_words}
+use Rattle.mon_base.proofs.Cuts.{same_first, same_rest, stops, cut, all_append, all_weaker}
+use Rattle.mon_base.proofs.Numerals.{IsShort, is_figure, decimal_digits, signed_figures, same_number, same_near}
+use Rattle.mon_base.proofs.Lines.{HasNoLineFeed, IsLine, words_in_line, decimal_in_line, signed_in_line, both_in_line, joined_in_line}
+use Rattle.mon_text.proofs.Lines.{block_mark_in_line}
+use Rattle.mon_text.proofs.Names.{field_is_named, same_field, method_words}
+use Rattle.mon_base.proofs.Words.{begins_with_letter, name_words, name_begins}
 use Rattle.mon_text.proofs.ExpressionLines.{expression_in_line}
 use Rattle.mon_text.proofs.CandidateBounds.{start_at, IsNearStart}
 

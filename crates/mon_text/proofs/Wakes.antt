@@ -12,9 +12,9 @@ use Rattle.mon_base.specs.Identifiers.{IsIdentifier, is_word_byte}
 use Rattle.mon_implicit.specs.declared.script.Client.{Client}
 use Rattle.mon_implicit.specs.Scripted.{AreClients}
 use Rattle.mon_text.specs.LogText.{is_woken, woken_name, woken_names, wakes_text}
-use Rattle.mon_text.proofs.Cuts.{same_first, same_rest, stops, cut}
-use Rattle.mon_text.proofs.Lines.{HasNoLineFeed, both_in_line, words_in_line}
-use Rattle.mon_text.proofs.Names.{name_words}
+use Rattle.mon_base.proofs.Cuts.{same_first, same_rest, stops, cut}
+use Rattle.mon_base.proofs.Lines.{HasNoLineFeed, both_in_line, words_in_line}
+use Rattle.mon_base.proofs.Words.{name_words}
 
 -- ---- clients with distinct names, by recursion
 

@@ -8,7 +8,7 @@ use Rattle.std.proofs.lemmas.Fmt.{decimal_is_IsNumeral_wide, length-decimal-le_w
 use Rattle.std.proofs.lemmas.Int.{ints}
 use Rattle.mon_base.specs.Identifiers.{is_letter, is_digit, is_word_byte}
 use Rattle.mon_base.specs.Numbers.{is_within}
-use Rattle.mon_text.proofs.Cuts.{same_rest, all_weaker}
+use Rattle.mon_base.proofs.Cuts.{same_rest, all_weaker}
 
 -- ---- digits
 
