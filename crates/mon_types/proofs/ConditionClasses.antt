@@ -11,6 +11,7 @@ use Rattle.mon_tree.specs.Names.{expression_names}
 use Rattle.mon_monitor.specs.declared.monitor.Block.{Block}
 use Rattle.mon_monitor.specs.declared.monitor.Condition.{Condition}
 use Rattle.mon_monitor.specs.Conditions.{HasCondition, HasFirstBlock, IsDescribed}
+use Rattle.mon_printer.proofs.ExpressionLines.{expression_in_line}
 use Rattle.mon_types.specs.Typed.{AreConditions, PlacedBlock, condition_of}
 
 -- ---- what stands at a place of a list, as the list grows
@@ -101,7 +102,7 @@ all_described before (placed ∷ more) (block ∷ blocks) all are shown describe
     elim are [
       | inl old ↦ all_described before more blocks all old.2 later described
       | inr new ↦
-          let here : IsDescribed (condition_of block placed.block) = record { inputs = refl; names = All-head ShowsNames placed more shown } in
+          let here : IsDescribed (condition_of block placed.block) = record { inputs = refl; line = expression_in_line placed.block.guard (All-head ShowsNames placed more shown) } in
           all_described (before ++ condition_of block placed.block ∷ []) more blocks all new.2 later
           (All-append IsDescribed before (condition_of block placed.block ∷ []) described (All-cons IsDescribed (condition_of block placed.block) [] here (All-nil IsDescribed)))
     ]

@@ -11,6 +11,7 @@ use Rattle.mon_tree.specs.declared.tree.StmtTree.TheFolds.{fold-StmtTree}
 use Rattle.mon_tree.specs.declared.tree.BlockTree.{BlockTree}
 use Rattle.mon_tree.specs.declared.tree.MethodTree.{MethodTree}
 use Rattle.mon_tree.specs.declared.tree.MonitorTree.{MonitorTree}
+use Rattle.mon_printer.specs.Canonical.{expression_text}
 use Rattle.mon_base.specs.declared.kind.Kind.{Kind}
 use Rattle.mon_base.specs.declared.kind.Kind.TheVariants as kinds
 use Rattle.mon_forms.specs.declared.scope.Meaning.{Meaning}
@@ -149,7 +150,11 @@ AreBlocksOf declared some blocks = ⊥
 
 abbrev pub condition_of : Block → BlockTree → Condition
 condition_of block tree =
-    record { guard = block.guard; reads_inputs = reads_inputs block.guard; shown = tree.guard }
+    record {
+      guard = block.guard;
+      reads_inputs = reads_inputs block.guard;
+      shown = expression_text tree.guard;
+    }
 
 -- The block has a condition that was there, or the new one after them, where none of them has its
 -- guard.

@@ -6,6 +6,7 @@ use Rattle.mon_tree.specs.declared.tree.StmtTree.{StmtTree}
 use Rattle.mon_tree.specs.declared.tree.BlockTree.{BlockTree}
 use Rattle.mon_tree.specs.declared.tree.Decl.{Decl}
 use Rattle.mon_tree.specs.declared.tree.MethodTree.{MethodTree}
+use Rattle.mon_printer.specs.Canonical.{expression_text}
 use Rattle.mon_linear.specs.declared.formula.Formula.{Formula}
 use Rattle.mon_base.specs.declared.kind.Kind.TheVariants as kinds
 use Rattle.mon_forms.specs.declared.scope.Entry.{Entry}
@@ -34,7 +35,7 @@ IsNumbered before guard shown number all =
     × (all ≡ before ++ record {
       guard = guard;
       reads_inputs = reads_inputs guard;
-      shown = shown;
+      shown = expression_text shown;
     } ∷ []))
 
 abbrev pub HasGuard : Formula → Condition → Type 0

@@ -9,8 +9,10 @@ ghost use Rattle.mon_monitor.specs.Inputs.{reads_inputs, reads_term};
 
 use mon_base::limits::FIRST_INPUT;
 use mon_linear::{Formula, Lin, Term, copy_formula, same_formula};
+use mon_list::Seq;
 use mon_monitor::Condition;
-use mon_tree::{Expr, copy_expression};
+use mon_printer::shown_text;
+use mon_tree::Expr;
 use std::alloc::{AllocError, Global};
 
 /// The number of the condition with this guard. Where there is none it is added.
@@ -29,7 +31,7 @@ pub(crate) fn number_of(
             let condition = Condition {
                 guard: copy_formula(alloc, guard)?,
                 reads_inputs: reads_inputs(guard),
-                shown: copy_expression(alloc, shown)?,
+                shown: Seq::of(shown_text(alloc, shown)?),
             };
             let before = known.len();
             known.push(condition)?;
