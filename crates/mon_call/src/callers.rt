@@ -21,8 +21,8 @@ use std::thread::Threads;
 
 /// Makes the calls of all clients, each client's in a thread of its own, until each client is over
 /// or stalled. The gate is called ahead of each call, with no lock held and the number of replies
-/// that the client was given. Where the system starts too few threads, the sections are made one
-/// after the other, and the gate is not called. The answer is closed for every schedule of the
+/// that the client was given. Where not all threads have begun within a second, the sections are
+/// made one after the other, and no gate is called. The answer is closed for every schedule of the
 /// threads, and has no spurious entry more than before. It takes all memory first, and fails only
 /// for want of memory; the monitor is dropped then.
 pub fn run_callers<R: Threads + Wait + Sync, G: Gate>(
