@@ -1,7 +1,7 @@
 -- The buffer meets the rule of a monitor.
 use Rattle.std.proofs.Common.{◌≡◌, ◌≢◌, ℕ, zero, suc, ◌+◌, ◌^◌, ◌<◌, ◌≤◌, Bool, true, ◌&&◌, pos, neg_ℤ, ◌-ℤ◌, List, [], ◌∷◌, get_or, codes, refl, sym, ap, ap₂, subst, ◌∙◌, arith}
 use Rattle.std.specs.Prelude.{IsSomeAnd, Option, Some, slice_get}
-use Rattle.std.specs.List.{All, AllPairs, list_any}
+use Rattle.std.specs.List.{AllPairs, list_any}
 use Rattle.std.proofs.lemmas.Int.{ints}
 use Rattle.std.proofs.lemmas.Option.{none-some, same_Some}
 use Rattle.std.proofs.lemmas.List.Elements.{All-nil, All-cons}
@@ -15,8 +15,6 @@ use Rattle.mon_linear.specs.declared.formula.Formula.{Formula}
 use Rattle.mon_linear.specs.declared.formula.Formula.TheVariants as formulas
 use Rattle.mon_linear.specs.declared.formula.Formula.TheOpen as rows
 use Rattle.mon_linear.specs.declared.formula.Formula.TheFolds.{fold-roll-Formula}
-use Rattle.mon_tree.specs.Names.{Names, expression_names}
-use Rattle.mon_tree.specs.declared.tree.Expr.TheFolds.{the_lemmas}
 use Rattle.mon_monitor.specs.declared.monitor.Field.{Field}
 use Rattle.mon_monitor.specs.declared.monitor.Method.{Method}
 use Rattle.mon_monitor.specs.declared.monitor.Stmt.TheVariants as statements
@@ -44,9 +42,6 @@ named_put = record { spelled = refl; short = omega arith; no_keyword = refl }
 
 named_get : IsIdentifier (codes "get")
 named_get = record { spelled = refl; short = omega arith; no_keyword = refl }
-
-named_cap : IsIdentifier (codes "CAP")
-named_cap = record { spelled = refl; short = omega arith; no_keyword = refl }
 
 -- names whose first letters differ
 differ : (name other : List ℕ) → (get_or name 0 0 ≡ get_or other 0 0 → ⊥) → name ≢ other
@@ -99,23 +94,16 @@ get_fits = fits_both 1 has_some (count_and (neg_ℤ (pos 1))) (fits_row (less_co
 row_reads : (form : Linear) → reads_inputs (formulas.Row form) ≡ list_any reads_term form.terms
 row_reads form = ap reads_inputs (sym (formulas.rolls-Row form)) ∙ fold-roll-Formula Bool reads_step (rows.Row form)
 
-room_names : expression_names room_shown ≡ codes "count" ∷ codes "CAP" ∷ []
-room_names = simp (the_lemmas) refl
-
-some_names : expression_names some_shown ≡ codes "count" ∷ []
-some_names = simp (the_lemmas) refl
-
 room_described : (capacity : ℕ) → IsDescribed (shown_condition (has_room capacity) room_shown)
 room_described capacity = record {
   inputs = sym (row_reads (count_and (pos 1 -ℤ pos capacity)));
-  names = subst (λ (names : Names). All IsIdentifier names) (sym room_names)
-      (All-cons IsIdentifier (codes "count") (codes "CAP" ∷ []) named_count (All-cons IsIdentifier (codes "CAP") [] named_cap (All-nil IsIdentifier)));
+  line = refl;
 }
 
 some_described : IsDescribed (shown_condition has_some some_shown)
 some_described = record {
   inputs = sym (row_reads (less_count (pos 1)));
-  names = subst (λ (names : Names). All IsIdentifier names) (sym some_names) (All-cons IsIdentifier (codes "count") [] named_count (All-nil IsIdentifier));
+  line = refl;
 }
 
 -- a state in which the one is false and the other true

@@ -7,9 +7,6 @@ use Rattle.mon_base.specs.declared.value.Value.TheVariants as values
 use Rattle.mon_linear.specs.Linear.{Linear}
 use Rattle.mon_linear.specs.declared.formula.Formula.{Formula}
 use Rattle.mon_linear.specs.declared.formula.Formula.TheVariants as formulas
-use Rattle.mon_tree.specs.declared.tree.Expr.{Expr}
-use Rattle.mon_tree.specs.declared.tree.Expr.TheVariants as expressions
-use Rattle.mon_tree.specs.declared.tree.Op.TheVariants as operators
 use Rattle.mon_monitor.specs.declared.monitor.Field.{Field}
 use Rattle.mon_monitor.specs.declared.monitor.Method.{Method}
 use Rattle.mon_monitor.specs.declared.monitor.Stmt.TheVariants as statements
@@ -68,24 +65,19 @@ count_and constant = record { terms = once 0 ∷ []; constant = constant }
 abbrev pub less_count : ℤ → Linear
 less_count constant = record { terms = opposite 0 ∷ []; constant = constant }
 
--- `count < CAP`, as the row `count + 1 - CAP <= 0`, and as it is shown, with the places of its
--- words in the text
+-- `count < CAP`, as the row `count + 1 - CAP <= 0`, and as it is shown
 abbrev pub has_room : ℕ → Formula
 has_room capacity = formulas.Row (count_and (pos 1 -ℤ pos capacity))
 
-abbrev pub room_shown : Expr
-room_shown =
-    expressions.Compare operators.Less (expressions.Named 77 (codes "count"))
-    (expressions.Named 85 (codes "CAP"))
+abbrev pub room_shown : List ℕ
+room_shown = codes "count < CAP"
 
 -- `count > 0`, as the row `1 - count <= 0`, and as it is shown
 abbrev pub has_some : Formula
 has_some = formulas.Row (less_count (pos 1))
 
-abbrev pub some_shown : Expr
-some_shown =
-    expressions.Compare operators.More (expressions.Named 145 (codes "count"))
-    (expressions.Number 153 0)
+abbrev pub some_shown : List ℕ
+some_shown = codes "count > 0"
 
 abbrev pub count_field : Field
 count_field = record { name = codes "count"; kind = kinds.Int; start = values.Int (pos 0) }
@@ -104,7 +96,7 @@ counting_block number guard form = record {
   condition = number + 1;
 }
 
-abbrev pub shown_condition : Formula → Expr → Condition
+abbrev pub shown_condition : Formula → List ℕ → Condition
 shown_condition guard shown = record { guard = guard; reads_inputs = false; shown = shown }
 
 -- what is checked of the text above, with this number for CAP

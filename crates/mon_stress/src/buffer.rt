@@ -10,9 +10,8 @@ ghost use Rattle.mon_stress.specs.LargeInput.{MOST_ROOM};
 
 use mon_base::{Kind, Name, Value};
 use mon_linear::{Formula, Lin, Term};
-use mon_list::{Boxed, Seq};
+use mon_list::Seq;
 use mon_monitor::{Block, Condition, Field, Method, Monitor, Ret, Stmt};
-use mon_tree::{Expr, Op};
 use std::alloc::{AllocError, Global};
 
 /// The number of the method `put`.
@@ -152,54 +151,17 @@ fn conditions(alloc: Global, capacity: u64) -> Result<Vec<Condition>, AllocError
         ≡ shown_condition (has_room capacity) room_shown
         ∷ shown_condition has_some some_shown ∷ []) }
 {
-    let room = shown_condition(has_room(alloc, capacity)?, room_shown(alloc)?);
-    let some = shown_condition(has_some(alloc)?, some_shown(alloc)?);
+    let room = shown_condition(alloc, has_room(alloc, capacity)?, b"count < CAP")?;
+    let some = shown_condition(alloc, has_some(alloc)?, b"count > 0")?;
     Ok(vec![in alloc; room, some]?)
 }
 
-fn shown_condition(guard: Formula, shown: Expr) -> Condition
-    ensures { result ≡ shown_condition guard shown }
+fn shown_condition(alloc: Global, guard: Formula, shown: &[u8]) -> Result<Condition, AllocError>
+    ensures { IfOk result (λ condition. condition ≡ shown_condition guard shown.now) }
 {
-    Condition {
+    Ok(Condition {
         guard,
         reads_inputs: false,
-        shown,
-    }
-}
-
-/// `count < CAP`, with the places of its words in the text.
-fn room_shown(alloc: Global) -> Result<Expr, AllocError>
-    ensures { IfOk result (λ shown. shown ≡ room_shown) }
-{
-    let count = Expr::Named {
-        at: 77,
-        name: name_of(alloc, b"count")?,
-    };
-    let limit = Expr::Named {
-        at: 85,
-        name: name_of(alloc, b"CAP")?,
-    };
-    comparison(alloc, Op::Less, count, limit)
-}
-
-/// `count > 0`, with the places of its words in the text.
-fn some_shown(alloc: Global) -> Result<Expr, AllocError>
-    ensures { IfOk result (λ shown. shown ≡ some_shown) }
-{
-    let count = Expr::Named {
-        at: 145,
-        name: name_of(alloc, b"count")?,
-    };
-    let none = Expr::Number { at: 153, value: 0 };
-    comparison(alloc, Op::More, count, none)
-}
-
-fn comparison(alloc: Global, op: Op, left: Expr, right: Expr) -> Result<Expr, AllocError>
-    ensures { IfOk result (λ shown. shown ≡ Expr.Compare op left right) }
-{
-    Ok(Expr::Compare {
-        op,
-        left: Boxed::new(alloc, left)?,
-        right: Boxed::new(alloc, right)?,
+        shown: Seq::of(Vec::from_slice(alloc, shown)?),
     })
 }
