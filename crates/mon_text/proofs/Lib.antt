@@ -4,7 +4,6 @@ pub mod LogRows
 pub mod SummaryRows
 pub mod Lines
 pub mod Names
-pub mod ExpressionLines
 pub mod CandidateBounds
 pub mod PlanLines
 pub mod NamedPlans

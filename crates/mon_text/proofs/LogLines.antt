@@ -35,7 +35,7 @@ use Rattle.mon_base.proofs.Lines.{HasNoLineFeed, IsLine, words_in_line, decimal_
 use Rattle.mon_text.proofs.Lines.{block_mark_in_line}
 use Rattle.mon_text.proofs.Names.{method_words, client_is_named, same_client}
 use Rattle.mon_base.proofs.Words.{name_words}
-use Rattle.mon_text.proofs.ExpressionLines.{truth_in_line}
+use Rattle.mon_printer.proofs.ExpressionLines.{truth_in_line}
 use Rattle.mon_text.proofs.Wakes.{AreClientBits, wakes_in_line, same_wakes}
 
 -- ---- what an entry is known by, after a log

@@ -1,8 +1,8 @@
 -- Names of fields, methods and clients: that each names one.
-use Rattle.std.proofs.Common.{◌≡◌, ◌≢◌, ℕ, zero, suc, ◌+◌, ◌<◌, Bool, true, false, List, [], ◌∷◌, ◌++◌, length, map, get_or, sym, refl, ◌∙◌, arith, inl, inr, length-append, subst}
+use Rattle.std.proofs.Common.{◌≡◌, ◌≢◌, ℕ, zero, suc, ◌+◌, ◌<◌, true, List, [], ◌∷◌, ◌++◌, length, map, get_or, sym, refl, ◌∙◌, arith, inl, inr, length-append, subst}
 use Rattle.std.specs.Prelude.{AllPairs, slice_get}
 use Rattle.std.specs.List.{list_all}
-use Rattle.std.proofs.lemmas.Bool.{and_parts, and_from, or_left, cases_order, false≢true}
+use Rattle.std.proofs.lemmas.Bool.{cases_order}
 use Rattle.std.proofs.lemmas.List.{length-map, get_or-map, get_or-append-add}
 use Rattle.mon_base.specs.Identifiers.{is_word_byte, IsIdentifier}
 use Rattle.mon_base.proofs.Words.{name_words}

@@ -8,7 +8,6 @@ use Rattle.std.specs.List.{list_all, flat_map, AllByRecursion as Each}
 use Rattle.std.proofs.lemmas.Bool.{and_parts, true≢false, false≢true}
 use Rattle.std.proofs.lemmas.List.{append_cancel_left, append_cancel_right}
 use Rattle.mon_base.specs.Identifiers.{IsIdentifier, is_letter, is_digit, is_word_byte}
-use Rattle.mon_printer.specs.Canonical.{expression_text}
 use Rattle.mon_monitor.specs.declared.candidate.Candidate.{Candidate}
 use Rattle.mon_monitor.specs.declared.candidate.Candidate.TheVariants as candidates
 use Rattle.mon_monitor.specs.declared.monitor.Block.{Block}
@@ -28,7 +27,6 @@ use Rattle.mon_base.proofs.Lines.{HasNoLineFeed, IsLine, words_in_line, decimal_
 use Rattle.mon_text.proofs.Lines.{block_mark_in_line}
 use Rattle.mon_text.proofs.Names.{field_is_named, same_field, method_words}
 use Rattle.mon_base.proofs.Words.{begins_with_letter, name_words, name_begins}
-use Rattle.mon_text.proofs.ExpressionLines.{expression_in_line}
 use Rattle.mon_text.proofs.CandidateBounds.{start_at, IsNearStart}
 
 -- ---- a candidate: a mark, the name of its first field, and the rest
@@ -220,8 +218,8 @@ condition_is_line number condition kind described =
     let numbered : HasNoLineFeed first = both_in_line (codes "condition ") (decimal number) refl (decimal_in_line number) in
     let front : HasNoLineFeed second = both_in_line (first ++ codes " ") (kind_text kind) (both_in_line first (codes " ") numbered refl) (kind_in_line kind) in
     record {
-      body = second ++ codes ": " ++ expression_text condition.shown;
-      plain = both_in_line (second ++ codes ": ") (expression_text condition.shown) (both_in_line second (codes ": ") front refl) (expression_in_line condition.shown described.names);
+      body = second ++ codes ": " ++ condition.shown;
+      plain = both_in_line (second ++ codes ": ") condition.shown (both_in_line second (codes ": ") front refl) described.line;
       is = refl;
     }
 
@@ -234,7 +232,7 @@ pub condition_line_names : (number : ℕ) (condition : Condition) (kind other : 
     → condition_text number condition kind ≡ condition_text number condition other → kind ≡ other
 condition_line_names number condition kind other same =
     let first : List ℕ = codes "condition " ++ decimal number ++ codes " " in
-    let shown : List ℕ = expression_text condition.shown in
+    let shown : List ℕ = condition.shown in
     let one : List ℕ = first ++ kind_text kind in
     let two : List ℕ = first ++ kind_text other in
     let guards = append_cancel_right (one ++ codes ": " ++ shown) (two ++ codes ": " ++ shown) (codes "\n") same in

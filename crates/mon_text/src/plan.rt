@@ -14,7 +14,6 @@ use itoa::Buffer;
 use mon_events::{CondKind, Note, NoteList, Plan};
 use mon_io::{Sink, SinkFailed, write_piece, write_pieces};
 use mon_monitor::{Candidate, Condition, Field, Monitor};
-use mon_printer::write_around;
 
 /// Writes a plan of a monitor: its name, then a line for each kept candidate, condition and block.
 /// It takes no memory.
@@ -87,8 +86,24 @@ fn write_condition<S: Sink>(
 {
     let mut digits = Buffer::new();
     let number = digits.format(number).as_bytes();
-    let before = [b"condition ", number, b" ", kind_bytes(kind), b": "];
-    write_around(&before, &condition.shown, b"\n", out)
+    write_condition_parts(number, kind_bytes(kind), condition.shown.items(), out)
+}
+
+// What a condition's line consists of.
+fn write_condition_parts<'a, S: Sink>(
+    number: &'a [u8],
+    kind: &'a [u8],
+    shown: &'a [u8],
+    out: &mut S,
+) -> Result<(), SinkFailed>
+    ensures { Wrote (S.seen out.old) (S.seen out.new) result
+        (codes "condition " ++ number.now ++ codes " " ++ kind.now ++ codes ": " ++ shown.now
+        ++ codes "\n") }
+{
+    write_pieces(
+        &[b"condition ", number, b" ", kind, b": ", shown, b"\n"],
+        out,
+    )
 }
 
 fn kind_bytes(kind: CondKind) -> &'static [u8]

@@ -1,4 +1,4 @@
-use Rattle.std.proofs.Common.{ℕ, ◌+◌, ◌-◌, ◌++◌, ◌∙◌, List, ap}
+use Rattle.std.proofs.Common.{ℕ, ◌+◌, ◌++◌, ◌∙◌, List, ap}
 use Rattle.mon_events.specs.PlanText.{block_mark}
 use Rattle.mon_io.proofs.Writing.{wrote_both, wrote_same}
 use Rattle.mon_text.proofs.naming.write_name_in.Goals as goal
