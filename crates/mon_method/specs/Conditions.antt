@@ -7,7 +7,6 @@ use Rattle.mon_tree.specs.declared.tree.Decl.{Decl}
 use Rattle.mon_tree.specs.declared.tree.InputTree.{InputTree}
 use Rattle.mon_tree.specs.declared.tree.MethodTree.{MethodTree}
 use Rattle.mon_tree.specs.Names.{declared_name}
-use Rattle.mon_printer.specs.Canonical.{expression_text}
 use Rattle.mon_monitor.specs.declared.monitor.Block.{Block}
 use Rattle.mon_monitor.specs.MonitorParts.{MonitorParts, first_in}
 use Rattle.mon_rust.specs.declared.scope.Reach.{Reach}
@@ -48,8 +47,7 @@ around_name source before condition after = before ++ condition_name source cond
 -- its guard in canonical form, as the first of its blocks has it
 abbrev pub shown_text : SourceParts → ℕ → List ℕ
 shown_text source condition =
-    option_map_or (λ which. expression_text which.shown)
-    (slice_get source.monitor.conditions (condition - 1)) []
+    option_map_or (λ which. which.shown) (slice_get source.monitor.conditions (condition - 1)) []
 
 -- ---- what a call hands on: parameters, and locals, which are lent to a body
 

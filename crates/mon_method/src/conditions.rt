@@ -12,7 +12,6 @@ use crate::source::{Source, first_block, first_of};
 use mon_base::Named;
 use mon_bodies::{lending_bytes, write_block_name};
 use mon_io::{Sink, SinkFailed, write_piece, write_pieces};
-use mon_printer::write_around;
 use mon_rust::{Reach, write_input};
 use mon_tree::{Decl, InputTree, MethodTree};
 
@@ -86,7 +85,7 @@ pub fn write_around_name<S: Sink>(
     write_piece(after, out)
 }
 
-/// Writes a condition's guard in canonical form between two pieces.
+/// Writes the text of a condition's guard between two pieces.
 pub(crate) fn write_around_shown<S: Sink>(
     source: &Source,
     before: &[u8],
@@ -99,7 +98,7 @@ pub(crate) fn write_around_shown<S: Sink>(
 {
     let place = (condition as usize).saturating_sub(1);
     match source.monitor.conditions().get(place) {
-        Some(which) => write_around(&[before], &which.shown, after, out),
+        Some(which) => write_pieces(&[before, which.shown.items(), after], out),
         None => write_pieces(&[before, after], out),
     }
 }
