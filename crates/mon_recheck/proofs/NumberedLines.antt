@@ -1,8 +1,8 @@
 -- The lines of a plan and of a report, counted and numbered.
-use Rattle.std.proofs.Common.{◌≡◌, ◌==◌, ℕ, suc, ◌+◌, ◌-◌, List, [], ◌∷◌, ◌++◌, cond, length, map, codes, option_map, Option, Some, None, append-nil, refl, sym, ap, subst, ◌∙◌, arith}
+use Rattle.std.proofs.Common.{◌≡◌, ◌==◌, ℕ, suc, ◌+◌, ◌-◌, Bool, true, false, List, [], ◌∷◌, ◌++◌, cond, length, map, codes, option_map, Option, Some, None, append-nil, refl, sym, ap, subst, ◌∙◌, arith}
 use Rattle.std.specs.Prelude.{All, IsSomeAnd, slice_get}
 use Rattle.std.specs.List.{enumerate_from, flat_map, list_all, zip, AllByRecursion as Each}
-use Rattle.std.proofs.lemmas.Bool.{and_parts, not-true}
+use Rattle.std.proofs.lemmas.Bool.{and_parts, false≢true}
 use Rattle.std.proofs.lemmas.List.{length-append}
 use Rattle.std.proofs.lemmas.List.Concat.{flat_map-append}
 use Rattle.std.proofs.lemmas.List.Elements.{All-append, All-cons, All-map, All-nil, recursion_from_All}
@@ -38,11 +38,15 @@ feeds byte = cond (byte == 10) 1 0
 lines_append : (front rest : List ℕ) → lines_in (front ++ rest) ≡ lines_in front + lines_in rest
 lines_append front rest = sum_by-append feeds front rest
 
+is_not : (test : Bool) → cond test false true ≡ true → test ≡ false
+is_not true is = absurd (false≢true is)
+is_not false is = refl
+
 no_lines : (text : List ℕ) → HasNoLineFeed text → lines_in text ≡ 0
 no_lines [] plain = refl
 no_lines (byte ∷ text) plain =
     let parts = and_parts (is_in_line byte) (list_all is_in_line text) plain in
-    let here : feeds byte ≡ 0 = ap {B = ℕ} (λ test. cond test 1 0) (not-true (byte == 10) parts.0) in
+    let here : feeds byte ≡ 0 = ap {B = ℕ} (λ test. cond test 1 0) (is_not (byte == 10) parts.0) in
     omega (arith, sum_by-cons feeds byte text, here, no_lines text parts.1)
 
 one_line : (text : List ℕ) → IsPlainLine text → IsLine text

@@ -8,7 +8,6 @@ ghost use Rattle.mon_recheck.specs.inner.Reading.{Anything, AreFor, IsAfter, IsF
 ghost use Rattle.mon_recheck.specs.inner.Reading.{line_of_kind};
 
 use super::after::after;
-use super::shown::shown_text;
 use itoa::Buffer;
 use mon_events::CondKind;
 use mon_monitor::Condition;
@@ -30,7 +29,7 @@ pub(crate) fn read_kinds<'a>(
     let mut kinds = Vec::new(alloc);
     let mut rest = bytes;
     for index in 0..conditions.len() {
-        match read_condition(alloc, index as u32 + 1, &conditions[index], rest)? {
+        match read_condition(index as u32 + 1, &conditions[index], rest) {
             Some((kind, left)) => {
                 kinds.push(kind)?;
                 rest = left;
@@ -43,18 +42,16 @@ pub(crate) fn read_kinds<'a>(
 
 /// The kind of the condition whose line stands at the front of the bytes, and what is left.
 fn read_condition<'a>(
-    alloc: Global,
     number: u32,
     condition: &Condition,
     bytes: &'a [u8],
-) -> Result<Option<(CondKind, &'a [u8])>, AllocError>
-    ensures { IfOk result (λ found. MatchOption found
+) -> Option<(CondKind, &'a [u8])>
+    ensures { MatchOption result
         (IsNoFront CondKind Anything Anything (condition_text number condition.now) bytes.now)
         (λ read. IsFront CondKind Anything Anything (condition_text number condition.now) bytes.now
-        read.0 read.1.now)) }
+        read.0 read.1.now) }
 {
-    let shown = shown_text(alloc, &condition.shown)?;
-    Ok(read_kind(number, &shown, bytes))
+    read_kind(number, condition.shown.items(), bytes)
 }
 
 /// The kind in a condition's line, which shows its guard so, and what is left.

@@ -14,6 +14,7 @@ mod after;
 mod checking;
 mod claims;
 mod conditions;
+mod head;
 mod kept;
 mod laws;
 mod making;
@@ -22,7 +23,6 @@ mod plan_reading;
 mod ranges;
 mod report;
 mod report_reading;
-mod shown;
 mod sight;
 mod writing;
 

@@ -11,7 +11,7 @@ ghost use Rattle.mon_recheck.specs.inner.Reading.{IsNoteTurn};
 ghost use Rattle.mon_recheck.specs.inner.Reading.{marks_text, notes_after, sign_after};
 
 use super::after::{after, after_piece};
-use super::shown::block_head;
+use super::head::block_head;
 use itoa::Buffer;
 use mon_events::{Note, NoteList};
 use mon_monitor::Monitor;

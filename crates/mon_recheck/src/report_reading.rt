@@ -11,9 +11,9 @@ ghost use Rattle.mon_recheck.specs.inner.Reading.{IsWithProofs};
 
 use super::after::after_piece;
 use super::claims::claims_of;
+use super::head::claim_head;
 use super::plan_reading::plan_front;
 use super::report::Report;
-use super::shown::claim_head;
 use mon_events::Plan;
 use mon_list::Seq;
 use mon_monitor::{Claim, Monitor};

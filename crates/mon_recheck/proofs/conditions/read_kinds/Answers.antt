@@ -16,7 +16,7 @@ pub returns-in-None : goal.returns-in-None
 returns-in-None c =
     kinds_stop c.args.conditions.now c.args.bytes.now c.loop-index.index c.loop-index.kinds.items c.loop-index.rest.now c.index-conditions-index.result _ c.loop-index-test.true c.index-conditions-index.is
     c.loop-index.invariant
-    (subst (Found Anything Anything (condition_text (c.loop-index.index + 1) c.index-conditions-index.result) c.loop-index.rest.now) c.in-None.is c.in_ok-kind.ensures)
+    (subst (Found Anything Anything (condition_text (c.loop-index.index + 1) c.index-conditions-index.result) c.loop-index.rest.now) c.in-None.is c.read_condition.ensures)
 
 pub loop-index-preserved : goal.loop-index-preserved
 loop-index-preserved c =
@@ -24,7 +24,7 @@ loop-index-preserved c =
     subst (λ (kinds : List CondKind). AreGoing numbered_line Anything (enumerate_from 1 c.args.conditions.now) c.args.bytes.now (c.loop-index.index + 1) kinds c.in-Some.left.now) (sym pushed)
     (kinds_more c.args.conditions.now c.args.bytes.now c.loop-index.index c.loop-index.kinds.items c.loop-index.rest.now c.index-conditions-index.result _ c.in-Some.kind c.in-Some.left.now c.loop-index-test.true
     c.index-conditions-index.is c.loop-index.invariant
-    (subst (Found Anything Anything (condition_text (c.loop-index.index + 1) c.index-conditions-index.result) c.loop-index.rest.now) c.in-Some.is c.in_ok-kind.ensures))
+    (subst (Found Anything Anything (condition_text (c.loop-index.index + 1) c.index-conditions-index.result) c.loop-index.rest.now) c.in-Some.is c.read_condition.ensures))
 
 pub returns : goal.returns
 returns c = kinds_end c.args.conditions.now c.args.bytes.now c.loop-index.index c.loop-index.kinds.items c.loop-index.rest.now c.loop-index-test.false c.loop-index.invariant
