@@ -8,7 +8,6 @@ use Rattle.mon_tree.specs.declared.tree.Decl.TheVariants as decls
 use Rattle.mon_tree.specs.declared.tree.MethodTree.{MethodTree}
 use Rattle.mon_tree.specs.declared.tree.MonitorTree.{MonitorTree}
 use Rattle.mon_tree.specs.Names.{declared_name}
-use Rattle.mon_printer.specs.Canonical.{expression_text}
 use Rattle.mon_monitor.specs.declared.monitor.Condition.{Condition}
 use Rattle.mon_monitor.specs.MonitorParts.{MonitorParts, first_in}
 use Rattle.mon_events.specs.declared.plan.Plan.{Plan}
@@ -40,7 +39,7 @@ waits_somewhere monitor = list_any (λ which. not (is_always which.guard)) monit
 -- the condition variable of a condition
 abbrev pub waited_field : SourceParts → ℕ → Condition → List ℕ
 waited_field source place which =
-    codes "    /// For calls that wait until `" ++ expression_text which.shown ++ codes "`.\n"
+    codes "    /// For calls that wait until `" ++ which.shown ++ codes "`.\n"
     ++ around_name source (codes "    ") (place + 1) (codes ": Condvar,\n")
 
 -- where someone may wait on it

@@ -12,10 +12,9 @@ ghost use Rattle.mon_module.specs.inner.Lines.{variable_at, variable_line_at};
 use crate::declared::is_field;
 use mon_base::Named;
 use mon_bodies::{kind_bytes, kind_declared};
-use mon_io::{Sink, SinkFailed, write_piece};
+use mon_io::{Sink, SinkFailed, write_piece, write_pieces};
 use mon_method::{Source, is_always, write_around_name, write_start};
 use mon_monitor::Condition;
-use mon_printer::write_around;
 use mon_rust::{Style, write_member};
 use mon_tree::{Decl, MonitorTree};
 
@@ -167,10 +166,9 @@ fn write_waited_field<S: Sink>(
     ensures { Wrote (S.seen out.old) (S.seen out.new) result
         (waited_field (seen source.now) place which.now) }
 {
-    write_around(
-        &[b"    /// For calls that wait until `"],
-        &which.shown,
-        b"`.\n",
+    let shown = which.shown.items();
+    write_pieces(
+        &[b"    /// For calls that wait until `", shown, b"`.\n"],
         out,
     )?;
     write_around_name(source, b"    ", place as u32 + 1, b": Condvar,\n", out)
