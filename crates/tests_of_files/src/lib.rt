@@ -1,4 +1,4 @@
-//! Tests of devices, of the texts of faults, of copies of trees, and of the canonical form of client
+//! Tests of devices, of the texts of faults, of guards in trees, and of the canonical form of client
 //! files. Which tokens and files there are, and how monitors are printed, is said by the rows of the
 //! crate `rows`.
 //!

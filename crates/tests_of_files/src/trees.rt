@@ -1,11 +1,12 @@
-//! Copies of statements, and where expressions begin.
+//! Guards in trees: where they begin, and how they are shown.
 
 use mon_base::limits::FILE_BYTES;
 use mon_forms::first_place;
+use mon_printer::shown_text;
 use mon_syntax::parse_monitor;
 use mon_tokens::tokens;
-use mon_tree::{BlockTree, MonitorTree, StmtTree, copy_statement};
-use std::alloc::{AllocError, Global};
+use mon_tree::{BlockTree, MonitorTree};
+use std::alloc::Global;
 use std::test::Fail;
 
 /// The tree of a monitor file, where it is one.
@@ -20,40 +21,6 @@ fn tree_of(alloc: Global, text: &[u8]) -> Option<MonitorTree> {
 /// The first block of the first method.
 fn first_block(tree: &MonitorTree) -> Option<&BlockTree> {
     tree.methods.items().first()?.blocks.items().first()
-}
-
-/// What a statement is, with all its parts.
-fn parts_of(alloc: Global, statement: &StmtTree) -> Result<String, AllocError> {
-    format!(in alloc; "{statement:?}")
-}
-
-/// Whether the copy of a statement has the same parts.
-fn is_copied(alloc: Global, statement: &StmtTree) -> Result<bool, AllocError> {
-    let copy = copy_statement(alloc, statement)?;
-    let parts = parts_of(alloc, statement)?;
-    let others = parts_of(alloc, &copy)?;
-    Ok(parts.as_bytes() == others.as_bytes())
-}
-
-/// How many statements of the first block are copied, each with the same parts.
-fn copied(alloc: Global, text: &[u8]) -> Result<Option<usize>, Fail> {
-    let tree = tree_of(alloc, text).ok_or("a monitor")?;
-    let block = first_block(&tree).ok_or("a block")?;
-    for statement in block.body.items() {
-        if !is_copied(alloc, statement)? {
-            return Ok(None);
-        }
-    }
-    Ok(Some(block.body.items().len()))
-}
-
-#[test]
-fn a_copy_of_a_statement_has_its_parts(rt: HostRuntime) -> Result<(), Fail> {
-    let text = b"monitor M { method m() waituntil (true) {
-        x = -(a + 2) * 3; if (a < b && !c) { x = 1; } else { if (c || d) { y = true; } }
-        return x == y; } }";
-    assert_eq!(rt; copied(rt.alloc(), text)?, Some(3));
-    Ok(())
 }
 
 /// Where the guard of the first block begins.
@@ -82,5 +49,23 @@ fn parentheses_begin_no_expression(rt: HostRuntime) -> Result<(), Fail> {
     ] {
         assert_eq!(rt; guard_begins(rt.alloc(), text)?, place);
     }
+    Ok(())
+}
+
+/// How the guard of the first block is shown.
+fn guard_shown(alloc: Global, text: &[u8]) -> Result<Vec<u8>, Fail> {
+    let tree = tree_of(alloc, text).ok_or("a monitor")?;
+    let block = first_block(&tree).ok_or("a block")?;
+    Ok(shown_text(alloc, &block.guard)?)
+}
+
+const MANY_PARENTHESES: &[u8] = b"monitor M { method m() waituntil ((((a+b)*2)<c)&&!(d||e)) { } }";
+
+const FEW_PARENTHESES: &[u8] = b"(a + b) * 2 < c && !(d || e)";
+
+#[test]
+fn a_guard_is_shown_in_canonical_form(rt: HostRuntime) -> Result<(), Fail> {
+    let shown = guard_shown(rt.alloc(), MANY_PARENTHESES)?;
+    assert_eq!(rt; shown.as_slice(), FEW_PARENTHESES);
     Ok(())
 }
