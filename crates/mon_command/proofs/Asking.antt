@@ -7,8 +7,8 @@ use Rattle.mon_base.specs.Limits.{MOST_SPURIOUS, WORKERS}
 use Rattle.mon_command.specs.declared.plan_choice.PlanChoice.{PlanChoice}
 use Rattle.mon_command.specs.declared.schedule.Schedule.{Schedule}
 use Rattle.mon_command.specs.declared.schedule.Schedule.TheVariants.{Rounds, Drawn}
-use Rattle.mon_command.specs.CommandLine.{Command, check, turns, compile, simulate, run, stress, report, recheck, block, audit, explain, emit, Given, GREATEST_UNSIGNED, HasNoOptions, HasNoSchedule, IsSpurious, IsSchedule, IsWorkers, Asks, choice_of}
-use Rattle.mon_command.specs.inner.Asked.{number_if, spurious_if, schedule_if, some_workers, workers_if, has_schedule, has_settings, plain_if, compile_if, stress_if, run_if, simulate_if, single_if, pair_if, command_of_values, command_if}
+use Rattle.mon_command.specs.CommandLine.{Command, check, turns, compile, simulate, run, stress, report, recheck, block, audit, explain, emit, Given, GREATEST_UNSIGNED, HasNoChoice, HasNoOptions, HasNoSchedule, IsSpurious, IsSchedule, IsWorkers, Asks, choice_in}
+use Rattle.mon_command.specs.inner.Asked.{number_if, spurious_if, schedule_if, some_workers, workers_if, has_choice, has_schedule, has_settings, counted_if, plain_if, compile_if, stress_if, run_if, simulate_if, single_if, pair_if, command_of_values, command_if}
 use Rattle.mon_command.proofs.Written.{chosen, cond_second, number_found, number_is}
 
 abbrev Text : Type 0
@@ -82,38 +82,53 @@ no_schedule given e =
 schedule_unused : (given : Given) → HasNoSchedule given → has_schedule given ≡ false
 schedule_unused given (no_seed, no_spurious) = λ i. is_some (no_seed i) || is_some (no_spurious i)
 
+no_choice : (given : Given) → has_choice given ≡ false → HasNoChoice given
+no_choice given e = neither given.relay given.count e
+
+choice_unused : (given : Given) → HasNoChoice given → has_choice given ≡ false
+choice_unused given (no_relay, no_count) = λ i. no_relay i || no_count i
+
 -- ---- each command is found
 
 plain_found : (given : Given) (command : Command) → HasNoOptions given → plain_if given command ≡ Some command
-plain_found given command (rounds, no_workers, no_relay) =
+plain_found given command (rounds, no_workers, plain) =
     let unused = schedule_unused given rounds in
-    λ i. cond ((unused i || is_some (no_workers i)) || no_relay i) None (Some command)
+    let no_relay = plain.0 in
+    let no_count = plain.1 in
+    λ i. cond (no_count i) None (cond ((unused i || is_some (no_workers i)) || no_relay i) None (Some command))
 
-compile_found : (given : Given) (monitor : Text) (choice : PlanChoice) → HasNoSchedule given → given.workers ≡ None → choice_of given.relay ≡ choice
+block_found : (given : Given) (monitor clients : Text) (choice : PlanChoice) → HasNoSchedule given → given.workers ≡ None → given.relay ≡ false → choice_in given ≡ choice
+    → counted_if given (block monitor clients (choice_in given)) ≡ Some (block monitor clients choice)
+block_found given monitor clients choice rounds no_workers no_relay chosen_is =
+    let unused = schedule_unused given rounds in
+    λ i. cond ((unused i || is_some (no_workers i)) || no_relay i) None (Some (block monitor clients (chosen_is i)))
+
+compile_found : (given : Given) (monitor : Text) (choice : PlanChoice) → HasNoSchedule given → given.workers ≡ None → choice_in given ≡ choice
     → compile_if given monitor ≡ Some (compile monitor choice)
 compile_found given monitor choice rounds no_workers chosen_is =
     let unused = schedule_unused given rounds in
     λ i. cond (unused i || is_some (no_workers i)) None (Some (compile monitor (chosen_is i)))
 
-simulate_found : (given : Given) (monitor clients : Text) (schedule : Schedule) (choice : PlanChoice) → IsSchedule given.seed given.spurious schedule → given.workers ≡ None → choice_of given.relay ≡ choice
+simulate_found : (given : Given) (monitor clients : Text) (schedule : Schedule) (choice : PlanChoice) → IsSchedule given.seed given.spurious schedule → given.workers ≡ None → choice_in given ≡ choice
     → simulate_if given monitor clients ≡ Some (simulate monitor clients schedule choice)
 simulate_found given monitor clients schedule choice is no_workers chosen_is =
     let found = schedule_found given.seed given.spurious schedule is in
     λ i. cond (is_some (no_workers i)) None (option_map (λ s. simulate monitor clients s (chosen_is i)) (found i))
 
-run_found : (given : Given) (monitor clients : Text) (workers : ℕ) (choice : PlanChoice) → HasNoSchedule given → IsWorkers given.workers workers → choice_of given.relay ≡ choice
+run_found : (given : Given) (monitor clients : Text) (workers : ℕ) (choice : PlanChoice) → HasNoSchedule given → IsWorkers given.workers workers → choice_in given ≡ choice
     → run_if given monitor clients ≡ Some (run monitor clients workers choice)
 run_found given monitor clients workers choice rounds is chosen_is =
     let unused = schedule_unused given rounds in
     let found = workers_found given.workers workers is in
     λ i. cond (unused i) None (option_map (λ n. run monitor clients n (chosen_is i)) (found i))
 
-stress_found : (given : Given) (word : Text) (number workers : ℕ) → (number_if GREATEST_UNSIGNED word ≡ Some number) → HasNoSchedule given → IsWorkers given.workers workers → given.relay ≡ false
+stress_found : (given : Given) (word : Text) (number workers : ℕ) → (number_if GREATEST_UNSIGNED word ≡ Some number) → HasNoSchedule given → IsWorkers given.workers workers → HasNoChoice given
     → stress_if given word ≡ Some (stress number workers)
-stress_found given word number workers large rounds is no_relay =
+stress_found given word number workers large rounds is plain =
     let unused = schedule_unused given rounds in
+    let placed = choice_unused given plain in
     let found = workers_found given.workers workers is in
-    λ i. cond (unused i || no_relay i) None (option_and_then (λ n. option_map (λ k. stress n k) (found i)) (large i))
+    λ i. cond (unused i || placed i) None (option_and_then (λ n. option_map (λ k. stress n k) (found i)) (large i))
 
 -- by the name alone
 single_named : Text → Given → Text → Option Command
@@ -131,7 +146,7 @@ pair_named name given monitor clients =
     (cond (bytes_eq name (codes "simulate")) (simulate_if given monitor clients)
     (cond (bytes_eq name (codes "run")) (run_if given monitor clients)
     (cond (bytes_eq name (codes "recheck")) (plain_if given (recheck monitor clients))
-    (cond (bytes_eq name (codes "block")) (plain_if given (block monitor clients))
+    (cond (bytes_eq name (codes "block")) (counted_if given (block monitor clients (choice_in given)))
     (cond (bytes_eq name (codes "audit")) (plain_if given (audit monitor clients)) None)))))
 
 single_found : (given : Given) (name value : Text) (command : Command) → given.command ≡ name → given.values ≡ value ∷ []
@@ -154,7 +169,9 @@ command_found given (report m) asks = single_found given (codes "report") m (rep
 command_found given (explain m) asks = single_found given (codes "explain") m (explain m) asks.name asks.has_values (plain_found given (explain m) asks.has_options)
 command_found given (emit m) asks = single_found given (codes "emit") m (emit m) asks.name asks.has_values (plain_found given (emit m) asks.has_options)
 command_found given (recheck m r) asks = pair_found given (codes "recheck") m r (recheck m r) asks.name asks.has_values (plain_found given (recheck m r) asks.has_options)
-command_found given (block m c) asks = pair_found given (codes "block") m c (block m c) asks.name asks.has_values (plain_found given (block m c) asks.has_options)
+command_found given (block m c p) asks =
+    let (rounds, no_workers, no_relay, chosen_is) = asks.has_options in
+    pair_found given (codes "block") m c (block m c p) asks.name asks.has_values (block_found given m c p rounds no_workers no_relay chosen_is)
 command_found given (audit m p) asks = pair_found given (codes "audit") m p (audit m p) asks.name asks.has_values (plain_found given (audit m p) asks.has_options)
 command_found given (turns m c) asks = pair_found given (codes "turns") m c (turns m c) asks.name asks.has_values (plain_found given (turns m c) asks.has_options)
 command_found given (simulate m c s p) asks =
@@ -165,8 +182,8 @@ command_found given (run m c n p) asks =
     pair_found given (codes "run") m c (run m c n p) asks.name asks.has_values (run_found given m c n p rounds is chosen_is)
 command_found given (stress n k) asks =
     let (word, values, large) = asks.has_values in
-    let (rounds, is, no_relay) = asks.has_options in
-    single_found given (codes "stress") word (stress n k) asks.name values (stress_found given word n k (number_found GREATEST_UNSIGNED word n large) rounds is no_relay)
+    let (rounds, is, plain) = asks.has_options in
+    single_found given (codes "stress") word (stress n k) asks.name values (stress_found given word n k (number_found GREATEST_UNSIGNED word n large) rounds is plain)
 
 -- ---- what is found is asked for
 
@@ -175,17 +192,30 @@ named given name e = (bytes_eq-Decides given.command name).0 e
 
 plain_is : (given : Given) (command found : Command) → plain_if given command ≡ Some found → HasNoOptions given × (command ≡ found)
 plain_is given command found e =
-    let (unused, same) = cond_second (has_settings given || given.relay) (Some command) found e in
+    let (no_count, counted) = cond_second given.count (counted_if given command) found e in
+    let (unused, same) = cond_second (has_settings given || given.relay) (Some command) found counted in
     let (settings, no_relay) = neither (has_settings given) given.relay unused in
     let (rounds, no_workers) = neither (has_schedule given) (is_some given.workers) settings in
-    ((no_schedule given rounds, none_given given.workers no_workers, no_relay), same_Some command found same)
+    ((no_schedule given rounds, none_given given.workers no_workers, (no_relay, no_count)), same_Some command found same)
+
+block_asks : (given : Given) (monitor clients : Text) (found : Command) → given.command ≡ codes "block" → given.values ≡ monitor ∷ clients ∷ []
+    → counted_if given (block monitor clients (choice_in given)) ≡ Some found → Asks given found
+block_asks given monitor clients found name values e =
+    let (unused, same) = cond_second (has_settings given || given.relay) (Some (block monitor clients (choice_in given))) found e in
+    let (settings, no_relay) = neither (has_settings given) given.relay unused in
+    let (rounds, no_workers) = neither (has_schedule given) (is_some given.workers) settings in
+    subst (Asks given) (same_Some (block monitor clients (choice_in given)) found same) (record {
+      name = name;
+      has_values = values;
+      has_options = (no_schedule given rounds, none_given given.workers no_workers, no_relay, refl);
+    })
 
 compile_asks : (given : Given) (monitor : Text) (found : Command) → given.command ≡ codes "compile" → given.values ≡ monitor ∷ []
     → compile_if given monitor ≡ Some found → Asks given found
 compile_asks given monitor found name values e =
-    let (settings, same) = cond_second (has_settings given) (Some (compile monitor (choice_of given.relay))) found e in
+    let (settings, same) = cond_second (has_settings given) (Some (compile monitor (choice_in given))) found e in
     let (rounds, no_workers) = neither (has_schedule given) (is_some given.workers) settings in
-    subst (Asks given) (same_Some (compile monitor (choice_of given.relay)) found same) (record {
+    subst (Asks given) (same_Some (compile monitor (choice_in given)) found same) (record {
       name = name;
       has_values = values;
       has_options = (no_schedule given rounds, none_given given.workers no_workers, refl);
@@ -194,8 +224,8 @@ compile_asks given monitor found name values e =
 simulate_asks : (given : Given) (monitor clients : Text) (found : Command) → given.command ≡ codes "simulate" → given.values ≡ monitor ∷ clients ∷ []
     → simulate_if given monitor clients ≡ Some found → Asks given found
 simulate_asks given monitor clients found name values e =
-    let (unused, more) = cond_second (is_some given.workers) (option_map (λ s. simulate monitor clients s (choice_of given.relay)) (schedule_if given.seed given.spurious)) found e in
-    map_is (λ s. simulate monitor clients s (choice_of given.relay)) (schedule_if given.seed given.spurious) found more
+    let (unused, more) = cond_second (is_some given.workers) (option_map (λ s. simulate monitor clients s (choice_in given)) (schedule_if given.seed given.spurious)) found e in
+    map_is (λ s. simulate monitor clients s (choice_in given)) (schedule_if given.seed given.spurious) found more
     (λ schedule is same. subst (Asks given) same (record {
       name = name;
       has_values = values;
@@ -205,8 +235,8 @@ simulate_asks given monitor clients found name values e =
 run_asks : (given : Given) (monitor clients : Text) (found : Command) → given.command ≡ codes "run" → given.values ≡ monitor ∷ clients ∷ []
     → run_if given monitor clients ≡ Some found → Asks given found
 run_asks given monitor clients found name values e =
-    let (unused, more) = cond_second (has_schedule given) (option_map (λ n. run monitor clients n (choice_of given.relay)) (workers_if given.workers)) found e in
-    map_is (λ n. run monitor clients n (choice_of given.relay)) (workers_if given.workers) found more
+    let (unused, more) = cond_second (has_schedule given) (option_map (λ n. run monitor clients n (choice_in given)) (workers_if given.workers)) found e in
+    map_is (λ n. run monitor clients n (choice_in given)) (workers_if given.workers) found more
     (λ workers is same. subst (Asks given) same (record {
       name = name;
       has_values = values;
@@ -217,14 +247,14 @@ stress_asks : (given : Given) (word : Text) (found : Command) → given.command 
     → stress_if given word ≡ Some found → Asks given found
 stress_asks given word found name values e =
     let rest : ℕ → Option Command = λ n. option_map (λ k. stress n k) (workers_if given.workers) in
-    let (unused, more) = cond_second (has_schedule given || given.relay) (option_and_then rest (number_if GREATEST_UNSIGNED word)) found e in
-    let (rounds, no_relay) = neither (has_schedule given) given.relay unused in
+    let (unused, more) = cond_second (has_schedule given || has_choice given) (option_and_then rest (number_if GREATEST_UNSIGNED word)) found e in
+    let (rounds, plain) = neither (has_schedule given) (has_choice given) unused in
     option_and_then_some rest (number_if GREATEST_UNSIGNED word) found more
     (λ number large made. map_is (λ k. stress number k) (workers_if given.workers) found made
     (λ workers is same. subst (Asks given) same (record {
       name = name;
       has_values = (word, values, number_is GREATEST_UNSIGNED word number large);
-      has_options = (no_schedule given rounds, workers_is given.workers workers is, no_relay);
+      has_options = (no_schedule given rounds, workers_is given.workers workers is, no_choice given plain);
     })))
 
 single_asks : (given : Given) (value : Text) (found : Command) → given.values ≡ value ∷ [] → single_if given value ≡ Some found → Asks given found
@@ -266,9 +296,7 @@ pair_asks given monitor clients found values e =
     let (unused, same) = plain_is given (recheck monitor clients) found made in
     subst (Asks given) same (record { name = named given (codes "recheck") is; has_values = values; has_options = unused }))
     (λ no_recheck later. chosen (bytes_eq given.command (codes "block")) _ _ found later
-    (λ is made.
-    let (unused, same) = plain_is given (block monitor clients) found made in
-    subst (Asks given) same (record { name = named given (codes "block") is; has_values = values; has_options = unused }))
+    (λ is made. block_asks given monitor clients found (named given (codes "block") is) values made)
     (λ no_block last. chosen (bytes_eq given.command (codes "audit")) _ _ found last
     (λ is made.
     let (unused, same) = plain_is given (audit monitor clients) found made in

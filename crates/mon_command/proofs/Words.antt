@@ -17,7 +17,8 @@ given_same words one other is also =
     let spurious : one.spurious ≡ other.spurious = sym is.spurious_is ∙ also.spurious_is in
     let workers : one.workers ≡ other.workers = sym is.workers_is ∙ also.workers_is in
     let relay : one.relay ≡ other.relay = sym is.relay_is ∙ also.relay_is in
-    λ i. record { command = command i; values = values i; seed = seed i; spurious = spurious i; workers = workers i; relay = relay i }
+    let count : one.count ≡ other.count = sym is.count_is ∙ also.count_is in
+    λ i. record { command = command i; values = values i; seed = seed i; spurious = spurious i; workers = workers i; relay = relay i; count = count i }
 
 -- what words take is what is computed of what they give
 taken_found : (words : List (List ℕ)) (given : Given) (command : Command) → IsGiven words given → Takes words command → command_if given ≡ Some command

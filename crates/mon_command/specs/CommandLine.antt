@@ -9,7 +9,8 @@ use Rattle.mon_base.specs.Identifiers.{is_digit}
 use Rattle.mon_base.specs.Limits.{MOST_SPURIOUS, WORKERS}
 use Rattle.mon_tokens.specs.Words.{decimal_value}
 use Rattle.mon_command.specs.declared.plan_choice.PlanChoice.{PlanChoice}
-use Rattle.mon_command.specs.declared.plan_choice.PlanChoice.TheVariants.{Placed, Relayed}
+use Rattle.mon_command.specs.declared.plan_choice.PlanChoice.TheVariants.{Placed, Relayed, Counted}
+use Rattle.mon_command.specs.declared.plan_choice.PlanChoice.TheVariants.{CountedAndRelayed}
 use Rattle.mon_command.specs.declared.schedule.Schedule.{Schedule}
 use Rattle.mon_command.specs.declared.schedule.Schedule.TheVariants.{Rounds, Drawn}
 
@@ -31,9 +32,9 @@ pub data Command : Type 0 where
   report : List ℕ → Command
   -- checks such a report, the second file, of the monitor of the first
   recheck : List ℕ → List ℕ → Command
-  -- runs the clients of the second file on the monitor of the first, under the plan that is placed
-  -- for it, by a caller for each client
-  block : List ℕ → List ℕ → Command
+  -- runs the clients of the second file on the monitor of the first, under such a plan, by a caller
+  -- for each client
+  block : List ℕ → List ℕ → PlanChoice → Command
   -- says whether a plan, the second file, is lawful for the monitor of the first
   audit : List ℕ → List ℕ → Command
   -- compiles a monitor to a plan, and shows why each thing stands that costs something
@@ -64,10 +65,10 @@ flag_rule name = record (new_rule name) { long = Some name; action = Some SetTru
 
 -- the command line, as `clap` defines it
 abbrev pub program : App
-program = with_rule (with_rule (with_rule (with_rule (with_rule (with_rule
+program = with_rule (with_rule (with_rule (with_rule (with_rule (with_rule (with_rule
     (new_app (codes "expresso")) command_rule) values_rule)
     (option_rule (codes "seed"))) (option_rule (codes "spurious")))
-    (option_rule (codes "workers"))) (flag_rule (codes "relay"))
+    (option_rule (codes "workers"))) (flag_rule (codes "relay"))) (flag_rule (codes "count"))
 
 -- a flag is used, of which `clap` gives this text: `true` where it is, else `false`
 abbrev pub is_used : Option Text → Bool
@@ -83,6 +84,8 @@ pub record Given : Type 0 where
   pub workers : Option Text
   -- `--relay` is used
   pub relay : Bool
+  -- `--count` is used
+  pub count : Bool
 
 -- `clap` takes the words, the program's name first, and its matches are these
 pub record IsGiven (words : List Text) (given : Given) : Type 0 where
@@ -93,6 +96,7 @@ pub record IsGiven (words : List Text) (given : Given) : Type 0 where
   pub spurious_is : first_of (codes "spurious") (matches_of program words) ≡ given.spurious
   pub workers_is : first_of (codes "workers") (matches_of program words) ≡ given.workers
   pub relay_is : is_used (first_of (codes "relay") (matches_of program words)) ≡ given.relay
+  pub count_is : is_used (first_of (codes "count") (matches_of program words)) ≡ given.count
 
 -- ---- numbers
 
@@ -136,10 +140,16 @@ abbrev pub IsWorkers : Option Text → ℕ → Type 0
 IsWorkers None number = number ≡ DEFAULT_WORKERS
 IsWorkers (Some word) number = IsNumber WORKERS word number × (1 ≤ number)
 
--- `--relay` asks for the plan with relayed signals
-abbrev pub choice_of : Bool → PlanChoice
-choice_of true = Relayed
-choice_of false = Placed
+-- what `--relay` and `--count` ask for: relayed signals, counted conditions, or both
+abbrev pub choice_of : Bool → Bool → PlanChoice
+choice_of false false = Placed
+choice_of true false = Relayed
+choice_of false true = Counted
+choice_of true true = CountedAndRelayed
+
+-- the choice that is asked for
+abbrev pub choice_in : Given → PlanChoice
+choice_in given = choice_of given.relay given.count
 
 -- ---- commands
 
@@ -153,7 +163,7 @@ name_of (run monitor clients workers choice) = codes "run"
 name_of (stress number workers) = codes "stress"
 name_of (report monitor) = codes "report"
 name_of (recheck monitor report_file) = codes "recheck"
-name_of (block monitor clients) = codes "block"
+name_of (block monitor clients choice) = codes "block"
 name_of (audit monitor plan_file) = codes "audit"
 name_of (explain monitor) = codes "explain"
 name_of (emit monitor) = codes "emit"
@@ -169,7 +179,7 @@ HasValues values (stress number workers) =
     (word : Text) × (values ≡ word ∷ []) × IsNumber GREATEST_UNSIGNED word number
 HasValues values (report monitor) = values ≡ monitor ∷ []
 HasValues values (recheck monitor report_file) = values ≡ monitor ∷ report_file ∷ []
-HasValues values (block monitor clients) = values ≡ monitor ∷ clients ∷ []
+HasValues values (block monitor clients choice) = values ≡ monitor ∷ clients ∷ []
 HasValues values (audit monitor plan_file) = values ≡ monitor ∷ plan_file ∷ []
 HasValues values (explain monitor) = values ≡ monitor ∷ []
 HasValues values (emit monitor) = values ≡ monitor ∷ []
@@ -177,26 +187,31 @@ HasValues values (emit monitor) = values ≡ monitor ∷ []
 abbrev pub HasNoSchedule : Given → Type 0
 HasNoSchedule given = (given.seed ≡ None) × (given.spurious ≡ None)
 
+abbrev pub HasNoChoice : Given → Type 0
+HasNoChoice given = (given.relay ≡ false) × (given.count ≡ false)
+
 abbrev pub HasNoOptions : Given → Type 0
-HasNoOptions given = HasNoSchedule given × (given.workers ≡ None) × (given.relay ≡ false)
+HasNoOptions given = HasNoSchedule given × (given.workers ≡ None) × HasNoChoice given
 
 -- the options are the command's own: a schedule for `simulate`, workers for `run` and `stress`,
--- `--relay` for `compile`, `simulate` and `run`
+-- `--relay` for `compile`, `simulate` and `run`, and `--count` for these and `block`
 abbrev pub HasOptions : Given → Command → Type 0
 HasOptions given (check monitor) = HasNoOptions given
 HasOptions given (turns monitor clients) = HasNoOptions given
 HasOptions given (compile monitor choice) =
-    HasNoSchedule given × (given.workers ≡ None) × (choice_of given.relay ≡ choice)
+    HasNoSchedule given × (given.workers ≡ None) × (choice_in given ≡ choice)
 HasOptions given (simulate monitor clients schedule choice) =
     IsSchedule given.seed given.spurious schedule × (given.workers ≡ None)
-    × (choice_of given.relay ≡ choice)
+    × (choice_in given ≡ choice)
 HasOptions given (run monitor clients workers choice) =
-    HasNoSchedule given × IsWorkers given.workers workers × (choice_of given.relay ≡ choice)
+    HasNoSchedule given × IsWorkers given.workers workers × (choice_in given ≡ choice)
 HasOptions given (stress number workers) =
-    HasNoSchedule given × IsWorkers given.workers workers × (given.relay ≡ false)
+    HasNoSchedule given × IsWorkers given.workers workers × HasNoChoice given
 HasOptions given (report monitor) = HasNoOptions given
 HasOptions given (recheck monitor report_file) = HasNoOptions given
-HasOptions given (block monitor clients) = HasNoOptions given
+HasOptions given (block monitor clients choice) =
+    HasNoSchedule given × (given.workers ≡ None) × (given.relay ≡ false)
+    × (choice_in given ≡ choice)
 HasOptions given (audit monitor plan_file) = HasNoOptions given
 HasOptions given (explain monitor) = HasNoOptions given
 HasOptions given (emit monitor) = HasNoOptions given
@@ -227,7 +242,7 @@ files_of (run monitor clients workers choice) = monitor ∷ clients ∷ []
 files_of (stress number workers) = []
 files_of (report monitor) = monitor ∷ []
 files_of (recheck monitor report_file) = monitor ∷ report_file ∷ []
-files_of (block monitor clients) = monitor ∷ clients ∷ []
+files_of (block monitor clients choice) = monitor ∷ clients ∷ []
 files_of (audit monitor plan_file) = monitor ∷ plan_file ∷ []
 files_of (explain monitor) = monitor ∷ []
 files_of (emit monitor) = monitor ∷ []

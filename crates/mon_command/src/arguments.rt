@@ -22,6 +22,7 @@ pub(crate) struct Given<'a> {
     pub(crate) spurious: Option<&'a str>,
     pub(crate) workers: Option<&'a str>,
     pub(crate) relay: bool,
+    pub(crate) count: bool,
 }
 
 /// What the words, the program's name first, give; `Usage` where `clap` refuses them or they ask
@@ -54,6 +55,7 @@ pub(crate) fn given_of<'a>(alloc: Global, words: &'a [String]) -> Result<Given<'
         spurious: matches.get_str("spurious"),
         workers: matches.get_str("workers"),
         relay: is_used(matches.get_str("relay")),
+        count: is_used(matches.get_str("count")),
     })
 }
 
@@ -98,7 +100,8 @@ fn program<'a>(alloc: Global) -> Result<clap::Command<'a>, AllocError>
         .arg(option(alloc, "seed"))?
         .arg(option(alloc, "spurious"))?
         .arg(option(alloc, "workers"))?
-        .arg(flag(alloc, "relay"))
+        .arg(flag(alloc, "relay"))?
+        .arg(flag(alloc, "count"))
 }
 
 /// The command's name.

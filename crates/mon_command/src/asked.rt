@@ -3,14 +3,16 @@
 ghost use Rattle.std.specs.Prelude.{◌≡◌, ◌≤◌, option_map};
 ghost use Rattle.mon_command.specs.Commands.{command_meant};
 ghost use Rattle.mon_command.specs.inner.Given.{given_meant};
-ghost use Rattle.mon_command.specs.inner.Asked.{command_if, compile_if, has_schedule, has_settings};
-ghost use Rattle.mon_command.specs.inner.Asked.{pair_if, plain_if, run_if, simulate_if, single_if};
-ghost use Rattle.mon_command.specs.inner.Asked.{some_workers, stress_if, workers_if};
+ghost use Rattle.mon_command.specs.CommandLine.{choice_in};
+ghost use Rattle.mon_command.specs.inner.Asked.{command_if, compile_if, counted_if, has_choice};
+ghost use Rattle.mon_command.specs.inner.Asked.{has_schedule, has_settings, pair_if, plain_if};
+ghost use Rattle.mon_command.specs.inner.Asked.{run_if, simulate_if, single_if, some_workers};
+ghost use Rattle.mon_command.specs.inner.Asked.{stress_if, workers_if};
 
 use crate::arguments::Given;
 use crate::command::Command;
 use crate::numbers::number_of;
-use crate::plan_choice::choice_of;
+use crate::plan_choice::{PlanChoice, choice_of};
 use crate::schedule::schedule_of;
 use mon_base::limits::WORKERS;
 
@@ -75,11 +77,12 @@ fn pair_asked<'a>(given: &Given<'a>, monitor: &'a str, other: &'a str) -> Option
             },
         )
     } else if given.command == "block" {
-        plain_asked(
+        counted_asked(
             given,
             Command::Block {
                 monitor,
                 clients: other,
+                choice: choice_in(given),
             },
         )
     } else if given.command == "audit" {
@@ -95,15 +98,27 @@ fn pair_asked<'a>(given: &Given<'a>, monitor: &'a str, other: &'a str) -> Option
     }
 }
 
-/// A command that has no options.
-fn plain_asked<'a>(given: &Given<'a>, command: Command<'a>) -> Option<Command<'a>>
+/// A command whose option is `--count` alone.
+fn counted_asked<'a>(given: &Given<'a>, command: Command<'a>) -> Option<Command<'a>>
     ensures { option_map command_meant result
-        ≡ plain_if (given_meant given.now) (command_meant command.entry) }
+        ≡ counted_if (given_meant given.now) (command_meant command.entry) }
 {
     if has_settings(given) || given.relay {
         None
     } else {
         Some(command)
+    }
+}
+
+/// A command that has no options.
+fn plain_asked<'a>(given: &Given<'a>, command: Command<'a>) -> Option<Command<'a>>
+    ensures { option_map command_meant result
+        ≡ plain_if (given_meant given.now) (command_meant command.entry) }
+{
+    if given.count {
+        None
+    } else {
+        counted_asked(given, command)
     }
 }
 
@@ -116,7 +131,7 @@ fn compile_asked<'a>(given: &Given<'a>, monitor: &'a str) -> Option<Command<'a>>
     }
     Some(Command::Compile {
         monitor,
-        choice: choice_of(given.relay),
+        choice: choice_in(given),
     })
 }
 
@@ -133,7 +148,7 @@ fn simulate_asked<'a>(given: &Given<'a>, monitor: &'a str, clients: &'a str) -> 
         monitor,
         clients,
         schedule,
-        choice: choice_of(given.relay),
+        choice: choice_in(given),
     })
 }
 
@@ -150,7 +165,7 @@ fn run_asked<'a>(given: &Given<'a>, monitor: &'a str, clients: &'a str) -> Optio
         monitor,
         clients,
         workers,
-        choice: choice_of(given.relay),
+        choice: choice_in(given),
     })
 }
 
@@ -158,7 +173,7 @@ fn run_asked<'a>(given: &Given<'a>, monitor: &'a str, clients: &'a str) -> Optio
 fn stress_asked<'a>(given: &Given<'a>, number: &'a str) -> Option<Command<'a>>
     ensures { option_map command_meant result ≡ stress_if (given_meant given.now) number.now }
 {
-    if has_schedule(given) || given.relay {
+    if has_schedule(given) || has_choice(given) {
         return None;
     }
     let number = number_of(number, u64::MAX)?;
@@ -178,6 +193,20 @@ fn has_settings<'a>(given: &Given<'a>) -> bool
     ensures { result ≡ has_settings (given_meant given.now) }
 {
     has_schedule(given) || given.workers.is_some()
+}
+
+/// Whether another plan is asked for than the one that is placed.
+fn has_choice<'a>(given: &Given<'a>) -> bool
+    ensures { result ≡ has_choice (given_meant given.now) }
+{
+    given.relay || given.count
+}
+
+/// The choice that is asked for.
+fn choice_in<'a>(given: &Given<'a>) -> PlanChoice
+    ensures { result ≡ choice_in (given_meant given.now) }
+{
+    choice_of(given.relay, given.count)
 }
 
 /// The number of workers that is asked for.

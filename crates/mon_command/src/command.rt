@@ -59,10 +59,11 @@ pub enum Command<'a> {
         report: &'a str,
     },
     /// Runs the clients of a file on the monitor of another by a caller for each client, under the
-    /// plan that is placed for it.
+    /// plan that is asked for: the one that is placed, or that one counted.
     Block {
         monitor: &'a str,
         clients: &'a str,
+        choice: PlanChoice,
     },
     /// Says whether a plan that is written by hand is lawful for the monitor of another file.
     Audit {

@@ -1,9 +1,12 @@
 //! What follows from the definitions alone.
 
 ghost use Rattle.std.specs.Prelude.{◌≡◌, ℕ, List, [], ◌∷◌, codes};
-ghost use Rattle.mon_command.specs.CommandLine.{Command, Takes, TakesNone, check, compile, run};
+ghost use Rattle.mon_command.specs.CommandLine.{Command, Takes, TakesNone, block, check, compile};
+ghost use Rattle.mon_command.specs.CommandLine.{run};
 ghost use Rattle.mon_command.specs.CommandLine.{DEFAULT_WORKERS};
-ghost use Rattle.mon_command.specs.declared.plan_choice.PlanChoice.TheVariants.{Placed, Relayed};
+ghost use Rattle.mon_command.specs.declared.plan_choice.PlanChoice.TheVariants.{Counted, Placed};
+ghost use Rattle.mon_command.specs.declared.plan_choice.PlanChoice.TheVariants.{Relayed};
+ghost use Rattle.mon_command.specs.declared.plan_choice.PlanChoice.TheVariants.{CountedAndRelayed};
 
 /// Words are at most one command.
 pub fn one_command()
@@ -41,4 +44,14 @@ pub fn words_taken()
         (compile (codes "M") Relayed) }
     ensures no_relay { TakesNone (codes "expresso" ∷ codes "check" ∷ codes "M"
         ∷ codes "--relay" ∷ []) }
+    ensures both { Takes
+        (codes "expresso" ∷ codes "compile" ∷ codes "--relay" ∷ codes "M" ∷ codes "--count" ∷ [])
+        (compile (codes "M") CountedAndRelayed) }
+    ensures counted { Takes
+        (codes "expresso" ∷ codes "block" ∷ codes "M" ∷ codes "C" ∷ codes "--count" ∷ [])
+        (block (codes "M") (codes "C") Counted) }
+    ensures relayed_block { TakesNone (codes "expresso" ∷ codes "block" ∷ codes "M" ∷ codes "C"
+        ∷ codes "--count" ∷ codes "--relay" ∷ []) }
+    ensures no_count { TakesNone (codes "expresso" ∷ codes "check" ∷ codes "M"
+        ∷ codes "--count" ∷ []) }
 {}

@@ -10,15 +10,21 @@ pub enum PlanChoice {
     Placed,
     /// That plan with its signals relayed.
     Relayed,
+    /// That plan, counted.
+    Counted,
+    /// That plan, counted, with the signals relayed on each condition that is not counted.
+    CountedAndRelayed,
 }
 
-/// The plan that is asked for: with relayed signals where `--relay` is used.
-pub(crate) fn choice_of(relay: bool) -> PlanChoice
-    ensures { result ≡ choice_of relay }
+/// The plan that is asked for: with relayed signals where `--relay` is used, and counted where
+/// `--count` is.
+pub(crate) fn choice_of(relay: bool, count: bool) -> PlanChoice
+    ensures { result ≡ choice_of relay count }
 {
-    if relay {
-        PlanChoice::Relayed
-    } else {
-        PlanChoice::Placed
+    match (relay, count) {
+        (false, false) => PlanChoice::Placed,
+        (true, false) => PlanChoice::Relayed,
+        (false, true) => PlanChoice::Counted,
+        (true, true) => PlanChoice::CountedAndRelayed,
     }
 }

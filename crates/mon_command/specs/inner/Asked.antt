@@ -11,7 +11,7 @@ use Rattle.mon_command.specs.declared.schedule.Schedule.TheVariants.{Rounds, Dra
 use Rattle.mon_command.specs.CommandLine.{Given, Command, check, turns, compile, simulate, run}
 use Rattle.mon_command.specs.CommandLine.{stress, report, recheck, block, audit, explain, emit}
 use Rattle.mon_command.specs.CommandLine.{GREATEST_UNSIGNED, DEFAULT_WORKERS, MOST_DIGITS}
-use Rattle.mon_command.specs.CommandLine.{choice_of}
+use Rattle.mon_command.specs.CommandLine.{choice_in}
 
 -- 1 to `MOST_DIGITS` decimal digits
 abbrev pub is_written : List ℕ → Bool
@@ -52,28 +52,36 @@ has_schedule given = is_some given.seed || is_some given.spurious
 abbrev pub has_settings : Given → Bool
 has_settings given = has_schedule given || is_some given.workers
 
+-- whether another plan is asked for than the one that is placed
+abbrev pub has_choice : Given → Bool
+has_choice given = given.relay || given.count
+
 abbrev pub stress_if : Given → List ℕ → Option Command
-stress_if given word = cond (has_schedule given || given.relay) None
+stress_if given word = cond (has_schedule given || has_choice given) None
     (option_and_then (λ number. option_map (λ workers. stress number workers) (workers_if
     given.workers)) (number_if GREATEST_UNSIGNED word))
 
 abbrev pub run_if : Given → List ℕ → List ℕ → Option Command
 run_if given monitor clients = cond (has_schedule given) None
-    (option_map (λ workers. run monitor clients workers (choice_of given.relay))
+    (option_map (λ workers. run monitor clients workers (choice_in given))
     (workers_if given.workers))
 
 abbrev pub simulate_if : Given → List ℕ → List ℕ → Option Command
 simulate_if given monitor clients = cond (is_some given.workers) None
-    (option_map (λ schedule. simulate monitor clients schedule (choice_of given.relay))
+    (option_map (λ schedule. simulate monitor clients schedule (choice_in given))
     (schedule_if given.seed given.spurious))
 
 abbrev pub compile_if : Given → List ℕ → Option Command
 compile_if given monitor =
-    cond (has_settings given) None (Some (compile monitor (choice_of given.relay)))
+    cond (has_settings given) None (Some (compile monitor (choice_in given)))
+
+-- a command whose option is `--count` alone
+abbrev pub counted_if : Given → Command → Option Command
+counted_if given command = cond (has_settings given || given.relay) None (Some command)
 
 -- a command that has no options
 abbrev pub plain_if : Given → Command → Option Command
-plain_if given command = cond (has_settings given || given.relay) None (Some command)
+plain_if given command = cond given.count None (counted_if given command)
 
 -- the command of one value
 abbrev pub single_if : Given → List ℕ → Option Command
@@ -92,7 +100,7 @@ pair_if given monitor other =
     (cond (bytes_eq given.command (codes "simulate")) (simulate_if given monitor other)
     (cond (bytes_eq given.command (codes "run")) (run_if given monitor other)
     (cond (bytes_eq given.command (codes "recheck")) (plain_if given (recheck monitor other))
-    (cond (bytes_eq given.command (codes "block")) (plain_if given (block monitor other))
+    (cond (bytes_eq given.command (codes "block")) (counted_if given (block monitor other (choice_in given)))
     (cond (bytes_eq given.command (codes "audit")) (plain_if given (audit monitor other))
     None)))))
 

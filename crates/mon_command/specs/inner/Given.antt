@@ -12,4 +12,5 @@ given_meant read = record {
   spurious = option_map (λ word. word.now) read.spurious;
   workers = option_map (λ word. word.now) read.workers;
   relay = read.relay;
+  count = read.count;
 }

@@ -30,4 +30,5 @@ returns-clause-given c =
       spurious_is = read m _ (codes "spurious") c.get_str-3.result rows c.get_str-3.ensures;
       workers_is = read m _ (codes "workers") c.get_str-4.result rows c.get_str-4.ensures;
       relay_is = ap is_used (read m _ (codes "relay") c.get_str-5.result rows c.get_str-5.ensures) ∙ sym c.is_used.ensures;
+      count_is = ap is_used (read m _ (codes "count") c.get_str-6.result rows c.get_str-6.ensures) ∙ sym c.is_used-2.ensures;
     }
