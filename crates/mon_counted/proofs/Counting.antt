@@ -1,6 +1,6 @@
 -- The plan that the answers make fits, is lawful by counting, and is the placed plan, counted.
-use Rattle.std.proofs.Common.{◌≡◌, inl, inr, ℕ, zero, suc, ◌+◌, ◌-◌, ◌<◌, ◌≤◌, Bool, true, false, not, List, [], ◌∷◌, map, length, Option, Some, None, refl, sym, ap, subst, ◌∙◌, arith}
-use Rattle.std.specs.Prelude.{All, slice_get, unwrap_or, IsSomeAnd, IfSome}
+use Rattle.std.proofs.Common.{◌≡◌, inl, inr, ℕ, zero, suc, ◌+◌, ◌-◌, ◌<◌, ◌≤◌, Bool, true, false, List, [], ◌∷◌, map, length, Option, Some, None, refl, sym, ap, subst, ◌∙◌, arith}
+use Rattle.std.specs.Prelude.{All, slice_get, unwrap_or, IsSomeAnd, IfSome, is_some}
 use Rattle.std.specs.List.{enumerate_from}
 use Rattle.std.proofs.lemmas.Bool.{true≢false, cases_eq}
 use Rattle.std.proofs.lemmas.List.Elements.{All-nil, All-cons, All-head, All-tail}
@@ -26,6 +26,7 @@ use Rattle.mon_count.specs.Questions.{AnswersCount, IsToldRight}
 use Rattle.mon_counted.specs.declared.counted.Told.{Told}
 use Rattle.mon_counted.specs.declared.counted.Told.TheVariants as telling
 use Rattle.mon_counted.specs.Counted.{IsTold, column_at, counted_kind, counted_notes, counted_of, told_by, told_note, told_on, is_tested}
+use Rattle.mon_counted.specs.CountedAndRelayed.{CountsBroadcasts}
 use Rattle.mon_counted.specs.inner.Answers.{AnsweredColumnsCount, AnsweredColumnsFit, AnsweredColumnsLicense, AreColumns, IsColumn, IsColumnOf, IsToldAt, IsToldOf}
 use Rattle.mon_counted.proofs.Table.{has_if, kind_at, kind_missing, length_numbered, made_on, none_if, note_is, note_left, notes_missing, notes_there, on_theirs, broadcast_found}
 
@@ -34,7 +35,7 @@ use Rattle.mon_counted.proofs.Table.{has_if, kind_at, kind_missing, length_numbe
 abbrev columns_type : Type 0
 columns_type = List (Option (List Told))
 
-column_known : (monitor : MonitorParts) (plan : Plan) (columns : columns_type) (condition : ℕ) → AreColumns monitor plan columns
+pub column_known : (monitor : MonitorParts) (plan : Plan) (columns : columns_type) (condition : ℕ) → AreColumns monitor plan columns
     → 1 ≤ condition → condition ≤ length monitor.conditions → IsColumn monitor plan condition (column_at columns condition)
 column_known monitor plan columns condition are first last =
     let many = are.many in
@@ -173,7 +174,7 @@ none_on_zero P plan columns block = by_notes (slice_get plan.notes block) refl
 
 -- ---- the plan is lawful by counting
 
-kind_left : (plan : Plan) (columns : columns_type) (condition : ℕ) → 1 ≤ condition → column_at columns condition ≡ None
+pub kind_left : (plan : Plan) (columns : columns_type) (condition : ℕ) → 1 ≤ condition → column_at columns condition ≡ None
     → condition_kind (counted_of plan columns) condition ≡ condition_kind plan condition
 kind_left plan columns condition first none = by_kind (condition_kind plan condition) refl
   where
@@ -182,13 +183,13 @@ kind_left plan columns condition first none = by_kind (condition_kind plan condi
     by_kind (Some kind) is =
         kind_at plan columns condition kind first is ∙ ap (λ (column : Option (List Told)). Some (counted_kind kind column)) none ∙ sym is
 
-kind_made : (plan : Plan) (columns : columns_type) (condition : ℕ) (column : List Told) (was : CondKind) → 1 ≤ condition
+pub kind_made : (plan : Plan) (columns : columns_type) (condition : ℕ) (column : List Told) (was : CondKind) → 1 ≤ condition
     → column_at columns condition ≡ Some column → condition_kind plan condition ≡ Some was
     → condition_kind (counted_of plan columns) condition ≡ Some kinds.Signal
 kind_made plan columns condition column was first is there =
     kind_at plan columns condition was first there ∙ ap (λ (held : Option (List Told)). Some (counted_kind was held)) is
 
-two_kinds : (o : Option CondKind) → o ≡ Some kinds.Broadcast → o ≡ Some kinds.Signal → ⊥
+pub two_kinds : (o : Option CondKind) → o ≡ Some kinds.Broadcast → o ≡ Some kinds.Signal → ⊥
 two_kinds o is also = cc
 
 kind_within : (monitor : MonitorParts) (plan : Plan) (columns : columns_type) (condition : ℕ) (kind : CondKind) → FitsPlan monitor plan
@@ -362,3 +363,9 @@ counted_fits monitor plan columns rule fits are = record {
   each = from_numbered (FitsNotes monitor) (FitsNotes monitor) (λ (one : ℕ × List Note). counted_notes columns one.0 one.1)
       (λ block notes own. fits_notes monitor plan columns block notes rule are own) 0 plan.notes fits.each;
 }
+
+pub broadcasts_counted : (monitor : MonitorParts) (plan : Plan) (columns : columns_type) → AreColumns monitor plan columns → CountsBroadcasts monitor plan columns
+broadcasts_counted monitor plan columns are condition within some =
+    by_column (condition_kind plan condition ≡ Some kinds.Broadcast) monitor plan columns condition are within.0 within.1
+    (λ none known. absurd (true≢false (sym some ∙ ap is_some none)))
+    (λ column there known. known.was)

@@ -1,5 +1,5 @@
 -- Where no question may stay open a plan that is counted is so exactly.
-use Rattle.std.proofs.Common.{◌≡◌, ◌==◌, ◌↔◌, inl, inr, ℕ, ◌<◌, Bool, true, false, Option, Some, None, length, refl, sym, ap, subst, ◌∙◌}
+use Rattle.std.proofs.Common.{◌≡◌, ◌==◌, ◌↔◌, inl, inr, ℕ, ◌<◌, Bool, true, false, Option, Some, None, length, refl, sym, subst, ◌∙◌}
 use Rattle.std.specs.Prelude.{slice_get, IsSomeAnd}
 use Rattle.std.specs.Option.{option_map_or}
 use Rattle.std.proofs.lemmas.Bool.{true≢false, eq-eqb}

@@ -1,3 +1,5 @@
 pub mod Counted
+pub mod CountedAndRelayed
 pub mod Exact
+pub mod Mixed
 pub mod inner

@@ -1,6 +1,8 @@
 //! What follows from the prover's answers.
 
+ghost use Rattle.mon_counted.specs.CountedAndRelayed.{CountedPlansOmitNoMore};
 ghost use Rattle.mon_counted.specs.Exact.{CountedIsExact};
+ghost use Rattle.mon_counted.specs.Mixed.{MixedPlansAreLawful};
 ghost use Rattle.mon_counted.specs.inner.Answers.{AnsweredColumnsCount, AnsweredColumnsFit};
 ghost use Rattle.mon_counted.specs.inner.Answers.{AnsweredColumnsLicense};
 
@@ -23,4 +25,15 @@ pub(crate) fn answered_columns_count()
 /// on it exactly where it needs none, and a signal exactly where one is enough.
 pub fn counted_plans_are_exact()
     ensures { CountedIsExact }
+{}
+
+/// Where a counted plan leaves a note out, the placed plan does.
+pub fn counted_plans_omit_no_more()
+    ensures { CountedPlansOmitNoMore }
+{}
+
+/// A plan that has on each condition what one of two plans has, which are lawful by counting and
+/// keep the same candidates, is lawful by counting too.
+pub fn mixed_plans_are_lawful()
+    ensures { MixedPlansAreLawful }
 {}

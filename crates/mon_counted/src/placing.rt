@@ -10,10 +10,11 @@ ghost use Rattle.mon_place.specs.Relayed.{note_on};
 ghost use Rattle.mon_counted.specs.Counted.{AreBacked, IsCountedFrom, told_note, told_on};
 ghost use Rattle.mon_counted.specs.Exact.{HasNoOpenQuestion, IsExactlyCounted};
 ghost use Rattle.mon_counted.specs.Counted.{counted_kind, counted_kinds, counted_notes, counted_of};
+ghost use Rattle.mon_counted.specs.CountedAndRelayed.{CountsBroadcasts, OmitsNoMore};
 
 use super::columns::columns_of;
 use super::counted::{CountedPlan, Told};
-use super::laws::{answered_columns_count, counted_plans_are_exact};
+use super::laws::{answered_columns_count, counted_plans_are_exact, counted_plans_omit_no_more};
 use mon_events::{CondKind, Note, NoteList, Plan};
 use mon_list::Seq;
 use mon_monitor::{Candidate, Monitor};
@@ -44,10 +45,14 @@ pub fn count_plan(
         → IsExactlyCounted monitor.now placed.now it.plan) }
     ensures plan { IfOk result (λ it. it.plan ≡ counted_of placed.now it.columns) }
     ensures backed { IfOk result (λ it. AreBacked monitor.now placed.now it.columns) }
+    ensures broadcasts { IfOk result (λ it.
+        CountsBroadcasts monitor.now placed.now it.columns) }
+    ensures omits { IfOk result (λ it. OmitsNoMore placed.now it.plan) }
 {
     let _blocks = monitor.blocks();
     answered_columns_count();
     counted_plans_are_exact();
+    counted_plans_omit_no_more();
     candidates_have_formulas(monitor);
     let columns = columns_of(alloc, monitor, placed)?;
     let plan = counted_plan(alloc, placed, &columns)?;
@@ -58,7 +63,7 @@ pub fn count_plan(
 }
 
 /// The plan with what blocks have on conditions that are counted.
-fn counted_plan(
+pub(crate) fn counted_plan(
     alloc: Global,
     placed: &Plan,
     columns: &[Option<Seq<Told>>],

@@ -4,8 +4,10 @@ use Rattle.mon_events.specs.Plans.{FitsPlan}
 use Rattle.mon_events.specs.Counts.{IsLawfulByCounting}
 use Rattle.mon_wp.specs.Expressible.{is_expressible}
 use Rattle.mon_counted.specs.Counted.{AreBacked, IsCountedFrom}
+use Rattle.mon_counted.specs.CountedAndRelayed.{CountsBroadcasts}
 use Rattle.mon_counted.specs.inner.Answers.{AreColumns}
 use Rattle.mon_counted.proofs.Answered.{backed, some_pass}
+use Rattle.mon_counted.proofs.Counting.{broadcasts_counted}
 use Rattle.mon_counted.proofs.placing.count_plan.Goals as goal
 
 pub columns_of-requires-clause-kept : goal.columns_of-requires-clause-kept
@@ -50,3 +52,18 @@ returns-clause-backed c =
     let monitor = c.args.monitor.now in
     let placed = c.args.placed.now in
     subst (AreBacked monitor placed) (sym c.of.ensures) (backed monitor placed c.in_ok-columns.columns.items c.in_ok-columns.ensures)
+
+pub returns-clause-broadcasts : goal.returns-clause-broadcasts
+returns-clause-broadcasts c =
+    let monitor = c.args.monitor.now in
+    let placed = c.args.placed.now in
+    subst (CountsBroadcasts monitor placed) (sym c.of.ensures) (broadcasts_counted monitor placed c.in_ok-columns.columns.items c.in_ok-columns.ensures)
+
+pub returns-clause-omits : goal.returns-clause-omits
+returns-clause-omits c =
+    let monitor = c.args.monitor.now in
+    let placed = c.args.placed.now in
+    c.counted_plans_omit_no_more.ensures monitor placed c.in_ok-plan.plan c.requires.fits
+    (subst (IsCountedFrom monitor placed) (sym c.in_ok-plan.ensures)
+    (c.answered_columns_count.ensures.counted monitor placed c.deref.result.now c.blocks-blocks.ensures.rule c.requires.fits
+    (subst (AreColumns monitor placed) (sym c.deref.ensures.value) c.in_ok-columns.ensures)))
