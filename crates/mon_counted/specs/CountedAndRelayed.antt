@@ -19,7 +19,7 @@ pub record IsCountedIn (placed counted : Plan) (condition : ℕ) : Type 0 where
   pub was : condition_kind placed condition ≡ Some kinds.Broadcast
   pub kind : condition_kind counted condition ≡ Some kinds.Signal
 
--- what is counted is as the counted plan has it, and every other condition as the relayed one has it
+-- what is counted is as the counted plan has it, and all else as the relayed one has it
 pub record IsCountedAndRelayed (monitor : MonitorParts) (placed counted plan : Plan) : Type 0 where
   pub kept : plan.kept ≡ placed.kept
   pub counts : (condition : ℕ) → IsConditionNumber monitor condition

@@ -100,7 +100,8 @@ pair_if given monitor other =
     (cond (bytes_eq given.command (codes "simulate")) (simulate_if given monitor other)
     (cond (bytes_eq given.command (codes "run")) (run_if given monitor other)
     (cond (bytes_eq given.command (codes "recheck")) (plain_if given (recheck monitor other))
-    (cond (bytes_eq given.command (codes "block")) (counted_if given (block monitor other (choice_in given)))
+    (cond (bytes_eq given.command (codes "block"))
+    (counted_if given (block monitor other (choice_in given)))
     (cond (bytes_eq given.command (codes "audit")) (plain_if given (audit monitor other))
     None)))))
 
