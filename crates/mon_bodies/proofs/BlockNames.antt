@@ -78,21 +78,34 @@ marks_apart number other false false is are some more same = decimal_injective n
 
 word_joined : (word : List ℕ) → IsBlockWord word → is_joined word ≡ true
 word_joined word (inl is) = ap is_joined is
-word_joined word (inr is) = ap is_joined is
+word_joined word (inr (inl is)) = ap is_joined is
+word_joined word (inr (inr is)) = ap is_joined is
 
-other_words : (mark other : List ℕ) → codes "can" ++ mark ≡ codes "run" ++ other → ⊥
-other_words mark other same = omega (arith, ap first_or same)
+-- two words are these
+as_words : (word other mark other_mark first second : List ℕ) → word ≡ first → other ≡ second → word ++ mark ≡ other ++ other_mark → first ++ mark ≡ second ++ other_mark
+as_words word other mark other_mark first second is are same = ap (λ (l : List ℕ). l ++ mark) (sym is) ∙ same ∙ ap (λ (l : List ℕ). l ++ other_mark) are
+
+-- they are one
+one_word : (word other mark other_mark both : List ℕ) → word ≡ both → other ≡ both → word ++ mark ≡ other ++ other_mark → (word ≡ other) × (mark ≡ other_mark)
+one_word word other mark other_mark both is are same = (is ∙ sym are, append_cancel_left both mark other_mark (as_words word other mark other_mark both both is are same))
 
 heads_apart : (word other mark other_mark : List ℕ) → IsBlockWord word → IsBlockWord other
     → word ++ mark ≡ other ++ other_mark → (word ≡ other) × (mark ≡ other_mark)
-heads_apart word other mark other_mark (inl is) (inl are) same =
-    (is ∙ sym are, append_cancel_left (codes "can") mark other_mark (ap (λ (l : List ℕ). l ++ mark) (sym is) ∙ same ∙ ap (λ (l : List ℕ). l ++ other_mark) are))
-heads_apart word other mark other_mark (inr is) (inr are) same =
-    (is ∙ sym are, append_cancel_left (codes "run") mark other_mark (ap (λ (l : List ℕ). l ++ mark) (sym is) ∙ same ∙ ap (λ (l : List ℕ). l ++ other_mark) are))
-heads_apart word other mark other_mark (inl is) (inr are) same =
-    absurd (other_words mark other_mark (ap (λ (l : List ℕ). l ++ mark) (sym is) ∙ same ∙ ap (λ (l : List ℕ). l ++ other_mark) are))
-heads_apart word other mark other_mark (inr is) (inl are) same =
-    absurd (other_words other_mark mark (sym (ap (λ (l : List ℕ). l ++ mark) (sym is) ∙ same ∙ ap (λ (l : List ℕ). l ++ other_mark) are)))
+heads_apart word other mark other_mark (inl is) (inl are) same = one_word word other mark other_mark (codes "can") is are same
+heads_apart word other mark other_mark (inr (inl is)) (inr (inl are)) same = one_word word other mark other_mark (codes "run") is are same
+heads_apart word other mark other_mark (inr (inr is)) (inr (inr are)) same = one_word word other mark other_mark (codes "asleep") is are same
+heads_apart word other mark other_mark (inl is) (inr (inl are)) same =
+    absurd (omega (arith, ap first_or (as_words word other mark other_mark (codes "can") (codes "run") is are same)))
+heads_apart word other mark other_mark (inl is) (inr (inr are)) same =
+    absurd (omega (arith, ap first_or (as_words word other mark other_mark (codes "can") (codes "asleep") is are same)))
+heads_apart word other mark other_mark (inr (inl is)) (inl are) same =
+    absurd (omega (arith, ap first_or (as_words word other mark other_mark (codes "run") (codes "can") is are same)))
+heads_apart word other mark other_mark (inr (inl is)) (inr (inr are)) same =
+    absurd (omega (arith, ap first_or (as_words word other mark other_mark (codes "run") (codes "asleep") is are same)))
+heads_apart word other mark other_mark (inr (inr is)) (inl are) same =
+    absurd (omega (arith, ap first_or (as_words word other mark other_mark (codes "asleep") (codes "can") is are same)))
+heads_apart word other mark other_mark (inr (inr is)) (inr (inl are)) same =
+    absurd (omega (arith, ap first_or (as_words word other mark other_mark (codes "asleep") (codes "run") is are same)))
 
 -- ---- names
 

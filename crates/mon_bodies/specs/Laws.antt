@@ -5,10 +5,11 @@ use Rattle.mon_tree.specs.declared.tree.MonitorTree.{MonitorTree}
 use Rattle.mon_rust.specs.Words.{KEYWORDS}
 use Rattle.mon_bodies.specs.Blocks.{block_name}
 
--- The word of a test of a guard, and of the condition variable beside it, or of a function that
--- runs a body.
+-- The word of a test of a guard, and of the condition variable beside it, of a function that runs a
+-- body, or of how many sleep on the condition.
 abbrev pub IsBlockWord : List ℕ → Type 0
-IsBlockWord word = (word ≡ codes "can") ⊎ (word ≡ codes "run")
+IsBlockWord word =
+    (word ≡ codes "can") ⊎ ((word ≡ codes "run") ⊎ (word ≡ codes "asleep"))
 
 -- the number, from 1 and below 2^64, of a block among those of its method
 abbrev pub IsBlockNumber : ℕ → Type 0
@@ -26,10 +27,10 @@ BlockNamesStayApart =
     → block_name tree method word number ≡ block_name tree other_method other_word other_number
     → (word ≡ other_word) × (number ≡ other_number) × (method.name ≡ other_method.name)
 
--- what else stands where they do: the state at its start beside the functions of the state, and the
--- state beside the condition variables
+-- what else stands where they do: the state at its start beside the functions of the state, the
+-- state beside the counts, and both behind the mutex beside the condition variables
 abbrev pub BLOCK_WORDS : List (List ℕ)
-BLOCK_WORDS = codes "START" ∷ codes "state" ∷ []
+BLOCK_WORDS = codes "START" ∷ codes "state" ∷ codes "inner" ∷ []
 
 -- no name of a block is a keyword, or a word that stands beside it
 abbrev pub BlockNamesAreNoKeywords : Type 0

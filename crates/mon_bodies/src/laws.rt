@@ -3,7 +3,8 @@
 ghost use Rattle.mon_bodies.specs.Laws.{BlockNamesAreNoKeywords, BlockNamesStayApart};
 
 /// No two functions of the state that test guards (`can_put`) or run bodies (`run_put`) are named
-/// alike. Condition variables are named as tests are. None of these names is a keyword, or that of
+/// alike, and no two counts of those that sleep (`asleep_put`). Condition variables are named as
+/// tests are. None of these names is a keyword, or that of
 /// what else stands there. The methods of the type that threads share stand elsewhere, and have
 /// laws of their own (`mon_rust::names_stay_apart`).
 pub fn block_names_stay_apart()

@@ -17,8 +17,8 @@ KEYWORDS =
 -- other types of a module
 abbrev pub TYPE_WORDS : List (List ℕ)
 TYPE_WORDS =
-    codes "State" ∷ codes "Overflow" ∷ codes "Mutex" ∷ codes "MutexGuard" ∷ codes "Condvar" ∷
-    codes "PoisonError" ∷ codes "Default" ∷ codes "Result" ∷ codes "Option" ∷ []
+    codes "Inner" ∷ codes "State" ∷ codes "Overflow" ∷ codes "Mutex" ∷ codes "MutexGuard" ∷
+    codes "Condvar" ∷ codes "PoisonError" ∷ codes "Default" ∷ codes "Result" ∷ codes "Option" ∷ []
 
 -- the other function of a monitor's type
 abbrev pub MEMBER_WORDS : List (List ℕ)
@@ -27,5 +27,6 @@ MEMBER_WORDS = codes "new" ∷ []
 -- what else is named in the methods of a module
 abbrev pub INPUT_WORDS : List (List ℕ)
 INPUT_WORDS =
-    codes "state" ∷ codes "next" ∷ codes "answer" ∷ codes "lock" ∷ codes "wait" ∷ codes "narrow" ∷
-    codes "drop" ∷ codes "Ok" ∷ codes "Err" ∷ codes "Some" ∷ codes "None" ∷ codes "Overflow" ∷ []
+    codes "inner" ∷ codes "copy" ∷ codes "next" ∷ codes "answer" ∷ codes "lock" ∷ codes "wait" ∷
+    codes "narrow" ∷ codes "drop" ∷ codes "Ok" ∷ codes "Err" ∷ codes "Some" ∷ codes "None" ∷
+    codes "Overflow" ∷ []

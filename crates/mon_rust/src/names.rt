@@ -73,7 +73,8 @@ const KEYWORDS: [&[u8]; 52] = [
     b"yield",
 ];
 
-const TYPE_WORDS: [&[u8]; 9] = [
+const TYPE_WORDS: [&[u8]; 10] = [
+    b"Inner",
     b"State",
     b"Overflow",
     b"Mutex",
@@ -87,8 +88,9 @@ const TYPE_WORDS: [&[u8]; 9] = [
 
 const MEMBER_WORDS: [&[u8]; 1] = [b"new"];
 
-const INPUT_WORDS: [&[u8]; 12] = [
-    b"state",
+const INPUT_WORDS: [&[u8]; 13] = [
+    b"inner",
+    b"copy",
     b"next",
     b"answer",
     b"lock",
