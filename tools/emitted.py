@@ -15,8 +15,8 @@ from monitors import read_monitor  # noqa: E402
 from rust_bodies import (Scope, answer, argument_texts, can_name, doc_text,  # noqa: E402
                          function_texts, kind_text, run_name, trace)
 from rust_names import Names, lints  # noqa: E402
-from rust_texts import DEBUG, DEFAULT, HEAD, LOCK, NEW, OVERFLOW, SKIP, STATE  # noqa: E402
-from rust_texts import STATE_HEAD, USED, WAIT  # noqa: E402
+from rust_texts import DEBUG, DEFAULT, FIELDS, HEAD, INNER, LOCK, NEW, OVERFLOW  # noqa: E402
+from rust_texts import SKIP, STATE, STATE_HEAD, USED, WAIT  # noqa: E402
 from trees import read_tree  # noqa: E402
 
 ALWAYS = joined("all", [])
@@ -62,6 +62,10 @@ class Source:
         method, number, _ = self.blocks[self.first_block(condition)]
         return can_name(self.names, method, number)
 
+    def count_name(self, condition):
+        """Of those that sleep on a condition."""
+        return "asleep" + self.condition_name(condition).removeprefix("can")
+
     def shown(self, condition):
         return self.blocks[self.first_block(condition)][2].shown
 
@@ -86,14 +90,15 @@ def test_text(source, block):
 def call_text(source, block):
     method, number, _ = source.blocks[block]
     arguments = ", ".join(argument_texts(source.names, method, "&mut "))
-    return f"state.{run_name(source.names, method, number)}({arguments})"
+    return f"inner.state.{run_name(source.names, method, number)}({arguments})"
 
 
 def note_lines(source, note):
+    """A note is made where somebody slept, and its test was true, when the lock was given back."""
     condition, everyone, tested = note
-    name = source.condition_name(condition)
-    line = f"self.{name}.notify_{'all' if everyone else 'one'}();"
-    return [f"if state.{name}() {{", f"    {line}", "}"] if tested else [line]
+    name, test = source.condition_name(condition), f"copy.{source.count_name(condition)} > 0"
+    test += f" && copy.state.{name}()" if tested else ""
+    return [f"if {test} {{", f"    self.{name}.notify_{'all' if everyone else 'one'}();", "}"]
 
 
 def run_lines(source, block):
@@ -116,20 +121,19 @@ def test_lines(source, block, refusal):
     if not source.is_waited_on(condition):
         return []
     if refusal:
-        return [f"if !state.{test_text(source, block)} {{", f"    return {refusal};", "}"]
-    return [f"while !state.{test_text(source, block)} {{",
-            f"    state = wait(&self.{source.condition_name(condition)}, state);", "}"]
+        return [f"if !inner.state.{test_text(source, block)} {{", f"    return {refusal};", "}"]
+    count = f"    inner.{source.count_name(condition)}"
+    return [f"while !inner.state.{test_text(source, block)} {{", f"{count} += 1;",
+            f"    inner = wait(&self.{source.condition_name(condition)}, inner);", f"{count} -= 1;", "}"]
 
 
 def block_lines(source, block, refusal):
-    """From the lock to the notes; the notes that aren't tested come when the lock is given back."""
-    lines, notes = ["let mut state = lock(&self.state);"], source.notes[block]
+    """From the lock to the notes, which come when the lock is given back."""
+    lines, notes = ["let mut inner = lock(&self.inner);"], source.notes[block]
     lines += test_lines(source, block, refusal) + run_lines(source, block)
+    lines += ["let copy = *inner;"] * bool(notes) + ["drop(inner);"]
     for note in notes:
-        lines += note_lines(source, note) if note[2] else []
-    lines.append("drop(state);")
-    for note in notes:
-        lines += [] if note[2] else note_lines(source, note)
+        lines += note_lines(source, note)
     return lines
 
 
@@ -183,7 +187,7 @@ def module_text(source):
     parts = [HEAD, f"use std::sync::{used};\n\n",
              struct_text(source, kind, lint, waited), impl_text(source, kind, lint, waited),
              f"impl Default for {kind}{DEFAULT}", f"impl std::fmt::Debug for {kind}{DEBUG}",
-             f"{lint}struct State {{{state_fields(source)}}}\n\n", STATE,
+             inner_text(source, lint, waited), f"{FIELDS}{lint}struct State {{{state_fields(source)}}}\n\n", STATE,
              f"{lint}{STATE_HEAD}{starts(source)}}};\n", functions(source), "}\n"]
     own = [LOCK] * bool(source.blocks) + [WAIT] * bool(waited) + [OVERFLOW] * fails
     return "".join(parts + own)
@@ -194,13 +198,21 @@ def struct_text(source, kind, lint, waited):
                      f"    {source.condition_name(q)}: Condvar,\n" for q in waited)
     return (f"/// The monitor `{source.tree.name}`. Threads share it by reference. A call waits for its guard, "
             f"unless it tries.\n{lint}{USED}pub struct {kind} {{\n"
-            f"    state: Mutex<State>,\n{fields}}}\n\n")
+            f"    inner: Mutex<Inner>,\n{fields}}}\n\n")
+
+
+def inner_text(source, lint, waited):
+    """What the lock guards: the state, and a count of each condition that is waited for."""
+    counts = "".join(f"    {source.count_name(q)}: usize,\n" for q in waited)
+    return f"{INNER}{lint}struct Inner {{\n    state: State,\n{counts}}}\n\n"
 
 
 def impl_text(source, kind, lint, waited):
     constants = "".join(f"    pub const {source.names.constant(one.name)}: i64 = {one.start};\n"
                         for one in source.tree.declared if one.kind == "const")
+    counts = "".join(f"                {source.count_name(q)}: 0,\n" for q in waited)
     conditions = "".join(f"            {source.condition_name(q)}: Condvar::new(),\n" for q in waited)
+    conditions = f"{counts}            }}),\n{conditions}"
     methods, first = "", 0
     for method in source.tree.methods:
         methods += methods_text(source, method, first)

@@ -5,7 +5,7 @@ use std::sync::{Condvar, Mutex, MutexGuard, PoisonError};
 /// The monitor `Account`. Threads share it by reference. A call waits for its guard, unless it tries.
 #[allow(dead_code, non_camel_case_types, clippy::upper_case_acronyms)]
 pub struct Account {
-    state: Mutex<State>,
+    inner: Mutex<Inner>,
     /// For calls that wait until `!frozen`.
     can_deposit: Condvar,
     /// For calls that wait until `amount <= balance && !frozen`.
@@ -23,7 +23,12 @@ impl Account {
     #[must_use]
     pub const fn new() -> Self {
         Self {
-            state: Mutex::new(State::START),
+            inner: Mutex::new(Inner {
+                state: State::START,
+                asleep_deposit: 0,
+                asleep_withdraw: 0,
+                asleep_thaw: 0,
+            }),
             can_deposit: Condvar::new(),
             can_withdraw: Condvar::new(),
             can_thaw: Condvar::new(),
@@ -38,16 +43,21 @@ impl Account {
     ///
     /// [`Overflow`] where a number would leave 64 bits. Then nothing changes.
     pub fn deposit(&self, amount: i64) -> Result<i64, Overflow> {
-        let mut state = lock(&self.state);
-        while !state.can_deposit() {
-            state = wait(&self.can_deposit, state);
+        let mut inner = lock(&self.inner);
+        while !inner.state.can_deposit() {
+            inner.asleep_deposit += 1;
+            inner = wait(&self.can_deposit, inner);
+            inner.asleep_deposit -= 1;
         }
-        let Ok(answer) = state.run_deposit(amount) else {
+        let Ok(answer) = inner.state.run_deposit(amount) else {
             self.can_deposit.notify_one();
             return Err(Overflow);
         };
-        drop(state);
-        self.can_withdraw.notify_all();
+        let copy = *inner;
+        drop(inner);
+        if copy.asleep_withdraw > 0 {
+            self.can_withdraw.notify_all();
+        }
         Ok(answer)
     }
 
@@ -59,16 +69,19 @@ impl Account {
     ///
     /// [`Overflow`] where a number would leave 64 bits. Then nothing changes.
     pub fn try_deposit(&self, amount: i64) -> Result<Option<i64>, Overflow> {
-        let mut state = lock(&self.state);
-        if !state.can_deposit() {
+        let mut inner = lock(&self.inner);
+        if !inner.state.can_deposit() {
             return Ok(None);
         }
-        let Ok(answer) = state.run_deposit(amount) else {
+        let Ok(answer) = inner.state.run_deposit(amount) else {
             self.can_deposit.notify_one();
             return Err(Overflow);
         };
-        drop(state);
-        self.can_withdraw.notify_all();
+        let copy = *inner;
+        drop(inner);
+        if copy.asleep_withdraw > 0 {
+            self.can_withdraw.notify_all();
+        }
         Ok(Some(answer))
     }
 
@@ -81,19 +94,24 @@ impl Account {
     ///
     /// [`Overflow`] where a number would leave 64 bits. Then nothing changes.
     pub fn withdraw(&self, amount: i64) -> Result<i64, Overflow> {
-        let mut state = lock(&self.state);
-        while !state.can_withdraw(amount) {
-            state = wait(&self.can_withdraw, state);
+        let mut inner = lock(&self.inner);
+        while !inner.state.can_withdraw(amount) {
+            inner.asleep_withdraw += 1;
+            inner = wait(&self.can_withdraw, inner);
+            inner.asleep_withdraw -= 1;
         }
-        let Ok(answer) = state.run_withdraw(amount) else {
+        let Ok(answer) = inner.state.run_withdraw(amount) else {
             self.can_withdraw.notify_one();
             return Err(Overflow);
         };
-        if state.can_thaw() {
+        let copy = *inner;
+        drop(inner);
+        if copy.asleep_withdraw > 0 {
+            self.can_withdraw.notify_all();
+        }
+        if copy.asleep_thaw > 0 && copy.state.can_thaw() {
             self.can_thaw.notify_one();
         }
-        drop(state);
-        self.can_withdraw.notify_all();
         Ok(answer)
     }
 
@@ -106,19 +124,22 @@ impl Account {
     ///
     /// [`Overflow`] where a number would leave 64 bits. Then nothing changes.
     pub fn try_withdraw(&self, amount: i64) -> Result<Option<i64>, Overflow> {
-        let mut state = lock(&self.state);
-        if !state.can_withdraw(amount) {
+        let mut inner = lock(&self.inner);
+        if !inner.state.can_withdraw(amount) {
             return Ok(None);
         }
-        let Ok(answer) = state.run_withdraw(amount) else {
+        let Ok(answer) = inner.state.run_withdraw(amount) else {
             self.can_withdraw.notify_one();
             return Err(Overflow);
         };
-        if state.can_thaw() {
+        let copy = *inner;
+        drop(inner);
+        if copy.asleep_withdraw > 0 {
+            self.can_withdraw.notify_all();
+        }
+        if copy.asleep_thaw > 0 && copy.state.can_thaw() {
             self.can_thaw.notify_one();
         }
-        drop(state);
-        self.can_withdraw.notify_all();
         Ok(Some(answer))
     }
 
@@ -127,14 +148,21 @@ impl Account {
     /// Wakes all calls that wait until `!frozen`.
     /// Wakes all calls that wait until `amount <= balance && !frozen`.
     pub fn thaw(&self) {
-        let mut state = lock(&self.state);
-        while !state.can_thaw() {
-            state = wait(&self.can_thaw, state);
+        let mut inner = lock(&self.inner);
+        while !inner.state.can_thaw() {
+            inner.asleep_thaw += 1;
+            inner = wait(&self.can_thaw, inner);
+            inner.asleep_thaw -= 1;
         }
-        state.run_thaw();
-        drop(state);
-        self.can_deposit.notify_all();
-        self.can_withdraw.notify_all();
+        inner.state.run_thaw();
+        let copy = *inner;
+        drop(inner);
+        if copy.asleep_deposit > 0 {
+            self.can_deposit.notify_all();
+        }
+        if copy.asleep_withdraw > 0 {
+            self.can_withdraw.notify_all();
+        }
     }
 
     /// Answers `None` where `frozen` is false.
@@ -142,14 +170,19 @@ impl Account {
     /// Wakes all calls that wait until `!frozen`.
     /// Wakes all calls that wait until `amount <= balance && !frozen`.
     pub fn try_thaw(&self) -> Option<()> {
-        let mut state = lock(&self.state);
-        if !state.can_thaw() {
+        let mut inner = lock(&self.inner);
+        if !inner.state.can_thaw() {
             return None;
         }
-        state.run_thaw();
-        drop(state);
-        self.can_deposit.notify_all();
-        self.can_withdraw.notify_all();
+        inner.state.run_thaw();
+        let copy = *inner;
+        drop(inner);
+        if copy.asleep_deposit > 0 {
+            self.can_deposit.notify_all();
+        }
+        if copy.asleep_withdraw > 0 {
+            self.can_withdraw.notify_all();
+        }
         Some(())
     }
 }
@@ -162,14 +195,25 @@ impl Default for Account {
 
 impl std::fmt::Debug for Account {
     fn fmt(&self, f: &mut std::fmt::Formatter<'_>) -> std::fmt::Result {
-        let state = *self
-            .state
+        let state = self
+            .inner
             .lock()
-            .unwrap_or_else(std::sync::PoisonError::into_inner);
+            .unwrap_or_else(std::sync::PoisonError::into_inner)
+            .state;
         f.debug_struct(std::any::type_name::<Self>())
             .field("state", &state)
             .finish_non_exhaustive()
     }
+}
+
+/// What the mutex guards: the fields, and how many calls sleep on each condition.
+#[derive(Clone, Copy)]
+#[allow(dead_code)]
+struct Inner {
+    state: State,
+    asleep_deposit: usize,
+    asleep_withdraw: usize,
+    asleep_thaw: usize,
 }
 
 /// The fields of the monitor.
@@ -228,15 +272,15 @@ impl State {
     }
 }
 
-/// Locks the state. Nothing panics while it is locked, so there is no poison to heed.
-fn lock(state: &Mutex<State>) -> MutexGuard<'_, State> {
-    state.lock().unwrap_or_else(PoisonError::into_inner)
+/// Locks the monitor. Nothing panics while it is locked, so there is no poison to heed.
+fn lock(inner: &Mutex<Inner>) -> MutexGuard<'_, Inner> {
+    inner.lock().unwrap_or_else(PoisonError::into_inner)
 }
 
 /// Gives the lock back and waits on the condition, in one step, and takes the lock again.
-fn wait<'a>(condition: &Condvar, state: MutexGuard<'a, State>) -> MutexGuard<'a, State> {
+fn wait<'a>(condition: &Condvar, inner: MutexGuard<'a, Inner>) -> MutexGuard<'a, Inner> {
     condition
-        .wait(state)
+        .wait(inner)
         .unwrap_or_else(PoisonError::into_inner)
 }
 

@@ -5,7 +5,7 @@ use std::sync::{Condvar, Mutex, MutexGuard, PoisonError};
 /// The monitor `Barrier`. Threads share it by reference. A call waits for its guard, unless it tries.
 #[allow(dead_code, non_camel_case_types, clippy::upper_case_acronyms)]
 pub struct Barrier {
-    state: Mutex<State>,
+    inner: Mutex<Inner>,
     /// For calls that wait until `!open`.
     can_arrive: Condvar,
     /// For calls that wait until `open`.
@@ -21,7 +21,11 @@ impl Barrier {
     #[must_use]
     pub const fn new() -> Self {
         Self {
-            state: Mutex::new(State::START),
+            inner: Mutex::new(Inner {
+                state: State::START,
+                asleep_arrive: 0,
+                asleep_leave: 0,
+            }),
             can_arrive: Condvar::new(),
             can_leave: Condvar::new(),
         }
@@ -35,18 +39,21 @@ impl Barrier {
     ///
     /// [`Overflow`] where a number would leave 64 bits. Then nothing changes.
     pub fn arrive(&self) -> Result<(), Overflow> {
-        let mut state = lock(&self.state);
-        while !state.can_arrive() {
-            state = wait(&self.can_arrive, state);
+        let mut inner = lock(&self.inner);
+        while !inner.state.can_arrive() {
+            inner.asleep_arrive += 1;
+            inner = wait(&self.can_arrive, inner);
+            inner.asleep_arrive -= 1;
         }
-        let Ok(()) = state.run_arrive() else {
+        let Ok(()) = inner.state.run_arrive() else {
             self.can_arrive.notify_one();
             return Err(Overflow);
         };
-        if state.can_leave() {
+        let copy = *inner;
+        drop(inner);
+        if copy.asleep_leave > 0 && copy.state.can_leave() {
             self.can_leave.notify_all();
         }
-        drop(state);
         Ok(())
     }
 
@@ -58,18 +65,19 @@ impl Barrier {
     ///
     /// [`Overflow`] where a number would leave 64 bits. Then nothing changes.
     pub fn try_arrive(&self) -> Result<Option<()>, Overflow> {
-        let mut state = lock(&self.state);
-        if !state.can_arrive() {
+        let mut inner = lock(&self.inner);
+        if !inner.state.can_arrive() {
             return Ok(None);
         }
-        let Ok(()) = state.run_arrive() else {
+        let Ok(()) = inner.state.run_arrive() else {
             self.can_arrive.notify_one();
             return Err(Overflow);
         };
-        if state.can_leave() {
+        let copy = *inner;
+        drop(inner);
+        if copy.asleep_leave > 0 && copy.state.can_leave() {
             self.can_leave.notify_all();
         }
-        drop(state);
         Ok(Some(()))
     }
 
@@ -81,18 +89,21 @@ impl Barrier {
     ///
     /// [`Overflow`] where a number would leave 64 bits. Then nothing changes.
     pub fn leave(&self) -> Result<i64, Overflow> {
-        let mut state = lock(&self.state);
-        while !state.can_leave() {
-            state = wait(&self.can_leave, state);
+        let mut inner = lock(&self.inner);
+        while !inner.state.can_leave() {
+            inner.asleep_leave += 1;
+            inner = wait(&self.can_leave, inner);
+            inner.asleep_leave -= 1;
         }
-        let Ok(answer) = state.run_leave() else {
+        let Ok(answer) = inner.state.run_leave() else {
             self.can_leave.notify_one();
             return Err(Overflow);
         };
-        if state.can_arrive() {
+        let copy = *inner;
+        drop(inner);
+        if copy.asleep_arrive > 0 && copy.state.can_arrive() {
             self.can_arrive.notify_all();
         }
-        drop(state);
         Ok(answer)
     }
 
@@ -104,18 +115,19 @@ impl Barrier {
     ///
     /// [`Overflow`] where a number would leave 64 bits. Then nothing changes.
     pub fn try_leave(&self) -> Result<Option<i64>, Overflow> {
-        let mut state = lock(&self.state);
-        if !state.can_leave() {
+        let mut inner = lock(&self.inner);
+        if !inner.state.can_leave() {
             return Ok(None);
         }
-        let Ok(answer) = state.run_leave() else {
+        let Ok(answer) = inner.state.run_leave() else {
             self.can_leave.notify_one();
             return Err(Overflow);
         };
-        if state.can_arrive() {
+        let copy = *inner;
+        drop(inner);
+        if copy.asleep_arrive > 0 && copy.state.can_arrive() {
             self.can_arrive.notify_all();
         }
-        drop(state);
         Ok(Some(answer))
     }
 }
@@ -128,14 +140,24 @@ impl Default for Barrier {
 
 impl std::fmt::Debug for Barrier {
     fn fmt(&self, f: &mut std::fmt::Formatter<'_>) -> std::fmt::Result {
-        let state = *self
-            .state
+        let state = self
+            .inner
             .lock()
-            .unwrap_or_else(std::sync::PoisonError::into_inner);
+            .unwrap_or_else(std::sync::PoisonError::into_inner)
+            .state;
         f.debug_struct(std::any::type_name::<Self>())
             .field("state", &state)
             .finish_non_exhaustive()
     }
+}
+
+/// What the mutex guards: the fields, and how many calls sleep on each condition.
+#[derive(Clone, Copy)]
+#[allow(dead_code)]
+struct Inner {
+    state: State,
+    asleep_arrive: usize,
+    asleep_leave: usize,
 }
 
 /// The fields of the monitor.
@@ -180,15 +202,15 @@ impl State {
     }
 }
 
-/// Locks the state. Nothing panics while it is locked, so there is no poison to heed.
-fn lock(state: &Mutex<State>) -> MutexGuard<'_, State> {
-    state.lock().unwrap_or_else(PoisonError::into_inner)
+/// Locks the monitor. Nothing panics while it is locked, so there is no poison to heed.
+fn lock(inner: &Mutex<Inner>) -> MutexGuard<'_, Inner> {
+    inner.lock().unwrap_or_else(PoisonError::into_inner)
 }
 
 /// Gives the lock back and waits on the condition, in one step, and takes the lock again.
-fn wait<'a>(condition: &Condvar, state: MutexGuard<'a, State>) -> MutexGuard<'a, State> {
+fn wait<'a>(condition: &Condvar, inner: MutexGuard<'a, Inner>) -> MutexGuard<'a, Inner> {
     condition
-        .wait(state)
+        .wait(inner)
         .unwrap_or_else(PoisonError::into_inner)
 }
 

@@ -5,7 +5,7 @@ use std::sync::{Condvar, Mutex, MutexGuard, PoisonError};
 /// The monitor `Barrier`. Threads share it by reference. A call waits for its guard, unless it tries.
 #[allow(dead_code, non_camel_case_types, clippy::upper_case_acronyms)]
 pub struct Barrier {
-    state: Mutex<State>,
+    inner: Mutex<Inner>,
     /// For calls that wait until `!open && waiting < PARTIES`.
     can_arrive: Condvar,
     /// For calls that wait until `open && waiting > 0`.
@@ -25,7 +25,13 @@ impl Barrier {
     #[must_use]
     pub const fn new() -> Self {
         Self {
-            state: Mutex::new(State::START),
+            inner: Mutex::new(Inner {
+                state: State::START,
+                asleep_arrive: 0,
+                asleep_leave: 0,
+                asleep_dismiss: 0,
+                asleep_watch: 0,
+            }),
             can_arrive: Condvar::new(),
             can_leave: Condvar::new(),
             can_dismiss: Condvar::new(),
@@ -42,21 +48,24 @@ impl Barrier {
     ///
     /// [`Overflow`] where a number would leave 64 bits. Then nothing changes.
     pub fn arrive(&self) -> Result<i64, Overflow> {
-        let mut state = lock(&self.state);
-        while !state.can_arrive() {
-            state = wait(&self.can_arrive, state);
+        let mut inner = lock(&self.inner);
+        while !inner.state.can_arrive() {
+            inner.asleep_arrive += 1;
+            inner = wait(&self.can_arrive, inner);
+            inner.asleep_arrive -= 1;
         }
-        let Ok(answer) = state.run_arrive() else {
+        let Ok(answer) = inner.state.run_arrive() else {
             self.can_arrive.notify_one();
             return Err(Overflow);
         };
-        if state.can_leave() {
+        let copy = *inner;
+        drop(inner);
+        if copy.asleep_leave > 0 && copy.state.can_leave() {
             self.can_leave.notify_all();
         }
-        if state.can_dismiss() {
+        if copy.asleep_dismiss > 0 && copy.state.can_dismiss() {
             self.can_dismiss.notify_one();
         }
-        drop(state);
         Ok(answer)
     }
 
@@ -69,21 +78,22 @@ impl Barrier {
     ///
     /// [`Overflow`] where a number would leave 64 bits. Then nothing changes.
     pub fn try_arrive(&self) -> Result<Option<i64>, Overflow> {
-        let mut state = lock(&self.state);
-        if !state.can_arrive() {
+        let mut inner = lock(&self.inner);
+        if !inner.state.can_arrive() {
             return Ok(None);
         }
-        let Ok(answer) = state.run_arrive() else {
+        let Ok(answer) = inner.state.run_arrive() else {
             self.can_arrive.notify_one();
             return Err(Overflow);
         };
-        if state.can_leave() {
+        let copy = *inner;
+        drop(inner);
+        if copy.asleep_leave > 0 && copy.state.can_leave() {
             self.can_leave.notify_all();
         }
-        if state.can_dismiss() {
+        if copy.asleep_dismiss > 0 && copy.state.can_dismiss() {
             self.can_dismiss.notify_one();
         }
-        drop(state);
         Ok(Some(answer))
     }
 
@@ -96,21 +106,24 @@ impl Barrier {
     ///
     /// [`Overflow`] where a number would leave 64 bits. Then nothing changes.
     pub fn leave(&self) -> Result<i64, Overflow> {
-        let mut state = lock(&self.state);
-        while !state.can_leave() {
-            state = wait(&self.can_leave, state);
+        let mut inner = lock(&self.inner);
+        while !inner.state.can_leave() {
+            inner.asleep_leave += 1;
+            inner = wait(&self.can_leave, inner);
+            inner.asleep_leave -= 1;
         }
-        let Ok(answer) = state.run_leave() else {
+        let Ok(answer) = inner.state.run_leave() else {
             self.can_leave.notify_one();
             return Err(Overflow);
         };
-        if state.can_arrive() {
+        let copy = *inner;
+        drop(inner);
+        if copy.asleep_arrive > 0 && copy.state.can_arrive() {
             self.can_arrive.notify_all();
         }
-        if state.can_watch() {
+        if copy.asleep_watch > 0 && copy.state.can_watch() {
             self.can_watch.notify_all();
         }
-        drop(state);
         Ok(answer)
     }
 
@@ -123,21 +136,22 @@ impl Barrier {
     ///
     /// [`Overflow`] where a number would leave 64 bits. Then nothing changes.
     pub fn try_leave(&self) -> Result<Option<i64>, Overflow> {
-        let mut state = lock(&self.state);
-        if !state.can_leave() {
+        let mut inner = lock(&self.inner);
+        if !inner.state.can_leave() {
             return Ok(None);
         }
-        let Ok(answer) = state.run_leave() else {
+        let Ok(answer) = inner.state.run_leave() else {
             self.can_leave.notify_one();
             return Err(Overflow);
         };
-        if state.can_arrive() {
+        let copy = *inner;
+        drop(inner);
+        if copy.asleep_arrive > 0 && copy.state.can_arrive() {
             self.can_arrive.notify_all();
         }
-        if state.can_watch() {
+        if copy.asleep_watch > 0 && copy.state.can_watch() {
             self.can_watch.notify_all();
         }
-        drop(state);
         Ok(Some(answer))
     }
 
@@ -146,14 +160,21 @@ impl Barrier {
     /// Wakes all calls that wait until `!open && waiting < PARTIES`.
     /// Wakes all calls that wait until `waiting == 0 && !open`.
     pub fn dismiss(&self) {
-        let mut state = lock(&self.state);
-        while !state.can_dismiss() {
-            state = wait(&self.can_dismiss, state);
+        let mut inner = lock(&self.inner);
+        while !inner.state.can_dismiss() {
+            inner.asleep_dismiss += 1;
+            inner = wait(&self.can_dismiss, inner);
+            inner.asleep_dismiss -= 1;
         }
-        state.run_dismiss();
-        drop(state);
-        self.can_arrive.notify_all();
-        self.can_watch.notify_all();
+        inner.state.run_dismiss();
+        let copy = *inner;
+        drop(inner);
+        if copy.asleep_arrive > 0 {
+            self.can_arrive.notify_all();
+        }
+        if copy.asleep_watch > 0 {
+            self.can_watch.notify_all();
+        }
     }
 
     /// Answers `None` where `waiting == PARTIES && open` is false.
@@ -161,14 +182,19 @@ impl Barrier {
     /// Wakes all calls that wait until `!open && waiting < PARTIES`.
     /// Wakes all calls that wait until `waiting == 0 && !open`.
     pub fn try_dismiss(&self) -> Option<()> {
-        let mut state = lock(&self.state);
-        if !state.can_dismiss() {
+        let mut inner = lock(&self.inner);
+        if !inner.state.can_dismiss() {
             return None;
         }
-        state.run_dismiss();
-        drop(state);
-        self.can_arrive.notify_all();
-        self.can_watch.notify_all();
+        inner.state.run_dismiss();
+        let copy = *inner;
+        drop(inner);
+        if copy.asleep_arrive > 0 {
+            self.can_arrive.notify_all();
+        }
+        if copy.asleep_watch > 0 {
+            self.can_watch.notify_all();
+        }
         Some(())
     }
 
@@ -176,24 +202,26 @@ impl Barrier {
     ///
     /// Wakes nobody.
     pub fn watch(&self) {
-        let mut state = lock(&self.state);
-        while !state.can_watch() {
-            state = wait(&self.can_watch, state);
+        let mut inner = lock(&self.inner);
+        while !inner.state.can_watch() {
+            inner.asleep_watch += 1;
+            inner = wait(&self.can_watch, inner);
+            inner.asleep_watch -= 1;
         }
-        state.run_watch();
-        drop(state);
+        inner.state.run_watch();
+        drop(inner);
     }
 
     /// Answers `None` where `waiting == 0 && !open` is false.
     ///
     /// Wakes nobody.
     pub fn try_watch(&self) -> Option<()> {
-        let mut state = lock(&self.state);
-        if !state.can_watch() {
+        let mut inner = lock(&self.inner);
+        if !inner.state.can_watch() {
             return None;
         }
-        state.run_watch();
-        drop(state);
+        inner.state.run_watch();
+        drop(inner);
         Some(())
     }
 }
@@ -206,14 +234,26 @@ impl Default for Barrier {
 
 impl std::fmt::Debug for Barrier {
     fn fmt(&self, f: &mut std::fmt::Formatter<'_>) -> std::fmt::Result {
-        let state = *self
-            .state
+        let state = self
+            .inner
             .lock()
-            .unwrap_or_else(std::sync::PoisonError::into_inner);
+            .unwrap_or_else(std::sync::PoisonError::into_inner)
+            .state;
         f.debug_struct(std::any::type_name::<Self>())
             .field("state", &state)
             .finish_non_exhaustive()
     }
+}
+
+/// What the mutex guards: the fields, and how many calls sleep on each condition.
+#[derive(Clone, Copy)]
+#[allow(dead_code)]
+struct Inner {
+    state: State,
+    asleep_arrive: usize,
+    asleep_leave: usize,
+    asleep_dismiss: usize,
+    asleep_watch: usize,
 }
 
 /// The fields of the monitor.
@@ -271,15 +311,15 @@ impl State {
     fn run_watch(&mut self) {}
 }
 
-/// Locks the state. Nothing panics while it is locked, so there is no poison to heed.
-fn lock(state: &Mutex<State>) -> MutexGuard<'_, State> {
-    state.lock().unwrap_or_else(PoisonError::into_inner)
+/// Locks the monitor. Nothing panics while it is locked, so there is no poison to heed.
+fn lock(inner: &Mutex<Inner>) -> MutexGuard<'_, Inner> {
+    inner.lock().unwrap_or_else(PoisonError::into_inner)
 }
 
 /// Gives the lock back and waits on the condition, in one step, and takes the lock again.
-fn wait<'a>(condition: &Condvar, state: MutexGuard<'a, State>) -> MutexGuard<'a, State> {
+fn wait<'a>(condition: &Condvar, inner: MutexGuard<'a, Inner>) -> MutexGuard<'a, Inner> {
     condition
-        .wait(state)
+        .wait(inner)
         .unwrap_or_else(PoisonError::into_inner)
 }
 

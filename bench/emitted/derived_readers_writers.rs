@@ -5,7 +5,7 @@ use std::sync::{Condvar, Mutex, MutexGuard, PoisonError};
 /// The monitor `ReadersWriters`. Threads share it by reference. A call waits for its guard, unless it tries.
 #[allow(dead_code, non_camel_case_types, clippy::upper_case_acronyms)]
 pub struct ReadersWriters {
-    state: Mutex<State>,
+    inner: Mutex<Inner>,
     /// For calls that wait until `!writing && queued == 0 && readers < MOST`.
     can_start_read: Condvar,
     /// For calls that wait until `readers > 0`.
@@ -27,7 +27,14 @@ impl ReadersWriters {
     #[must_use]
     pub const fn new() -> Self {
         Self {
-            state: Mutex::new(State::START),
+            inner: Mutex::new(Inner {
+                state: State::START,
+                asleep_start_read: 0,
+                asleep_end_read: 0,
+                asleep_start_write: 0,
+                asleep_end_write: 0,
+                asleep_cancel: 0,
+            }),
             can_start_read: Condvar::new(),
             can_end_read: Condvar::new(),
             can_start_write: Condvar::new(),
@@ -44,16 +51,21 @@ impl ReadersWriters {
     ///
     /// [`Overflow`] where a number would leave 64 bits. Then nothing changes.
     pub fn start_read(&self) -> Result<(), Overflow> {
-        let mut state = lock(&self.state);
-        while !state.can_start_read() {
-            state = wait(&self.can_start_read, state);
+        let mut inner = lock(&self.inner);
+        while !inner.state.can_start_read() {
+            inner.asleep_start_read += 1;
+            inner = wait(&self.can_start_read, inner);
+            inner.asleep_start_read -= 1;
         }
-        let Ok(()) = state.run_start_read() else {
+        let Ok(()) = inner.state.run_start_read() else {
             self.can_start_read.notify_one();
             return Err(Overflow);
         };
-        drop(state);
-        self.can_end_read.notify_all();
+        let copy = *inner;
+        drop(inner);
+        if copy.asleep_end_read > 0 {
+            self.can_end_read.notify_all();
+        }
         Ok(())
     }
 
@@ -65,16 +77,19 @@ impl ReadersWriters {
     ///
     /// [`Overflow`] where a number would leave 64 bits. Then nothing changes.
     pub fn try_start_read(&self) -> Result<Option<()>, Overflow> {
-        let mut state = lock(&self.state);
-        if !state.can_start_read() {
+        let mut inner = lock(&self.inner);
+        if !inner.state.can_start_read() {
             return Ok(None);
         }
-        let Ok(()) = state.run_start_read() else {
+        let Ok(()) = inner.state.run_start_read() else {
             self.can_start_read.notify_one();
             return Err(Overflow);
         };
-        drop(state);
-        self.can_end_read.notify_all();
+        let copy = *inner;
+        drop(inner);
+        if copy.asleep_end_read > 0 {
+            self.can_end_read.notify_all();
+        }
         Ok(Some(()))
     }
 
@@ -87,21 +102,24 @@ impl ReadersWriters {
     ///
     /// [`Overflow`] where a number would leave 64 bits. Then nothing changes.
     pub fn end_read(&self) -> Result<(), Overflow> {
-        let mut state = lock(&self.state);
-        while !state.can_end_read() {
-            state = wait(&self.can_end_read, state);
+        let mut inner = lock(&self.inner);
+        while !inner.state.can_end_read() {
+            inner.asleep_end_read += 1;
+            inner = wait(&self.can_end_read, inner);
+            inner.asleep_end_read -= 1;
         }
-        let Ok(()) = state.run_end_read() else {
+        let Ok(()) = inner.state.run_end_read() else {
             self.can_end_read.notify_one();
             return Err(Overflow);
         };
-        if state.can_start_read() {
+        let copy = *inner;
+        drop(inner);
+        if copy.asleep_start_read > 0 && copy.state.can_start_read() {
             self.can_start_read.notify_all();
         }
-        if state.can_start_write() {
+        if copy.asleep_start_write > 0 && copy.state.can_start_write() {
             self.can_start_write.notify_one();
         }
-        drop(state);
         Ok(())
     }
 
@@ -114,21 +132,22 @@ impl ReadersWriters {
     ///
     /// [`Overflow`] where a number would leave 64 bits. Then nothing changes.
     pub fn try_end_read(&self) -> Result<Option<()>, Overflow> {
-        let mut state = lock(&self.state);
-        if !state.can_end_read() {
+        let mut inner = lock(&self.inner);
+        if !inner.state.can_end_read() {
             return Ok(None);
         }
-        let Ok(()) = state.run_end_read() else {
+        let Ok(()) = inner.state.run_end_read() else {
             self.can_end_read.notify_one();
             return Err(Overflow);
         };
-        if state.can_start_read() {
+        let copy = *inner;
+        drop(inner);
+        if copy.asleep_start_read > 0 && copy.state.can_start_read() {
             self.can_start_read.notify_all();
         }
-        if state.can_start_write() {
+        if copy.asleep_start_write > 0 && copy.state.can_start_write() {
             self.can_start_write.notify_one();
         }
-        drop(state);
         Ok(Some(()))
     }
 
@@ -141,13 +160,16 @@ impl ReadersWriters {
     ///
     /// [`Overflow`] where a number would leave 64 bits. Then nothing changes.
     pub fn ask(&self) -> Result<(), Overflow> {
-        let mut state = lock(&self.state);
-        state.run_ask()?;
-        if state.can_start_write() {
+        let mut inner = lock(&self.inner);
+        inner.state.run_ask()?;
+        let copy = *inner;
+        drop(inner);
+        if copy.asleep_start_write > 0 && copy.state.can_start_write() {
             self.can_start_write.notify_one();
         }
-        drop(state);
-        self.can_cancel.notify_all();
+        if copy.asleep_cancel > 0 {
+            self.can_cancel.notify_all();
+        }
         Ok(())
     }
 
@@ -159,16 +181,21 @@ impl ReadersWriters {
     ///
     /// [`Overflow`] where a number would leave 64 bits. Then nothing changes.
     pub fn start_write(&self) -> Result<(), Overflow> {
-        let mut state = lock(&self.state);
-        while !state.can_start_write() {
-            state = wait(&self.can_start_write, state);
+        let mut inner = lock(&self.inner);
+        while !inner.state.can_start_write() {
+            inner.asleep_start_write += 1;
+            inner = wait(&self.can_start_write, inner);
+            inner.asleep_start_write -= 1;
         }
-        let Ok(()) = state.run_start_write() else {
+        let Ok(()) = inner.state.run_start_write() else {
             self.can_start_write.notify_one();
             return Err(Overflow);
         };
-        drop(state);
-        self.can_end_write.notify_one();
+        let copy = *inner;
+        drop(inner);
+        if copy.asleep_end_write > 0 {
+            self.can_end_write.notify_one();
+        }
         Ok(())
     }
 
@@ -180,16 +207,19 @@ impl ReadersWriters {
     ///
     /// [`Overflow`] where a number would leave 64 bits. Then nothing changes.
     pub fn try_start_write(&self) -> Result<Option<()>, Overflow> {
-        let mut state = lock(&self.state);
-        if !state.can_start_write() {
+        let mut inner = lock(&self.inner);
+        if !inner.state.can_start_write() {
             return Ok(None);
         }
-        let Ok(()) = state.run_start_write() else {
+        let Ok(()) = inner.state.run_start_write() else {
             self.can_start_write.notify_one();
             return Err(Overflow);
         };
-        drop(state);
-        self.can_end_write.notify_one();
+        let copy = *inner;
+        drop(inner);
+        if copy.asleep_end_write > 0 {
+            self.can_end_write.notify_one();
+        }
         Ok(Some(()))
     }
 
@@ -198,18 +228,21 @@ impl ReadersWriters {
     /// Wakes all calls that wait until `!writing && queued == 0 && readers < MOST`, where that now holds.
     /// Wakes one call that waits until `readers == 0 && !writing && queued > 0`, where that now holds.
     pub fn end_write(&self) {
-        let mut state = lock(&self.state);
-        while !state.can_end_write() {
-            state = wait(&self.can_end_write, state);
+        let mut inner = lock(&self.inner);
+        while !inner.state.can_end_write() {
+            inner.asleep_end_write += 1;
+            inner = wait(&self.can_end_write, inner);
+            inner.asleep_end_write -= 1;
         }
-        state.run_end_write();
-        if state.can_start_read() {
+        inner.state.run_end_write();
+        let copy = *inner;
+        drop(inner);
+        if copy.asleep_start_read > 0 && copy.state.can_start_read() {
             self.can_start_read.notify_all();
         }
-        if state.can_start_write() {
+        if copy.asleep_start_write > 0 && copy.state.can_start_write() {
             self.can_start_write.notify_one();
         }
-        drop(state);
     }
 
     /// Answers `None` where `writing` is false.
@@ -217,18 +250,19 @@ impl ReadersWriters {
     /// Wakes all calls that wait until `!writing && queued == 0 && readers < MOST`, where that now holds.
     /// Wakes one call that waits until `readers == 0 && !writing && queued > 0`, where that now holds.
     pub fn try_end_write(&self) -> Option<()> {
-        let mut state = lock(&self.state);
-        if !state.can_end_write() {
+        let mut inner = lock(&self.inner);
+        if !inner.state.can_end_write() {
             return None;
         }
-        state.run_end_write();
-        if state.can_start_read() {
+        inner.state.run_end_write();
+        let copy = *inner;
+        drop(inner);
+        if copy.asleep_start_read > 0 && copy.state.can_start_read() {
             self.can_start_read.notify_all();
         }
-        if state.can_start_write() {
+        if copy.asleep_start_write > 0 && copy.state.can_start_write() {
             self.can_start_write.notify_one();
         }
-        drop(state);
         Some(())
     }
 
@@ -240,18 +274,21 @@ impl ReadersWriters {
     ///
     /// [`Overflow`] where a number would leave 64 bits. Then nothing changes.
     pub fn cancel(&self) -> Result<(), Overflow> {
-        let mut state = lock(&self.state);
-        while !state.can_cancel() {
-            state = wait(&self.can_cancel, state);
+        let mut inner = lock(&self.inner);
+        while !inner.state.can_cancel() {
+            inner.asleep_cancel += 1;
+            inner = wait(&self.can_cancel, inner);
+            inner.asleep_cancel -= 1;
         }
-        let Ok(()) = state.run_cancel() else {
+        let Ok(()) = inner.state.run_cancel() else {
             self.can_cancel.notify_one();
             return Err(Overflow);
         };
-        if state.can_start_read() {
+        let copy = *inner;
+        drop(inner);
+        if copy.asleep_start_read > 0 && copy.state.can_start_read() {
             self.can_start_read.notify_all();
         }
-        drop(state);
         Ok(())
     }
 
@@ -263,18 +300,19 @@ impl ReadersWriters {
     ///
     /// [`Overflow`] where a number would leave 64 bits. Then nothing changes.
     pub fn try_cancel(&self) -> Result<Option<()>, Overflow> {
-        let mut state = lock(&self.state);
-        if !state.can_cancel() {
+        let mut inner = lock(&self.inner);
+        if !inner.state.can_cancel() {
             return Ok(None);
         }
-        let Ok(()) = state.run_cancel() else {
+        let Ok(()) = inner.state.run_cancel() else {
             self.can_cancel.notify_one();
             return Err(Overflow);
         };
-        if state.can_start_read() {
+        let copy = *inner;
+        drop(inner);
+        if copy.asleep_start_read > 0 && copy.state.can_start_read() {
             self.can_start_read.notify_all();
         }
-        drop(state);
         Ok(Some(()))
     }
 }
@@ -287,14 +325,27 @@ impl Default for ReadersWriters {
 
 impl std::fmt::Debug for ReadersWriters {
     fn fmt(&self, f: &mut std::fmt::Formatter<'_>) -> std::fmt::Result {
-        let state = *self
-            .state
+        let state = self
+            .inner
             .lock()
-            .unwrap_or_else(std::sync::PoisonError::into_inner);
+            .unwrap_or_else(std::sync::PoisonError::into_inner)
+            .state;
         f.debug_struct(std::any::type_name::<Self>())
             .field("state", &state)
             .finish_non_exhaustive()
     }
+}
+
+/// What the mutex guards: the fields, and how many calls sleep on each condition.
+#[derive(Clone, Copy)]
+#[allow(dead_code)]
+struct Inner {
+    state: State,
+    asleep_start_read: usize,
+    asleep_end_read: usize,
+    asleep_start_write: usize,
+    asleep_end_write: usize,
+    asleep_cancel: usize,
 }
 
 /// The fields of the monitor.
@@ -369,15 +420,15 @@ impl State {
     }
 }
 
-/// Locks the state. Nothing panics while it is locked, so there is no poison to heed.
-fn lock(state: &Mutex<State>) -> MutexGuard<'_, State> {
-    state.lock().unwrap_or_else(PoisonError::into_inner)
+/// Locks the monitor. Nothing panics while it is locked, so there is no poison to heed.
+fn lock(inner: &Mutex<Inner>) -> MutexGuard<'_, Inner> {
+    inner.lock().unwrap_or_else(PoisonError::into_inner)
 }
 
 /// Gives the lock back and waits on the condition, in one step, and takes the lock again.
-fn wait<'a>(condition: &Condvar, state: MutexGuard<'a, State>) -> MutexGuard<'a, State> {
+fn wait<'a>(condition: &Condvar, inner: MutexGuard<'a, Inner>) -> MutexGuard<'a, Inner> {
     condition
-        .wait(state)
+        .wait(inner)
         .unwrap_or_else(PoisonError::into_inner)
 }
 

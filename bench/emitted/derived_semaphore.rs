@@ -5,7 +5,7 @@ use std::sync::{Condvar, Mutex, MutexGuard, PoisonError};
 /// The monitor `Semaphore`. Threads share it by reference. A call waits for its guard, unless it tries.
 #[allow(dead_code, non_camel_case_types, clippy::upper_case_acronyms)]
 pub struct Semaphore {
-    state: Mutex<State>,
+    inner: Mutex<Inner>,
     /// For calls that wait until `free > 0`.
     can_take_all: Condvar,
     /// For calls that wait until `free >= 2`.
@@ -23,7 +23,12 @@ impl Semaphore {
     #[must_use]
     pub const fn new() -> Self {
         Self {
-            state: Mutex::new(State::START),
+            inner: Mutex::new(Inner {
+                state: State::START,
+                asleep_take_all: 0,
+                asleep_take_two: 0,
+                asleep_give: 0,
+            }),
             can_take_all: Condvar::new(),
             can_take_two: Condvar::new(),
             can_give: Condvar::new(),
@@ -34,26 +39,34 @@ impl Semaphore {
     ///
     /// Wakes all calls that wait until `free < LIMIT`.
     pub fn take_all(&self) {
-        let mut state = lock(&self.state);
-        while !state.can_take_all() {
-            state = wait(&self.can_take_all, state);
+        let mut inner = lock(&self.inner);
+        while !inner.state.can_take_all() {
+            inner.asleep_take_all += 1;
+            inner = wait(&self.can_take_all, inner);
+            inner.asleep_take_all -= 1;
         }
-        state.run_take_all();
-        drop(state);
-        self.can_give.notify_all();
+        inner.state.run_take_all();
+        let copy = *inner;
+        drop(inner);
+        if copy.asleep_give > 0 {
+            self.can_give.notify_all();
+        }
     }
 
     /// Answers `None` where `free > 0` is false.
     ///
     /// Wakes all calls that wait until `free < LIMIT`.
     pub fn try_take_all(&self) -> Option<()> {
-        let mut state = lock(&self.state);
-        if !state.can_take_all() {
+        let mut inner = lock(&self.inner);
+        if !inner.state.can_take_all() {
             return None;
         }
-        state.run_take_all();
-        drop(state);
-        self.can_give.notify_all();
+        inner.state.run_take_all();
+        let copy = *inner;
+        drop(inner);
+        if copy.asleep_give > 0 {
+            self.can_give.notify_all();
+        }
         Some(())
     }
 
@@ -65,16 +78,21 @@ impl Semaphore {
     ///
     /// [`Overflow`] where a number would leave 64 bits. Then nothing changes.
     pub fn take(&self) -> Result<(), Overflow> {
-        let mut state = lock(&self.state);
-        while !state.can_take_all() {
-            state = wait(&self.can_take_all, state);
+        let mut inner = lock(&self.inner);
+        while !inner.state.can_take_all() {
+            inner.asleep_take_all += 1;
+            inner = wait(&self.can_take_all, inner);
+            inner.asleep_take_all -= 1;
         }
-        let Ok(()) = state.run_take() else {
+        let Ok(()) = inner.state.run_take() else {
             self.can_take_all.notify_one();
             return Err(Overflow);
         };
-        drop(state);
-        self.can_give.notify_all();
+        let copy = *inner;
+        drop(inner);
+        if copy.asleep_give > 0 {
+            self.can_give.notify_all();
+        }
         Ok(())
     }
 
@@ -86,16 +104,19 @@ impl Semaphore {
     ///
     /// [`Overflow`] where a number would leave 64 bits. Then nothing changes.
     pub fn try_take(&self) -> Result<Option<()>, Overflow> {
-        let mut state = lock(&self.state);
-        if !state.can_take_all() {
+        let mut inner = lock(&self.inner);
+        if !inner.state.can_take_all() {
             return Ok(None);
         }
-        let Ok(()) = state.run_take() else {
+        let Ok(()) = inner.state.run_take() else {
             self.can_take_all.notify_one();
             return Err(Overflow);
         };
-        drop(state);
-        self.can_give.notify_all();
+        let copy = *inner;
+        drop(inner);
+        if copy.asleep_give > 0 {
+            self.can_give.notify_all();
+        }
         Ok(Some(()))
     }
 
@@ -107,16 +128,21 @@ impl Semaphore {
     ///
     /// [`Overflow`] where a number would leave 64 bits. Then nothing changes.
     pub fn take_two(&self) -> Result<(), Overflow> {
-        let mut state = lock(&self.state);
-        while !state.can_take_two() {
-            state = wait(&self.can_take_two, state);
+        let mut inner = lock(&self.inner);
+        while !inner.state.can_take_two() {
+            inner.asleep_take_two += 1;
+            inner = wait(&self.can_take_two, inner);
+            inner.asleep_take_two -= 1;
         }
-        let Ok(()) = state.run_take_two() else {
+        let Ok(()) = inner.state.run_take_two() else {
             self.can_take_two.notify_one();
             return Err(Overflow);
         };
-        drop(state);
-        self.can_give.notify_all();
+        let copy = *inner;
+        drop(inner);
+        if copy.asleep_give > 0 {
+            self.can_give.notify_all();
+        }
         Ok(())
     }
 
@@ -128,16 +154,19 @@ impl Semaphore {
     ///
     /// [`Overflow`] where a number would leave 64 bits. Then nothing changes.
     pub fn try_take_two(&self) -> Result<Option<()>, Overflow> {
-        let mut state = lock(&self.state);
-        if !state.can_take_two() {
+        let mut inner = lock(&self.inner);
+        if !inner.state.can_take_two() {
             return Ok(None);
         }
-        let Ok(()) = state.run_take_two() else {
+        let Ok(()) = inner.state.run_take_two() else {
             self.can_take_two.notify_one();
             return Err(Overflow);
         };
-        drop(state);
-        self.can_give.notify_all();
+        let copy = *inner;
+        drop(inner);
+        if copy.asleep_give > 0 {
+            self.can_give.notify_all();
+        }
         Ok(Some(()))
     }
 
@@ -150,19 +179,24 @@ impl Semaphore {
     ///
     /// [`Overflow`] where a number would leave 64 bits. Then nothing changes.
     pub fn give(&self) -> Result<(), Overflow> {
-        let mut state = lock(&self.state);
-        while !state.can_give() {
-            state = wait(&self.can_give, state);
+        let mut inner = lock(&self.inner);
+        while !inner.state.can_give() {
+            inner.asleep_give += 1;
+            inner = wait(&self.can_give, inner);
+            inner.asleep_give -= 1;
         }
-        let Ok(()) = state.run_give() else {
+        let Ok(()) = inner.state.run_give() else {
             self.can_give.notify_one();
             return Err(Overflow);
         };
-        if state.can_take_two() {
+        let copy = *inner;
+        drop(inner);
+        if copy.asleep_take_all > 0 {
+            self.can_take_all.notify_all();
+        }
+        if copy.asleep_take_two > 0 && copy.state.can_take_two() {
             self.can_take_two.notify_one();
         }
-        drop(state);
-        self.can_take_all.notify_all();
         Ok(())
     }
 
@@ -175,19 +209,22 @@ impl Semaphore {
     ///
     /// [`Overflow`] where a number would leave 64 bits. Then nothing changes.
     pub fn try_give(&self) -> Result<Option<()>, Overflow> {
-        let mut state = lock(&self.state);
-        if !state.can_give() {
+        let mut inner = lock(&self.inner);
+        if !inner.state.can_give() {
             return Ok(None);
         }
-        let Ok(()) = state.run_give() else {
+        let Ok(()) = inner.state.run_give() else {
             self.can_give.notify_one();
             return Err(Overflow);
         };
-        if state.can_take_two() {
+        let copy = *inner;
+        drop(inner);
+        if copy.asleep_take_all > 0 {
+            self.can_take_all.notify_all();
+        }
+        if copy.asleep_take_two > 0 && copy.state.can_take_two() {
             self.can_take_two.notify_one();
         }
-        drop(state);
-        self.can_take_all.notify_all();
         Ok(Some(()))
     }
 }
@@ -200,14 +237,25 @@ impl Default for Semaphore {
 
 impl std::fmt::Debug for Semaphore {
     fn fmt(&self, f: &mut std::fmt::Formatter<'_>) -> std::fmt::Result {
-        let state = *self
-            .state
+        let state = self
+            .inner
             .lock()
-            .unwrap_or_else(std::sync::PoisonError::into_inner);
+            .unwrap_or_else(std::sync::PoisonError::into_inner)
+            .state;
         f.debug_struct(std::any::type_name::<Self>())
             .field("state", &state)
             .finish_non_exhaustive()
     }
+}
+
+/// What the mutex guards: the fields, and how many calls sleep on each condition.
+#[derive(Clone, Copy)]
+#[allow(dead_code)]
+struct Inner {
+    state: State,
+    asleep_take_all: usize,
+    asleep_take_two: usize,
+    asleep_give: usize,
 }
 
 /// The fields of the monitor.
@@ -257,15 +305,15 @@ impl State {
     }
 }
 
-/// Locks the state. Nothing panics while it is locked, so there is no poison to heed.
-fn lock(state: &Mutex<State>) -> MutexGuard<'_, State> {
-    state.lock().unwrap_or_else(PoisonError::into_inner)
+/// Locks the monitor. Nothing panics while it is locked, so there is no poison to heed.
+fn lock(inner: &Mutex<Inner>) -> MutexGuard<'_, Inner> {
+    inner.lock().unwrap_or_else(PoisonError::into_inner)
 }
 
 /// Gives the lock back and waits on the condition, in one step, and takes the lock again.
-fn wait<'a>(condition: &Condvar, state: MutexGuard<'a, State>) -> MutexGuard<'a, State> {
+fn wait<'a>(condition: &Condvar, inner: MutexGuard<'a, Inner>) -> MutexGuard<'a, Inner> {
     condition
-        .wait(state)
+        .wait(inner)
         .unwrap_or_else(PoisonError::into_inner)
 }
 

@@ -5,7 +5,7 @@ use std::sync::{Condvar, Mutex, MutexGuard, PoisonError};
 /// The monitor `Table`. Threads share it by reference. A call waits for its guard, unless it tries.
 #[allow(dead_code, non_camel_case_types, clippy::upper_case_acronyms)]
 pub struct Table {
-    state: Mutex<State>,
+    inner: Mutex<Inner>,
     /// For calls that wait until `a == 0 && b == 0`.
     can_eat1: Condvar,
     /// For calls that wait until `b == 0 && c == 0`.
@@ -27,7 +27,15 @@ impl Table {
     #[must_use]
     pub const fn new() -> Self {
         Self {
-            state: Mutex::new(State::START),
+            inner: Mutex::new(Inner {
+                state: State::START,
+                asleep_eat1: 0,
+                asleep_eat2: 0,
+                asleep_eat3: 0,
+                asleep_think1: 0,
+                asleep_think2: 0,
+                asleep_think3: 0,
+            }),
             can_eat1: Condvar::new(),
             can_eat2: Condvar::new(),
             can_eat3: Condvar::new(),
@@ -41,26 +49,34 @@ impl Table {
     ///
     /// Wakes one call that waits until `a == 1 && b == 1`.
     pub fn eat1(&self) {
-        let mut state = lock(&self.state);
-        while !state.can_eat1() {
-            state = wait(&self.can_eat1, state);
+        let mut inner = lock(&self.inner);
+        while !inner.state.can_eat1() {
+            inner.asleep_eat1 += 1;
+            inner = wait(&self.can_eat1, inner);
+            inner.asleep_eat1 -= 1;
         }
-        state.run_eat1();
-        drop(state);
-        self.can_think1.notify_one();
+        inner.state.run_eat1();
+        let copy = *inner;
+        drop(inner);
+        if copy.asleep_think1 > 0 {
+            self.can_think1.notify_one();
+        }
     }
 
     /// Answers `None` where `a == 0 && b == 0` is false.
     ///
     /// Wakes one call that waits until `a == 1 && b == 1`.
     pub fn try_eat1(&self) -> Option<()> {
-        let mut state = lock(&self.state);
-        if !state.can_eat1() {
+        let mut inner = lock(&self.inner);
+        if !inner.state.can_eat1() {
             return None;
         }
-        state.run_eat1();
-        drop(state);
-        self.can_think1.notify_one();
+        inner.state.run_eat1();
+        let copy = *inner;
+        drop(inner);
+        if copy.asleep_think1 > 0 {
+            self.can_think1.notify_one();
+        }
         Some(())
     }
 
@@ -68,26 +84,34 @@ impl Table {
     ///
     /// Wakes one call that waits until `b == 2 && c == 2`.
     pub fn eat2(&self) {
-        let mut state = lock(&self.state);
-        while !state.can_eat2() {
-            state = wait(&self.can_eat2, state);
+        let mut inner = lock(&self.inner);
+        while !inner.state.can_eat2() {
+            inner.asleep_eat2 += 1;
+            inner = wait(&self.can_eat2, inner);
+            inner.asleep_eat2 -= 1;
         }
-        state.run_eat2();
-        drop(state);
-        self.can_think2.notify_one();
+        inner.state.run_eat2();
+        let copy = *inner;
+        drop(inner);
+        if copy.asleep_think2 > 0 {
+            self.can_think2.notify_one();
+        }
     }
 
     /// Answers `None` where `b == 0 && c == 0` is false.
     ///
     /// Wakes one call that waits until `b == 2 && c == 2`.
     pub fn try_eat2(&self) -> Option<()> {
-        let mut state = lock(&self.state);
-        if !state.can_eat2() {
+        let mut inner = lock(&self.inner);
+        if !inner.state.can_eat2() {
             return None;
         }
-        state.run_eat2();
-        drop(state);
-        self.can_think2.notify_one();
+        inner.state.run_eat2();
+        let copy = *inner;
+        drop(inner);
+        if copy.asleep_think2 > 0 {
+            self.can_think2.notify_one();
+        }
         Some(())
     }
 
@@ -95,26 +119,34 @@ impl Table {
     ///
     /// Wakes one call that waits until `c == 3 && a == 3`.
     pub fn eat3(&self) {
-        let mut state = lock(&self.state);
-        while !state.can_eat3() {
-            state = wait(&self.can_eat3, state);
+        let mut inner = lock(&self.inner);
+        while !inner.state.can_eat3() {
+            inner.asleep_eat3 += 1;
+            inner = wait(&self.can_eat3, inner);
+            inner.asleep_eat3 -= 1;
         }
-        state.run_eat3();
-        drop(state);
-        self.can_think3.notify_one();
+        inner.state.run_eat3();
+        let copy = *inner;
+        drop(inner);
+        if copy.asleep_think3 > 0 {
+            self.can_think3.notify_one();
+        }
     }
 
     /// Answers `None` where `c == 0 && a == 0` is false.
     ///
     /// Wakes one call that waits until `c == 3 && a == 3`.
     pub fn try_eat3(&self) -> Option<()> {
-        let mut state = lock(&self.state);
-        if !state.can_eat3() {
+        let mut inner = lock(&self.inner);
+        if !inner.state.can_eat3() {
             return None;
         }
-        state.run_eat3();
-        drop(state);
-        self.can_think3.notify_one();
+        inner.state.run_eat3();
+        let copy = *inner;
+        drop(inner);
+        if copy.asleep_think3 > 0 {
+            self.can_think3.notify_one();
+        }
         Some(())
     }
 
@@ -124,19 +156,24 @@ impl Table {
     /// Wakes one call that waits until `b == 0 && c == 0`, where that now holds.
     /// Wakes one call that waits until `c == 0 && a == 0`, where that now holds.
     pub fn think1(&self) {
-        let mut state = lock(&self.state);
-        while !state.can_think1() {
-            state = wait(&self.can_think1, state);
+        let mut inner = lock(&self.inner);
+        while !inner.state.can_think1() {
+            inner.asleep_think1 += 1;
+            inner = wait(&self.can_think1, inner);
+            inner.asleep_think1 -= 1;
         }
-        state.run_think1();
-        if state.can_eat2() {
+        inner.state.run_think1();
+        let copy = *inner;
+        drop(inner);
+        if copy.asleep_eat1 > 0 {
+            self.can_eat1.notify_one();
+        }
+        if copy.asleep_eat2 > 0 && copy.state.can_eat2() {
             self.can_eat2.notify_one();
         }
-        if state.can_eat3() {
+        if copy.asleep_eat3 > 0 && copy.state.can_eat3() {
             self.can_eat3.notify_one();
         }
-        drop(state);
-        self.can_eat1.notify_one();
     }
 
     /// Answers `None` where `a == 1 && b == 1` is false.
@@ -145,19 +182,22 @@ impl Table {
     /// Wakes one call that waits until `b == 0 && c == 0`, where that now holds.
     /// Wakes one call that waits until `c == 0 && a == 0`, where that now holds.
     pub fn try_think1(&self) -> Option<()> {
-        let mut state = lock(&self.state);
-        if !state.can_think1() {
+        let mut inner = lock(&self.inner);
+        if !inner.state.can_think1() {
             return None;
         }
-        state.run_think1();
-        if state.can_eat2() {
+        inner.state.run_think1();
+        let copy = *inner;
+        drop(inner);
+        if copy.asleep_eat1 > 0 {
+            self.can_eat1.notify_one();
+        }
+        if copy.asleep_eat2 > 0 && copy.state.can_eat2() {
             self.can_eat2.notify_one();
         }
-        if state.can_eat3() {
+        if copy.asleep_eat3 > 0 && copy.state.can_eat3() {
             self.can_eat3.notify_one();
         }
-        drop(state);
-        self.can_eat1.notify_one();
         Some(())
     }
 
@@ -167,19 +207,24 @@ impl Table {
     /// Wakes one call that waits until `b == 0 && c == 0`.
     /// Wakes one call that waits until `c == 0 && a == 0`, where that now holds.
     pub fn think2(&self) {
-        let mut state = lock(&self.state);
-        while !state.can_think2() {
-            state = wait(&self.can_think2, state);
+        let mut inner = lock(&self.inner);
+        while !inner.state.can_think2() {
+            inner.asleep_think2 += 1;
+            inner = wait(&self.can_think2, inner);
+            inner.asleep_think2 -= 1;
         }
-        state.run_think2();
-        if state.can_eat1() {
+        inner.state.run_think2();
+        let copy = *inner;
+        drop(inner);
+        if copy.asleep_eat1 > 0 && copy.state.can_eat1() {
             self.can_eat1.notify_one();
         }
-        if state.can_eat3() {
+        if copy.asleep_eat2 > 0 {
+            self.can_eat2.notify_one();
+        }
+        if copy.asleep_eat3 > 0 && copy.state.can_eat3() {
             self.can_eat3.notify_one();
         }
-        drop(state);
-        self.can_eat2.notify_one();
     }
 
     /// Answers `None` where `b == 2 && c == 2` is false.
@@ -188,19 +233,22 @@ impl Table {
     /// Wakes one call that waits until `b == 0 && c == 0`.
     /// Wakes one call that waits until `c == 0 && a == 0`, where that now holds.
     pub fn try_think2(&self) -> Option<()> {
-        let mut state = lock(&self.state);
-        if !state.can_think2() {
+        let mut inner = lock(&self.inner);
+        if !inner.state.can_think2() {
             return None;
         }
-        state.run_think2();
-        if state.can_eat1() {
+        inner.state.run_think2();
+        let copy = *inner;
+        drop(inner);
+        if copy.asleep_eat1 > 0 && copy.state.can_eat1() {
             self.can_eat1.notify_one();
         }
-        if state.can_eat3() {
+        if copy.asleep_eat2 > 0 {
+            self.can_eat2.notify_one();
+        }
+        if copy.asleep_eat3 > 0 && copy.state.can_eat3() {
             self.can_eat3.notify_one();
         }
-        drop(state);
-        self.can_eat2.notify_one();
         Some(())
     }
 
@@ -210,19 +258,24 @@ impl Table {
     /// Wakes one call that waits until `b == 0 && c == 0`, where that now holds.
     /// Wakes one call that waits until `c == 0 && a == 0`.
     pub fn think3(&self) {
-        let mut state = lock(&self.state);
-        while !state.can_think3() {
-            state = wait(&self.can_think3, state);
+        let mut inner = lock(&self.inner);
+        while !inner.state.can_think3() {
+            inner.asleep_think3 += 1;
+            inner = wait(&self.can_think3, inner);
+            inner.asleep_think3 -= 1;
         }
-        state.run_think3();
-        if state.can_eat1() {
+        inner.state.run_think3();
+        let copy = *inner;
+        drop(inner);
+        if copy.asleep_eat1 > 0 && copy.state.can_eat1() {
             self.can_eat1.notify_one();
         }
-        if state.can_eat2() {
+        if copy.asleep_eat2 > 0 && copy.state.can_eat2() {
             self.can_eat2.notify_one();
         }
-        drop(state);
-        self.can_eat3.notify_one();
+        if copy.asleep_eat3 > 0 {
+            self.can_eat3.notify_one();
+        }
     }
 
     /// Answers `None` where `c == 3 && a == 3` is false.
@@ -231,19 +284,22 @@ impl Table {
     /// Wakes one call that waits until `b == 0 && c == 0`, where that now holds.
     /// Wakes one call that waits until `c == 0 && a == 0`.
     pub fn try_think3(&self) -> Option<()> {
-        let mut state = lock(&self.state);
-        if !state.can_think3() {
+        let mut inner = lock(&self.inner);
+        if !inner.state.can_think3() {
             return None;
         }
-        state.run_think3();
-        if state.can_eat1() {
+        inner.state.run_think3();
+        let copy = *inner;
+        drop(inner);
+        if copy.asleep_eat1 > 0 && copy.state.can_eat1() {
             self.can_eat1.notify_one();
         }
-        if state.can_eat2() {
+        if copy.asleep_eat2 > 0 && copy.state.can_eat2() {
             self.can_eat2.notify_one();
         }
-        drop(state);
-        self.can_eat3.notify_one();
+        if copy.asleep_eat3 > 0 {
+            self.can_eat3.notify_one();
+        }
         Some(())
     }
 }
@@ -256,14 +312,28 @@ impl Default for Table {
 
 impl std::fmt::Debug for Table {
     fn fmt(&self, f: &mut std::fmt::Formatter<'_>) -> std::fmt::Result {
-        let state = *self
-            .state
+        let state = self
+            .inner
             .lock()
-            .unwrap_or_else(std::sync::PoisonError::into_inner);
+            .unwrap_or_else(std::sync::PoisonError::into_inner)
+            .state;
         f.debug_struct(std::any::type_name::<Self>())
             .field("state", &state)
             .finish_non_exhaustive()
     }
+}
+
+/// What the mutex guards: the fields, and how many calls sleep on each condition.
+#[derive(Clone, Copy)]
+#[allow(dead_code)]
+struct Inner {
+    state: State,
+    asleep_eat1: usize,
+    asleep_eat2: usize,
+    asleep_eat3: usize,
+    asleep_think1: usize,
+    asleep_think2: usize,
+    asleep_think3: usize,
 }
 
 /// The fields of the monitor.
@@ -340,14 +410,14 @@ impl State {
     }
 }
 
-/// Locks the state. Nothing panics while it is locked, so there is no poison to heed.
-fn lock(state: &Mutex<State>) -> MutexGuard<'_, State> {
-    state.lock().unwrap_or_else(PoisonError::into_inner)
+/// Locks the monitor. Nothing panics while it is locked, so there is no poison to heed.
+fn lock(inner: &Mutex<Inner>) -> MutexGuard<'_, Inner> {
+    inner.lock().unwrap_or_else(PoisonError::into_inner)
 }
 
 /// Gives the lock back and waits on the condition, in one step, and takes the lock again.
-fn wait<'a>(condition: &Condvar, state: MutexGuard<'a, State>) -> MutexGuard<'a, State> {
+fn wait<'a>(condition: &Condvar, inner: MutexGuard<'a, Inner>) -> MutexGuard<'a, Inner> {
     condition
-        .wait(state)
+        .wait(inner)
         .unwrap_or_else(PoisonError::into_inner)
 }

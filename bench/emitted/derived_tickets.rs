@@ -5,7 +5,7 @@ use std::sync::{Condvar, Mutex, MutexGuard, PoisonError};
 /// The monitor `Tickets`. Threads share it by reference. A call waits for its guard, unless it tries.
 #[allow(dead_code, non_camel_case_types, clippy::upper_case_acronyms)]
 pub struct Tickets {
-    state: Mutex<State>,
+    inner: Mutex<Inner>,
     /// For calls that wait until `ticket == serving && serving < next && !busy`.
     can_enter: Condvar,
     /// For calls that wait until `busy`.
@@ -23,7 +23,13 @@ impl Tickets {
     #[must_use]
     pub const fn new() -> Self {
         Self {
-            state: Mutex::new(State::START),
+            inner: Mutex::new(Inner {
+                state: State::START,
+                asleep_enter: 0,
+                asleep_leave: 0,
+                asleep_rest: 0,
+                asleep_fail: 0,
+            }),
             can_enter: Condvar::new(),
             can_leave: Condvar::new(),
             can_rest: Condvar::new(),
@@ -39,10 +45,13 @@ impl Tickets {
     ///
     /// [`Overflow`] where a number would leave 64 bits. Then nothing changes.
     pub fn draw(&self) -> Result<i64, Overflow> {
-        let mut state = lock(&self.state);
-        let answer = state.run_draw()?;
-        drop(state);
-        self.can_enter.notify_all();
+        let mut inner = lock(&self.inner);
+        let answer = inner.state.run_draw()?;
+        let copy = *inner;
+        drop(inner);
+        if copy.asleep_enter > 0 {
+            self.can_enter.notify_all();
+        }
         Ok(answer)
     }
 
@@ -54,16 +63,21 @@ impl Tickets {
     ///
     /// [`Overflow`] where a number would leave 64 bits. Then nothing changes.
     pub fn enter(&self, ticket: i64) -> Result<(), Overflow> {
-        let mut state = lock(&self.state);
-        while !state.can_enter(ticket) {
-            state = wait(&self.can_enter, state);
+        let mut inner = lock(&self.inner);
+        while !inner.state.can_enter(ticket) {
+            inner.asleep_enter += 1;
+            inner = wait(&self.can_enter, inner);
+            inner.asleep_enter -= 1;
         }
-        let Ok(()) = state.run_enter(ticket) else {
+        let Ok(()) = inner.state.run_enter(ticket) else {
             self.can_enter.notify_one();
             return Err(Overflow);
         };
-        drop(state);
-        self.can_leave.notify_one();
+        let copy = *inner;
+        drop(inner);
+        if copy.asleep_leave > 0 {
+            self.can_leave.notify_one();
+        }
         Ok(())
     }
 
@@ -75,16 +89,19 @@ impl Tickets {
     ///
     /// [`Overflow`] where a number would leave 64 bits. Then nothing changes.
     pub fn try_enter(&self, ticket: i64) -> Result<Option<()>, Overflow> {
-        let mut state = lock(&self.state);
-        if !state.can_enter(ticket) {
+        let mut inner = lock(&self.inner);
+        if !inner.state.can_enter(ticket) {
             return Ok(None);
         }
-        let Ok(()) = state.run_enter(ticket) else {
+        let Ok(()) = inner.state.run_enter(ticket) else {
             self.can_enter.notify_one();
             return Err(Overflow);
         };
-        drop(state);
-        self.can_leave.notify_one();
+        let copy = *inner;
+        drop(inner);
+        if copy.asleep_leave > 0 {
+            self.can_leave.notify_one();
+        }
         Ok(Some(()))
     }
 
@@ -97,19 +114,24 @@ impl Tickets {
     ///
     /// [`Overflow`] where a number would leave 64 bits. Then nothing changes.
     pub fn give_up(&self, turn: i64) -> Result<(), Overflow> {
-        let mut state = lock(&self.state);
-        while !state.can_give_up(turn) {
-            state = wait(&self.can_enter, state);
+        let mut inner = lock(&self.inner);
+        while !inner.state.can_give_up(turn) {
+            inner.asleep_enter += 1;
+            inner = wait(&self.can_enter, inner);
+            inner.asleep_enter -= 1;
         }
-        let Ok(()) = state.run_give_up(turn) else {
+        let Ok(()) = inner.state.run_give_up(turn) else {
             self.can_enter.notify_one();
             return Err(Overflow);
         };
-        if state.can_rest() {
+        let copy = *inner;
+        drop(inner);
+        if copy.asleep_enter > 0 {
+            self.can_enter.notify_all();
+        }
+        if copy.asleep_rest > 0 && copy.state.can_rest() {
             self.can_rest.notify_all();
         }
-        drop(state);
-        self.can_enter.notify_all();
         Ok(())
     }
 
@@ -122,19 +144,22 @@ impl Tickets {
     ///
     /// [`Overflow`] where a number would leave 64 bits. Then nothing changes.
     pub fn try_give_up(&self, turn: i64) -> Result<Option<()>, Overflow> {
-        let mut state = lock(&self.state);
-        if !state.can_give_up(turn) {
+        let mut inner = lock(&self.inner);
+        if !inner.state.can_give_up(turn) {
             return Ok(None);
         }
-        let Ok(()) = state.run_give_up(turn) else {
+        let Ok(()) = inner.state.run_give_up(turn) else {
             self.can_enter.notify_one();
             return Err(Overflow);
         };
-        if state.can_rest() {
+        let copy = *inner;
+        drop(inner);
+        if copy.asleep_enter > 0 {
+            self.can_enter.notify_all();
+        }
+        if copy.asleep_rest > 0 && copy.state.can_rest() {
             self.can_rest.notify_all();
         }
-        drop(state);
-        self.can_enter.notify_all();
         Ok(Some(()))
     }
 
@@ -143,16 +168,21 @@ impl Tickets {
     /// Wakes all calls that wait until `ticket == serving && serving < next && !busy`.
     /// Wakes all calls that wait until `serving == next && !busy`, where that now holds.
     pub fn leave(&self) {
-        let mut state = lock(&self.state);
-        while !state.can_leave() {
-            state = wait(&self.can_leave, state);
+        let mut inner = lock(&self.inner);
+        while !inner.state.can_leave() {
+            inner.asleep_leave += 1;
+            inner = wait(&self.can_leave, inner);
+            inner.asleep_leave -= 1;
         }
-        state.run_leave();
-        if state.can_rest() {
+        inner.state.run_leave();
+        let copy = *inner;
+        drop(inner);
+        if copy.asleep_enter > 0 {
+            self.can_enter.notify_all();
+        }
+        if copy.asleep_rest > 0 && copy.state.can_rest() {
             self.can_rest.notify_all();
         }
-        drop(state);
-        self.can_enter.notify_all();
     }
 
     /// Answers `None` where `busy` is false.
@@ -160,16 +190,19 @@ impl Tickets {
     /// Wakes all calls that wait until `ticket == serving && serving < next && !busy`.
     /// Wakes all calls that wait until `serving == next && !busy`, where that now holds.
     pub fn try_leave(&self) -> Option<()> {
-        let mut state = lock(&self.state);
-        if !state.can_leave() {
+        let mut inner = lock(&self.inner);
+        if !inner.state.can_leave() {
             return None;
         }
-        state.run_leave();
-        if state.can_rest() {
+        inner.state.run_leave();
+        let copy = *inner;
+        drop(inner);
+        if copy.asleep_enter > 0 {
+            self.can_enter.notify_all();
+        }
+        if copy.asleep_rest > 0 && copy.state.can_rest() {
             self.can_rest.notify_all();
         }
-        drop(state);
-        self.can_enter.notify_all();
         Some(())
     }
 
@@ -177,24 +210,26 @@ impl Tickets {
     ///
     /// Wakes nobody.
     pub fn rest(&self) {
-        let mut state = lock(&self.state);
-        while !state.can_rest() {
-            state = wait(&self.can_rest, state);
+        let mut inner = lock(&self.inner);
+        while !inner.state.can_rest() {
+            inner.asleep_rest += 1;
+            inner = wait(&self.can_rest, inner);
+            inner.asleep_rest -= 1;
         }
-        state.run_rest();
-        drop(state);
+        inner.state.run_rest();
+        drop(inner);
     }
 
     /// Answers `None` where `serving == next && !busy` is false.
     ///
     /// Wakes nobody.
     pub fn try_rest(&self) -> Option<()> {
-        let mut state = lock(&self.state);
-        if !state.can_rest() {
+        let mut inner = lock(&self.inner);
+        if !inner.state.can_rest() {
             return None;
         }
-        state.run_rest();
-        drop(state);
+        inner.state.run_rest();
+        drop(inner);
         Some(())
     }
 
@@ -202,24 +237,26 @@ impl Tickets {
     ///
     /// Wakes nobody.
     pub fn fail(&self) {
-        let mut state = lock(&self.state);
-        while !state.can_fail() {
-            state = wait(&self.can_fail, state);
+        let mut inner = lock(&self.inner);
+        while !inner.state.can_fail() {
+            inner.asleep_fail += 1;
+            inner = wait(&self.can_fail, inner);
+            inner.asleep_fail -= 1;
         }
-        state.run_fail();
-        drop(state);
+        inner.state.run_fail();
+        drop(inner);
     }
 
     /// Answers `None` where `serving > next` is false.
     ///
     /// Wakes nobody.
     pub fn try_fail(&self) -> Option<()> {
-        let mut state = lock(&self.state);
-        if !state.can_fail() {
+        let mut inner = lock(&self.inner);
+        if !inner.state.can_fail() {
             return None;
         }
-        state.run_fail();
-        drop(state);
+        inner.state.run_fail();
+        drop(inner);
         Some(())
     }
 }
@@ -232,14 +269,26 @@ impl Default for Tickets {
 
 impl std::fmt::Debug for Tickets {
     fn fmt(&self, f: &mut std::fmt::Formatter<'_>) -> std::fmt::Result {
-        let state = *self
-            .state
+        let state = self
+            .inner
             .lock()
-            .unwrap_or_else(std::sync::PoisonError::into_inner);
+            .unwrap_or_else(std::sync::PoisonError::into_inner)
+            .state;
         f.debug_struct(std::any::type_name::<Self>())
             .field("state", &state)
             .finish_non_exhaustive()
     }
+}
+
+/// What the mutex guards: the fields, and how many calls sleep on each condition.
+#[derive(Clone, Copy)]
+#[allow(dead_code)]
+struct Inner {
+    state: State,
+    asleep_enter: usize,
+    asleep_leave: usize,
+    asleep_rest: usize,
+    asleep_fail: usize,
 }
 
 /// The fields of the monitor.
@@ -313,15 +362,15 @@ impl State {
     }
 }
 
-/// Locks the state. Nothing panics while it is locked, so there is no poison to heed.
-fn lock(state: &Mutex<State>) -> MutexGuard<'_, State> {
-    state.lock().unwrap_or_else(PoisonError::into_inner)
+/// Locks the monitor. Nothing panics while it is locked, so there is no poison to heed.
+fn lock(inner: &Mutex<Inner>) -> MutexGuard<'_, Inner> {
+    inner.lock().unwrap_or_else(PoisonError::into_inner)
 }
 
 /// Gives the lock back and waits on the condition, in one step, and takes the lock again.
-fn wait<'a>(condition: &Condvar, state: MutexGuard<'a, State>) -> MutexGuard<'a, State> {
+fn wait<'a>(condition: &Condvar, inner: MutexGuard<'a, Inner>) -> MutexGuard<'a, Inner> {
     condition
-        .wait(state)
+        .wait(inner)
         .unwrap_or_else(PoisonError::into_inner)
 }
 

@@ -5,7 +5,7 @@ use std::sync::{Condvar, Mutex, MutexGuard, PoisonError};
 /// The monitor `TwoKinds`. Threads share it by reference. A call waits for its guard, unless it tries.
 #[allow(dead_code, non_camel_case_types, clippy::upper_case_acronyms)]
 pub struct TwoKinds {
-    state: Mutex<State>,
+    inner: Mutex<Inner>,
     /// For calls that wait until `total < ROOM`.
     can_put_red: Condvar,
     /// For calls that wait until `red > 0`.
@@ -25,7 +25,13 @@ impl TwoKinds {
     #[must_use]
     pub const fn new() -> Self {
         Self {
-            state: Mutex::new(State::START),
+            inner: Mutex::new(Inner {
+                state: State::START,
+                asleep_put_red: 0,
+                asleep_get_red: 0,
+                asleep_get_blue: 0,
+                asleep_drain: 0,
+            }),
             can_put_red: Condvar::new(),
             can_get_red: Condvar::new(),
             can_get_blue: Condvar::new(),
@@ -42,19 +48,24 @@ impl TwoKinds {
     ///
     /// [`Overflow`] where a number would leave 64 bits. Then nothing changes.
     pub fn put_red(&self) -> Result<(), Overflow> {
-        let mut state = lock(&self.state);
-        while !state.can_put_red() {
-            state = wait(&self.can_put_red, state);
+        let mut inner = lock(&self.inner);
+        while !inner.state.can_put_red() {
+            inner.asleep_put_red += 1;
+            inner = wait(&self.can_put_red, inner);
+            inner.asleep_put_red -= 1;
         }
-        let Ok(()) = state.run_put_red() else {
+        let Ok(()) = inner.state.run_put_red() else {
             self.can_put_red.notify_one();
             return Err(Overflow);
         };
-        if state.can_drain() {
+        let copy = *inner;
+        drop(inner);
+        if copy.asleep_get_red > 0 {
+            self.can_get_red.notify_all();
+        }
+        if copy.asleep_drain > 0 && copy.state.can_drain() {
             self.can_drain.notify_one();
         }
-        drop(state);
-        self.can_get_red.notify_all();
         Ok(())
     }
 
@@ -67,19 +78,22 @@ impl TwoKinds {
     ///
     /// [`Overflow`] where a number would leave 64 bits. Then nothing changes.
     pub fn try_put_red(&self) -> Result<Option<()>, Overflow> {
-        let mut state = lock(&self.state);
-        if !state.can_put_red() {
+        let mut inner = lock(&self.inner);
+        if !inner.state.can_put_red() {
             return Ok(None);
         }
-        let Ok(()) = state.run_put_red() else {
+        let Ok(()) = inner.state.run_put_red() else {
             self.can_put_red.notify_one();
             return Err(Overflow);
         };
-        if state.can_drain() {
+        let copy = *inner;
+        drop(inner);
+        if copy.asleep_get_red > 0 {
+            self.can_get_red.notify_all();
+        }
+        if copy.asleep_drain > 0 && copy.state.can_drain() {
             self.can_drain.notify_one();
         }
-        drop(state);
-        self.can_get_red.notify_all();
         Ok(Some(()))
     }
 
@@ -92,19 +106,24 @@ impl TwoKinds {
     ///
     /// [`Overflow`] where a number would leave 64 bits. Then nothing changes.
     pub fn put_blue(&self) -> Result<(), Overflow> {
-        let mut state = lock(&self.state);
-        while !state.can_put_red() {
-            state = wait(&self.can_put_red, state);
+        let mut inner = lock(&self.inner);
+        while !inner.state.can_put_red() {
+            inner.asleep_put_red += 1;
+            inner = wait(&self.can_put_red, inner);
+            inner.asleep_put_red -= 1;
         }
-        let Ok(()) = state.run_put_blue() else {
+        let Ok(()) = inner.state.run_put_blue() else {
             self.can_put_red.notify_one();
             return Err(Overflow);
         };
-        if state.can_drain() {
+        let copy = *inner;
+        drop(inner);
+        if copy.asleep_get_blue > 0 {
+            self.can_get_blue.notify_all();
+        }
+        if copy.asleep_drain > 0 && copy.state.can_drain() {
             self.can_drain.notify_one();
         }
-        drop(state);
-        self.can_get_blue.notify_all();
         Ok(())
     }
 
@@ -117,19 +136,22 @@ impl TwoKinds {
     ///
     /// [`Overflow`] where a number would leave 64 bits. Then nothing changes.
     pub fn try_put_blue(&self) -> Result<Option<()>, Overflow> {
-        let mut state = lock(&self.state);
-        if !state.can_put_red() {
+        let mut inner = lock(&self.inner);
+        if !inner.state.can_put_red() {
             return Ok(None);
         }
-        let Ok(()) = state.run_put_blue() else {
+        let Ok(()) = inner.state.run_put_blue() else {
             self.can_put_red.notify_one();
             return Err(Overflow);
         };
-        if state.can_drain() {
+        let copy = *inner;
+        drop(inner);
+        if copy.asleep_get_blue > 0 {
+            self.can_get_blue.notify_all();
+        }
+        if copy.asleep_drain > 0 && copy.state.can_drain() {
             self.can_drain.notify_one();
         }
-        drop(state);
-        self.can_get_blue.notify_all();
         Ok(Some(()))
     }
 
@@ -143,24 +165,27 @@ impl TwoKinds {
     ///
     /// [`Overflow`] where a number would leave 64 bits. Then nothing changes.
     pub fn put(&self, is_red: bool) -> Result<(), Overflow> {
-        let mut state = lock(&self.state);
-        while !state.can_put_red() {
-            state = wait(&self.can_put_red, state);
+        let mut inner = lock(&self.inner);
+        while !inner.state.can_put_red() {
+            inner.asleep_put_red += 1;
+            inner = wait(&self.can_put_red, inner);
+            inner.asleep_put_red -= 1;
         }
-        let Ok(()) = state.run_put(is_red) else {
+        let Ok(()) = inner.state.run_put(is_red) else {
             self.can_put_red.notify_one();
             return Err(Overflow);
         };
-        if state.can_get_red() {
+        let copy = *inner;
+        drop(inner);
+        if copy.asleep_get_red > 0 && copy.state.can_get_red() {
             self.can_get_red.notify_all();
         }
-        if state.can_get_blue() {
+        if copy.asleep_get_blue > 0 && copy.state.can_get_blue() {
             self.can_get_blue.notify_all();
         }
-        if state.can_drain() {
+        if copy.asleep_drain > 0 && copy.state.can_drain() {
             self.can_drain.notify_one();
         }
-        drop(state);
         Ok(())
     }
 
@@ -174,24 +199,25 @@ impl TwoKinds {
     ///
     /// [`Overflow`] where a number would leave 64 bits. Then nothing changes.
     pub fn try_put(&self, is_red: bool) -> Result<Option<()>, Overflow> {
-        let mut state = lock(&self.state);
-        if !state.can_put_red() {
+        let mut inner = lock(&self.inner);
+        if !inner.state.can_put_red() {
             return Ok(None);
         }
-        let Ok(()) = state.run_put(is_red) else {
+        let Ok(()) = inner.state.run_put(is_red) else {
             self.can_put_red.notify_one();
             return Err(Overflow);
         };
-        if state.can_get_red() {
+        let copy = *inner;
+        drop(inner);
+        if copy.asleep_get_red > 0 && copy.state.can_get_red() {
             self.can_get_red.notify_all();
         }
-        if state.can_get_blue() {
+        if copy.asleep_get_blue > 0 && copy.state.can_get_blue() {
             self.can_get_blue.notify_all();
         }
-        if state.can_drain() {
+        if copy.asleep_drain > 0 && copy.state.can_drain() {
             self.can_drain.notify_one();
         }
-        drop(state);
         Ok(Some(()))
     }
 
@@ -203,16 +229,21 @@ impl TwoKinds {
     ///
     /// [`Overflow`] where a number would leave 64 bits. Then nothing changes.
     pub fn get_red(&self) -> Result<(), Overflow> {
-        let mut state = lock(&self.state);
-        while !state.can_get_red() {
-            state = wait(&self.can_get_red, state);
+        let mut inner = lock(&self.inner);
+        while !inner.state.can_get_red() {
+            inner.asleep_get_red += 1;
+            inner = wait(&self.can_get_red, inner);
+            inner.asleep_get_red -= 1;
         }
-        let Ok(()) = state.run_get_red() else {
+        let Ok(()) = inner.state.run_get_red() else {
             self.can_get_red.notify_one();
             return Err(Overflow);
         };
-        drop(state);
-        self.can_put_red.notify_all();
+        let copy = *inner;
+        drop(inner);
+        if copy.asleep_put_red > 0 {
+            self.can_put_red.notify_all();
+        }
         Ok(())
     }
 
@@ -224,16 +255,19 @@ impl TwoKinds {
     ///
     /// [`Overflow`] where a number would leave 64 bits. Then nothing changes.
     pub fn try_get_red(&self) -> Result<Option<()>, Overflow> {
-        let mut state = lock(&self.state);
-        if !state.can_get_red() {
+        let mut inner = lock(&self.inner);
+        if !inner.state.can_get_red() {
             return Ok(None);
         }
-        let Ok(()) = state.run_get_red() else {
+        let Ok(()) = inner.state.run_get_red() else {
             self.can_get_red.notify_one();
             return Err(Overflow);
         };
-        drop(state);
-        self.can_put_red.notify_all();
+        let copy = *inner;
+        drop(inner);
+        if copy.asleep_put_red > 0 {
+            self.can_put_red.notify_all();
+        }
         Ok(Some(()))
     }
 
@@ -245,16 +279,21 @@ impl TwoKinds {
     ///
     /// [`Overflow`] where a number would leave 64 bits. Then nothing changes.
     pub fn get_blue(&self) -> Result<(), Overflow> {
-        let mut state = lock(&self.state);
-        while !state.can_get_blue() {
-            state = wait(&self.can_get_blue, state);
+        let mut inner = lock(&self.inner);
+        while !inner.state.can_get_blue() {
+            inner.asleep_get_blue += 1;
+            inner = wait(&self.can_get_blue, inner);
+            inner.asleep_get_blue -= 1;
         }
-        let Ok(()) = state.run_get_blue() else {
+        let Ok(()) = inner.state.run_get_blue() else {
             self.can_get_blue.notify_one();
             return Err(Overflow);
         };
-        drop(state);
-        self.can_put_red.notify_all();
+        let copy = *inner;
+        drop(inner);
+        if copy.asleep_put_red > 0 {
+            self.can_put_red.notify_all();
+        }
         Ok(())
     }
 
@@ -266,16 +305,19 @@ impl TwoKinds {
     ///
     /// [`Overflow`] where a number would leave 64 bits. Then nothing changes.
     pub fn try_get_blue(&self) -> Result<Option<()>, Overflow> {
-        let mut state = lock(&self.state);
-        if !state.can_get_blue() {
+        let mut inner = lock(&self.inner);
+        if !inner.state.can_get_blue() {
             return Ok(None);
         }
-        let Ok(()) = state.run_get_blue() else {
+        let Ok(()) = inner.state.run_get_blue() else {
             self.can_get_blue.notify_one();
             return Err(Overflow);
         };
-        drop(state);
-        self.can_put_red.notify_all();
+        let copy = *inner;
+        drop(inner);
+        if copy.asleep_put_red > 0 {
+            self.can_put_red.notify_all();
+        }
         Ok(Some(()))
     }
 
@@ -283,26 +325,34 @@ impl TwoKinds {
     ///
     /// Wakes all calls that wait until `total < ROOM`.
     pub fn drain(&self) {
-        let mut state = lock(&self.state);
-        while !state.can_drain() {
-            state = wait(&self.can_drain, state);
+        let mut inner = lock(&self.inner);
+        while !inner.state.can_drain() {
+            inner.asleep_drain += 1;
+            inner = wait(&self.can_drain, inner);
+            inner.asleep_drain -= 1;
         }
-        state.run_drain();
-        drop(state);
-        self.can_put_red.notify_all();
+        inner.state.run_drain();
+        let copy = *inner;
+        drop(inner);
+        if copy.asleep_put_red > 0 {
+            self.can_put_red.notify_all();
+        }
     }
 
     /// Answers `None` where `total == ROOM` is false.
     ///
     /// Wakes all calls that wait until `total < ROOM`.
     pub fn try_drain(&self) -> Option<()> {
-        let mut state = lock(&self.state);
-        if !state.can_drain() {
+        let mut inner = lock(&self.inner);
+        if !inner.state.can_drain() {
             return None;
         }
-        state.run_drain();
-        drop(state);
-        self.can_put_red.notify_all();
+        inner.state.run_drain();
+        let copy = *inner;
+        drop(inner);
+        if copy.asleep_put_red > 0 {
+            self.can_put_red.notify_all();
+        }
         Some(())
     }
 }
@@ -315,14 +365,26 @@ impl Default for TwoKinds {
 
 impl std::fmt::Debug for TwoKinds {
     fn fmt(&self, f: &mut std::fmt::Formatter<'_>) -> std::fmt::Result {
-        let state = *self
-            .state
+        let state = self
+            .inner
             .lock()
-            .unwrap_or_else(std::sync::PoisonError::into_inner);
+            .unwrap_or_else(std::sync::PoisonError::into_inner)
+            .state;
         f.debug_struct(std::any::type_name::<Self>())
             .field("state", &state)
             .finish_non_exhaustive()
     }
+}
+
+/// What the mutex guards: the fields, and how many calls sleep on each condition.
+#[derive(Clone, Copy)]
+#[allow(dead_code)]
+struct Inner {
+    state: State,
+    asleep_put_red: usize,
+    asleep_get_red: usize,
+    asleep_get_blue: usize,
+    asleep_drain: usize,
 }
 
 /// The fields of the monitor.
@@ -400,15 +462,15 @@ impl State {
     }
 }
 
-/// Locks the state. Nothing panics while it is locked, so there is no poison to heed.
-fn lock(state: &Mutex<State>) -> MutexGuard<'_, State> {
-    state.lock().unwrap_or_else(PoisonError::into_inner)
+/// Locks the monitor. Nothing panics while it is locked, so there is no poison to heed.
+fn lock(inner: &Mutex<Inner>) -> MutexGuard<'_, Inner> {
+    inner.lock().unwrap_or_else(PoisonError::into_inner)
 }
 
 /// Gives the lock back and waits on the condition, in one step, and takes the lock again.
-fn wait<'a>(condition: &Condvar, state: MutexGuard<'a, State>) -> MutexGuard<'a, State> {
+fn wait<'a>(condition: &Condvar, inner: MutexGuard<'a, Inner>) -> MutexGuard<'a, Inner> {
     condition
-        .wait(state)
+        .wait(inner)
         .unwrap_or_else(PoisonError::into_inner)
 }
 

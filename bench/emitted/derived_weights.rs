@@ -5,7 +5,7 @@ use std::sync::{Condvar, Mutex, MutexGuard, PoisonError};
 /// The monitor `Weights`. Threads share it by reference. A call waits for its guard, unless it tries.
 #[allow(dead_code, non_camel_case_types, clippy::upper_case_acronyms)]
 pub struct Weights {
-    state: Mutex<State>,
+    inner: Mutex<Inner>,
     /// For calls that wait until `free >= 5`.
     can_take5: Condvar,
     /// For calls that wait until `free >= 10`.
@@ -25,7 +25,13 @@ impl Weights {
     #[must_use]
     pub const fn new() -> Self {
         Self {
-            state: Mutex::new(State::START),
+            inner: Mutex::new(Inner {
+                state: State::START,
+                asleep_take5: 0,
+                asleep_take10: 0,
+                asleep_take15: 0,
+                asleep_give: 0,
+            }),
             can_take5: Condvar::new(),
             can_take10: Condvar::new(),
             can_take15: Condvar::new(),
@@ -41,18 +47,21 @@ impl Weights {
     ///
     /// [`Overflow`] where a number would leave 64 bits. Then nothing changes.
     pub fn take5(&self) -> Result<(), Overflow> {
-        let mut state = lock(&self.state);
-        while !state.can_take5() {
-            state = wait(&self.can_take5, state);
+        let mut inner = lock(&self.inner);
+        while !inner.state.can_take5() {
+            inner.asleep_take5 += 1;
+            inner = wait(&self.can_take5, inner);
+            inner.asleep_take5 -= 1;
         }
-        let Ok(()) = state.run_take5() else {
+        let Ok(()) = inner.state.run_take5() else {
             self.can_take5.notify_one();
             return Err(Overflow);
         };
-        if state.can_give() {
+        let copy = *inner;
+        drop(inner);
+        if copy.asleep_give > 0 && copy.state.can_give() {
             self.can_give.notify_all();
         }
-        drop(state);
         Ok(())
     }
 
@@ -64,18 +73,19 @@ impl Weights {
     ///
     /// [`Overflow`] where a number would leave 64 bits. Then nothing changes.
     pub fn try_take5(&self) -> Result<Option<()>, Overflow> {
-        let mut state = lock(&self.state);
-        if !state.can_take5() {
+        let mut inner = lock(&self.inner);
+        if !inner.state.can_take5() {
             return Ok(None);
         }
-        let Ok(()) = state.run_take5() else {
+        let Ok(()) = inner.state.run_take5() else {
             self.can_take5.notify_one();
             return Err(Overflow);
         };
-        if state.can_give() {
+        let copy = *inner;
+        drop(inner);
+        if copy.asleep_give > 0 && copy.state.can_give() {
             self.can_give.notify_all();
         }
-        drop(state);
         Ok(Some(()))
     }
 
@@ -87,18 +97,21 @@ impl Weights {
     ///
     /// [`Overflow`] where a number would leave 64 bits. Then nothing changes.
     pub fn take10(&self) -> Result<(), Overflow> {
-        let mut state = lock(&self.state);
-        while !state.can_take10() {
-            state = wait(&self.can_take10, state);
+        let mut inner = lock(&self.inner);
+        while !inner.state.can_take10() {
+            inner.asleep_take10 += 1;
+            inner = wait(&self.can_take10, inner);
+            inner.asleep_take10 -= 1;
         }
-        let Ok(()) = state.run_take10() else {
+        let Ok(()) = inner.state.run_take10() else {
             self.can_take10.notify_one();
             return Err(Overflow);
         };
-        if state.can_give() {
+        let copy = *inner;
+        drop(inner);
+        if copy.asleep_give > 0 && copy.state.can_give() {
             self.can_give.notify_all();
         }
-        drop(state);
         Ok(())
     }
 
@@ -110,18 +123,19 @@ impl Weights {
     ///
     /// [`Overflow`] where a number would leave 64 bits. Then nothing changes.
     pub fn try_take10(&self) -> Result<Option<()>, Overflow> {
-        let mut state = lock(&self.state);
-        if !state.can_take10() {
+        let mut inner = lock(&self.inner);
+        if !inner.state.can_take10() {
             return Ok(None);
         }
-        let Ok(()) = state.run_take10() else {
+        let Ok(()) = inner.state.run_take10() else {
             self.can_take10.notify_one();
             return Err(Overflow);
         };
-        if state.can_give() {
+        let copy = *inner;
+        drop(inner);
+        if copy.asleep_give > 0 && copy.state.can_give() {
             self.can_give.notify_all();
         }
-        drop(state);
         Ok(Some(()))
     }
 
@@ -133,18 +147,21 @@ impl Weights {
     ///
     /// [`Overflow`] where a number would leave 64 bits. Then nothing changes.
     pub fn take15(&self) -> Result<(), Overflow> {
-        let mut state = lock(&self.state);
-        while !state.can_take15() {
-            state = wait(&self.can_take15, state);
+        let mut inner = lock(&self.inner);
+        while !inner.state.can_take15() {
+            inner.asleep_take15 += 1;
+            inner = wait(&self.can_take15, inner);
+            inner.asleep_take15 -= 1;
         }
-        let Ok(()) = state.run_take15() else {
+        let Ok(()) = inner.state.run_take15() else {
             self.can_take15.notify_one();
             return Err(Overflow);
         };
-        if state.can_give() {
+        let copy = *inner;
+        drop(inner);
+        if copy.asleep_give > 0 && copy.state.can_give() {
             self.can_give.notify_all();
         }
-        drop(state);
         Ok(())
     }
 
@@ -156,18 +173,19 @@ impl Weights {
     ///
     /// [`Overflow`] where a number would leave 64 bits. Then nothing changes.
     pub fn try_take15(&self) -> Result<Option<()>, Overflow> {
-        let mut state = lock(&self.state);
-        if !state.can_take15() {
+        let mut inner = lock(&self.inner);
+        if !inner.state.can_take15() {
             return Ok(None);
         }
-        let Ok(()) = state.run_take15() else {
+        let Ok(()) = inner.state.run_take15() else {
             self.can_take15.notify_one();
             return Err(Overflow);
         };
-        if state.can_give() {
+        let copy = *inner;
+        drop(inner);
+        if copy.asleep_give > 0 && copy.state.can_give() {
             self.can_give.notify_all();
         }
-        drop(state);
         Ok(Some(()))
     }
 
@@ -181,24 +199,27 @@ impl Weights {
     ///
     /// [`Overflow`] where a number would leave 64 bits. Then nothing changes.
     pub fn give(&self) -> Result<(), Overflow> {
-        let mut state = lock(&self.state);
-        while !state.can_give() {
-            state = wait(&self.can_give, state);
+        let mut inner = lock(&self.inner);
+        while !inner.state.can_give() {
+            inner.asleep_give += 1;
+            inner = wait(&self.can_give, inner);
+            inner.asleep_give -= 1;
         }
-        let Ok(()) = state.run_give() else {
+        let Ok(()) = inner.state.run_give() else {
             self.can_give.notify_one();
             return Err(Overflow);
         };
-        if state.can_take5() {
+        let copy = *inner;
+        drop(inner);
+        if copy.asleep_take5 > 0 && copy.state.can_take5() {
             self.can_take5.notify_all();
         }
-        if state.can_take10() {
+        if copy.asleep_take10 > 0 && copy.state.can_take10() {
             self.can_take10.notify_all();
         }
-        if state.can_take15() {
+        if copy.asleep_take15 > 0 && copy.state.can_take15() {
             self.can_take15.notify_all();
         }
-        drop(state);
         Ok(())
     }
 
@@ -212,24 +233,25 @@ impl Weights {
     ///
     /// [`Overflow`] where a number would leave 64 bits. Then nothing changes.
     pub fn try_give(&self) -> Result<Option<()>, Overflow> {
-        let mut state = lock(&self.state);
-        if !state.can_give() {
+        let mut inner = lock(&self.inner);
+        if !inner.state.can_give() {
             return Ok(None);
         }
-        let Ok(()) = state.run_give() else {
+        let Ok(()) = inner.state.run_give() else {
             self.can_give.notify_one();
             return Err(Overflow);
         };
-        if state.can_take5() {
+        let copy = *inner;
+        drop(inner);
+        if copy.asleep_take5 > 0 && copy.state.can_take5() {
             self.can_take5.notify_all();
         }
-        if state.can_take10() {
+        if copy.asleep_take10 > 0 && copy.state.can_take10() {
             self.can_take10.notify_all();
         }
-        if state.can_take15() {
+        if copy.asleep_take15 > 0 && copy.state.can_take15() {
             self.can_take15.notify_all();
         }
-        drop(state);
         Ok(Some(()))
     }
 }
@@ -242,14 +264,26 @@ impl Default for Weights {
 
 impl std::fmt::Debug for Weights {
     fn fmt(&self, f: &mut std::fmt::Formatter<'_>) -> std::fmt::Result {
-        let state = *self
-            .state
+        let state = self
+            .inner
             .lock()
-            .unwrap_or_else(std::sync::PoisonError::into_inner);
+            .unwrap_or_else(std::sync::PoisonError::into_inner)
+            .state;
         f.debug_struct(std::any::type_name::<Self>())
             .field("state", &state)
             .finish_non_exhaustive()
     }
+}
+
+/// What the mutex guards: the fields, and how many calls sleep on each condition.
+#[derive(Clone, Copy)]
+#[allow(dead_code)]
+struct Inner {
+    state: State,
+    asleep_take5: usize,
+    asleep_take10: usize,
+    asleep_take15: usize,
+    asleep_give: usize,
 }
 
 /// The fields of the monitor.
@@ -304,15 +338,15 @@ impl State {
     }
 }
 
-/// Locks the state. Nothing panics while it is locked, so there is no poison to heed.
-fn lock(state: &Mutex<State>) -> MutexGuard<'_, State> {
-    state.lock().unwrap_or_else(PoisonError::into_inner)
+/// Locks the monitor. Nothing panics while it is locked, so there is no poison to heed.
+fn lock(inner: &Mutex<Inner>) -> MutexGuard<'_, Inner> {
+    inner.lock().unwrap_or_else(PoisonError::into_inner)
 }
 
 /// Gives the lock back and waits on the condition, in one step, and takes the lock again.
-fn wait<'a>(condition: &Condvar, state: MutexGuard<'a, State>) -> MutexGuard<'a, State> {
+fn wait<'a>(condition: &Condvar, inner: MutexGuard<'a, Inner>) -> MutexGuard<'a, Inner> {
     condition
-        .wait(state)
+        .wait(inner)
         .unwrap_or_else(PoisonError::into_inner)
 }
 

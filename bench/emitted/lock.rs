@@ -5,7 +5,7 @@ use std::sync::{Condvar, Mutex, MutexGuard, PoisonError};
 /// The monitor `Lock`. Threads share it by reference. A call waits for its guard, unless it tries.
 #[allow(dead_code, non_camel_case_types, clippy::upper_case_acronyms)]
 pub struct Lock {
-    state: Mutex<State>,
+    inner: Mutex<Inner>,
     /// For calls that wait until `!held`.
     can_acquire: Condvar,
     /// For calls that wait until `held`.
@@ -19,7 +19,11 @@ impl Lock {
     #[must_use]
     pub const fn new() -> Self {
         Self {
-            state: Mutex::new(State::START),
+            inner: Mutex::new(Inner {
+                state: State::START,
+                asleep_acquire: 0,
+                asleep_release: 0,
+            }),
             can_acquire: Condvar::new(),
             can_release: Condvar::new(),
         }
@@ -29,26 +33,34 @@ impl Lock {
     ///
     /// Wakes one call that waits until `held`.
     pub fn acquire(&self) {
-        let mut state = lock(&self.state);
-        while !state.can_acquire() {
-            state = wait(&self.can_acquire, state);
+        let mut inner = lock(&self.inner);
+        while !inner.state.can_acquire() {
+            inner.asleep_acquire += 1;
+            inner = wait(&self.can_acquire, inner);
+            inner.asleep_acquire -= 1;
         }
-        state.run_acquire();
-        drop(state);
-        self.can_release.notify_one();
+        inner.state.run_acquire();
+        let copy = *inner;
+        drop(inner);
+        if copy.asleep_release > 0 {
+            self.can_release.notify_one();
+        }
     }
 
     /// Answers `None` where `!held` is false.
     ///
     /// Wakes one call that waits until `held`.
     pub fn try_acquire(&self) -> Option<()> {
-        let mut state = lock(&self.state);
-        if !state.can_acquire() {
+        let mut inner = lock(&self.inner);
+        if !inner.state.can_acquire() {
             return None;
         }
-        state.run_acquire();
-        drop(state);
-        self.can_release.notify_one();
+        inner.state.run_acquire();
+        let copy = *inner;
+        drop(inner);
+        if copy.asleep_release > 0 {
+            self.can_release.notify_one();
+        }
         Some(())
     }
 
@@ -56,26 +68,34 @@ impl Lock {
     ///
     /// Wakes one call that waits until `!held`.
     pub fn release(&self) {
-        let mut state = lock(&self.state);
-        while !state.can_release() {
-            state = wait(&self.can_release, state);
+        let mut inner = lock(&self.inner);
+        while !inner.state.can_release() {
+            inner.asleep_release += 1;
+            inner = wait(&self.can_release, inner);
+            inner.asleep_release -= 1;
         }
-        state.run_release();
-        drop(state);
-        self.can_acquire.notify_one();
+        inner.state.run_release();
+        let copy = *inner;
+        drop(inner);
+        if copy.asleep_acquire > 0 {
+            self.can_acquire.notify_one();
+        }
     }
 
     /// Answers `None` where `held` is false.
     ///
     /// Wakes one call that waits until `!held`.
     pub fn try_release(&self) -> Option<()> {
-        let mut state = lock(&self.state);
-        if !state.can_release() {
+        let mut inner = lock(&self.inner);
+        if !inner.state.can_release() {
             return None;
         }
-        state.run_release();
-        drop(state);
-        self.can_acquire.notify_one();
+        inner.state.run_release();
+        let copy = *inner;
+        drop(inner);
+        if copy.asleep_acquire > 0 {
+            self.can_acquire.notify_one();
+        }
         Some(())
     }
 }
@@ -88,14 +108,24 @@ impl Default for Lock {
 
 impl std::fmt::Debug for Lock {
     fn fmt(&self, f: &mut std::fmt::Formatter<'_>) -> std::fmt::Result {
-        let state = *self
-            .state
+        let state = self
+            .inner
             .lock()
-            .unwrap_or_else(std::sync::PoisonError::into_inner);
+            .unwrap_or_else(std::sync::PoisonError::into_inner)
+            .state;
         f.debug_struct(std::any::type_name::<Self>())
             .field("state", &state)
             .finish_non_exhaustive()
     }
+}
+
+/// What the mutex guards: the fields, and how many calls sleep on each condition.
+#[derive(Clone, Copy)]
+#[allow(dead_code)]
+struct Inner {
+    state: State,
+    asleep_acquire: usize,
+    asleep_release: usize,
 }
 
 /// The fields of the monitor.
@@ -130,14 +160,14 @@ impl State {
     }
 }
 
-/// Locks the state. Nothing panics while it is locked, so there is no poison to heed.
-fn lock(state: &Mutex<State>) -> MutexGuard<'_, State> {
-    state.lock().unwrap_or_else(PoisonError::into_inner)
+/// Locks the monitor. Nothing panics while it is locked, so there is no poison to heed.
+fn lock(inner: &Mutex<Inner>) -> MutexGuard<'_, Inner> {
+    inner.lock().unwrap_or_else(PoisonError::into_inner)
 }
 
 /// Gives the lock back and waits on the condition, in one step, and takes the lock again.
-fn wait<'a>(condition: &Condvar, state: MutexGuard<'a, State>) -> MutexGuard<'a, State> {
+fn wait<'a>(condition: &Condvar, inner: MutexGuard<'a, Inner>) -> MutexGuard<'a, Inner> {
     condition
-        .wait(state)
+        .wait(inner)
         .unwrap_or_else(PoisonError::into_inner)
 }

@@ -6,7 +6,7 @@ use std::sync::{Condvar, Mutex, MutexGuard, PoisonError};
 #[allow(non_snake_case, non_upper_case_globals)]
 #[allow(dead_code, non_camel_case_types, clippy::upper_case_acronyms)]
 pub struct State_ {
-    state: Mutex<State>,
+    inner: Mutex<Inner>,
     /// For calls that wait until `Ok && state > Mutex`.
     can_new_: Condvar,
     /// For calls that wait until `answer * 2 >= narrow - match`.
@@ -25,7 +25,12 @@ impl State_ {
     #[must_use]
     pub const fn new() -> Self {
         Self {
-            state: Mutex::new(State::START),
+            inner: Mutex::new(Inner {
+                state: State::START,
+                asleep_new_: 0,
+                asleep_await_: 0,
+                asleep2_await_: 0,
+            }),
             can_new_: Condvar::new(),
             can_await_: Condvar::new(),
             can2_await_: Condvar::new(),
@@ -39,16 +44,18 @@ impl State_ {
     /// # Errors
     ///
     /// [`Overflow`] where a number would leave 64 bits. Then nothing changes.
-    pub fn new_(&self, state_: i64, ok: bool) -> Result<bool, Overflow> {
-        let mut state = lock(&self.state);
-        while !state.can_new_(state_, ok) {
-            state = wait(&self.can_new_, state);
+    pub fn new_(&self, state: i64, ok: bool) -> Result<bool, Overflow> {
+        let mut inner = lock(&self.inner);
+        while !inner.state.can_new_(state, ok) {
+            inner.asleep_new_ += 1;
+            inner = wait(&self.can_new_, inner);
+            inner.asleep_new_ -= 1;
         }
-        let Ok(answer) = state.run_new_(state_, ok) else {
+        let Ok(answer) = inner.state.run_new_(state, ok) else {
             self.can_new_.notify_one();
             return Err(Overflow);
         };
-        drop(state);
+        drop(inner);
         Ok(answer)
     }
 
@@ -66,26 +73,36 @@ impl State_ {
     pub fn await_(&self, answer_: i64, narrow_: i64) -> Result<i64, Overflow> {
         let mut drop_: i64 = 0;
         let mut lock_: bool = true;
-        let mut state = lock(&self.state);
-        while !state.can_await_(answer_, narrow_, drop_, lock_) {
-            state = wait(&self.can_await_, state);
+        let mut inner = lock(&self.inner);
+        while !inner.state.can_await_(answer_, narrow_, drop_, lock_) {
+            inner.asleep_await_ += 1;
+            inner = wait(&self.can_await_, inner);
+            inner.asleep_await_ -= 1;
         }
-        let Ok(()) = state.run_await_(answer_, narrow_, &mut drop_, &mut lock_) else {
+        let Ok(()) = inner.state.run_await_(answer_, narrow_, &mut drop_, &mut lock_) else {
             self.can_await_.notify_one();
             return Err(Overflow);
         };
-        drop(state);
-        self.can2_await_.notify_all();
-        let mut state = lock(&self.state);
-        while !state.can2_await_(answer_, narrow_, drop_, lock_) {
-            state = wait(&self.can2_await_, state);
+        let copy = *inner;
+        drop(inner);
+        if copy.asleep2_await_ > 0 {
+            self.can2_await_.notify_all();
         }
-        let Ok(answer) = state.run2_await_(answer_, narrow_, &mut drop_, &mut lock_) else {
+        let mut inner = lock(&self.inner);
+        while !inner.state.can2_await_(answer_, narrow_, drop_, lock_) {
+            inner.asleep2_await_ += 1;
+            inner = wait(&self.can2_await_, inner);
+            inner.asleep2_await_ -= 1;
+        }
+        let Ok(answer) = inner.state.run2_await_(answer_, narrow_, &mut drop_, &mut lock_) else {
             self.can2_await_.notify_one();
             return Err(Overflow);
         };
-        drop(state);
-        self.can_await_.notify_all();
+        let copy = *inner;
+        drop(inner);
+        if copy.asleep_await_ > 0 {
+            self.can_await_.notify_all();
+        }
         Ok(answer)
     }
 
@@ -103,26 +120,34 @@ impl State_ {
     pub fn try_await_(&self, answer_: i64, narrow_: i64) -> Result<Option<i64>, Overflow> {
         let mut drop_: i64 = 0;
         let mut lock_: bool = true;
-        let mut state = lock(&self.state);
-        if !state.can_await_(answer_, narrow_, drop_, lock_) {
+        let mut inner = lock(&self.inner);
+        if !inner.state.can_await_(answer_, narrow_, drop_, lock_) {
             return Ok(None);
         }
-        let Ok(()) = state.run_await_(answer_, narrow_, &mut drop_, &mut lock_) else {
+        let Ok(()) = inner.state.run_await_(answer_, narrow_, &mut drop_, &mut lock_) else {
             self.can_await_.notify_one();
             return Err(Overflow);
         };
-        drop(state);
-        self.can2_await_.notify_all();
-        let mut state = lock(&self.state);
-        while !state.can2_await_(answer_, narrow_, drop_, lock_) {
-            state = wait(&self.can2_await_, state);
+        let copy = *inner;
+        drop(inner);
+        if copy.asleep2_await_ > 0 {
+            self.can2_await_.notify_all();
         }
-        let Ok(answer) = state.run2_await_(answer_, narrow_, &mut drop_, &mut lock_) else {
+        let mut inner = lock(&self.inner);
+        while !inner.state.can2_await_(answer_, narrow_, drop_, lock_) {
+            inner.asleep2_await_ += 1;
+            inner = wait(&self.can2_await_, inner);
+            inner.asleep2_await_ -= 1;
+        }
+        let Ok(answer) = inner.state.run2_await_(answer_, narrow_, &mut drop_, &mut lock_) else {
             self.can2_await_.notify_one();
             return Err(Overflow);
         };
-        drop(state);
-        self.can_await_.notify_all();
+        let copy = *inner;
+        drop(inner);
+        if copy.asleep_await_ > 0 {
+            self.can_await_.notify_all();
+        }
         Ok(Some(answer))
     }
 
@@ -130,9 +155,9 @@ impl State_ {
     ///
     /// Wakes nobody.
     pub fn try_new_(&self) {
-        let mut state = lock(&self.state);
-        state.run_try_new_();
-        drop(state);
+        let mut inner = lock(&self.inner);
+        inner.state.run_try_new_();
+        drop(inner);
     }
 }
 
@@ -144,14 +169,26 @@ impl Default for State_ {
 
 impl std::fmt::Debug for State_ {
     fn fmt(&self, f: &mut std::fmt::Formatter<'_>) -> std::fmt::Result {
-        let state = *self
-            .state
+        let state = self
+            .inner
             .lock()
-            .unwrap_or_else(std::sync::PoisonError::into_inner);
+            .unwrap_or_else(std::sync::PoisonError::into_inner)
+            .state;
         f.debug_struct(std::any::type_name::<Self>())
             .field("state", &state)
             .finish_non_exhaustive()
     }
+}
+
+/// What the mutex guards: the fields, and how many calls sleep on each condition.
+#[derive(Clone, Copy)]
+#[allow(dead_code)]
+#[allow(non_snake_case, non_upper_case_globals)]
+struct Inner {
+    state: State,
+    asleep_new_: usize,
+    asleep_await_: usize,
+    asleep2_await_: usize,
 }
 
 /// The fields of the monitor.
@@ -181,14 +218,14 @@ impl State {
         match__: 0,
     };
 
-    fn can_new_(&self, state_: i64, ok: bool) -> bool {
-        ok && state_ > State_::MUTEX
+    fn can_new_(&self, state: i64, ok: bool) -> bool {
+        ok && state > State_::MUTEX
     }
 
-    fn run_new_(&mut self, state_: i64, ok: bool) -> Result<bool, Overflow> {
+    fn run_new_(&mut self, state: i64, ok: bool) -> Result<bool, Overflow> {
         let mut next = *self;
-        next.self_ = narrow(i128::from(next.self_) + i128::from(state_))?;
-        next.next = narrow(i128::from(state_) * 2)?;
+        next.self_ = narrow(i128::from(next.self_) + i128::from(state))?;
+        next.next = narrow(i128::from(state) * 2)?;
         *self = next;
         Ok(!ok)
     }
@@ -226,15 +263,15 @@ impl State {
     }
 }
 
-/// Locks the state. Nothing panics while it is locked, so there is no poison to heed.
-fn lock(state: &Mutex<State>) -> MutexGuard<'_, State> {
-    state.lock().unwrap_or_else(PoisonError::into_inner)
+/// Locks the monitor. Nothing panics while it is locked, so there is no poison to heed.
+fn lock(inner: &Mutex<Inner>) -> MutexGuard<'_, Inner> {
+    inner.lock().unwrap_or_else(PoisonError::into_inner)
 }
 
 /// Gives the lock back and waits on the condition, in one step, and takes the lock again.
-fn wait<'a>(condition: &Condvar, state: MutexGuard<'a, State>) -> MutexGuard<'a, State> {
+fn wait<'a>(condition: &Condvar, inner: MutexGuard<'a, Inner>) -> MutexGuard<'a, Inner> {
     condition
-        .wait(state)
+        .wait(inner)
         .unwrap_or_else(PoisonError::into_inner)
 }
 

@@ -5,7 +5,7 @@ use std::sync::{Condvar, Mutex, MutexGuard, PoisonError};
 /// The monitor `Twice`. Threads share it by reference. A call waits for its guard, unless it tries.
 #[allow(dead_code, non_camel_case_types, clippy::upper_case_acronyms)]
 pub struct Twice {
-    state: Mutex<State>,
+    inner: Mutex<Inner>,
     /// For calls that wait until `level > seen + 1`.
     can2_pair: Condvar,
 }
@@ -17,7 +17,10 @@ impl Twice {
     #[must_use]
     pub const fn new() -> Self {
         Self {
-            state: Mutex::new(State::START),
+            inner: Mutex::new(Inner {
+                state: State::START,
+                asleep2_pair: 0,
+            }),
             can2_pair: Condvar::new(),
         }
     }
@@ -35,16 +38,21 @@ impl Twice {
     /// [`Overflow`] where a number would leave 64 bits. Its block then changes nothing, and no later one runs.
     pub fn pair(&self) -> Result<i64, Overflow> {
         let mut seen: i64 = 0;
-        let mut state = lock(&self.state);
-        state.run_pair(&mut seen)?;
-        drop(state);
-        self.can2_pair.notify_all();
-        let mut state = lock(&self.state);
-        while !state.can2_pair(seen) {
-            state = wait(&self.can2_pair, state);
+        let mut inner = lock(&self.inner);
+        inner.state.run_pair(&mut seen)?;
+        let copy = *inner;
+        drop(inner);
+        if copy.asleep2_pair > 0 {
+            self.can2_pair.notify_all();
         }
-        let answer = state.run2_pair(&mut seen);
-        drop(state);
+        let mut inner = lock(&self.inner);
+        while !inner.state.can2_pair(seen) {
+            inner.asleep2_pair += 1;
+            inner = wait(&self.can2_pair, inner);
+            inner.asleep2_pair -= 1;
+        }
+        let answer = inner.state.run2_pair(&mut seen);
+        drop(inner);
         Ok(answer)
     }
 }
@@ -57,14 +65,23 @@ impl Default for Twice {
 
 impl std::fmt::Debug for Twice {
     fn fmt(&self, f: &mut std::fmt::Formatter<'_>) -> std::fmt::Result {
-        let state = *self
-            .state
+        let state = self
+            .inner
             .lock()
-            .unwrap_or_else(std::sync::PoisonError::into_inner);
+            .unwrap_or_else(std::sync::PoisonError::into_inner)
+            .state;
         f.debug_struct(std::any::type_name::<Self>())
             .field("state", &state)
             .finish_non_exhaustive()
     }
+}
+
+/// What the mutex guards: the fields, and how many calls sleep on each condition.
+#[derive(Clone, Copy)]
+#[allow(dead_code)]
+struct Inner {
+    state: State,
+    asleep2_pair: usize,
 }
 
 /// The fields of the monitor.
@@ -97,15 +114,15 @@ impl State {
     }
 }
 
-/// Locks the state. Nothing panics while it is locked, so there is no poison to heed.
-fn lock(state: &Mutex<State>) -> MutexGuard<'_, State> {
-    state.lock().unwrap_or_else(PoisonError::into_inner)
+/// Locks the monitor. Nothing panics while it is locked, so there is no poison to heed.
+fn lock(inner: &Mutex<Inner>) -> MutexGuard<'_, Inner> {
+    inner.lock().unwrap_or_else(PoisonError::into_inner)
 }
 
 /// Gives the lock back and waits on the condition, in one step, and takes the lock again.
-fn wait<'a>(condition: &Condvar, state: MutexGuard<'a, State>) -> MutexGuard<'a, State> {
+fn wait<'a>(condition: &Condvar, inner: MutexGuard<'a, Inner>) -> MutexGuard<'a, Inner> {
     condition
-        .wait(state)
+        .wait(inner)
         .unwrap_or_else(PoisonError::into_inner)
 }
 

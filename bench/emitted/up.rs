@@ -5,7 +5,7 @@ use std::sync::{Condvar, Mutex, MutexGuard, PoisonError};
 /// The monitor `Up`. Threads share it by reference. A call waits for its guard, unless it tries.
 #[allow(dead_code, non_camel_case_types, clippy::upper_case_acronyms)]
 pub struct Up {
-    state: Mutex<State>,
+    inner: Mutex<Inner>,
     /// For calls that wait until `x > 0`.
     can_inc: Condvar,
 }
@@ -17,7 +17,10 @@ impl Up {
     #[must_use]
     pub const fn new() -> Self {
         Self {
-            state: Mutex::new(State::START),
+            inner: Mutex::new(Inner {
+                state: State::START,
+                asleep_inc: 0,
+            }),
             can_inc: Condvar::new(),
         }
     }
@@ -30,15 +33,17 @@ impl Up {
     ///
     /// [`Overflow`] where a number would leave 64 bits. Then nothing changes.
     pub fn inc(&self) -> Result<(), Overflow> {
-        let mut state = lock(&self.state);
-        while !state.can_inc() {
-            state = wait(&self.can_inc, state);
+        let mut inner = lock(&self.inner);
+        while !inner.state.can_inc() {
+            inner.asleep_inc += 1;
+            inner = wait(&self.can_inc, inner);
+            inner.asleep_inc -= 1;
         }
-        let Ok(()) = state.run_inc() else {
+        let Ok(()) = inner.state.run_inc() else {
             self.can_inc.notify_one();
             return Err(Overflow);
         };
-        drop(state);
+        drop(inner);
         Ok(())
     }
 
@@ -50,15 +55,15 @@ impl Up {
     ///
     /// [`Overflow`] where a number would leave 64 bits. Then nothing changes.
     pub fn try_inc(&self) -> Result<Option<()>, Overflow> {
-        let mut state = lock(&self.state);
-        if !state.can_inc() {
+        let mut inner = lock(&self.inner);
+        if !inner.state.can_inc() {
             return Ok(None);
         }
-        let Ok(()) = state.run_inc() else {
+        let Ok(()) = inner.state.run_inc() else {
             self.can_inc.notify_one();
             return Err(Overflow);
         };
-        drop(state);
+        drop(inner);
         Ok(Some(()))
     }
 }
@@ -71,14 +76,23 @@ impl Default for Up {
 
 impl std::fmt::Debug for Up {
     fn fmt(&self, f: &mut std::fmt::Formatter<'_>) -> std::fmt::Result {
-        let state = *self
-            .state
+        let state = self
+            .inner
             .lock()
-            .unwrap_or_else(std::sync::PoisonError::into_inner);
+            .unwrap_or_else(std::sync::PoisonError::into_inner)
+            .state;
         f.debug_struct(std::any::type_name::<Self>())
             .field("state", &state)
             .finish_non_exhaustive()
     }
+}
+
+/// What the mutex guards: the fields, and how many calls sleep on each condition.
+#[derive(Clone, Copy)]
+#[allow(dead_code)]
+struct Inner {
+    state: State,
+    asleep_inc: usize,
 }
 
 /// The fields of the monitor.
@@ -106,15 +120,15 @@ impl State {
     }
 }
 
-/// Locks the state. Nothing panics while it is locked, so there is no poison to heed.
-fn lock(state: &Mutex<State>) -> MutexGuard<'_, State> {
-    state.lock().unwrap_or_else(PoisonError::into_inner)
+/// Locks the monitor. Nothing panics while it is locked, so there is no poison to heed.
+fn lock(inner: &Mutex<Inner>) -> MutexGuard<'_, Inner> {
+    inner.lock().unwrap_or_else(PoisonError::into_inner)
 }
 
 /// Gives the lock back and waits on the condition, in one step, and takes the lock again.
-fn wait<'a>(condition: &Condvar, state: MutexGuard<'a, State>) -> MutexGuard<'a, State> {
+fn wait<'a>(condition: &Condvar, inner: MutexGuard<'a, Inner>) -> MutexGuard<'a, Inner> {
     condition
-        .wait(state)
+        .wait(inner)
         .unwrap_or_else(PoisonError::into_inner)
 }
 

@@ -16,16 +16,16 @@ use Rattle.mon_events.specs.declared.plan.Note.{Note}
 use Rattle.mon_events.specs.Configurations.{System}
 use Rattle.mon_events.specs.Pending.{IsSystem}
 use Rattle.mon_code.specs.Code.{Op, code_with}
-use Rattle.mon_code.specs.Code.Op.{Lock, WaitUntil, Notify, Unlock}
-use Rattle.mon_code.specs.Executions.{Position, Frame, Thread, Moment, IsThread, goes, program_with, commit_of, continues, AreNotified, start, IsMove, Executes}
+use Rattle.mon_code.specs.Code.Op.{Lock, WaitUntil, Notify, Unlock, Release}
+use Rattle.mon_code.specs.Executions.{Position, Frame, Thread, Moment, IsThread, goes, program_with, commit_of, continues, AreNotified, called_for, start, IsMove, Executes}
 use Rattle.mon_code.specs.Executions.Position.{Outside, At, Asleep, Notified}
-use Rattle.mon_code.specs.Executions.IsMove.{calls, takes, passes, falls_asleep, wakes, retakes, refuses, runs_body, notifies, unlocks, returns}
+use Rattle.mon_code.specs.Executions.IsMove.{calls, takes, passes, falls_asleep, wakes, retakes, refuses, runs_body, notifies, unlocks, releases, returns}
 use Rattle.mon_code.specs.Executions.Executes.{none_yet, one_more}
 use Rattle.mon_code.specs.Orders.{IsTold}
 use Rattle.mon_code.specs.Laws.{Leads, IsDoneBy, Answers, AnswersAreReplies}
 use Rattle.mon_code.proofs.Lists.{came}
 use Rattle.mon_code.proofs.Views.{next_block, number_at, thread_before}
-use Rattle.mon_code.proofs.Stages.{first_of, count_of, tries_in, IsAt, later_code, told_code, number_is, some_block, next_locked, follows_locked}
+use Rattle.mon_code.proofs.Stages.{first_of, count_of, tries_in, IsAt, later_code, told_code, number_is, some_block, next_locked, follows_locked, called_next}
 use Rattle.mon_code.proofs.Placed.{IsSoundly, code_is, passed_at, start_position}
 use Rattle.mon_code.proofs.Running.{continues_so, BodyAt, body_at, sound_late}
 
@@ -192,6 +192,11 @@ move_answered system told is order before next sound answered (notifies thread f
 move_answered system told is order before next sound answered (unlocks thread frame move) =
     subst (λ (one : Moment). AreAnswered system told one.ran one.threads) (sym move.becomes)
     (goes_answered system told before.ran before.threads thread frame (At move.rest) answered (answered thread frame (At (Unlock ∷ move.rest)) move.at))
+move_answered system told is order before next sound answered (releases thread frame move) =
+    let ops = called_for (program_with system told) before move.notes move.rest in
+    subst (λ (one : Moment). AreAnswered system told one.ran one.threads) (sym move.becomes)
+    (goes_answered system told before.ran before.threads thread frame (At ops) answered
+    (λ none. answered thread frame (At (Release move.notes ∷ move.rest)) move.at (sym (called_next (program_with system told) before move.notes move.rest) ∙ none)))
 move_answered system told is order before next sound answered (returns thread frame move) =
     subst (λ (one : Moment). AreAnswered system told one.ran one.threads) (sym move.becomes)
     (goes_answered system told before.ran before.threads thread (record { past = frame.past + 1; locals = frame.locals; answer = frame.answer }) Outside answered tt)

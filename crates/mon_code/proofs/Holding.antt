@@ -10,16 +10,16 @@ use Rattle.mon_events.specs.declared.plan.Note.{Note}
 use Rattle.mon_events.specs.Configurations.{System, block_condition}
 use Rattle.mon_events.specs.Pending.{IsSystem}
 use Rattle.mon_code.specs.Code.{Op, is_waited_on, telling_code, code_with}
-use Rattle.mon_code.specs.Code.Op.{Lock, WaitUntil, ElseRefuse, Run, Notify, Unlock}
-use Rattle.mon_code.specs.Executions.{Position, Frame, Thread, Moment, IsThread, goes, program_with, continues, woken_position, woken_thread, AreNotified, start, IsMove, Executes}
+use Rattle.mon_code.specs.Code.Op.{Lock, WaitUntil, ElseRefuse, Run, Notify, Unlock, Release}
+use Rattle.mon_code.specs.Executions.{Position, Frame, Thread, Moment, IsThread, goes, program_with, continues, woken_position, woken_thread, AreNotified, called_for, start, IsMove, Executes}
 use Rattle.mon_code.specs.Executions.Position.{Outside, At, Asleep, Notified}
-use Rattle.mon_code.specs.Executions.IsMove.{calls, takes, passes, falls_asleep, wakes, retakes, refuses, runs_body, notifies, unlocks, returns}
+use Rattle.mon_code.specs.Executions.IsMove.{calls, takes, passes, falls_asleep, wakes, retakes, refuses, runs_body, notifies, unlocks, releases, returns}
 use Rattle.mon_code.specs.Executions.Executes.{none_yet, one_more}
 use Rattle.mon_code.specs.Orders.{IsTold}
 use Rattle.mon_code.specs.Laws.{Leads, HoldersAct}
 use Rattle.mon_code.proofs.Lists.{set_here, set_other}
 use Rattle.mon_code.proofs.Stages.{tries_in, passed_code, now_free, now_locked, never, locked_later, telling_locked}
-use Rattle.mon_code.proofs.Placed.{ArePlaced, passed_at, after_unlock}
+use Rattle.mon_code.proofs.Placed.{ArePlaced, passed_at, after_unlock, after_release}
 use Rattle.mon_code.proofs.Running.{noter_stays, sound_late}
 
 -- ---- where the holder is
@@ -33,6 +33,7 @@ is_holding (At (ElseRefuse block ∷ rest)) = true
 is_holding (At (Run block otherwise ∷ rest)) = true
 is_holding (At (Notify note ∷ rest)) = now_locked rest
 is_holding (At (Unlock ∷ rest)) = now_free rest
+is_holding (At (Release notes ∷ rest)) = now_free rest
 is_holding (Asleep block condition rest) = false
 is_holding (Notified block condition rest) = false
 
@@ -88,6 +89,7 @@ locked_holds (ElseRefuse block ∷ rest) is = refl
 locked_holds (Run block otherwise ∷ rest) is = refl
 locked_holds (Notify note ∷ rest) is = is
 locked_holds (Unlock ∷ rest) is = is
+locked_holds (Release notes ∷ rest) is = is
 
 continues_holds : (reply : Reply) (otherwise : List Note) (rest : List Op) → now_locked rest ≡ true → is_holding (At (continues reply otherwise rest)) ≡ true
 continues_holds replies.Overflow otherwise rest is = locked_holds (telling_code otherwise) (telling_locked otherwise)
@@ -158,6 +160,8 @@ move_holding system told order before next placed has (notifies thread frame mov
     (noter_stays system told before move.note move.woken move.notified thread frame (Notify move.note ∷ move.rest) move.at)
     (woken_holding system told before move.note move.woken has move.notified) (λ is. locked_holds move.rest is))
 move_holding system told order before next placed has (unlocks thread frame move) = subst KeepsHolder (sym move.becomes) (nobody_holds (goes before.threads thread frame (At move.rest)))
+move_holding system told order before next placed has (releases thread frame move) =
+    subst KeepsHolder (sym move.becomes) (nobody_holds (goes before.threads thread frame (At (called_for (program_with system told) before move.notes move.rest))))
 move_holding system told order before next placed has (returns thread frame move) =
     subst KeepsHolder (sym move.becomes)
     (goes_holding before.threads before.holder thread frame (record { past = frame.past + 1; locals = frame.locals; answer = frame.answer }) (At []) Outside move.at has (λ is. never is))
@@ -180,6 +184,8 @@ needs_holder system told now placed thread frame (Notify note) rest at needs = e
   | inr free ↦ absurd (true≢false (sym needs ∙ not-true note.tested (and_parts (not note.tested) (now_free rest) free).0))
 ]
 needs_holder system told now placed thread frame Unlock rest at needs = (after_unlock system told now.holder thread frame.past rest (placed thread frame (At (Unlock ∷ rest)) at)).0
+needs_holder system told now placed thread frame (Release notes) rest at needs =
+    (after_release system told now now.holder thread frame.past notes rest (placed thread frame (At (Release notes ∷ rest)) at)).0
 
 pub late_holders_act : (system : System) (told : ℕ → List Op) (last : Moment) → IsSystem system → IsTold system told → Leads (program_with system told) last → HoldersAct (program_with system told) last
 late_holders_act system told last is order run = needs_holder system told last (sound_late system told is order last run).placed

@@ -3,6 +3,7 @@ pub mod Views
 pub mod Stages
 pub mod Placed
 pub mod Running
+pub mod Counting
 pub mod Holding
 pub mod Order
 pub mod Pending

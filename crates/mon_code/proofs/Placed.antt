@@ -3,7 +3,7 @@ use Rattle.std.proofs.Common.{◌≡◌, ℕ, zero, suc, ◌+◌, ◌⊎◌, Boo
 use Rattle.std.specs.Prelude.{All, slice_get}
 use Rattle.std.proofs.lemmas.Option.{none-some, same_Some}
 use Rattle.std.proofs.lemmas.Bool.{true≢false, and_parts}
-use Rattle.std.proofs.lemmas.List.Elements.{All-nil, All-cons, All-tail}
+use Rattle.std.proofs.lemmas.List.Elements.{All-nil, All-cons, All-head, All-tail}
 use Rattle.mon_base.specs.declared.value.Value.{Value}
 use Rattle.mon_implicit.specs.declared.commit.Commit.{Commit}
 use Rattle.mon_implicit.specs.declared.commit.Reply.{Reply}
@@ -19,16 +19,16 @@ use Rattle.mon_events.specs.Configurations.{System, block_condition}
 use Rattle.mon_events.specs.Configurations.Phase.{Inside}
 use Rattle.mon_events.specs.Pending.{IsSystem}
 use Rattle.mon_code.specs.Code.{Op, is_waited_on, signal_on, overflow_notes, telling_code, code_with, blocks_code}
-use Rattle.mon_code.specs.Code.Op.{Lock, WaitUntil, ElseRefuse, Run, Notify, Unlock}
-use Rattle.mon_code.specs.Executions.{Position, Frame, Thread, Moment, IsThread, goes, program_with, is_open, commit_of, continues, tested_block, AreNotified, new_thread, start}
+use Rattle.mon_code.specs.Code.Op.{Lock, WaitUntil, ElseRefuse, Run, Notify, Unlock, Release}
+use Rattle.mon_code.specs.Executions.{Position, Frame, Thread, Moment, IsThread, goes, program_with, is_open, commit_of, continues, tested_block, AreNotified, called_for, new_thread, start}
 use Rattle.mon_code.specs.Executions.{IsMove}
 use Rattle.mon_code.specs.Executions.Position.{Outside, At, Asleep, Notified}
-use Rattle.mon_code.specs.Executions.IsMove.{calls, takes, passes, falls_asleep, wakes, retakes, refuses, runs_body, notifies, unlocks, returns}
+use Rattle.mon_code.specs.Executions.IsMove.{calls, takes, passes, falls_asleep, wakes, retakes, refuses, runs_body, notifies, unlocks, releases, returns}
 use Rattle.mon_code.specs.Orders.{notes_to_come, IsTestable, IsTold}
 use Rattle.mon_code.proofs.Lists.{came}
 use Rattle.mon_code.proofs.Views.{next_block, place_by, place_at, phase_at, place_there, situation_at, thread_before}
 use Rattle.mon_code.proofs.Stages.{first_of, count_of, tries_in, IsAt, later_code, locked_code, passed_code, told_code, Faced, faced_at, open_unwaited, some_block, tries_first, tries_later, next_at, end_at, end_later, next_locked}
-use Rattle.mon_code.proofs.Stages.{now_free, now_locked, from_lock, never, locked_later, follows_locked, telling_locked, telling_notes, telling_lock}
+use Rattle.mon_code.proofs.Stages.{now_free, now_locked, from_lock, never, locked_later, follows_locked, called_lock, called_free, called_all, telling_locked, telling_notes, telling_lock}
 
 -- ---- where threads are
 
@@ -87,6 +87,7 @@ IsPlaced system told state holder thread frame (At (ElseRefuse block ∷ rest)) 
 IsPlaced system told state holder thread frame (At (Run block otherwise ∷ rest)) = (holder ≡ Some thread) × IsReady system told state thread frame block otherwise rest
 IsPlaced system told state holder thread frame (At (Notify note ∷ rest)) = Tells system told holder thread frame.past (Notify note ∷ rest)
 IsPlaced system told state holder thread frame (At (Unlock ∷ rest)) = Tells system told holder thread frame.past (Unlock ∷ rest)
+IsPlaced system told state holder thread frame (At (Release notes ∷ rest)) = Tells system told holder thread frame.past (Release notes ∷ rest)
 IsPlaced system told state holder thread frame (Asleep block condition rest) = Loops system told thread frame.past block condition rest
 IsPlaced system told state holder thread frame (Notified block condition rest) = Loops system told thread frame.past block condition rest
 
@@ -115,7 +116,7 @@ faced_there system told now is sound thread frame position there call block left
 -- ---- one thread goes
 
 abbrev pub moment : List Value → Option ℕ → List Commit → List Thread → Moment
-moment state holder ran threads = record { state = state; holder = holder; ran = ran; threads = threads }
+moment state holder ran threads = record { state = state; asleep = λ condition. 0; holder = holder; ran = ran; threads = threads }
 
 unheld_tells : (system : System) (told : ℕ → List Op) (holder new_holder : Option ℕ) (thread past : ℕ) (ops : List Op) → (holder ≡ Some thread → ⊥)
     → Tells system told holder thread past ops → Tells system told new_holder thread past ops
@@ -143,6 +144,7 @@ unheld system told state new_state holder new_holder thread frame (At (ElseRefus
 unheld system told state new_state holder new_holder thread frame (At (Run block otherwise ∷ rest)) none is = absurd (none is.0)
 unheld system told state new_state holder new_holder thread frame (At (Notify note ∷ rest)) none is = unheld_tells system told holder new_holder thread frame.past (Notify note ∷ rest) none is
 unheld system told state new_state holder new_holder thread frame (At (Unlock ∷ rest)) none is = unheld_tells system told holder new_holder thread frame.past (Unlock ∷ rest) none is
+unheld system told state new_state holder new_holder thread frame (At (Release notes ∷ rest)) none is = unheld_tells system told holder new_holder thread frame.past (Release notes ∷ rest) none is
 unheld system told state new_state holder new_holder thread frame (Asleep block condition rest) none is = is
 unheld system told state new_state holder new_holder thread frame (Notified block condition rest) none is = is
 
@@ -204,6 +206,7 @@ tells_placed system told state holder thread frame (Run block otherwise ∷ rest
 ]
 tells_placed system told state holder thread frame (Notify note ∷ rest) tells = tells
 tells_placed system told state holder thread frame (Unlock ∷ rest) tells = tells
+tells_placed system told state holder thread frame (Release notes ∷ rest) tells = tells
 
 -- the first block of a call
 pub code_is : (system : System) (told : ℕ → List Op) (call : Call) (left : ℕ) → count_of system call ≡ suc left
@@ -287,6 +290,7 @@ passed_at system told now placed thread frame Lock number rest at tests = absurd
 passed_at system told now placed thread frame (Run block otherwise) number rest at tests = absurd (none-some number tests)
 passed_at system told now placed thread frame (Notify note) number rest at tests = absurd (none-some number tests)
 passed_at system told now placed thread frame Unlock number rest at tests = absurd (none-some number tests)
+passed_at system told now placed thread frame (Release notes) number rest at tests = absurd (none-some number tests)
 
 -- ---- after a body, or a refusal
 
@@ -386,6 +390,35 @@ after_unlock system told holder thread past rest tells = elim tells.held [
   )
 ]
 
+pub all_first : (P : Note → Type 0) (notes more : List Note) → All P (notes ++ more) → All P notes
+all_first P [] more all = All-nil P
+all_first P (note ∷ notes) more all = All-cons P note notes (All-head P note (notes ++ more) all) (all_first P notes more (All-tail P note (notes ++ more) all))
+
+all_after : (P : Note → Type 0) (notes more : List Note) → All P (notes ++ more) → All P more
+all_after P [] more all = all
+all_after P (note ∷ notes) more all = all_after P notes more (All-tail P note (notes ++ more) all)
+
+-- with the notes that are called for to come
+pub after_release : (system : System) (told : ℕ → List Op) (now : Moment) (holder : Option ℕ) (thread past : ℕ) (notes : List Note) (rest : List Op) → Tells system told holder thread past (Release notes ∷ rest)
+    → (holder ≡ Some thread) × Tells system told None thread past (called_for (program_with system told) now notes rest)
+after_release system told now holder thread past notes rest tells = elim tells.held [
+  | inr free ↦ never free
+  | inl held ↦ (
+    held.1,
+    record {
+      call = tells.call;
+      block = tells.block;
+      left = tells.left;
+      at = tells.at;
+      patient = tells.patient;
+      later_is = called_lock (program_with system told) now notes rest ∙ tells.later_is;
+      held = inr (called_free (program_with system told) now notes rest held.0);
+      plain = called_all (IsTestable system.monitor) (λ note tested which is. absurd (true≢false (sym tested))) (program_with system told) now notes rest
+          (all_after (IsTestable system.monitor) notes (notes_to_come rest) tells.plain);
+    },
+  )
+]
+
 pub shape_of : {system : System} {told : ℕ → List Op} {holder : Option ℕ} {thread past : ℕ} {ops : List Op} → Tells system told holder thread past ops → (now_locked ops ≡ true) ⊎ (now_free ops ≡ true)
 shape_of tells = elim tells.held [
   | inl held ↦ inl held.0
@@ -471,6 +504,12 @@ move_placed system told is order before next sound (unlocks thread frame move) =
     subst (ArePlaced system told) (sym move.becomes)
     (goes_placed system told before before.state None before.ran thread frame (At move.rest) sound.placed
     (tells_placed system told before.state None thread frame move.rest ends.1) (held_apart before before.state None thread ends.0))
+move_placed system told is order before next sound (releases thread frame move) =
+    let ends = after_release system told before before.holder thread frame.past move.notes move.rest (sound.placed thread frame (At (Release move.notes ∷ move.rest)) move.at) in
+    let ops = called_for (program_with system told) before move.notes move.rest in
+    subst (ArePlaced system told) (sym move.becomes)
+    (goes_placed system told before before.state None before.ran thread frame (At ops) sound.placed
+    (tells_placed system told before.state None thread frame ops ends.1) (held_apart before before.state None thread ends.0))
 move_placed system told is order before next sound (returns thread frame move) =
     let returned : Frame = record { past = frame.past + 1; locals = frame.locals; answer = frame.answer } in
     subst (ArePlaced system told) (sym move.becomes)

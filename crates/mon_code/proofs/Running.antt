@@ -22,17 +22,17 @@ use Rattle.mon_events.specs.declared.plan.Note.{Note}
 use Rattle.mon_events.specs.Configurations.{System, guard_of}
 use Rattle.mon_events.specs.Pending.{IsSystem}
 use Rattle.mon_code.specs.Code.{Op, overflow_notes, telling_code, code_with}
-use Rattle.mon_code.specs.Code.Op.{Lock, WaitUntil, ElseRefuse, Run, Notify, Unlock}
-use Rattle.mon_code.specs.Executions.{Position, Frame, Thread, Moment, IsThread, goes, program_with, commit_of, continues, woken_thread, AreNotified, start}
+use Rattle.mon_code.specs.Code.Op.{Lock, WaitUntil, ElseRefuse, Run, Notify, Unlock, Release}
+use Rattle.mon_code.specs.Executions.{Position, Frame, Thread, Moment, IsThread, goes, program_with, commit_of, continues, woken_thread, AreNotified, called_for, start}
 use Rattle.mon_code.specs.Executions.{RunsBody, IsMove, Executes}
 use Rattle.mon_code.specs.Executions.Position.{Outside, At, Asleep, Notified}
-use Rattle.mon_code.specs.Executions.IsMove.{calls, takes, passes, falls_asleep, wakes, retakes, refuses, runs_body, notifies, unlocks, returns}
+use Rattle.mon_code.specs.Executions.IsMove.{calls, takes, passes, falls_asleep, wakes, retakes, refuses, runs_body, notifies, unlocks, releases, returns}
 use Rattle.mon_code.specs.Executions.Executes.{none_yet, one_more}
 use Rattle.mon_code.specs.Orders.{IsTold}
 use Rattle.mon_code.specs.Laws.{Leads, Ran}
 use Rattle.mon_code.proofs.Lists.{set_other}
 use Rattle.mon_code.proofs.Views.{next_block, number_at, place_by, place_at, place_of, place_there, places_go, same_places, standings, situation_at, all_woken_places, start_places}
-use Rattle.mon_code.proofs.Stages.{first_of, count_of, tries_in, IsAt, later_code, told_code, Faced, number_is, block_is, open_is_guard, some_block, next_locked, follows_locked, telling_next}
+use Rattle.mon_code.proofs.Stages.{first_of, count_of, tries_in, IsAt, later_code, told_code, Faced, number_is, block_is, open_is_guard, some_block, next_locked, follows_locked, called_next, telling_next}
 use Rattle.mon_code.proofs.Placed.{IsSoundly, faced_there, moment, code_is, passed_at, move_placed, start_placed}
 
 -- ---- places that stay
@@ -301,6 +301,11 @@ move_run system told is order before next sound (notifies thread frame move) =
 move_run system told is order before next sound (unlocks thread frame move) =
     subst (λ (one : Moment). IsRun system.monitor system.clients one.ran (situation_at system one)) (sym move.becomes)
     (goes_run system before None thread frame frame (At (Unlock ∷ move.rest)) (At move.rest) move.at refl sound.run)
+move_run system told is order before next sound (releases thread frame move) =
+    let ops = called_for (program_with system told) before move.notes move.rest in
+    subst (λ (one : Moment). IsRun system.monitor system.clients one.ran (situation_at system one)) (sym move.becomes)
+    (goes_run system before None thread frame frame (At (Release move.notes ∷ move.rest)) (At ops) move.at
+    (ap (place_by system thread frame) (called_next (program_with system told) before move.notes move.rest)) sound.run)
 move_run system told is order before next sound (returns thread frame move) =
     subst (λ (one : Moment). IsRun system.monitor system.clients one.ran (situation_at system one)) (sym move.becomes)
     (goes_run system before before.holder thread frame (record { past = frame.past + 1; locals = frame.locals; answer = frame.answer }) (At []) Outside move.at refl sound.run)

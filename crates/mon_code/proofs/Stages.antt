@@ -1,9 +1,11 @@
 -- The block that a thread is at in its call, and the stages of the code.
 use Rattle.std.proofs.Common.{◌≡◌, ◌==◌, ℕ, zero, suc, ◌+◌, ◌-◌, ◌<◌, ◌≤◌, ◌⊎◌, Bool, true, false, cond, not, ◌&&◌, List, [], ◌∷◌, ◌++◌, Option, Some, None, refl, sym, ap, subst, ◌∙◌, arith, inl, inr}
-use Rattle.std.specs.Prelude.{slice_get}
+use Rattle.std.specs.Prelude.{All, slice_get}
+use Rattle.std.specs.List.{list_any}
 use Rattle.std.specs.Option.{option_map_or}
 use Rattle.std.proofs.lemmas.Option.{same_Some, slice_get_within}
-use Rattle.std.proofs.lemmas.Bool.{true≢false, and_parts, and_from, and_right, eq-eqb, ne_eqb}
+use Rattle.std.proofs.lemmas.Bool.{true≢false, and_parts, and_from, and_right, or_cases, or_left, or_right, eq-eqb, ne_eqb}
+use Rattle.std.proofs.lemmas.List.Elements.{All-cons, All-head, All-tail}
 use Rattle.mon_linear.specs.declared.formula.Formula.{Formula}
 use Rattle.mon_linear.specs.declared.formula.Formula.TheOpen.{Formula-F, Row, Flag, All as Every, Any as Some_of}
 use Rattle.mon_linear.specs.declared.formula.Formula.TheFolds.{ind-Formula, map-Formula, fold-roll-Formula}
@@ -25,8 +27,8 @@ use Rattle.mon_events.specs.Configurations.Phase.{Inside, Notifying}
 use Rattle.mon_events.specs.Pending.{IsSystem}
 use Rattle.mon_events.proofs.Facing.{Faces, faces, guard_is, own_condition}
 use Rattle.mon_code.specs.Code.{Op, is_always_step, is_always, is_waited_on, telling_code, test_code, running_code, blocks_code}
-use Rattle.mon_code.specs.Code.Op.{Lock, WaitUntil, ElseRefuse, Run, Notify, Unlock}
-use Rattle.mon_code.specs.Executions.{Frame, is_open, program_with}
+use Rattle.mon_code.specs.Code.Op.{Lock, WaitUntil, ElseRefuse, Run, Notify, Unlock, Release}
+use Rattle.mon_code.specs.Executions.{Program, Moment, Frame, is_open, program_with, is_called_for, untested, called_for}
 use Rattle.mon_code.specs.Executions.Position.{At}
 use Rattle.mon_code.specs.Orders.{notes_to_come, is_free, is_locked}
 use Rattle.mon_code.proofs.Views.{next_block, number_at, place_by, phase_at}
@@ -226,6 +228,7 @@ now_free (ElseRefuse block ∷ rest) = false
 now_free (Run block otherwise ∷ rest) = false
 now_free (Notify note ∷ rest) = not note.tested && now_free rest
 now_free (Unlock ∷ rest) = false
+now_free (Release notes ∷ rest) = false
 
 abbrev pub now_locked : List Op → Bool
 now_locked [] = false
@@ -235,6 +238,7 @@ now_locked (ElseRefuse block ∷ rest) = false
 now_locked (Run block otherwise ∷ rest) = false
 now_locked (Notify note ∷ rest) = now_locked rest
 now_locked (Unlock ∷ rest) = now_free rest
+now_locked (Release notes ∷ rest) = now_free rest
 
 abbrev pub from_lock : List Op → List Op
 from_lock [] = []
@@ -244,6 +248,7 @@ from_lock (ElseRefuse block ∷ rest) = from_lock rest
 from_lock (Run block otherwise ∷ rest) = from_lock rest
 from_lock (Notify note ∷ rest) = from_lock rest
 from_lock (Unlock ∷ rest) = from_lock rest
+from_lock (Release notes ∷ rest) = from_lock rest
 
 pub never : {P : Type 0} → false ≡ true → P
 never is = absurd (true≢false (sym is))
@@ -272,6 +277,7 @@ free_later system told block left (Notify note ∷ rest) is =
     let both = and_parts (not note.tested) (is_free rest) is in
     and_from (not note.tested) (now_free (rest ++ later_code system told block left)) both.0 (free_later system told block left rest both.1)
 free_later system told block left (Unlock ∷ rest) is = never is
+free_later system told block left (Release notes ∷ rest) is = never is
 
 pub locked_later : (system : System) (told : ℕ → List Op) (block left : ℕ) (ops : List Op) → is_locked ops ≡ true → now_locked (ops ++ later_code system told block left) ≡ true
 locked_later system told block left [] is = never is
@@ -281,6 +287,7 @@ locked_later system told block left (ElseRefuse other ∷ rest) is = never is
 locked_later system told block left (Run other otherwise ∷ rest) is = never is
 locked_later system told block left (Notify note ∷ rest) is = locked_later system told block left rest is
 locked_later system told block left (Unlock ∷ rest) is = free_later system told block left rest is
+locked_later system told block left (Release notes ∷ rest) is = free_later system told block left rest is
 
 after_note : (note : Note) (ops later whole : List Op) → Follows ops later whole → Follows (Notify note ∷ ops) later (Notify note ∷ whole)
 after_note note ops later whole follows = record { notes = ap (λ (more : List Note). note ∷ more) follows.notes; lock = follows.lock; next = follows.next }
@@ -295,6 +302,7 @@ follows_free system told block left (Run other otherwise ∷ rest) is = never is
 follows_free system told block left (Notify note ∷ rest) is =
     after_note note rest (later_code system told block left) (rest ++ later_code system told block left) (follows_free system told block left rest (and_parts (not note.tested) (is_free rest) is).1)
 follows_free system told block left (Unlock ∷ rest) is = never is
+follows_free system told block left (Release notes ∷ rest) is = never is
 
 pub follows_locked : (system : System) (told : ℕ → List Op) (block left : ℕ) (ops : List Op) → is_locked ops ≡ true
     → Follows ops (later_code system told block left) (ops ++ later_code system told block left)
@@ -308,6 +316,64 @@ follows_locked system told block left (Notify note ∷ rest) is =
 follows_locked system told block left (Unlock ∷ rest) is =
     let follows = follows_free system told block left rest is in
     record { notes = follows.notes; lock = follows.lock; next = follows.next }
+follows_locked system told block left (Release notes ∷ rest) is =
+    let follows = follows_free system told block left rest is in
+    record { notes = ap (λ (more : List Note). notes ++ more) follows.notes; lock = follows.lock; next = follows.next }
+
+-- ---- the notes that are called for
+
+called_lock_by : (note : Note) (test : Bool) (ops rest : List Op) → from_lock ops ≡ from_lock rest → from_lock (cond test (Notify note ∷ ops) ops) ≡ from_lock rest
+called_lock_by note true ops rest is = is
+called_lock_by note false ops rest is = is
+
+pub called_lock : (program : Program) (now : Moment) (notes : List Note) (rest : List Op) → from_lock (called_for program now notes rest) ≡ from_lock rest
+called_lock program now [] rest = refl
+called_lock program now (note ∷ notes) rest = called_lock_by (untested note) (is_called_for program now note) (called_for program now notes rest) rest (called_lock program now notes rest)
+
+called_next_by : (note : Note) (test : Bool) (ops rest : List Op) → next_block ops ≡ next_block rest → next_block (cond test (Notify note ∷ ops) ops) ≡ next_block rest
+called_next_by note true ops rest is = is
+called_next_by note false ops rest is = is
+
+pub called_next : (program : Program) (now : Moment) (notes : List Note) (rest : List Op) → next_block (called_for program now notes rest) ≡ next_block rest
+called_next program now [] rest = refl
+called_next program now (note ∷ notes) rest = called_next_by (untested note) (is_called_for program now note) (called_for program now notes rest) rest (called_next program now notes rest)
+
+called_free_by : (note : Note) (test : Bool) (ops : List Op) → now_free ops ≡ true → now_free (cond test (Notify (untested note) ∷ ops) ops) ≡ true
+called_free_by note true ops is = is
+called_free_by note false ops is = is
+
+pub called_free : (program : Program) (now : Moment) (notes : List Note) (rest : List Op) → now_free rest ≡ true → now_free (called_for program now notes rest) ≡ true
+called_free program now [] rest is = is
+called_free program now (note ∷ notes) rest is = called_free_by note (is_called_for program now note) (called_for program now notes rest) (called_free program now notes rest is)
+
+called_all_by : (P : Note → Type 0) (note : Note) (test : Bool) (ops : List Op) → P note → All P (notes_to_come ops) → All P (notes_to_come (cond test (Notify note ∷ ops) ops))
+called_all_by P note true ops own all = All-cons P note (notes_to_come ops) own all
+called_all_by P note false ops own all = all
+
+-- what is so of each untested note and of the rest is so of them
+pub called_all : (P : Note → Type 0) → ((note : Note) → P (untested note)) → (program : Program) (now : Moment) (notes : List Note) (rest : List Op) → All P (notes_to_come rest)
+    → All P (notes_to_come (called_for program now notes rest))
+called_all P each program now [] rest all = all
+called_all P each program now (note ∷ notes) rest all =
+    called_all_by P (untested note) (is_called_for program now note) (called_for program now notes rest) (each note) (called_all P each program now notes rest all)
+
+kept_by : (t : Note → Bool) (note : Note) (test : Bool) (ops : List Op) → list_any t (notes_to_come ops) ≡ true → list_any t (notes_to_come (cond test (Notify note ∷ ops) ops)) ≡ true
+kept_by t note true ops is = or_right (t note) (list_any t (notes_to_come ops)) is
+kept_by t note false ops is = is
+
+-- a note that passes a test is among them where each such note is called for
+pub called_any : (t : Note → Bool) (program : Program) (now : Moment) (notes : List Note) (rest : List Op) → All (λ note. t note ≡ true → (is_called_for program now note ≡ true) × (t (untested note) ≡ true)) notes
+    → list_any t (notes ++ notes_to_come rest) ≡ true → list_any t (notes_to_come (called_for program now notes rest)) ≡ true
+called_any t program now [] rest each is = is
+called_any t program now (note ∷ notes) rest each is = elim (or_cases (t note) (list_any t (notes ++ notes_to_come rest)) is) [
+  | inr later ↦
+      kept_by t (untested note) (is_called_for program now note) (called_for program now notes rest)
+      (called_any t program now notes rest (All-tail (λ (one : Note). t one ≡ true → (is_called_for program now one ≡ true) × (t (untested one) ≡ true)) note notes each) later)
+  | inl here ↦
+      let own = All-head (λ (one : Note). t one ≡ true → (is_called_for program now one ≡ true) × (t (untested one) ≡ true)) note notes each here in
+      ap (λ (test : Bool). list_any t (notes_to_come (cond test (Notify (untested note) ∷ called_for program now notes rest) (called_for program now notes rest)))) own.0
+      ∙ or_left (t (untested note)) (list_any t (notes_to_come (called_for program now notes rest))) own.1
+]
 
 -- ---- after an overflow
 
@@ -340,3 +406,4 @@ tells_phase (Run block otherwise ∷ rest) (inl is) = never is
 tells_phase (Run block otherwise ∷ rest) (inr is) = never is
 tells_phase (Notify note ∷ rest) shape = refl
 tells_phase (Unlock ∷ rest) shape = refl
+tells_phase (Release notes ∷ rest) shape = refl

@@ -1,5 +1,5 @@
 -- Where the clients of the explicit machine stand at a moment of an execution.
-use Rattle.std.proofs.Common.{◌≡◌, ◌==◌, ℕ, zero, suc, ◌+◌, ◌-◌, ◌⊎◌, Bool, true, false, cond, List, [], ◌∷◌, map, Option, Some, None, refl, sym, ap, ◌∙◌, arith, inl, inr}
+use Rattle.std.proofs.Common.{◌≡◌, ◌==◌, ℕ, zero, suc, ◌+◌, ◌-◌, ◌⊎◌, Bool, true, false, cond, List, [], ◌∷◌, ◌++◌, map, Option, Some, None, refl, sym, ap, ◌∙◌, arith, inl, inr}
 use Rattle.std.specs.Prelude.{slice_get, slice_set, option_map}
 use Rattle.std.specs.Option.{option_map_or}
 use Rattle.std.proofs.lemmas.List.{map-set}
@@ -15,7 +15,7 @@ use Rattle.mon_events.specs.Configurations.{System, Phase, Standing, StandsAt, p
 use Rattle.mon_events.specs.Configurations.Phase.{Waiting, Woken, Inside, Notifying}
 use Rattle.mon_events.specs.Events.{waking, wake_all}
 use Rattle.mon_code.specs.Code.{Op}
-use Rattle.mon_code.specs.Code.Op.{Lock, WaitUntil, ElseRefuse, Run, Notify, Unlock}
+use Rattle.mon_code.specs.Code.Op.{Lock, WaitUntil, ElseRefuse, Run, Notify, Unlock, Release}
 use Rattle.mon_code.specs.Executions.{Position, Frame, Thread, Moment, IsThread, goes, woken_position, woken_thread, new_thread}
 use Rattle.mon_code.specs.Executions.Position.{Outside, At, Asleep, Notified}
 use Rattle.mon_code.specs.Orders.{notes_to_come}
@@ -31,6 +31,7 @@ next_block (ElseRefuse block ∷ rest) = Some block
 next_block (Run block otherwise ∷ rest) = Some block
 next_block (Notify note ∷ rest) = next_block rest
 next_block (Unlock ∷ rest) = next_block rest
+next_block (Release notes ∷ rest) = next_block rest
 
 -- the number of a block within the method of a call
 abbrev pub number_at : System → ℕ → ℕ → ℕ → ℕ
@@ -58,6 +59,7 @@ phase_at (At (ElseRefuse block ∷ rest)) = Inside
 phase_at (At (Run block otherwise ∷ rest)) = Inside
 phase_at (At (Notify note ∷ rest)) = Notifying (note ∷ notes_to_come rest)
 phase_at (At (Unlock ∷ rest)) = Notifying (notes_to_come rest)
+phase_at (At (Release notes ∷ rest)) = Notifying (notes ++ notes_to_come rest)
 phase_at (Asleep block condition rest) = Waiting condition
 phase_at (Notified block condition rest) = Woken condition
 
@@ -182,6 +184,7 @@ one_woken system thread condition frame (At (ElseRefuse block ∷ rest)) = refl
 one_woken system thread condition frame (At (Run block otherwise ∷ rest)) = refl
 one_woken system thread condition frame (At (Notify note ∷ rest)) = refl
 one_woken system thread condition frame (At (Unlock ∷ rest)) = refl
+one_woken system thread condition frame (At (Release notes ∷ rest)) = refl
 one_woken system thread condition frame (Asleep block other rest) = by_test system thread condition other block frame rest (other == condition)
 one_woken system thread condition frame (Notified block other rest) = refl
 
@@ -243,6 +246,7 @@ asleep_position (At (ElseRefuse block ∷ rest)) condition is = absurd (cc is)
 asleep_position (At (Run block otherwise ∷ rest)) condition is = absurd (cc is)
 asleep_position (At (Notify note ∷ rest)) condition is = absurd (cc is)
 asleep_position (At (Unlock ∷ rest)) condition is = absurd (cc is)
+asleep_position (At (Release notes ∷ rest)) condition is = absurd (cc is)
 asleep_position (Asleep block on rest) condition is = (block, rest, ap (λ (one : ℕ). Asleep block one rest) (cc is))
 asleep_position (Notified block on rest) condition is = absurd (cc is)
 

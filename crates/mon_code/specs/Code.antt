@@ -14,41 +14,51 @@ use Rattle.mon_events.specs.Configurations.{block_condition}
 
 -- ---- operations; each stands for a statement of Rust
 
--- There `can_m` and `run_m` are the functions of a block's guard and body, and `can_c` is that of
--- the guard of a condition's first block, and the condition's variable. They are handed the
--- parameters and locals that they take, as in `can_m(amount, seen)` and `run_m(amount, &mut seen)`.
--- `lock` and `wait` are functions of the module, which call `Mutex::lock` and `Condvar::wait`.
+-- There `inner` is what the mutex guards: the fields, `inner.state`, and of each condition how many
+-- sleep on it, `inner.asleep_c`. `can_m` and `run_m` are the functions of a block's guard and body,
+-- and `can_c` is that of the guard of a condition's first block, and the condition's variable. They
+-- are handed the parameters and locals that they take, as in `can_m(amount, seen)` and
+-- `run_m(amount, &mut seen)`. `lock` and `wait` are functions of the module, which call
+-- `Mutex::lock` and `Condvar::wait`.
 --
--- Of what else is printed, `State::START`, with which the mutex begins, is the state at the `start`
--- of an execution (specs/Executions). A method's head, and after it `let mut seen: i64 = 0;` for
--- each local, are the move `Calls`; its end is the move `Returns`. The last line of a method is
--- what its last block answered: `answer`, or none where it has no result; `Ok(answer)` where a body
--- of the method may overflow; `Some(answer)` where its calls try; `Ok(Some(answer))` where both is
--- so. In these three it is `()` in place of `answer` where there is no result.
+-- Of what else is printed, `State::START` and the counts of 0, with which the mutex begins, are the
+-- fields and the counts at the `start` of an execution (specs/Executions). A method's head, and
+-- after it `let mut seen: i64 = 0;` for each local, are the move `Calls`; its end is the move
+-- `Returns`. The last line of a method is what its last block answered: `answer`, or none where it
+-- has no result; `Ok(answer)` where a body of the method may overflow; `Some(answer)` where its
+-- calls try; `Ok(Some(answer))` where both is so. In these three it is `()` in place of `answer`
+-- where there is no result.
 
 -- what a thread does in a call, by one statement
 pub data Op : Type 0 where
-  -- `let mut state = lock(&self.state);`: the mutex is taken
+  -- `let mut inner = lock(&self.inner);`: the mutex is taken
   Lock : Op
-  -- `while !state.can_m() { state = wait(&self.can_c, state); }`: the guard of a block, on a
-  -- condition; where the condition reads no inputs, the test is `can_c()`
+  -- `while !inner.state.can_m() { inner.asleep_c += 1; inner = wait(&self.can_c, inner);
+  -- inner.asleep_c -= 1; }`: the guard of a block, on a condition; where the condition reads no
+  -- inputs, the test is `can_c()`. The count is raised and lowered with the mutex
   WaitUntil : (block condition : ℕ) → Op
-  -- `if !state.can_m() { return None; }`: the guard of a block, tested as above; the answer is
-  -- `Ok(None)` where a body of the method may overflow. The `return` drops the guard of the mutex:
-  -- this is the `Unlock` that the move `Refuses` leaves to do
+  -- `if !inner.state.can_m() { return None; }`: the guard of a block, tested as above; the answer
+  -- is `Ok(None)` where a body of the method may overflow. The `return` drops the guard of the
+  -- mutex: this is the `Unlock` that the move `Refuses` leaves to do
   ElseRefuse : (block : ℕ) → Op
   -- the body of a block, and the notes that are made where it overflows:
-  -- `let answer = state.run_m();` where it can't overflow;
-  -- `let answer = state.run_m()?;` where it may and there are no such notes;
-  -- `let Ok(answer) = state.run_m() else { self.can_c.notify_one(); return Err(Overflow); };` where
-  -- there are. Where it has no result it is `state.run_m();`, `state.run_m()?;` and
-  -- `let Ok(()) = ..`. The `?` and the `return` of an overflow drop the guard of the mutex: this is
-  -- the `Unlock` that ends `telling_code`
+  -- `let answer = inner.state.run_m();` where it can't overflow;
+  -- `let answer = inner.state.run_m()?;` where it may and there are no such notes;
+  -- `let Ok(answer) = inner.state.run_m() else { self.can_c.notify_one(); return Err(Overflow); };`
+  -- where there are. Where it has no result it is `inner.state.run_m();`, `inner.state.run_m()?;`
+  -- and `let Ok(()) = ..`. The `?` and the `return` of an overflow drop the guard of the mutex:
+  -- this is the `Unlock` that ends `telling_code`
   Run : (block : ℕ) (otherwise : List Note) → Op
-  -- `self.can_c.notify_one();`, or `notify_all` where the note is for all; where it is tested, in
-  -- `if state.can_c() { .. }`
+  -- the mutex is given back, and those of the notes come next that are called for:
+  -- `let copy = *inner; drop(inner);`, and then of each note
+  -- `if copy.asleep_c > 0 { self.can_c.notify_one(); }`, or `notify_all` where the note is for all;
+  -- where it is tested, in `if copy.asleep_c > 0 && copy.state.can_c() { .. }`. So what the mutex
+  -- guarded when it was given back says which of them are made. With no notes it is `drop(inner);`
+  Release : (notes : List Note) → Op
+  -- `self.can_c.notify_one();`, or `notify_all`: a note that is made whatever the count. In what is
+  -- printed it is untested: the note after an overflow, and one that was called for
   Notify : (note : Note) → Op
-  -- `drop(state);`: the guard of the mutex is dropped, which gives the mutex back
+  -- the guard of the mutex is dropped, which gives the mutex back
   Unlock : Op
 
 -- ---- whether anyone ever waits on a condition: its guard is not `true`
@@ -118,22 +128,9 @@ code_with monitor told method tries =
 
 -- ---- the code that is printed
 
--- the tested notes, which read the state, and then the rest
-abbrev pub tested_then : List Note → List Op → List Op
-tested_then [] rest = rest
-tested_then (note ∷ notes) rest =
-    if note.tested then Notify note ∷ tested_then notes rest else tested_then notes rest
-
--- the other notes
-abbrev pub untested_told : List Note → List Op
-untested_told [] = []
-untested_told (note ∷ notes) =
-    if note.tested then untested_told notes else Notify note ∷ untested_told notes
-
--- after the body of a block: its tested notes, the mutex is given back, and its other notes
+-- after the body of a block: the mutex is given back, and its notes come next that are called for
 abbrev pub late_order : Plan → ℕ → List Op
-late_order plan block =
-    tested_then (notes_at plan block) (Unlock ∷ untested_told (notes_at plan block))
+late_order plan block = Release (notes_at plan block) ∷ []
 
 -- the code of a method under a plan
 abbrev pub code_of : MonitorParts → Plan → ℕ → Bool → List Op

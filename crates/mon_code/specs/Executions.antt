@@ -1,7 +1,7 @@
 -- What code does: threads that share a mutex and condition variables, one move at a time.
-use Rattle.std.specs.Prelude.{◌≡◌, ◌==◌, ◌⊎◌, ℕ, ◌+◌, ◌-◌, Bool, true, false, not, ◌||◌, List, []}
+use Rattle.std.specs.Prelude.{◌≡◌, ◌==◌, ◌⊎◌, ℕ, ◌+◌, ◌-◌, Bool, true, false, not, ◌&&◌, ◌||◌}
 use Rattle.std.specs.Prelude.{◌∷◌, ◌++◌, map, Option, Some, None, IsSomeAnd, slice_get, slice_set}
-use Rattle.std.specs.Prelude.{if◌then◌else◌}
+use Rattle.std.specs.Prelude.{List, [], if◌then◌else◌}
 use Rattle.std.specs.Option.{option_map_or}
 use Rattle.mon_base.specs.declared.value.Value.{Value}
 use Rattle.mon_monitor.specs.MonitorParts.{MonitorParts, first_in, locals_in}
@@ -14,9 +14,10 @@ use Rattle.mon_implicit.specs.Steps.{BlockSteps, given, held, guard_truth, condi
 use Rattle.mon_implicit.specs.Steps.{start_of}
 use Rattle.mon_implicit.specs.Scripted.{calls_of}
 use Rattle.mon_events.specs.declared.plan.Note.{Note}
+use Rattle.mon_events.specs.Counts.{one_if}
 use Rattle.mon_events.specs.Configurations.{System}
 use Rattle.mon_code.specs.Code.{Op, telling_code, code_with}
-use Rattle.mon_code.specs.Code.Op.{Lock, WaitUntil, ElseRefuse, Run, Notify, Unlock}
+use Rattle.mon_code.specs.Code.Op.{Lock, WaitUntil, ElseRefuse, Run, Notify, Unlock, Release}
 
 -- ---- programs and threads
 
@@ -62,6 +63,8 @@ pub record Thread : Type 0 where
 pub record Moment : Type 0 where
   -- the fields, in the mutex
   pub state : List Value
+  -- beside them: how many sleep on each condition, as the code counts
+  pub asleep : ℕ → ℕ
   -- the thread that holds the mutex
   pub holder : Option ℕ
   -- which bodies ran and which calls were refused, in order: the program doesn't keep it
@@ -75,10 +78,11 @@ new_thread = record {
   position = Outside;
 }
 
--- the fields at their start, the mutex free, and every thread between two calls
+-- the fields at their start, nobody asleep, the mutex free, and every thread between two calls
 abbrev pub start : Program → Moment
 start program = record {
   state = start_of program.monitor;
+  asleep = λ condition. 0;
   holder = None;
   ran = [];
   threads = map (λ client. new_thread) program.clients;
@@ -172,7 +176,16 @@ pub record Passes (program : Program) (thread : ℕ) (frame : Frame) (before nex
       threads = goes before.threads thread frame (At rest);
     }
 
--- the guard is false: `wait` gives the mutex back and falls asleep, in one step
+-- `inner.asleep_c += 1;`
+abbrev pub one_more_on : ℕ → (ℕ → ℕ) → ℕ → ℕ
+one_more_on condition asleep other = asleep other + one_if (condition == other)
+
+-- `inner.asleep_c -= 1;`
+abbrev pub one_less_on : ℕ → (ℕ → ℕ) → ℕ → ℕ
+one_less_on condition asleep other = asleep other - one_if (condition == other)
+
+-- the guard is false: the thread is counted, and `wait` gives the mutex back and falls asleep, in
+-- one step
 pub record FallsAsleep (program : Program) (thread : ℕ) (frame : Frame) (before next : Moment) :
     Type 0 where
   pub block : ℕ
@@ -181,6 +194,7 @@ pub record FallsAsleep (program : Program) (thread : ℕ) (frame : Frame) (befor
   pub at : IsThread before.threads thread frame (At (WaitUntil block condition ∷ rest))
   pub closed_is : is_open program before.state thread frame block ≡ false
   pub becomes : next ≡ record before {
+    asleep = one_more_on condition before.asleep;
     holder = None;
     threads = goes before.threads thread frame (Asleep block condition rest);
   }
@@ -195,7 +209,8 @@ pub record WakesByNothing (thread : ℕ) (frame : Frame) (before next : Moment) 
     threads = goes before.threads thread frame (Notified block condition rest);
   }
 
--- `wait` returns with the mutex, which nobody holds, and the loop begins again
+-- `wait` returns with the mutex, which nobody holds, the thread is no longer counted, and the loop
+-- begins again
 pub record Retakes (thread : ℕ) (frame : Frame) (before next : Moment) : Type 0 where
   pub block : ℕ
   pub condition : ℕ
@@ -203,6 +218,7 @@ pub record Retakes (thread : ℕ) (frame : Frame) (before next : Moment) : Type 
   pub at : IsThread before.threads thread frame (Notified block condition rest)
   pub free : before.holder ≡ None
   pub becomes : next ≡ record before {
+    asleep = one_less_on condition before.asleep;
     holder = Some thread;
     threads = goes before.threads thread frame (At (WaitUntil block condition ∷ rest));
   }
@@ -333,6 +349,37 @@ pub record Notifies (program : Program) (thread : ℕ) (frame : Frame) (before n
     pub notified : AreNotified program before note woken
     pub becomes : next ≡ record before { threads = goes woken thread frame (At rest) }
 
+-- ---- the mutex is given back, and those notes come next that are called for
+
+-- someone sleeps on the condition of the note, as the code counts, and an `if` around it has a true
+-- guard, or it has none
+abbrev pub is_called_for : Program → Moment → Note → Bool
+is_called_for program now note =
+    not (now.asleep note.condition == 0) && is_made program now.state note
+
+-- it is made whatever the guard is when it is made
+abbrev pub untested : Note → Note
+untested note = record note { tested = false }
+
+-- of these notes each that is called for, and then the rest
+abbrev pub called_for : Program → Moment → List Note → List Op → List Op
+called_for program now [] rest = rest
+called_for program now (note ∷ notes) rest =
+    if is_called_for program now note
+    then Notify (untested note) ∷ called_for program now notes rest
+    else called_for program now notes rest
+
+-- which notes come next is settled in the step that gives the mutex back
+pub record Releases (program : Program) (thread : ℕ) (frame : Frame) (before next : Moment) : Type 0
+  where
+    pub notes : List Note
+    pub rest : List Op
+    pub at : IsThread before.threads thread frame (At (Release notes ∷ rest))
+    pub becomes : next ≡ record before {
+      holder = None;
+      threads = goes before.threads thread frame (At (called_for program before notes rest));
+    }
+
 -- ---- executions
 
 -- a move of a thread; any thread may make its next one at any moment
@@ -356,6 +403,8 @@ pub data IsMove (program : Program) (before next : Moment) : Type 0 where
   notifies : (thread : ℕ) (frame : Frame) → Notifies program thread frame before next
       → IsMove program before next
   unlocks : (thread : ℕ) (frame : Frame) → Unlocks thread frame before next
+      → IsMove program before next
+  releases : (thread : ℕ) (frame : Frame) → Releases program thread frame before next
       → IsMove program before next
   returns : (thread : ℕ) (frame : Frame) → Returns thread frame before next
       → IsMove program before next

@@ -1,5 +1,6 @@
 pub mod Code
 pub mod Executions
+pub mod Sleepers
 pub mod Orders
 pub mod LivePlans
 pub mod Laws

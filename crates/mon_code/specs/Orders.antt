@@ -1,5 +1,5 @@
 -- What may come after the body of a block: its notes, and the mutex is given back, in many orders.
-use Rattle.std.specs.Prelude.{◌≡◌, ℕ, Bool, true, false, not, ◌&&◌, List, [], ◌∷◌, All}
+use Rattle.std.specs.Prelude.{◌≡◌, ℕ, Bool, true, false, not, ◌&&◌, List, [], ◌∷◌, ◌++◌, All}
 use Rattle.mon_monitor.specs.declared.monitor.Condition.{Condition}
 use Rattle.mon_monitor.specs.MonitorParts.{MonitorParts}
 use Rattle.mon_monitor.specs.Inputs.{reads_inputs}
@@ -7,12 +7,13 @@ use Rattle.mon_events.specs.declared.plan.Note.{Note}
 use Rattle.mon_events.specs.Plans.{notes_at, has_note, has_broadcast, IsCondition}
 use Rattle.mon_events.specs.Configurations.{System}
 use Rattle.mon_code.specs.Code.{Op}
-use Rattle.mon_code.specs.Code.Op.{Notify, Unlock}
+use Rattle.mon_code.specs.Code.Op.{Notify, Unlock, Release}
 
 -- the notes that are made before the mutex is locked again
 abbrev pub notes_to_come : List Op → List Note
 notes_to_come (Notify note ∷ rest) = note ∷ notes_to_come rest
 notes_to_come (Unlock ∷ rest) = notes_to_come rest
+notes_to_come (Release notes ∷ rest) = notes ++ notes_to_come rest
 notes_to_come ops = []
 
 -- untested notes alone
@@ -25,6 +26,7 @@ is_free ops = false
 abbrev pub is_locked : List Op → Bool
 is_locked (Notify note ∷ rest) = is_locked rest
 is_locked (Unlock ∷ rest) = is_free rest
+is_locked (Release notes ∷ rest) = is_free rest
 is_locked ops = false
 
 -- a tested note can be tested: its condition's guard reads no inputs

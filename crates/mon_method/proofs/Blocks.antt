@@ -1,65 +1,62 @@
 -- The statements of the blocks of a method, one block after the other.
-use Rattle.std.proofs.Common.{◌≡◌, ℕ, zero, suc, ◌+◌, ◌-◌, ◌<◌, ◌==◌, Bool, true, false, cond, not, ◌&&◌, List, [], ◌∷◌, ◌++◌, ◌∙◌, codes, ap, sym, refl, append_assoc, append-nil, arith}
+use Rattle.std.proofs.Common.{◌≡◌, ℕ, zero, suc, ◌+◌, ◌-◌, ◌<◌, ◌==◌, Bool, true, false, cond, ◌&&◌, ◌||◌, List, [], ◌∷◌, ◌++◌, ◌∙◌, codes, ap, sym, refl, append_assoc, append-nil, arith}
+use Rattle.std.specs.List.{flat_map, list_any}
+use Rattle.std.proofs.lemmas.Bool.{true≢false}
 use Rattle.std.proofs.lemmas.List.Concat.{flat_map-append}
 use Rattle.std.proofs.Math.Dec.{eqb-suc-zero}
 use Rattle.mon_events.specs.declared.plan.Note.{Note}
 use Rattle.mon_events.specs.declared.plan.Plan.{Plan}
 use Rattle.mon_events.specs.Plans.{notes_at}
 use Rattle.mon_events.specs.Configurations.{block_condition}
-use Rattle.mon_code.specs.Code.{Op, blocks_code, is_waited_on, late_order, overflow_notes, test_code, tested_then, untested_told}
-use Rattle.mon_code.specs.Code.Op.{Lock, WaitUntil, ElseRefuse, Run, Notify, Unlock}
+use Rattle.mon_code.specs.Code.{Op, blocks_code, is_waited_on, late_order, overflow_notes, test_code}
+use Rattle.mon_code.specs.Code.Op.{Lock, WaitUntil, ElseRefuse, Run}
 use Rattle.mon_code.specs.LivePlans.{heard_notes, live_plan}
 use Rattle.mon_code.proofs.Live.{notes_live}
-use Rattle.mon_method.specs.Statements.{MethodParts, note_text, op_text, ops_text}
+use Rattle.mon_method.specs.Sources.{SourceParts}
+use Rattle.mon_method.specs.Statements.{MethodParts, note_text, op_text, ops_text, release_text}
 use Rattle.mon_method.specs.inner.Parts.{block_ops, blocks_ops, heard_texts, run_op, test_ops, told_ops}
+use Rattle.mon_method.proofs.Wakes.{hears, none_heard}
 
 -- ---- what comes after a body
 
-module _ (it : MethodParts) where
-  tested_told : (notes : List Note) (rest : List Op) → ops_text it (tested_then (heard_notes it.source.monitor notes) rest) ≡ heard_texts it.source true notes ++ ops_text it rest
-  tested_told [] rest = refl
-  tested_told (note ∷ notes) rest = by (is_waited_on it.source.monitor note.condition) (tested_told notes rest)
+module _ (source : SourceParts) where
+  pub releases_none : (notes : List Note) (any : Bool) → any ≡ list_any (hears source) notes → any ≡ false → codes "        drop(inner);\n" ≡ release_text source (heard_notes source.monitor notes)
+  releases_none notes any is lacks = ap (release_text source) (none_heard source notes (sym is ∙ lacks))
+
+  -- the notes that someone may hear
+  all_noted : (notes : List Note) → heard_texts source notes ≡ flat_map (note_text source) (heard_notes source.monitor notes)
+  all_noted [] = refl
+  all_noted (note ∷ notes) = by (hears source note) (all_noted notes)
     where
-      others : List Note
-      others = heard_notes it.source.monitor notes
-
-      heard : (tested : Bool) → ops_text it (tested_then others rest) ≡ heard_texts it.source true notes ++ ops_text it rest
-          → ops_text it (cond tested (Notify note ∷ tested_then others rest) (tested_then others rest)) ≡ (cond tested (note_text it.source note) [] ++ heard_texts it.source true notes) ++ ops_text it rest
-      heard true more = ap (λ text. note_text it.source note ++ text) more ∙ sym (append_assoc (note_text it.source note) (heard_texts it.source true notes) (ops_text it rest))
-      heard false more = more
-
-      by : (waited : Bool) → ops_text it (tested_then others rest) ≡ heard_texts it.source true notes ++ ops_text it rest
-          → ops_text it (tested_then (cond waited (note ∷ others) others) rest) ≡ (cond (waited && note.tested) (note_text it.source note) [] ++ heard_texts it.source true notes) ++ ops_text it rest
-      by true more = heard note.tested more
+      by : (one : Bool) → heard_texts source notes ≡ flat_map (note_text source) (heard_notes source.monitor notes)
+          → cond one (note_text source note) [] ++ heard_texts source notes ≡ flat_map (note_text source) (cond one (note ∷ heard_notes source.monitor notes) (heard_notes source.monitor notes))
+      by true more = ap (λ text. note_text source note ++ text) more
       by false more = more
 
-  others_told : (notes : List Note) → ops_text it (untested_told (heard_notes it.source.monitor notes)) ≡ heard_texts it.source false notes
-  others_told [] = refl
-  others_told (note ∷ notes) = by (is_waited_on it.source.monitor note.condition) (others_told notes)
+  some_released : (notes : List Note) → list_any (hears source) notes ≡ true
+      → codes "        let copy = *inner;\n        drop(inner);\n" ++ flat_map (note_text source) (heard_notes source.monitor notes) ≡ release_text source (heard_notes source.monitor notes)
+  some_released [] some = absurd (true≢false (sym some))
+  some_released (note ∷ notes) some = by (hears source note) some (some_released notes)
     where
-      others : List Note
-      others = heard_notes it.source.monitor notes
+      by : (one : Bool) → (one || list_any (hears source) notes) ≡ true
+          → (list_any (hears source) notes ≡ true
+          → codes "        let copy = *inner;\n        drop(inner);\n" ++ flat_map (note_text source) (heard_notes source.monitor notes) ≡ release_text source (heard_notes source.monitor notes))
+          → codes "        let copy = *inner;\n        drop(inner);\n" ++ flat_map (note_text source) (cond one (note ∷ heard_notes source.monitor notes) (heard_notes source.monitor notes))
+          ≡ release_text source (cond one (note ∷ heard_notes source.monitor notes) (heard_notes source.monitor notes))
+      by true holds more = refl
+      by false holds more = more holds
 
-      heard : (tested : Bool) → ops_text it (untested_told others) ≡ heard_texts it.source false notes
-          → ops_text it (cond tested (untested_told others) (Notify note ∷ untested_told others)) ≡ cond (not tested) (note_text it.source note) [] ++ heard_texts it.source false notes
-      heard true more = more
-      heard false more = ap (λ text. note_text it.source note ++ text) more
-
-      by : (waited : Bool) → ops_text it (untested_told others) ≡ heard_texts it.source false notes
-          → ops_text it (untested_told (cond waited (note ∷ others) others)) ≡ cond (waited && not note.tested) (note_text it.source note) [] ++ heard_texts it.source false notes
-      by true more = heard note.tested more
-      by false more = more
+  pub releases_some : (notes : List Note) (any : Bool) → any ≡ list_any (hears source) notes → any ≡ true
+      → codes "        let copy = *inner;\n        drop(inner);\n" ++ heard_texts source notes ≡ release_text source (heard_notes source.monitor notes)
+  releases_some notes any is holds = ap (λ text. codes "        let copy = *inner;\n        drop(inner);\n" ++ text) (all_noted notes) ∙ some_released notes (sym is ∙ holds)
 
 -- the notes that someone may hear, in the order of the code
 pub told_says : (it : MethodParts) (plan : Plan) (block : ℕ) (notes : List Note) → it.source.plan ≡ live_plan it.source.monitor plan → notes ≡ notes_at plan block
-    → heard_texts it.source true notes ++ codes "        drop(state);\n" ++ heard_texts it.source false notes ≡ told_ops it block
+    → release_text it.source (heard_notes it.source.monitor notes) ≡ told_ops it block
 told_says it plan block notes lives is =
     let heard : heard_notes it.source.monitor notes ≡ notes_at it.source.plan block =
     ap (heard_notes it.source.monitor) is ∙ sym (notes_live it.source.monitor plan block) ∙ ap (λ (p : Plan). notes_at p block) (sym lives) in
-    sym (tested_told it notes (Unlock ∷ untested_told (heard_notes it.source.monitor notes))
-    ∙ ap (λ text. heard_texts it.source true notes ++ (codes "        drop(state);\n" ++ text)) (others_told it notes)
-    ∙ sym (append_assoc (heard_texts it.source true notes) (codes "        drop(state);\n") (heard_texts it.source false notes)))
-    ∙ ap (λ (found : List Note). ops_text it (tested_then found (Unlock ∷ untested_told found))) heard
+    ap (release_text it.source) heard ∙ sym (append-nil (release_text it.source (notes_at it.source.plan block)))
 
 -- ---- one block, and the others
 

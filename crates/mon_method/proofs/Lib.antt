@@ -3,6 +3,6 @@ pub mod Choices
 mod Lookups
 mod Arguments
 mod Runs
-mod Blocks
 mod Wakes
+mod Blocks
 mod Tests

@@ -18,10 +18,10 @@ use Rattle.mon_method.specs.Docs.{going_text, waiting_text, wakes_by, wakes_text
 use Rattle.mon_method.specs.inner.Parts.{heard_doc}
 
 module _ (source : SourceParts) where
-  abbrev hears : Note → Bool
+  abbrev pub hears : Note → Bool
   hears note = is_waited_on source.monitor note.condition
 
-  none_heard : (notes : List Note) → list_any hears notes ≡ false → [] ≡ heard_notes source.monitor notes
+  pub none_heard : (notes : List Note) → list_any hears notes ≡ false → [] ≡ heard_notes source.monitor notes
   none_heard [] none = refl
   none_heard (note ∷ notes) none = by (hears note) none (none_heard notes)
     where

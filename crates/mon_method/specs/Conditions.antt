@@ -35,14 +35,26 @@ name_of source word block =
     option_map_or (λ held. name_in source word block held.method)
     (slice_get source.monitor.blocks block) []
 
--- `can_put`, after the first block of a condition: its variable, and the test of its guard
+-- what is called after the first block of a condition, after a word
+abbrev pub word_name : SourceParts → List ℕ → ℕ → List ℕ
+word_name source word condition =
+    option_map_or (name_of source word) (first_block source.monitor condition) []
+
+-- `can_put`: the variable of a condition, and the test of its guard
 abbrev pub condition_name : SourceParts → ℕ → List ℕ
-condition_name source condition =
-    option_map_or (name_of source (codes "can")) (first_block source.monitor condition) []
+condition_name source condition = word_name source (codes "can") condition
+
+-- `asleep_put`: how many sleep on it
+abbrev pub count_name : SourceParts → ℕ → List ℕ
+count_name source condition = word_name source (codes "asleep") condition
 
 -- the name of a condition between two texts
 abbrev pub around_name : SourceParts → List ℕ → ℕ → List ℕ → List ℕ
 around_name source before condition after = before ++ condition_name source condition ++ after
+
+-- that of its count
+abbrev pub around_count : SourceParts → List ℕ → ℕ → List ℕ → List ℕ
+around_count source before condition after = before ++ count_name source condition ++ after
 
 -- its guard in canonical form, as the first of its blocks has it
 abbrev pub shown_text : SourceParts → ℕ → List ℕ

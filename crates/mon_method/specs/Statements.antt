@@ -10,14 +10,14 @@ use Rattle.mon_tree.specs.declared.tree.MonitorTree.{MonitorTree}
 use Rattle.mon_events.specs.declared.plan.Note.{Note}
 use Rattle.mon_events.specs.Configurations.{block_condition}
 use Rattle.mon_code.specs.Code.{Op}
-use Rattle.mon_code.specs.Code.Op.{Lock, WaitUntil, ElseRefuse, Run, Notify, Unlock}
+use Rattle.mon_code.specs.Code.Op.{Lock, WaitUntil, ElseRefuse, Run, Release, Notify, Unlock}
 use Rattle.mon_rust.specs.declared.scope.Reach.{Reach}
 use Rattle.mon_rust.specs.declared.scope.Reach.TheVariants as reaches
 use Rattle.mon_bodies.specs.Blocks.{block_name}
 use Rattle.mon_bodies.specs.Bodies.{body_fails}
 use Rattle.mon_method.specs.declared.source.Calls.{Calls}
 use Rattle.mon_method.specs.Sources.{SourceParts, seen, answer_of, reads_inputs}
-use Rattle.mon_method.specs.Conditions.{arguments_text, around_name}
+use Rattle.mon_method.specs.Conditions.{arguments_text, around_count, around_name}
 
 -- ---- whether a call may fail
 
@@ -76,14 +76,23 @@ test_text it block =
     if reads_inputs it.source.monitor condition then own_call it (codes "can") block reaches.Held
     else around_name it.source [] condition (codes "()")
 
--- `state.run_put(amount)`
+-- `inner.state.run_put(amount)`
 abbrev pub call_text : MethodParts → ℕ → List ℕ
-call_text it block = codes "state." ++ own_call it (codes "run") block reaches.Lent
+call_text it block = codes "inner.state." ++ own_call it (codes "run") block reaches.Lent
 
 -- a call that tries and is refused answers `None`
 abbrev pub refusal_text : Bool → List ℕ
 refusal_text true = codes " {\n            return Ok(None);\n        }\n"
 refusal_text false = codes " {\n            return None;\n        }\n"
+
+-- ---- the loop of a block
+
+-- where its guard is false: who waits is counted while it does
+abbrev pub sleep_text : SourceParts → ℕ → List ℕ
+sleep_text source condition =
+    around_count source (codes " {\n            inner.") condition (codes " += 1;\n")
+    ++ around_name source (codes "            inner = wait(&self.") condition (codes ", inner);\n")
+    ++ around_count source (codes "            inner.") condition (codes " -= 1;\n        }\n")
 
 -- ---- notes
 
@@ -97,13 +106,25 @@ abbrev pub notify_text : SourceParts → Note → List ℕ
 notify_text source note =
     around_name source (codes "        self.") note.condition (notify_call note.all)
 
--- a tested one reads the state
+-- a tested one is made where the guard was true when the mutex was given back
+abbrev pub note_test : SourceParts → Note → List ℕ
+note_test source note =
+    if note.tested then around_name source (codes " && copy.state.") note.condition (codes "()")
+    else []
+
+-- each is made where someone slept on its condition then
 abbrev pub note_text : SourceParts → Note → List ℕ
 note_text source note =
-    if note.tested
-    then around_name source (codes "        if state.") note.condition (codes "() {\n    ")
-    ++ notify_text source note ++ codes "        }\n"
-    else notify_text source note
+    around_count source (codes "        if copy.") note.condition (codes " > 0")
+    ++ note_test source note ++ codes " {\n    " ++ notify_text source note
+    ++ codes "        }\n"
+
+-- the mutex is given back, and of what it guarded a copy is kept for the notes that come next
+abbrev pub release_text : SourceParts → List Note → List ℕ
+release_text source [] = codes "        drop(inner);\n"
+release_text source (note ∷ notes) =
+    codes "        let copy = *inner;\n        drop(inner);\n"
+    ++ flat_map (note_text source) (note ∷ notes)
 
 -- ---- the body of a block
 
@@ -136,16 +157,15 @@ run_text it block (note ∷ notes) true =
 
 -- an operation of a method
 abbrev pub op_text : MethodParts → Op → List ℕ
-op_text it Lock = codes "        let mut state = lock(&self.state);\n"
+op_text it Lock = codes "        let mut inner = lock(&self.inner);\n"
 op_text it (WaitUntil block condition) =
-    codes "        while !state." ++ test_text it block
-    ++ around_name it.source (codes " {\n            state = wait(&self.") condition
-    (codes ", state);\n        }\n")
+    codes "        while !inner.state." ++ test_text it block ++ sleep_text it.source condition
 op_text it (ElseRefuse block) =
-    codes "        if !state." ++ test_text it block ++ refusal_text it.fails
+    codes "        if !inner.state." ++ test_text it block ++ refusal_text it.fails
 op_text it (Run block otherwise) = run_text it block otherwise (fails_at it block)
-op_text it (Notify note) = note_text it.source note
-op_text it Unlock = codes "        drop(state);\n"
+op_text it (Release notes) = release_text it.source notes
+op_text it (Notify note) = notify_text it.source note
+op_text it Unlock = codes "        drop(inner);\n"
 
 -- the operations of a method, one after the other
 abbrev pub ops_text : MethodParts → List Op → List ℕ

@@ -4,9 +4,10 @@ ghost use Rattle.std.specs.Prelude.{◌≡◌, ◌++◌, ◌+◌, ◌<◌, ◌^�
 ghost use Rattle.std.specs.List.{enumerate_from, flat_map};
 ghost use Rattle.mon_io.specs.Writing.{Wrote};
 ghost use Rattle.mon_method.specs.Sources.{seen};
-ghost use Rattle.mon_method.specs.Conditions.{arguments_text, around_name, comma_text};
-ghost use Rattle.mon_method.specs.Conditions.{condition_name, handed_local};
-ghost use Rattle.mon_method.specs.Conditions.{handed_parameter, name_in, name_of, shown_text};
+ghost use Rattle.mon_method.specs.Conditions.{arguments_text, around_count, around_name};
+ghost use Rattle.mon_method.specs.Conditions.{comma_text, condition_name, count_name};
+ghost use Rattle.mon_method.specs.Conditions.{handed_local, handed_parameter, name_in, name_of};
+ghost use Rattle.mon_method.specs.Conditions.{shown_text, word_name};
 
 use crate::source::{Source, first_block, first_of};
 use mon_base::Named;
@@ -51,9 +52,24 @@ fn write_name_in<S: Sink>(
     }
 }
 
-/// Writes the name of a condition's condition variable, which is also that of the test of its
-/// guard.
-pub(crate) fn write_condition_name<S: Sink>(
+// What is called after the first block of a condition, after a word.
+fn write_word_name<S: Sink>(
+    source: &Source,
+    word: &[u8],
+    condition: u32,
+    out: &mut S,
+) -> Result<(), SinkFailed>
+    ensures { Wrote (S.seen out.old) (S.seen out.new) result
+        (word_name (seen source.now) word.now condition) }
+{
+    match first_block(source.monitor, condition) {
+        Some(block) => write_name_of(source, word, block, out),
+        None => Ok(()),
+    }
+}
+
+// A condition's condition variable, and the test of its guard.
+fn write_condition_name<S: Sink>(
     source: &Source,
     condition: u32,
     out: &mut S,
@@ -61,10 +77,15 @@ pub(crate) fn write_condition_name<S: Sink>(
     ensures { Wrote (S.seen out.old) (S.seen out.new) result
         (condition_name (seen source.now) condition) }
 {
-    match first_block(source.monitor, condition) {
-        Some(block) => write_name_of(source, b"can", block, out),
-        None => Ok(()),
-    }
+    write_word_name(source, b"can", condition, out)
+}
+
+// How many sleep on a condition.
+fn write_count_name<S: Sink>(source: &Source, condition: u32, out: &mut S) -> Result<(), SinkFailed>
+    ensures { Wrote (S.seen out.old) (S.seen out.new) result
+        (count_name (seen source.now) condition) }
+{
+    write_word_name(source, b"asleep", condition, out)
 }
 
 /// Writes the name of a condition's condition variable between two pieces. It takes no memory.
@@ -82,6 +103,25 @@ pub fn write_around_name<S: Sink>(
 {
     write_piece(before, out)?;
     write_condition_name(source, condition, out)?;
+    write_piece(after, out)
+}
+
+/// Writes the name of the count of those that sleep on a condition between two pieces. It takes no
+/// memory.
+///
+/// After `SinkFailed` the first bytes were taken, fewer than all and maybe none.
+pub fn write_around_count<S: Sink>(
+    source: &Source,
+    before: &[u8],
+    condition: u32,
+    after: &[u8],
+    out: &mut S,
+) -> Result<(), SinkFailed>
+    ensures { Wrote (S.seen out.old) (S.seen out.new) result
+        (around_count (seen source.now) before.now condition after.now) }
+{
+    write_piece(before, out)?;
+    write_count_name(source, condition, out)?;
     write_piece(after, out)
 }
 

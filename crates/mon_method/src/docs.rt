@@ -1,7 +1,7 @@
 //! What is said of a method.
 
 ghost use Rattle.std.specs.Prelude.{◌≡◌, ◌+◌, ◌<◌, ◌^◌, ◌++◌, [], if◌then◌else◌, length};
-ghost use Rattle.std.specs.List.{enumerate_from, flat_map, list_any};
+ghost use Rattle.std.specs.List.{enumerate_from, flat_map};
 ghost use Rattle.mon_events.specs.Configurations.{block_condition};
 ghost use Rattle.mon_events.specs.Plans.{notes_at};
 ghost use Rattle.mon_code.specs.Code.{is_waited_on};
@@ -16,7 +16,7 @@ ghost use Rattle.mon_method.specs.Docs.{waits_until};
 ghost use Rattle.mon_method.specs.inner.Parts.{heard_doc};
 
 use crate::conditions::write_around_shown;
-use crate::source::{Calls, Source, condition_of, is_waited_on, notes_of};
+use crate::source::{Calls, Source, are_heard, condition_of, is_waited_on, notes_of};
 use mon_events::Note;
 use mon_io::{Sink, SinkFailed, write_piece};
 use mon_printer::write_around;
@@ -139,15 +139,6 @@ fn write_wakes<S: Sink>(source: &Source, notes: &[Note], out: &mut S) -> Result<
         return write_piece(b"    /// Wakes nobody.\n", out);
     }
     write_heard_docs(source, notes, out)
-}
-
-fn are_heard(source: &Source, notes: &[Note]) -> bool
-    ensures { result ≡
-        list_any (λ note. is_waited_on source.now.monitor.now note.condition) notes.now }
-{
-    notes
-        .iter()
-        .any(|note| is_waited_on(source.monitor, note.condition))
 }
 
 fn write_heard_docs<S: Sink>(source: &Source, notes: &[Note], out: &mut S) -> Result<(), SinkFailed>

@@ -15,7 +15,7 @@ mod methods;
 mod source;
 mod statements;
 
-pub use conditions::write_around_name;
+pub use conditions::{write_around_count, write_around_name};
 pub use declared::{write_start, write_typed_start};
 pub use methods::write_methods_of;
 pub use source::{

@@ -1,6 +1,7 @@
 //! What a module is printed of.
 
 ghost use Rattle.std.specs.Prelude.{◌≡◌, ◌==◌, position, slice_get};
+ghost use Rattle.std.specs.List.{list_any};
 ghost use Rattle.mon_monitor.specs.MonitorParts.{count_in, first_in};
 ghost use Rattle.mon_events.specs.Configurations.{block_condition};
 ghost use Rattle.mon_events.specs.Plans.{notes_at};
@@ -154,4 +155,14 @@ fn kind_answered(answered: &Ret) -> Option<Kind>
         Ret::Int(_) => Some(Kind::Int),
         Ret::Bool(_) => Some(Kind::Bool),
     }
+}
+
+/// Whether someone may hear one of these notes.
+pub(crate) fn are_heard(source: &Source, notes: &[Note]) -> bool
+    ensures { result ≡
+        list_any (λ note. is_waited_on source.now.monitor.now note.condition) notes.now }
+{
+    notes
+        .iter()
+        .any(|note| is_waited_on(source.monitor, note.condition))
 }

@@ -10,16 +10,19 @@ ghost use Rattle.mon_method.specs.Conditions.{around_name};
 ghost use Rattle.mon_method.specs.Statements.{answer_name, block_fails, call_text, closing};
 ghost use Rattle.mon_method.specs.Statements.{end_text};
 ghost use Rattle.mon_method.specs.Statements.{fails_at, let_text, method_fails, method_seen};
-ghost use Rattle.mon_method.specs.Statements.{note_text};
+ghost use Rattle.mon_method.specs.Statements.{note_test, note_text, release_text, sleep_text};
 ghost use Rattle.mon_method.specs.Statements.{notify_call, notify_text, opening, op_text, own_call};
 ghost use Rattle.mon_method.specs.Statements.{plain_end, plain_run, refusal_text, test_text};
 ghost use Rattle.mon_method.specs.inner.Parts.{block_ops, blocks_ops, guarded_run, heard_text};
-ghost use Rattle.mon_method.specs.inner.Parts.{heard_texts, is_heard, run_op, test_ops, told_ops};
+ghost use Rattle.mon_method.specs.inner.Parts.{heard_texts, run_op, test_ops, told_ops};
 ghost use Rattle.mon_code.specs.Code.{is_waited_on};
+ghost use Rattle.mon_code.specs.LivePlans.{heard_notes};
 ghost use Rattle.mon_code.specs.Code.Op.{ElseRefuse, WaitUntil};
 
-use crate::conditions::{write_arguments, write_around_name};
-use crate::source::{Calls, Source, answer_of, condition_of, is_waited_on, notes_of, reads_inputs};
+use crate::conditions::{write_arguments, write_around_count, write_around_name};
+use crate::source::{
+    Calls, Source, answer_of, are_heard, condition_of, is_waited_on, notes_of, reads_inputs,
+};
 use mon_base::Kind;
 use mon_bodies::{fails, write_block_name};
 use mon_events::Note;
@@ -109,7 +112,7 @@ fn write_statements<S: Sink>(
     ensures { Wrote (S.seen out.old) (S.seen out.new) result
         (block_ops (method_seen it.now) tries block) }
 {
-    write_piece(b"        let mut state = lock(&self.state);\n", out)?;
+    write_piece(b"        let mut inner = lock(&self.inner);\n", out)?;
     write_test(it, tries, block, out)?;
     write_run(it, block, out)?;
     write_told(it, block, out)
@@ -144,7 +147,7 @@ fn write_refusal<S: Sink>(it: &Calls, block: usize, out: &mut S) -> Result<(), S
     ensures { Wrote (S.seen out.old) (S.seen out.new) result
         (op_text (method_seen it.now) (ElseRefuse block)) }
 {
-    write_piece(b"        if !state.", out)?;
+    write_piece(b"        if !inner.state.", out)?;
     write_call_of_test(it, block, out)?;
     write_piece(refusal_bytes(it.fails), out)
 }
@@ -164,13 +167,43 @@ fn write_loop<S: Sink>(it: &Calls, block: usize, out: &mut S) -> Result<(), Sink
     ensures { Wrote (S.seen out.old) (S.seen out.new) result (op_text (method_seen it.now)
         (WaitUntil block (block_condition it.now.source.now.monitor.now block))) }
 {
-    write_piece(b"        while !state.", out)?;
+    write_piece(b"        while !inner.state.", out)?;
     write_call_of_test(it, block, out)?;
-    write_around_own_name(
-        it,
-        b" {\n            state = wait(&self.",
-        block,
-        b", state);\n        }\n",
+    write_own_sleep(it, block, out)
+}
+
+// What is done where the guard of a block is false.
+fn write_own_sleep<S: Sink>(it: &Calls, block: usize, out: &mut S) -> Result<(), SinkFailed>
+    ensures { Wrote (S.seen out.old) (S.seen out.new) result (sleep_text (seen it.now.source.now)
+        (block_condition it.now.source.now.monitor.now block)) }
+{
+    let condition = condition_of(it.source.monitor, block);
+    write_sleep(it.source, condition, out)
+}
+
+fn write_sleep<S: Sink>(source: &Source, condition: u32, out: &mut S) -> Result<(), SinkFailed>
+    ensures { Wrote (S.seen out.old) (S.seen out.new) result
+        (sleep_text (seen source.now) condition) }
+{
+    write_around_count(
+        source,
+        b" {\n            inner.",
+        condition,
+        b" += 1;\n",
+        out,
+    )?;
+    write_around_name(
+        source,
+        b"            inner = wait(&self.",
+        condition,
+        b", inner);\n",
+        out,
+    )?;
+    write_around_count(
+        source,
+        b"            inner.",
+        condition,
+        b" -= 1;\n        }\n",
         out,
     )
 }
@@ -268,13 +301,13 @@ fn let_bytes(answer: Option<Kind>) -> &'static [u8]
     }
 }
 
-// `state.run_put(amount)`
+// `inner.state.run_put(amount)`
 fn write_call<S: Sink>(it: &Calls, block: usize, out: &mut S) -> Result<(), SinkFailed>
     requires { block < 2 ^ 63 }
     ensures { Wrote (S.seen out.old) (S.seen out.new) result
         (call_text (method_seen it.now) block) }
 {
-    write_piece(b"state.", out)?;
+    write_piece(b"inner.state.", out)?;
     write_own_call(it, b"run", block, Reach::Lent, out)
 }
 
@@ -315,77 +348,75 @@ fn answer_bytes(answer: Option<Kind>) -> &'static [u8]
 
 // ---- what comes after the body
 
-// The tested notes, then the mutex is given back, then the other notes.
+// The mutex is given back, and the notes come next.
 fn write_told<S: Sink>(it: &Calls, block: usize, out: &mut S) -> Result<(), SinkFailed>
     ensures { Wrote (S.seen out.old) (S.seen out.new) result (told_ops (method_seen it.now) block) }
 {
-    let notes = notes_of(it.source.plan, block);
-    write_heard_notes(it.source, true, notes, out)?;
-    write_piece(b"        drop(state);\n", out)?;
-    write_heard_notes(it.source, false, notes, out)
+    write_release(it.source, notes_of(it.source.plan, block), out)
 }
 
-// Those notes that someone may hear: the tested ones, or the others.
+fn write_release<S: Sink>(source: &Source, notes: &[Note], out: &mut S) -> Result<(), SinkFailed>
+    ensures { Wrote (S.seen out.old) (S.seen out.new) result
+        (release_text (seen source.now) (heard_notes source.now.monitor.now notes.now)) }
+{
+    if !are_heard(source, notes) {
+        return write_piece(b"        drop(inner);\n", out);
+    }
+    write_copy(source, notes, out)
+}
+
+// With a copy of what the mutex guarded.
+fn write_copy<S: Sink>(source: &Source, notes: &[Note], out: &mut S) -> Result<(), SinkFailed>
+    ensures { Wrote (S.seen out.old) (S.seen out.new) result
+        (codes "        let copy = *inner;\n        drop(inner);\n"
+        ++ heard_texts (seen source.now) notes.now) }
+{
+    write_piece(b"        let copy = *inner;\n        drop(inner);\n", out)?;
+    write_heard_notes(source, notes, out)
+}
+
+// Those notes that someone may hear.
 fn write_heard_notes<S: Sink>(
     source: &Source,
-    tested: bool,
     notes: &[Note],
     out: &mut S,
 ) -> Result<(), SinkFailed>
     ensures { Wrote (S.seen out.old) (S.seen out.new) result
-        (heard_texts (seen source.now) tested notes.now) }
+        (heard_texts (seen source.now) notes.now) }
 {
     for note in notes {
-        write_heard(source, tested, *note, out)?;
+        write_heard(source, *note, out)?;
     }
     Ok(())
 }
 
-fn write_heard<S: Sink>(
-    source: &Source,
-    tested: bool,
-    note: Note,
-    out: &mut S,
-) -> Result<(), SinkFailed>
-    ensures { Wrote (S.seen out.old) (S.seen out.new) result
-        (heard_text (seen source.now) tested note) }
+fn write_heard<S: Sink>(source: &Source, note: Note, out: &mut S) -> Result<(), SinkFailed>
+    ensures { Wrote (S.seen out.old) (S.seen out.new) result (heard_text (seen source.now) note) }
 {
-    if !is_heard(source, tested, note) {
+    if !is_waited_on(source.monitor, note.condition) {
         return Ok(());
     }
     write_note(source, note, out)
 }
 
-fn is_heard(source: &Source, tested: bool, note: Note) -> bool
-    ensures { result ≡ is_heard source.now.monitor.now tested note }
-{
-    is_waited_on(source.monitor, note.condition) && if tested { note.tested } else { !note.tested }
-}
-
 fn write_note<S: Sink>(source: &Source, note: Note, out: &mut S) -> Result<(), SinkFailed>
     ensures { Wrote (S.seen out.old) (S.seen out.new) result (note_text (seen source.now) note) }
 {
-    if note.tested {
-        return write_tested_note(source, note, out);
-    }
-    write_notify(source, note, out)
-}
-
-fn write_tested_note<S: Sink>(source: &Source, note: Note, out: &mut S) -> Result<(), SinkFailed>
-    ensures { Wrote (S.seen out.old) (S.seen out.new) result
-        (around_name (seen source.now) (codes "        if state.") note.condition
-        (codes "() {\n    ")
-        ++ notify_text (seen source.now) note ++ codes "        }\n") }
-{
-    write_around_name(
-        source,
-        b"        if state.",
-        note.condition,
-        b"() {\n    ",
-        out,
-    )?;
+    write_around_count(source, b"        if copy.", note.condition, b" > 0", out)?;
+    write_note_test(source, note, out)?;
+    write_piece(b" {\n    ", out)?;
     write_notify(source, note, out)?;
     write_piece(b"        }\n", out)
+}
+
+// A tested note reads the copy of the state.
+fn write_note_test<S: Sink>(source: &Source, note: Note, out: &mut S) -> Result<(), SinkFailed>
+    ensures { Wrote (S.seen out.old) (S.seen out.new) result (note_test (seen source.now) note) }
+{
+    if note.tested {
+        return write_around_name(source, b" && copy.state.", note.condition, b"()", out);
+    }
+    Ok(())
 }
 
 // `self.can_get.notify_one();`

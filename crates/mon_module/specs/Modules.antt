@@ -20,10 +20,11 @@ use Rattle.mon_bodies.specs.Blocks.{kind_declared, kind_text}
 use Rattle.mon_bodies.specs.Bodies.{body_text}
 use Rattle.mon_bodies.specs.Guards.{guard_text}
 use Rattle.mon_method.specs.Sources.{SourceParts, source_of, answer_of, reads_inputs}
-use Rattle.mon_method.specs.Conditions.{around_name, first_block}
+use Rattle.mon_method.specs.Conditions.{around_count, around_name, first_block}
 use Rattle.mon_method.specs.Statements.{method_fails}
 use Rattle.mon_method.specs.Methods.{methods_text, start_text, typed_start}
-use Rattle.mon_module.specs.Fixed.{HEAD, NEW, DEFAULT, DEBUG, STATE_IMPL, LOCK, WAIT, OVERFLOW}
+use Rattle.mon_module.specs.Fixed.{HEAD, NEW, DEFAULT, DEBUG, INNER, STATE, STATE_IMPL, LOCK, WAIT}
+use Rattle.mon_module.specs.Fixed.{OVERFLOW}
 
 -- lints would speak of names that are written as they stand
 abbrev pub lints_text : MonitorTree → List ℕ
@@ -53,6 +54,18 @@ condition_start source place which =
     if is_always which.guard then []
     else around_name source (codes "            ") (place + 1) (codes ": Condvar::new(),\n")
 
+-- how many sleep on it
+abbrev pub count_field : SourceParts → ℕ → Condition → List ℕ
+count_field source place which =
+    if is_always which.guard then []
+    else around_count source (codes "    ") (place + 1) (codes ": usize,\n")
+
+-- at the start nobody does
+abbrev pub count_start : SourceParts → ℕ → Condition → List ℕ
+count_start source place which =
+    if is_always which.guard then []
+    else around_count source (codes "                ") (place + 1) (codes ": 0,\n")
+
 -- ---- the type
 
 -- what is used of `std`, by whether calls wait, and whether there are calls
@@ -81,7 +94,7 @@ struct_docs tree =
 abbrev pub struct_head : MonitorTree → List ℕ
 struct_head tree =
     codes "#[allow(dead_code, non_camel_case_types, clippy::upper_case_acronyms)]\npub struct "
-    ++ type_name tree ++ codes " {\n    state: Mutex<State>,\n"
+    ++ type_name tree ++ codes " {\n    inner: Mutex<Inner>,\n"
 
 -- the type that threads share
 abbrev pub struct_text : SourceParts → List ℕ
@@ -124,6 +137,9 @@ constants_text tree =
 abbrev pub new_text : SourceParts → List ℕ
 new_text source =
     NEW
+    ++ flat_map (λ one. count_start source one.0 one.1)
+    (enumerate_from 0 source.monitor.conditions)
+    ++ codes "            }),\n"
     ++ flat_map (λ one. condition_start source one.0 one.1)
     (enumerate_from 0 source.monitor.conditions)
     ++ codes "        }\n    }\n"
@@ -142,13 +158,22 @@ abbrev pub default_text : SourceParts → List ℕ
 default_text source = codes "impl Default for " ++ type_name source.tree ++ DEFAULT
 
 -- It shows a copy of the state, since the caller's own code runs in it, which may call the monitor.
--- What stands before the struct of the state follows.
 abbrev pub debug_text : SourceParts → List ℕ
 debug_text source = codes "impl std::fmt::Debug for " ++ type_name source.tree ++ DEBUG
 
 -- what the type is by traits of `std`
 abbrev pub traits_text : SourceParts → List ℕ
 traits_text source = default_text source ++ debug_text source
+
+-- ---- what the mutex guards
+
+-- the state, and how many sleep on each condition on which someone may wait
+abbrev pub inner_text : SourceParts → List ℕ
+inner_text source =
+    INNER ++ lints_text source.tree ++ codes "struct Inner {\n    state: State,\n"
+    ++ flat_map (λ one. count_field source one.0 one.1)
+    (enumerate_from 0 source.monitor.conditions)
+    ++ codes "}\n\n"
 
 -- ---- the state
 
@@ -174,7 +199,7 @@ brace_text tree = brace_by (list_any is_field tree.decls)
 -- the struct of the state
 abbrev pub state_text : MonitorTree → List ℕ
 state_text tree =
-    lints_text tree ++ codes "struct State " ++ brace_text tree
+    STATE ++ lints_text tree ++ codes "struct State " ++ brace_text tree
     ++ flat_map (field_line tree) tree.decls ++ codes "}\n\n"
 
 -- ---- the functions of the state
@@ -268,7 +293,8 @@ functions_text source =
 abbrev pub module_text : SourceParts → List ℕ
 module_text source =
     HEAD ++ use_text source ++ struct_text source ++ impl_text source ++ traits_text source
-    ++ state_text source.tree ++ state_impl_text source ++ functions_text source
+    ++ inner_text source ++ state_text source.tree ++ state_impl_text source
+    ++ functions_text source
 
 -- the module of a monitor, as it is written and as it was checked, under its plan
 abbrev pub rust_text : MonitorTree → MonitorParts → Plan → List ℕ

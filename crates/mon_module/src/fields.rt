@@ -6,14 +6,14 @@ ghost use Rattle.mon_base.specs.Limits.{CONDITIONS};
 ghost use Rattle.mon_io.specs.Writing.{Wrote};
 ghost use Rattle.mon_method.specs.Sources.{seen};
 ghost use Rattle.mon_module.specs.Modules.{waited_field};
-ghost use Rattle.mon_module.specs.inner.Lines.{field_at, indent_at, line_at, said_at};
-ghost use Rattle.mon_module.specs.inner.Lines.{variable_at, variable_line_at};
+ghost use Rattle.mon_module.specs.inner.Lines.{condition_at, condition_line_at, field_at};
+ghost use Rattle.mon_module.specs.inner.Lines.{indent_at, line_at, said_at};
 
 use crate::declared::is_field;
 use mon_base::Named;
 use mon_bodies::{kind_bytes, kind_declared};
 use mon_io::{Sink, SinkFailed, write_piece, write_pieces};
-use mon_method::{Source, is_always, write_around_name, write_start};
+use mon_method::{Source, is_always, write_around_count, write_around_name, write_start};
 use mon_monitor::Condition;
 use mon_rust::{Style, write_member};
 use mon_tree::{Decl, MonitorTree};
@@ -23,6 +23,16 @@ use mon_tree::{Decl, MonitorTree};
 pub(crate) enum FieldLine {
     InStruct,
     AtStart,
+}
+
+/// What a line of a condition says: of its condition variable, or of how many sleep on it, as a
+/// field or at its start.
+#[derive(Clone, Copy)]
+pub(crate) enum ConditionLine {
+    Variable,
+    NewVariable,
+    Count,
+    NewCount,
 }
 
 // ---- the fields of the state
@@ -93,29 +103,29 @@ fn indent_bytes(line: FieldLine) -> &'static [u8]
     }
 }
 
-// ---- the condition variables
+// ---- the lines of conditions
 
-/// Writes the lines of the condition variables, by the conditions of the monitor.
-pub(crate) fn write_variables<S: Sink>(
-    line: FieldLine,
+/// Writes the lines of the conditions of a monitor on which someone may wait.
+pub(crate) fn write_conditions<S: Sink>(
+    line: ConditionLine,
     source: &Source,
     conditions: &[Condition],
     out: &mut S,
 ) -> Result<(), SinkFailed>
     requires { length conditions.now ≤ CONDITIONS }
     ensures { Wrote (S.seen out.old) (S.seen out.new) result
-        (flat_map (λ one. variable_line_at line (seen source.now) one.0 one.1)
+        (flat_map (λ one. condition_line_at line (seen source.now) one.0 one.1)
         (enumerate_from 0 conditions.now)) }
 {
     for (place, which) in conditions.iter().enumerate() {
-        write_variable_line(line, source, place, which, out)?;
+        write_condition_line(line, source, place, which, out)?;
     }
     Ok(())
 }
 
 // Nothing where no one waits on the condition.
-fn write_variable_line<S: Sink>(
-    line: FieldLine,
+fn write_condition_line<S: Sink>(
+    line: ConditionLine,
     source: &Source,
     place: usize,
     which: &Condition,
@@ -123,16 +133,16 @@ fn write_variable_line<S: Sink>(
 ) -> Result<(), SinkFailed>
     requires { place < CONDITIONS }
     ensures { Wrote (S.seen out.old) (S.seen out.new) result
-        (variable_line_at line (seen source.now) place which.now) }
+        (condition_line_at line (seen source.now) place which.now) }
 {
     if is_always(&which.guard) {
         return Ok(());
     }
-    write_variable(line, source, place, which, out)
+    write_condition(line, source, place, which, out)
 }
 
-fn write_variable<S: Sink>(
-    line: FieldLine,
+fn write_condition<S: Sink>(
+    line: ConditionLine,
     source: &Source,
     place: usize,
     which: &Condition,
@@ -140,18 +150,17 @@ fn write_variable<S: Sink>(
 ) -> Result<(), SinkFailed>
     requires { place < CONDITIONS }
     ensures { Wrote (S.seen out.old) (S.seen out.new) result
-        (variable_at line (seen source.now) place which.now) }
+        (condition_at line (seen source.now) place which.now) }
 {
+    let number = place as u32 + 1;
     match line {
-        FieldLine::InStruct => write_waited_field(source, place, which, out),
-        FieldLine::AtStart => {
-            write_around_name(
-                source,
-                b"            ",
-                place as u32 + 1,
-                b": Condvar::new(),\n",
-                out,
-            )
+        ConditionLine::Variable => write_waited_field(source, place, which, out),
+        ConditionLine::NewVariable => {
+            write_around_name(source, b"            ", number, b": Condvar::new(),\n", out)
+        }
+        ConditionLine::Count => write_around_count(source, b"    ", number, b": usize,\n", out),
+        ConditionLine::NewCount => {
+            write_around_count(source, b"                ", number, b": 0,\n", out)
         }
     }
 }

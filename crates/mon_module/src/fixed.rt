@@ -1,7 +1,8 @@
 //! The texts that are the same in every module.
 
 ghost use Rattle.std.specs.Prelude.{◌≡◌};
-ghost use Rattle.mon_module.specs.Fixed.{DEBUG, DEFAULT, HEAD, LOCK, NEW, OVERFLOW, STATE_IMPL, WAIT};
+ghost use Rattle.mon_module.specs.Fixed.{DEBUG, DEFAULT, HEAD, INNER, LOCK, NEW, OVERFLOW, STATE};
+ghost use Rattle.mon_module.specs.Fixed.{STATE_IMPL, WAIT};
 
 /// The first line.
 pub(crate) fn head_bytes() -> &'static [u8]
@@ -12,7 +13,7 @@ pub(crate) fn head_bytes() -> &'static [u8]
 "
 }
 
-/// Up to the condition variables at their start.
+/// Up to the counts at their start.
 pub(crate) fn new_bytes() -> &'static [u8]
     ensures { result.now ≡ NEW }
 {
@@ -20,7 +21,8 @@ pub(crate) fn new_bytes() -> &'static [u8]
     #[must_use]
     pub const fn new() -> Self {
         Self {
-            state: Mutex::new(State::START),
+            inner: Mutex::new(Inner {
+                state: State::START,
 "
 }
 
@@ -37,23 +39,41 @@ pub(crate) fn default_bytes() -> &'static [u8]
 "
 }
 
-/// From the braces of `impl Debug` to the struct of the state.
+/// The braces of `impl Debug`.
 pub(crate) fn debug_bytes() -> &'static [u8]
     ensures { result.now ≡ DEBUG }
 {
     b" {
     fn fmt(&self, f: &mut std::fmt::Formatter<'_>) -> std::fmt::Result {
-        let state = *self
-            .state
+        let state = self
+            .inner
             .lock()
-            .unwrap_or_else(std::sync::PoisonError::into_inner);
+            .unwrap_or_else(std::sync::PoisonError::into_inner)
+            .state;
         f.debug_struct(std::any::type_name::<Self>())
             .field(\"state\", &state)
             .finish_non_exhaustive()
     }
 }
 
-/// The fields of the monitor.
+"
+}
+
+/// What stands before the struct of what the mutex guards.
+pub(crate) fn inner_bytes() -> &'static [u8]
+    ensures { result.now ≡ INNER }
+{
+    b"/// What the mutex guards: the fields, and how many calls sleep on each condition.
+#[derive(Clone, Copy)]
+#[allow(dead_code)]
+"
+}
+
+/// What stands before the struct of the state.
+pub(crate) fn state_bytes() -> &'static [u8]
+    ensures { result.now ≡ STATE }
+{
+    b"/// The fields of the monitor.
 #[derive(Clone, Copy, Debug)]
 #[allow(dead_code)]
 "
@@ -69,14 +89,14 @@ pub(crate) fn state_impl_bytes() -> &'static [u8]
 "
 }
 
-/// The function that locks the state.
+/// The function that locks the monitor.
 pub(crate) fn lock_bytes() -> &'static [u8]
     ensures { result.now ≡ LOCK }
 {
     b"
-/// Locks the state. Nothing panics while it is locked, so there is no poison to heed.
-fn lock(state: &Mutex<State>) -> MutexGuard<'_, State> {
-    state.lock().unwrap_or_else(PoisonError::into_inner)
+/// Locks the monitor. Nothing panics while it is locked, so there is no poison to heed.
+fn lock(inner: &Mutex<Inner>) -> MutexGuard<'_, Inner> {
+    inner.lock().unwrap_or_else(PoisonError::into_inner)
 }
 "
 }
@@ -87,9 +107,9 @@ pub(crate) fn wait_bytes() -> &'static [u8]
 {
     b"
 /// Gives the lock back and waits on the condition, in one step, and takes the lock again.
-fn wait<'a>(condition: &Condvar, state: MutexGuard<'a, State>) -> MutexGuard<'a, State> {
+fn wait<'a>(condition: &Condvar, inner: MutexGuard<'a, Inner>) -> MutexGuard<'a, Inner> {
     condition
-        .wait(state)
+        .wait(inner)
         .unwrap_or_else(PoisonError::into_inner)
 }
 "

@@ -16,11 +16,11 @@ ghost use Rattle.mon_module.specs.Modules.{traits_text, use_by, use_text};
 ghost use Rattle.mon_module.specs.Modules.{waits_somewhere};
 
 use crate::declared::{is_field, write_lints};
-use crate::fields::{FieldLine, write_variables};
+use crate::fields::{ConditionLine, write_conditions};
 use crate::fixed::{
     debug_bytes, default_bytes, head_bytes, lock_bytes, new_bytes, overflow_bytes, wait_bytes,
 };
-use crate::state::{write_state, write_state_impl};
+use crate::state::{write_inner, write_state, write_state_impl};
 use mon_base::Named;
 use mon_events::Plan;
 use mon_io::{Sink, SinkFailed, write_piece};
@@ -57,6 +57,7 @@ fn write_module<S: Sink>(source: &Source, out: &mut S) -> Result<(), SinkFailed>
     write_struct(source, out)?;
     write_impl(source, out)?;
     write_traits(source, out)?;
+    write_inner(source, out)?;
     write_state(source.tree, out)?;
     write_state_impl(source, out)?;
     write_functions(source, out)
@@ -111,12 +112,8 @@ fn write_struct<S: Sink>(source: &Source, out: &mut S) -> Result<(), SinkFailed>
     write_struct_docs(source.tree, out)?;
     write_lints(source.tree, out)?;
     write_struct_head(source.tree, out)?;
-    write_variables(
-        FieldLine::InStruct,
-        source,
-        source.monitor.conditions(),
-        out,
-    )?;
+    let conditions = source.monitor.conditions();
+    write_conditions(ConditionLine::Variable, source, conditions, out)?;
     write_piece(b"}\n\n", out)
 }
 
@@ -139,7 +136,7 @@ fn write_struct_head<S: Sink>(tree: &MonitorTree, out: &mut S) -> Result<(), Sin
         out,
     )?;
     write_type(tree, out)?;
-    write_piece(b" {\n    state: Mutex<State>,\n", out)
+    write_piece(b" {\n    inner: Mutex<Inner>,\n", out)
 }
 
 // ---- its functions
@@ -226,7 +223,10 @@ fn write_new<S: Sink>(source: &Source, out: &mut S) -> Result<(), SinkFailed>
     ensures { Wrote (S.seen out.old) (S.seen out.new) result (new_text (seen source.now)) }
 {
     write_piece(new_bytes(), out)?;
-    write_variables(FieldLine::AtStart, source, source.monitor.conditions(), out)?;
+    let conditions = source.monitor.conditions();
+    write_conditions(ConditionLine::NewCount, source, conditions, out)?;
+    write_piece(b"            }),\n", out)?;
+    write_conditions(ConditionLine::NewVariable, source, conditions, out)?;
     write_piece(b"        }\n    }\n", out)
 }
 

@@ -1,4 +1,5 @@
-//! The state of a monitor: its fields, and a function for each guard and body.
+//! What the mutex guards: the state of a monitor, its fields and a function for each guard and body,
+//! and how many sleep on each condition.
 
 ghost use Rattle.std.specs.Prelude.{◌≡◌, ◌<◌, ◌^◌, ◌++◌, codes};
 ghost use Rattle.std.specs.List.{enumerate_from, flat_map, list_any};
@@ -7,14 +8,14 @@ ghost use Rattle.mon_bodies.specs.Guards.{guard_text};
 ghost use Rattle.mon_io.specs.Writing.{Wrote};
 ghost use Rattle.mon_method.specs.Sources.{seen};
 ghost use Rattle.mon_module.specs.Modules.{block_functions, body_function, brace_by, brace_text};
-ghost use Rattle.mon_module.specs.Modules.{is_field, is_first};
+ghost use Rattle.mon_module.specs.Modules.{inner_text, is_field, is_first};
 ghost use Rattle.mon_module.specs.Modules.{method_functions, starts_end, starts_end_by};
 ghost use Rattle.mon_module.specs.Modules.{starts_text, state_impl_text, state_text, test_function};
 ghost use Rattle.mon_module.specs.Modules.{tests_guard};
 
 use crate::declared::{is_field, write_lints};
-use crate::fields::{FieldLine, write_fields};
-use crate::fixed::state_impl_bytes;
+use crate::fields::{ConditionLine, FieldLine, write_conditions, write_fields};
+use crate::fixed::{inner_bytes, state_bytes, state_impl_bytes};
 use mon_base::Kind;
 use mon_bodies::{write_body, write_guard};
 use mon_io::{Sink, SinkFailed, write_piece};
@@ -24,10 +25,23 @@ use mon_method::{
 use mon_monitor::Monitor;
 use mon_tree::{BlockTree, Decl, Expr, MethodTree, MonitorTree, StmtTree};
 
+/// Writes the struct of what the mutex guards.
+pub(crate) fn write_inner<S: Sink>(source: &Source, out: &mut S) -> Result<(), SinkFailed>
+    ensures { Wrote (S.seen out.old) (S.seen out.new) result (inner_text (seen source.now)) }
+{
+    write_piece(inner_bytes(), out)?;
+    write_lints(source.tree, out)?;
+    write_piece(b"struct Inner {\n    state: State,\n", out)?;
+    let conditions = source.monitor.conditions();
+    write_conditions(ConditionLine::Count, source, conditions, out)?;
+    write_piece(b"}\n\n", out)
+}
+
 /// Writes the struct of the state.
 pub(crate) fn write_state<S: Sink>(tree: &MonitorTree, out: &mut S) -> Result<(), SinkFailed>
     ensures { Wrote (S.seen out.old) (S.seen out.new) result (state_text tree.now) }
 {
+    write_piece(state_bytes(), out)?;
     write_lints(tree, out)?;
     write_piece(b"struct State ", out)?;
     write_brace(tree, out)?;

@@ -5,7 +5,7 @@ use std::sync::{Condvar, Mutex, MutexGuard, PoisonError};
 /// The monitor `MapGate`. Threads share it by reference. A call waits for its guard, unless it tries.
 #[allow(dead_code, non_camel_case_types, clippy::upper_case_acronyms)]
 pub struct MapGate {
-    state: Mutex<State>,
+    inner: Mutex<Inner>,
     /// For calls that wait until `state >= 0 && queued == 0`.
     can_start_read: Condvar,
     /// For calls that wait until `state == 0`.
@@ -19,7 +19,11 @@ impl MapGate {
     #[must_use]
     pub const fn new() -> Self {
         Self {
-            state: Mutex::new(State::START),
+            inner: Mutex::new(Inner {
+                state: State::START,
+                asleep_start_read: 0,
+                asleep2_start_write: 0,
+            }),
             can_start_read: Condvar::new(),
             can2_start_write: Condvar::new(),
         }
@@ -33,15 +37,17 @@ impl MapGate {
     ///
     /// [`Overflow`] where a number would leave 64 bits. Then nothing changes.
     pub fn start_read(&self) -> Result<(), Overflow> {
-        let mut state = lock(&self.state);
-        while !state.can_start_read() {
-            state = wait(&self.can_start_read, state);
+        let mut inner = lock(&self.inner);
+        while !inner.state.can_start_read() {
+            inner.asleep_start_read += 1;
+            inner = wait(&self.can_start_read, inner);
+            inner.asleep_start_read -= 1;
         }
-        let Ok(()) = state.run_start_read() else {
+        let Ok(()) = inner.state.run_start_read() else {
             self.can_start_read.notify_one();
             return Err(Overflow);
         };
-        drop(state);
+        drop(inner);
         Ok(())
     }
 
@@ -53,15 +59,15 @@ impl MapGate {
     ///
     /// [`Overflow`] where a number would leave 64 bits. Then nothing changes.
     pub fn try_start_read(&self) -> Result<Option<()>, Overflow> {
-        let mut state = lock(&self.state);
-        if !state.can_start_read() {
+        let mut inner = lock(&self.inner);
+        if !inner.state.can_start_read() {
             return Ok(None);
         }
-        let Ok(()) = state.run_start_read() else {
+        let Ok(()) = inner.state.run_start_read() else {
             self.can_start_read.notify_one();
             return Err(Overflow);
         };
-        drop(state);
+        drop(inner);
         Ok(Some(()))
     }
 
@@ -73,12 +79,13 @@ impl MapGate {
     ///
     /// [`Overflow`] where a number would leave 64 bits. Then nothing changes.
     pub fn end_read(&self) -> Result<(), Overflow> {
-        let mut state = lock(&self.state);
-        state.run_end_read()?;
-        if state.can2_start_write() {
+        let mut inner = lock(&self.inner);
+        inner.state.run_end_read()?;
+        let copy = *inner;
+        drop(inner);
+        if copy.asleep2_start_write > 0 && copy.state.can2_start_write() {
             self.can2_start_write.notify_one();
         }
-        drop(state);
         Ok(())
     }
 
@@ -94,18 +101,20 @@ impl MapGate {
     ///
     /// [`Overflow`] where a number would leave 64 bits. Its block then changes nothing, and no later one runs.
     pub fn start_write(&self) -> Result<(), Overflow> {
-        let mut state = lock(&self.state);
-        state.run_start_write()?;
-        drop(state);
-        let mut state = lock(&self.state);
-        while !state.can2_start_write() {
-            state = wait(&self.can2_start_write, state);
+        let mut inner = lock(&self.inner);
+        inner.state.run_start_write()?;
+        drop(inner);
+        let mut inner = lock(&self.inner);
+        while !inner.state.can2_start_write() {
+            inner.asleep2_start_write += 1;
+            inner = wait(&self.can2_start_write, inner);
+            inner.asleep2_start_write -= 1;
         }
-        let Ok(()) = state.run2_start_write() else {
+        let Ok(()) = inner.state.run2_start_write() else {
             self.can2_start_write.notify_one();
             return Err(Overflow);
         };
-        drop(state);
+        drop(inner);
         Ok(())
     }
 
@@ -114,13 +123,16 @@ impl MapGate {
     /// Wakes all calls that wait until `state >= 0 && queued == 0`, where that now holds.
     /// Wakes one call that waits until `state == 0`.
     pub fn end_write(&self) {
-        let mut state = lock(&self.state);
-        state.run_end_write();
-        if state.can_start_read() {
+        let mut inner = lock(&self.inner);
+        inner.state.run_end_write();
+        let copy = *inner;
+        drop(inner);
+        if copy.asleep_start_read > 0 && copy.state.can_start_read() {
             self.can_start_read.notify_all();
         }
-        drop(state);
-        self.can2_start_write.notify_one();
+        if copy.asleep2_start_write > 0 {
+            self.can2_start_write.notify_one();
+        }
     }
 }
 
@@ -132,14 +144,24 @@ impl Default for MapGate {
 
 impl std::fmt::Debug for MapGate {
     fn fmt(&self, f: &mut std::fmt::Formatter<'_>) -> std::fmt::Result {
-        let state = *self
-            .state
+        let state = self
+            .inner
             .lock()
-            .unwrap_or_else(std::sync::PoisonError::into_inner);
+            .unwrap_or_else(std::sync::PoisonError::into_inner)
+            .state;
         f.debug_struct(std::any::type_name::<Self>())
             .field("state", &state)
             .finish_non_exhaustive()
     }
+}
+
+/// What the mutex guards: the fields, and how many calls sleep on each condition.
+#[derive(Clone, Copy)]
+#[allow(dead_code)]
+struct Inner {
+    state: State,
+    asleep_start_read: usize,
+    asleep2_start_write: usize,
 }
 
 /// The fields of the monitor.
@@ -199,15 +221,15 @@ impl State {
     }
 }
 
-/// Locks the state. Nothing panics while it is locked, so there is no poison to heed.
-fn lock(state: &Mutex<State>) -> MutexGuard<'_, State> {
-    state.lock().unwrap_or_else(PoisonError::into_inner)
+/// Locks the monitor. Nothing panics while it is locked, so there is no poison to heed.
+fn lock(inner: &Mutex<Inner>) -> MutexGuard<'_, Inner> {
+    inner.lock().unwrap_or_else(PoisonError::into_inner)
 }
 
 /// Gives the lock back and waits on the condition, in one step, and takes the lock again.
-fn wait<'a>(condition: &Condvar, state: MutexGuard<'a, State>) -> MutexGuard<'a, State> {
+fn wait<'a>(condition: &Condvar, inner: MutexGuard<'a, Inner>) -> MutexGuard<'a, Inner> {
     condition
-        .wait(state)
+        .wait(inner)
         .unwrap_or_else(PoisonError::into_inner)
 }
 

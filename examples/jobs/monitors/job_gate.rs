@@ -5,7 +5,7 @@ use std::sync::{Condvar, Mutex, MutexGuard, PoisonError};
 /// The monitor `JobGate`. Threads share it by reference. A call waits for its guard, unless it tries.
 #[allow(dead_code, non_camel_case_types, clippy::upper_case_acronyms)]
 pub struct JobGate {
-    state: Mutex<State>,
+    inner: Mutex<Inner>,
     /// For calls that wait until `used < CAP || !open`.
     can_reserve: Condvar,
     /// For calls that wait until `ready > 0 || !open && filling == 0`.
@@ -21,7 +21,11 @@ impl JobGate {
     #[must_use]
     pub const fn new() -> Self {
         Self {
-            state: Mutex::new(State::START),
+            inner: Mutex::new(Inner {
+                state: State::START,
+                asleep_reserve: 0,
+                asleep_claim: 0,
+            }),
             can_reserve: Condvar::new(),
             can_claim: Condvar::new(),
         }
@@ -35,15 +39,17 @@ impl JobGate {
     ///
     /// [`Overflow`] where a number would leave 64 bits. Then nothing changes.
     pub fn reserve(&self) -> Result<bool, Overflow> {
-        let mut state = lock(&self.state);
-        while !state.can_reserve() {
-            state = wait(&self.can_reserve, state);
+        let mut inner = lock(&self.inner);
+        while !inner.state.can_reserve() {
+            inner.asleep_reserve += 1;
+            inner = wait(&self.can_reserve, inner);
+            inner.asleep_reserve -= 1;
         }
-        let Ok(answer) = state.run_reserve() else {
+        let Ok(answer) = inner.state.run_reserve() else {
             self.can_reserve.notify_one();
             return Err(Overflow);
         };
-        drop(state);
+        drop(inner);
         Ok(answer)
     }
 
@@ -55,15 +61,15 @@ impl JobGate {
     ///
     /// [`Overflow`] where a number would leave 64 bits. Then nothing changes.
     pub fn try_reserve(&self) -> Result<Option<bool>, Overflow> {
-        let mut state = lock(&self.state);
-        if !state.can_reserve() {
+        let mut inner = lock(&self.inner);
+        if !inner.state.can_reserve() {
             return Ok(None);
         }
-        let Ok(answer) = state.run_reserve() else {
+        let Ok(answer) = inner.state.run_reserve() else {
             self.can_reserve.notify_one();
             return Err(Overflow);
         };
-        drop(state);
+        drop(inner);
         Ok(Some(answer))
     }
 
@@ -75,10 +81,13 @@ impl JobGate {
     ///
     /// [`Overflow`] where a number would leave 64 bits. Then nothing changes.
     pub fn publish(&self) -> Result<(), Overflow> {
-        let mut state = lock(&self.state);
-        state.run_publish()?;
-        drop(state);
-        self.can_claim.notify_all();
+        let mut inner = lock(&self.inner);
+        inner.state.run_publish()?;
+        let copy = *inner;
+        drop(inner);
+        if copy.asleep_claim > 0 {
+            self.can_claim.notify_all();
+        }
         Ok(())
     }
 
@@ -91,15 +100,17 @@ impl JobGate {
     /// [`Overflow`] where a number would leave 64 bits. Then nothing changes.
     pub fn claim(&self) -> Result<bool, Overflow> {
         let mut found: bool = false;
-        let mut state = lock(&self.state);
-        while !state.can_claim() {
-            state = wait(&self.can_claim, state);
+        let mut inner = lock(&self.inner);
+        while !inner.state.can_claim() {
+            inner.asleep_claim += 1;
+            inner = wait(&self.can_claim, inner);
+            inner.asleep_claim -= 1;
         }
-        let Ok(answer) = state.run_claim(&mut found) else {
+        let Ok(answer) = inner.state.run_claim(&mut found) else {
             self.can_claim.notify_one();
             return Err(Overflow);
         };
-        drop(state);
+        drop(inner);
         Ok(answer)
     }
 
@@ -112,15 +123,15 @@ impl JobGate {
     /// [`Overflow`] where a number would leave 64 bits. Then nothing changes.
     pub fn try_claim(&self) -> Result<Option<bool>, Overflow> {
         let mut found: bool = false;
-        let mut state = lock(&self.state);
-        if !state.can_claim() {
+        let mut inner = lock(&self.inner);
+        if !inner.state.can_claim() {
             return Ok(None);
         }
-        let Ok(answer) = state.run_claim(&mut found) else {
+        let Ok(answer) = inner.state.run_claim(&mut found) else {
             self.can_claim.notify_one();
             return Err(Overflow);
         };
-        drop(state);
+        drop(inner);
         Ok(Some(answer))
     }
 
@@ -132,10 +143,13 @@ impl JobGate {
     ///
     /// [`Overflow`] where a number would leave 64 bits. Then nothing changes.
     pub fn release(&self) -> Result<(), Overflow> {
-        let mut state = lock(&self.state);
-        state.run_release()?;
-        drop(state);
-        self.can_reserve.notify_all();
+        let mut inner = lock(&self.inner);
+        inner.state.run_release()?;
+        let copy = *inner;
+        drop(inner);
+        if copy.asleep_reserve > 0 {
+            self.can_reserve.notify_all();
+        }
         Ok(())
     }
 
@@ -144,13 +158,16 @@ impl JobGate {
     /// Wakes all calls that wait until `used < CAP || !open`.
     /// Wakes all calls that wait until `ready > 0 || !open && filling == 0`, where that now holds.
     pub fn close(&self) {
-        let mut state = lock(&self.state);
-        state.run_close();
-        if state.can_claim() {
+        let mut inner = lock(&self.inner);
+        inner.state.run_close();
+        let copy = *inner;
+        drop(inner);
+        if copy.asleep_reserve > 0 {
+            self.can_reserve.notify_all();
+        }
+        if copy.asleep_claim > 0 && copy.state.can_claim() {
             self.can_claim.notify_all();
         }
-        drop(state);
-        self.can_reserve.notify_all();
     }
 }
 
@@ -162,14 +179,24 @@ impl Default for JobGate {
 
 impl std::fmt::Debug for JobGate {
     fn fmt(&self, f: &mut std::fmt::Formatter<'_>) -> std::fmt::Result {
-        let state = *self
-            .state
+        let state = self
+            .inner
             .lock()
-            .unwrap_or_else(std::sync::PoisonError::into_inner);
+            .unwrap_or_else(std::sync::PoisonError::into_inner)
+            .state;
         f.debug_struct(std::any::type_name::<Self>())
             .field("state", &state)
             .finish_non_exhaustive()
     }
+}
+
+/// What the mutex guards: the fields, and how many calls sleep on each condition.
+#[derive(Clone, Copy)]
+#[allow(dead_code)]
+struct Inner {
+    state: State,
+    asleep_reserve: usize,
+    asleep_claim: usize,
 }
 
 /// The fields of the monitor.
@@ -237,15 +264,15 @@ impl State {
     }
 }
 
-/// Locks the state. Nothing panics while it is locked, so there is no poison to heed.
-fn lock(state: &Mutex<State>) -> MutexGuard<'_, State> {
-    state.lock().unwrap_or_else(PoisonError::into_inner)
+/// Locks the monitor. Nothing panics while it is locked, so there is no poison to heed.
+fn lock(inner: &Mutex<Inner>) -> MutexGuard<'_, Inner> {
+    inner.lock().unwrap_or_else(PoisonError::into_inner)
 }
 
 /// Gives the lock back and waits on the condition, in one step, and takes the lock again.
-fn wait<'a>(condition: &Condvar, state: MutexGuard<'a, State>) -> MutexGuard<'a, State> {
+fn wait<'a>(condition: &Condvar, inner: MutexGuard<'a, Inner>) -> MutexGuard<'a, Inner> {
     condition
-        .wait(state)
+        .wait(inner)
         .unwrap_or_else(PoisonError::into_inner)
 }
 

@@ -1,9 +1,8 @@
 -- The texts of parts of a method, for their writers.
-use Rattle.std.specs.Prelude.{ℕ, Bool, true, false, not, ◌&&◌, List, [], ◌∷◌, ◌++◌, codes}
+use Rattle.std.specs.Prelude.{ℕ, Bool, true, false, List, [], ◌∷◌, ◌++◌, codes}
 use Rattle.std.specs.Prelude.{if◌then◌else◌}
 use Rattle.std.specs.List.{flat_map}
 use Rattle.mon_linear.specs.declared.formula.Formula.{Formula}
-use Rattle.mon_monitor.specs.MonitorParts.{MonitorParts}
 use Rattle.mon_events.specs.declared.plan.Note.{Note}
 use Rattle.mon_events.specs.Configurations.{block_condition}
 use Rattle.mon_code.specs.Code.{blocks_code, is_waited_on, late_order, overflow_notes, test_code}
@@ -60,19 +59,14 @@ calls_text it count =
 
 -- ---- notes that someone may hear
 
--- those that are tested, or those that are not
-abbrev pub is_heard : MonitorParts → Bool → Note → Bool
-is_heard monitor tested note =
-    is_waited_on monitor note.condition && (if tested then note.tested else not note.tested)
-
 -- the statement of such a note
-abbrev pub heard_text : SourceParts → Bool → Note → List ℕ
-heard_text source tested note =
-    if is_heard source.monitor tested note then note_text source note else []
+abbrev pub heard_text : SourceParts → Note → List ℕ
+heard_text source note =
+    if is_waited_on source.monitor note.condition then note_text source note else []
 
 -- the statements of such notes
-abbrev pub heard_texts : SourceParts → Bool → List Note → List ℕ
-heard_texts source tested = flat_map (heard_text source tested)
+abbrev pub heard_texts : SourceParts → List Note → List ℕ
+heard_texts source = flat_map (heard_text source)
 
 -- what is said of a note that someone may hear
 abbrev pub heard_doc : SourceParts → Note → List ℕ

@@ -9,10 +9,12 @@ use Rattle.mon_rust.specs.declared.style.Style.TheVariants as styles
 use Rattle.mon_rust.specs.Names.{member_name}
 use Rattle.mon_bodies.specs.Blocks.{kind_declared, kind_text}
 use Rattle.mon_method.specs.Sources.{SourceParts}
-use Rattle.mon_method.specs.Conditions.{around_name}
+use Rattle.mon_method.specs.Conditions.{around_count, around_name}
 use Rattle.mon_method.specs.Methods.{start_text}
 use Rattle.mon_module.specs.declared.fields.FieldLine.{FieldLine}
 use Rattle.mon_module.specs.declared.fields.FieldLine.TheVariants as lines
+use Rattle.mon_module.specs.declared.fields.ConditionLine.{ConditionLine}
+use Rattle.mon_module.specs.declared.fields.ConditionLine.TheVariants as kinds
 use Rattle.mon_module.specs.Modules.{is_field, waited_field}
 
 -- ---- the fields of the state
@@ -37,15 +39,19 @@ field_at line tree declared =
 abbrev pub line_at : FieldLine → MonitorTree → Decl → List ℕ
 line_at line tree declared = if is_field declared then field_at line tree declared else []
 
--- ---- the condition variables, by the numbers of the conditions from 0
+-- ---- the lines of conditions, by their numbers from 0
 
--- `waited_field`, or the condition variable at its start
-abbrev pub variable_at : FieldLine → SourceParts → ℕ → Condition → List ℕ
-variable_at lines.InStruct source place which = waited_field source place which
-variable_at lines.AtStart source place which =
+-- the condition variable or the count, as a field or at its start
+abbrev pub condition_at : ConditionLine → SourceParts → ℕ → Condition → List ℕ
+condition_at kinds.Variable source place which = waited_field source place which
+condition_at kinds.NewVariable source place which =
     around_name source (codes "            ") (place + 1) (codes ": Condvar::new(),\n")
+condition_at kinds.Count source place which =
+    around_count source (codes "    ") (place + 1) (codes ": usize,\n")
+condition_at kinds.NewCount source place which =
+    around_count source (codes "                ") (place + 1) (codes ": 0,\n")
 
--- `condition_field`, or `condition_start`
-abbrev pub variable_line_at : FieldLine → SourceParts → ℕ → Condition → List ℕ
-variable_line_at line source place which =
-    if is_always which.guard then [] else variable_at line source place which
+-- `condition_field`, `condition_start`, `count_field` or `count_start`
+abbrev pub condition_line_at : ConditionLine → SourceParts → ℕ → Condition → List ℕ
+condition_line_at line source place which =
+    if is_always which.guard then [] else condition_at line source place which

@@ -7,4 +7,4 @@ use Rattle.mon_method.proofs.statements.write_heard_notes.Given as goal
 
 abbrev pub invariant-loop-note : goal.invariant-loop-note
 invariant-loop-note g l =
-    Wrote (g.S.Sink.seen l.initial.out) (g.S.Sink.seen l.out) (Ok tt) (flat_map (heard_text (seen l.source) l.tested) (take l.note-index l.notes))
+    Wrote (g.S.Sink.seen l.initial.out) (g.S.Sink.seen l.out) (Ok tt) (flat_map (heard_text (seen l.source)) (take l.note-index l.notes))
