@@ -23,8 +23,7 @@ use Rattle.mon_place.proofs.Backed.{Laws, held, signals_backed, unnoted_backed}
 use Rattle.mon_place.proofs.Lists.{all_flat, all_left, all_mapped, in_range}
 use Rattle.mon_recheck.specs.declared.report.Report.{Report}
 use Rattle.mon_recheck.specs.Reports.{IsReport, proofs_of}
-use Rattle.mon_recheck.specs.Verdicts.{AreChecked, IsAccepted, IsLawfulAtSight, IsProof, IsUnproved, plan_lines}
-use Rattle.mon_recheck.specs.inner.Checks.{IsFirstOpen}
+use Rattle.mon_recheck.specs.Verdicts.{AreChecked, IsAccepted, IsFirstOpen, IsLawfulAtSight, IsProof, IsUnproved, plan_lines}
 use Rattle.mon_recheck.proofs.Pairs.{all_at, at_place, from_places, zip_at}
 
 checked_backed : (monitor : MonitorParts) (report : Report) → IsReport monitor report

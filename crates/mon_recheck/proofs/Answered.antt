@@ -16,20 +16,20 @@ use Rattle.mon_monitor.specs.MonitorParts.{MonitorParts}
 use Rattle.mon_monitor.specs.Queries.{query_of}
 use Rattle.mon_wp.specs.Limits.{is_query_within, query_within, value_if}
 use Rattle.mon_wp.specs.NegatedQueries.{negated_query}
-use Rattle.mon_recheck.specs.inner.Checks.{IsAnswer, IsFirstOpen, with_cert}
-use Rattle.mon_recheck.specs.Verdicts.{AreChecked, IsOpen, IsProof}
+use Rattle.mon_recheck.specs.inner.Checks.{IsAnswer, with_cert}
+use Rattle.mon_recheck.specs.Verdicts.{AreChecked, IsFirstOpen, IsOpen, IsProof}
 use Rattle.mon_recheck.proofs.Pairs.{all_taken, one_more_at, zip_at}
 
 abbrev is_some : Option Formula → Bool
 is_some None = false
 is_some (Some formula) = true
 
-within_some : (held : Bool) (x formula : Formula) → value_if held x ≡ Some formula
+pub within_some : (held : Bool) (x formula : Formula) → value_if held x ≡ Some formula
     → (held ≡ true) × (x ≡ formula)
 within_some true x formula is = (refl, ap (λ (o : Option Formula). unwrap_or o x) is)
 within_some false x formula is = absurd (false≢true (ap is_some is))
 
-within_none : (held : Bool) (x : Formula) → value_if held x ≡ None → held ≡ false
+pub within_none : (held : Bool) (x : Formula) → value_if held x ≡ None → held ≡ false
 within_none true x is = absurd (false≢true (sym (ap is_some is)))
 within_none false x is = refl
 

@@ -19,7 +19,7 @@ use Rattle.mon_wp.specs.Expressible.{is_expressible}
 use Rattle.mon_prune.specs.Invariants.{keeps_claims}
 use Rattle.mon_place.specs.Backing.{backed_claims, block_numbers, condition_numbers, kind_claims, reads_none, unnoted_claims, untested_claims, waits_at}
 use Rattle.mon_recheck.specs.Reports.{AreNotesOf, IsOnCondition, IsPlanOf}
-use Rattle.mon_recheck.specs.inner.Checks.{MayAsk}
+use Rattle.mon_wp.specs.PlainClaims.{MayAsk}
 use Rattle.mon_recheck.proofs.Pairs.{all_at, from_places}
 
 -- ---- all of a list that is made of others

@@ -7,7 +7,7 @@ use Rattle.std.specs.List.{flat_map}
 use Rattle.std.proofs.lemmas.List.{append_cancel_left, drop_more, drop_all, take_more, take_all, take-append-drop, length-take-le, length_push}
 use Rattle.std.proofs.lemmas.List.Concat.{flat_map-append}
 use Rattle.std.proofs.lemmas.List.Elements.{All-nil, All-cons, All-head, All-tail, All-append}
-use Rattle.mon_recheck.specs.inner.Reading.{AreFor, IsAfter, IsFront, IsNoFront, lines_of}
+use Rattle.mon_recheck.specs.Fronts.{AreFor, IsAfter, IsFront, IsNoFront, lines_of}
 
 -- ---- one piece
 

@@ -15,7 +15,8 @@ use Rattle.mon_events.proofs.CandidatePlaces.{is_low, kept_low}
 use Rattle.mon_base.proofs.Lines.{same_line}
 use Rattle.mon_text.proofs.CandidateBounds.{start_at, IsNearStart, kept_near}
 use Rattle.mon_text.proofs.PlanLines.{IsKnown, kept_is_line, kept_line_names}
-use Rattle.mon_recheck.specs.inner.Reading.{IsAfterKept, IsFront, IsTurn}
+use Rattle.mon_recheck.specs.Fronts.{IsAfterKept, IsFront}
+use Rattle.mon_recheck.specs.inner.Reading.{IsTurn}
 
 -- ---- some of the candidates
 

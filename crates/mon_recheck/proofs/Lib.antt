@@ -12,6 +12,7 @@ pub mod KeptLines
 pub mod NoteLines
 pub mod PlanParts
 pub mod ReportParts
+pub mod PlansFit
 mod PrintedReports
 mod TypedNumbers
 mod ProofLines

@@ -17,7 +17,8 @@ use Rattle.mon_events.specs.Rising.{AreRising}
 use Rattle.mon_base.proofs.Cuts.{same_first, cut}
 use Rattle.mon_base.proofs.Numerals.{IsShort, decimal_digits, decimal_some, same_number}
 use Rattle.mon_recheck.specs.Reports.{AreNotesOf, IsOnCondition}
-use Rattle.mon_recheck.specs.inner.Reading.{Anything, AreFrom, AreSomeNotesOf, IsAfterMarks, IsFront, IsLineEnd, IsNoFront, IsNoteTurn, marks_text, notes_after, sign_after}
+use Rattle.mon_recheck.specs.Fronts.{Anything, IsFront, IsNoFront}
+use Rattle.mon_recheck.specs.inner.Reading.{AreFrom, AreSomeNotesOf, IsAfterMarks, IsLineEnd, IsNoteTurn, marks_text, notes_after, sign_after}
 
 -- ---- rising conditions
 
@@ -39,7 +40,7 @@ from_pairs monitor first (note ∷ other ∷ notes) pairs on start =
           (All-tail (IsOnCondition monitor) note (other ∷ notes) on) (omega (arith, next)),
     )
 
-from_notes : (monitor : MonitorParts) (notes : List Note) → AreNotesOf monitor notes
+pub from_notes : (monitor : MonitorParts) (notes : List Note) → AreNotesOf monitor notes
     → AreFrom monitor 1 notes
 from_notes monitor notes are =
     from_pairs monitor 1 notes (AllPairs-from_increasing (map (λ note. note.condition) notes) are.rising) are.each (by_first notes are.each)

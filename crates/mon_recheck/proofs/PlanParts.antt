@@ -20,7 +20,8 @@ use Rattle.mon_recheck.specs.Reports.{AreNotesOf, IsPlanOf}
 use Rattle.mon_recheck.proofs.Pairs.{at_place}
 use Rattle.mon_recheck.proofs.Fronts.{AreGoing, going_end, going_more, going_none}
 use Rattle.mon_recheck.specs.Readings.{IsPlanRead, IsTextOfPlan}
-use Rattle.mon_recheck.specs.inner.Reading.{Anything, AreFor, IsAfterKept, IsFront, IsNoFront, line_of_kind, lines_of, parts_text}
+use Rattle.mon_recheck.specs.Fronts.{Anything, AreFor, IsAfterKept, IsFront, IsNoFront, lines_of}
+use Rattle.mon_recheck.specs.inner.Reading.{line_of_kind, parts_text}
 
 -- ---- the line of a condition
 

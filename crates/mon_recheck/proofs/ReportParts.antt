@@ -16,7 +16,8 @@ use Rattle.mon_recheck.specs.declared.report.Report.{Report}
 use Rattle.mon_outline.specs.Readings.{IsRead}
 use Rattle.mon_recheck.specs.Readings.{IsReadable, IsReportRead}
 use Rattle.mon_recheck.specs.Reports.{IsPlanOf, claim_text, proof_text, proofs_text}
-use Rattle.mon_recheck.specs.inner.Reading.{Anything, AreFor, IsAfterKept, IsFront, IsNoFront, IsWithProofs}
+use Rattle.mon_recheck.specs.Fronts.{Anything, AreFor, IsAfterKept, IsFront, IsNoFront}
+use Rattle.mon_recheck.specs.inner.Reading.{IsWithProofs}
 use Rattle.mon_recheck.proofs.Fronts.{AreGoing, Found, going_end, going_more, going_none}
 
 -- ---- the line of a proof

@@ -1,6 +1,6 @@
 -- What a check of a report says.
 use Rattle.std.specs.Prelude.{◌≡◌, ◌⊎◌, ℕ, ◌+◌, true, false, List, length, take, All, slice_get}
-use Rattle.std.specs.Prelude.{IsSomeAnd, Some, codes, decimal, ◌++◌}
+use Rattle.std.specs.Prelude.{IsSomeAnd, Option, Some, None, codes, decimal, ◌++◌}
 use Rattle.mon_cert.specs.declared.cert.Cert.{Cert}
 use Rattle.mon_monitor.specs.declared.candidate.Candidate.{Candidate}
 use Rattle.mon_monitor.specs.declared.claim.Claim.{Claim}
@@ -54,6 +54,13 @@ abbrev pub AreChecked : MonitorParts → List Candidate → List (Claim × Cert)
 AreChecked monitor kept proofs =
     All (λ one. IsProof monitor kept one
     × (is_query_within monitor (query_of monitor kept one.0) ≡ true)) proofs
+
+-- the first claim that is open is at this place; none is
+abbrev pub IsFirstOpen : MonitorParts → List Candidate → List (Claim × Cert) → Option ℕ → Type 0
+IsFirstOpen monitor kept proofs None = AreChecked monitor kept proofs
+IsFirstOpen monitor kept proofs (Some place) =
+    AreChecked monitor kept (take place proofs)
+    × IsSomeAnd (slice_get proofs place) (IsOpen monitor kept)
 
 -- ---- verdicts
 

@@ -4,9 +4,10 @@ ghost use Rattle.std.specs.Prelude.{◌≡◌, ◌+◌, ◌^◌, ◌<◌, IfOk, 
 ghost use Rattle.std.specs.List.{list_all, zip};
 ghost use Rattle.mon_monitor.specs.Candidates.{AreSomeOf, candidates_of};
 ghost use Rattle.mon_wp.specs.Expressible.{is_expressible};
+ghost use Rattle.mon_wp.specs.PlainClaims.{MayAsk};
 ghost use Rattle.mon_recheck.specs.Reports.{IsReport};
-ghost use Rattle.mon_recheck.specs.Verdicts.{IsVerdict, plan_lines};
-ghost use Rattle.mon_recheck.specs.inner.Checks.{IsAnswer, IsFirstOpen, MayAsk};
+ghost use Rattle.mon_recheck.specs.Verdicts.{IsFirstOpen, IsVerdict, plan_lines};
+ghost use Rattle.mon_recheck.specs.inner.Checks.{IsAnswer};
 
 use super::claims::claims_of;
 use super::report::{Report, Verdict};
@@ -51,8 +52,9 @@ pub fn recheck(alloc: Global, monitor: &Monitor, report: &Report) -> Result<Verd
     }
 }
 
-/// The line of a report's text on which the claim of this place stands.
-fn line_of(monitor: &Monitor, plan: &Plan, place: usize) -> u64
+/// The line of a report's text on which the claim of this place stands. Lines are counted from 1,
+/// places from 0.
+pub fn line_of(monitor: &Monitor, plan: &Plan, place: usize) -> u64
     requires kept { AreSomeOf plan.now.kept (candidates_of monitor.now) }
     requires near { place < 2 ^ 63 }
     ensures { result ≡ plan_lines monitor.now plan.now + (place + 1) }
@@ -63,8 +65,9 @@ fn line_of(monitor: &Monitor, plan: &Plan, place: usize) -> u64
     1 + kept + conditions + blocks + (place as u64 + 1)
 }
 
-/// The place of the first claim whose certificate isn't accepted, or none.
-fn first_open(
+/// The place of the first claim whose certificate doesn't refute its negated query, or whose query
+/// isn't negated within the limits of [`negated`]; or none. It fails only for want of memory.
+pub fn first_open(
     alloc: Global,
     monitor: &Monitor,
     kept: &[Candidate],

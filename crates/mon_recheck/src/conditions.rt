@@ -4,7 +4,7 @@ ghost use Rattle.std.specs.Prelude.{◌≡◌, ◌≤◌, ◌++◌, IfOk, List, 
 ghost use Rattle.mon_base.specs.Limits.{CONDITIONS};
 ghost use Rattle.mon_events.specs.declared.plan.CondKind.{CondKind};
 ghost use Rattle.mon_events.specs.PlanText.{condition_text, conditions_text, kind_text};
-ghost use Rattle.mon_recheck.specs.inner.Reading.{Anything, AreFor, IsAfter, IsFront, IsNoFront};
+ghost use Rattle.mon_recheck.specs.Fronts.{Anything, AreFor, IsAfter, IsFront, IsNoFront};
 ghost use Rattle.mon_recheck.specs.inner.Reading.{line_of_kind};
 
 use super::after::after;

@@ -5,7 +5,8 @@ ghost use Rattle.std.specs.List.{flat_map};
 ghost use Rattle.mon_monitor.specs.declared.candidate.Candidate.{Candidate};
 ghost use Rattle.mon_monitor.specs.Candidates.{AreSomeOf, candidates_of};
 ghost use Rattle.mon_events.specs.PlanText.{kept_text};
-ghost use Rattle.mon_recheck.specs.inner.Reading.{IsAfter, IsAfterKept, IsFront, IsTurn};
+ghost use Rattle.mon_recheck.specs.Fronts.{IsAfter, IsAfterKept, IsFront};
+ghost use Rattle.mon_recheck.specs.inner.Reading.{IsTurn};
 
 use super::after::after;
 use super::writing::{field_bytes, flag_bytes};

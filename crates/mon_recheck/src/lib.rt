@@ -7,7 +7,8 @@
 //! [`write_report`] writes the report of a plan that was placed (`specs/Reports`), and
 //! [`write_verdict`] the line of what a check says. Where no claim of the monitor is hard, what was
 //! written of a placed plan is read again as its report, and accepted (`laws`). The certificates of
-//! a report are kept as lists, so how deep they nest is of no concern.
+//! a report are kept as lists, so how deep they nest is of no concern. The parts of a report, read
+//! from the front of a text (`specs/Fronts`) and checked, serve the crate above too.
 #![tactic(auto)]
 
 mod after;
@@ -26,15 +27,17 @@ mod report_reading;
 mod sight;
 mod writing;
 
-pub use checking::recheck;
+pub use after::after_piece;
+pub use checking::{first_open, line_of, recheck};
 pub use claims::{claims_of, has_note};
 pub use laws::{
     easy_reports_are_accepted, placed_text_is_report_text, printed_reports_are_accepted,
     report_lines_are_numbered,
 };
 pub use making::report_of;
-pub use plan_reading::read_plan;
-pub use ranges::read_numbers;
+pub use plan_reading::{plan_front, read_plan};
+pub use ranges::{read_cert_numbers, read_numbers};
 pub use report::{Report, Verdict};
-pub use report_reading::read_report;
-pub use writing::{write_claim, write_report, write_verdict};
+pub use report_reading::{read_cert_line, read_proof, read_proofs, read_report};
+pub use sight::is_lawful_at_sight;
+pub use writing::{write_claim, write_proof, write_report, write_verdict};

@@ -5,8 +5,10 @@ ghost use Rattle.mon_events.specs.declared.plan.Note.{Note};
 ghost use Rattle.mon_events.specs.PlanText.{block_name, block_text, blocks_text, kind_text};
 ghost use Rattle.mon_events.specs.PlanText.{note_kind, note_text, notes_text, tested_text};
 ghost use Rattle.mon_recheck.specs.Reports.{AreNotesOf};
-ghost use Rattle.mon_recheck.specs.inner.Reading.{Anything, AreFor, AreSomeNotesOf, IsAfter};
-ghost use Rattle.mon_recheck.specs.inner.Reading.{IsAfterMarks, IsFront, IsLineEnd, IsNoFront};
+ghost use Rattle.mon_recheck.specs.Fronts.{Anything, AreFor, IsAfter};
+ghost use Rattle.mon_recheck.specs.inner.Reading.{AreSomeNotesOf};
+ghost use Rattle.mon_recheck.specs.Fronts.{IsFront, IsNoFront};
+ghost use Rattle.mon_recheck.specs.inner.Reading.{IsAfterMarks, IsLineEnd};
 ghost use Rattle.mon_recheck.specs.inner.Reading.{IsNoteTurn};
 ghost use Rattle.mon_recheck.specs.inner.Reading.{marks_text, notes_after, sign_after};
 

@@ -5,7 +5,8 @@ ghost use Rattle.mon_events.specs.declared.plan.Plan.{Plan};
 ghost use Rattle.mon_events.specs.PlanText.{plan_text};
 ghost use Rattle.mon_recheck.specs.Readings.{IsPlanRead};
 ghost use Rattle.mon_recheck.specs.Reports.{IsPlanOf};
-ghost use Rattle.mon_recheck.specs.inner.Reading.{IsAfterKept, IsFront, IsNoFront, parts_text};
+ghost use Rattle.mon_recheck.specs.Fronts.{IsAfterKept, IsFront, IsNoFront};
+ghost use Rattle.mon_recheck.specs.inner.Reading.{parts_text};
 
 use super::after::after;
 use super::conditions::read_kinds;
@@ -36,8 +37,9 @@ fn whole(plan: Plan, rest: &[u8]) -> Option<Plan>
     if rest.is_empty() { Some(plan) } else { None }
 }
 
-/// The plan whose text stands at the front of the bytes, and what is left.
-pub(crate) fn plan_front<'a>(
+/// The plan whose text stands at the front of the bytes, where no line of a kept candidate follows,
+/// and what is left. It fails only for want of memory.
+pub fn plan_front<'a>(
     alloc: Global,
     monitor: &Monitor,
     bytes: &'a [u8],

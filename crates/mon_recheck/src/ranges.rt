@@ -14,6 +14,13 @@ pub fn read_numbers(placed: &PlacedPlan)
     of_proofs(placed.proofs.items());
 }
 
+/// The numbers of a certificate are of their types. It reads each of them, and does nothing else.
+pub fn read_cert_numbers(cert: &Cert)
+    ensures { HasTypedNumbers cert.now }
+{
+    of_cert(cert);
+}
+
 fn of_proofs(proofs: &[Proof])
     ensures { All (λ proof. HasTypedNumbers proof.cert) proofs.now }
 {

@@ -6,7 +6,7 @@ ghost use Rattle.mon_cert.specs.CertText.{cert_text};
 ghost use Rattle.mon_place.specs.Backing.{backed_claims};
 ghost use Rattle.mon_recheck.specs.Readings.{IsReadable, IsReportRead};
 ghost use Rattle.mon_recheck.specs.Reports.{IsPlanOf, claim_text, proof_text, proofs_text};
-ghost use Rattle.mon_recheck.specs.inner.Reading.{Anything, AreFor, IsAfter, IsFront, IsNoFront};
+ghost use Rattle.mon_recheck.specs.Fronts.{Anything, AreFor, IsAfter, IsFront, IsNoFront};
 ghost use Rattle.mon_recheck.specs.inner.Reading.{IsWithProofs};
 
 use super::after::after_piece;
@@ -67,8 +67,9 @@ fn whole_report(plan: Plan, proofs: Vec<Outline>, rest: &[u8]) -> Option<Report>
     }
 }
 
-/// The certificates of the claims whose lines stand at the front of the bytes, and what is left.
-fn read_proofs<'a>(
+/// The certificates of the claims whose lines stand at the front of the bytes, and what is left. It
+/// fails only for want of memory.
+pub fn read_proofs<'a>(
     alloc: Global,
     monitor: &Monitor,
     claims: &[Claim],
@@ -94,8 +95,9 @@ fn read_proofs<'a>(
     Ok(Some((proofs, rest)))
 }
 
-/// The certificate of the claim whose line stands at the front of the bytes, and what is left.
-fn read_proof<'a>(
+/// The certificate of the claim whose line stands at the front of the bytes, and what is left. It
+/// fails only for want of memory.
+pub fn read_proof<'a>(
     alloc: Global,
     monitor: &Monitor,
     claim: Claim,
@@ -107,7 +109,7 @@ fn read_proof<'a>(
         bytes.now read.0 read.1.now)) }
 {
     match after_claim(alloc, monitor, claim, bytes)? {
-        Some(rest) => read_line(alloc, rest),
+        Some(rest) => read_cert_line(alloc, rest),
         None => Ok(None),
     }
 }
@@ -127,8 +129,11 @@ fn after_claim<'a>(
 }
 
 /// The certificate that stands at the front of the bytes, and what is left after it and a line
-/// feed.
-fn read_line<'a>(alloc: Global, bytes: &'a [u8]) -> Result<Option<(Outline, &'a [u8])>, AllocError>
+/// feed. It fails only for want of memory.
+pub fn read_cert_line<'a>(
+    alloc: Global,
+    bytes: &'a [u8],
+) -> Result<Option<(Outline, &'a [u8])>, AllocError>
     ensures { IfOk result (λ found. MatchOption found
         (IsNoFront Cert IsReadable Anything (λ cert. cert_text cert ++ codes "\n")
         bytes.now)

@@ -13,8 +13,9 @@ use mon_monitor::{Condition, Monitor};
 use mon_place::reads_none;
 use mon_prune::are_true_at_start;
 
-/// Whether what a plan keeps is true at the start, and its kinds and notes suit the conditions.
-pub(crate) fn is_lawful_at_sight(monitor: &Monitor, plan: &Plan) -> bool
+/// Whether what a plan keeps is true at the start, and its kinds and notes suit the conditions. It
+/// takes no memory.
+pub fn is_lawful_at_sight(monitor: &Monitor, plan: &Plan) -> bool
     requires { IsPlanOf monitor.now plan.now }
     ensures { IsTrue result ↔ IsLawfulAtSight monitor.now plan.now }
 {

@@ -41,8 +41,11 @@ fn write_proofs<S: Sink>(monitor: &Monitor, proofs: &[Proof], out: &mut S) -> Re
     Ok(())
 }
 
-/// `proof none put 2: clash 0 1` and a line feed.
-pub(crate) fn write_proof<S: Sink>(
+/// Writes the line of a claim with its certificate: `proof none put 2: clash 0 1` and a line feed.
+/// It takes no memory.
+///
+/// After `SinkFailed` the first bytes of the line were taken, fewer than all and maybe none.
+pub fn write_proof<S: Sink>(
     monitor: &Monitor,
     claim: Claim,
     cert: &Cert,

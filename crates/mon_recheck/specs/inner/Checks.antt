@@ -1,15 +1,12 @@
 -- For private contracts: what is known of claims once their certificates were checked.
-use Rattle.std.specs.Prelude.{◌≡◌, ℕ, Bool, true, false, List, take, Option, Some, None, slice_get}
-use Rattle.std.specs.Prelude.{IsSomeAnd}
+use Rattle.std.specs.Prelude.{◌≡◌, Bool, true, false, List}
 use Rattle.mon_cert.specs.declared.cert.Cert.{Cert}
 use Rattle.mon_monitor.specs.declared.candidate.Candidate.{Candidate}
 use Rattle.mon_monitor.specs.declared.claim.Claim.{Claim}
 use Rattle.mon_monitor.specs.MonitorParts.{MonitorParts}
 use Rattle.mon_monitor.specs.Queries.{query_of}
 use Rattle.mon_wp.specs.Limits.{is_query_within}
-use Rattle.mon_recheck.specs.Verdicts.{AreChecked, IsOpen, IsProof}
--- a query can be made of the claim
-pub use Rattle.mon_wp.specs.PlainClaims.{MayAsk}
+use Rattle.mon_recheck.specs.Verdicts.{IsOpen, IsProof}
 
 -- a claim with its certificate
 abbrev pub with_cert : Claim → Cert → Claim × Cert
@@ -21,10 +18,3 @@ IsAnswer monitor kept claim cert true =
     IsProof monitor kept (with_cert claim cert)
     × (is_query_within monitor (query_of monitor kept claim) ≡ true)
 IsAnswer monitor kept claim cert false = IsOpen monitor kept (with_cert claim cert)
-
--- the first claim that is open is at this place; none is
-abbrev pub IsFirstOpen : MonitorParts → List Candidate → List (Claim × Cert) → Option ℕ → Type 0
-IsFirstOpen monitor kept proofs None = AreChecked monitor kept proofs
-IsFirstOpen monitor kept proofs (Some place) =
-    AreChecked monitor kept (take place proofs)
-    × IsSomeAnd (slice_get proofs place) (IsOpen monitor kept)

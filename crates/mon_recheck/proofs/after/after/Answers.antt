@@ -1,5 +1,5 @@
 use Rattle.std.proofs.Common.{List, ℕ, Bor, subst}
-use Rattle.mon_recheck.specs.inner.Reading.{IsAfter}
+use Rattle.mon_recheck.specs.Fronts.{IsAfter}
 use Rattle.mon_recheck.proofs.Fronts.{pieces_stop}
 use Rattle.mon_recheck.proofs.after.after.Goals as goal
 

@@ -4,7 +4,8 @@ use Rattle.mon_monitor.specs.Candidates.{candidates_of}
 use Rattle.mon_wp.specs.Expressible.{is_expressible}
 use Rattle.mon_prune.proofs.SomeOf.{some_pass}
 use Rattle.mon_place.proofs.Backed.{Laws}
-use Rattle.mon_recheck.specs.inner.Checks.{IsFirstOpen, MayAsk}
+use Rattle.mon_wp.specs.PlainClaims.{MayAsk}
+use Rattle.mon_recheck.specs.Verdicts.{IsFirstOpen}
 use Rattle.mon_recheck.proofs.Accepted.{accepted, checked_of, unproved_at}
 use Rattle.mon_recheck.proofs.Askable.{claims_askable}
 use Rattle.mon_recheck.proofs.checking.recheck.Goals as goal

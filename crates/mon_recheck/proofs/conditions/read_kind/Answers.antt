@@ -1,6 +1,7 @@
 use Rattle.std.proofs.Common.{subst}
 use Rattle.mon_events.specs.declared.plan.CondKind.TheVariants as kinds
-use Rattle.mon_recheck.specs.inner.Reading.{IsAfter, line_of_kind}
+use Rattle.mon_recheck.specs.Fronts.{IsAfter}
+use Rattle.mon_recheck.specs.inner.Reading.{line_of_kind}
 use Rattle.mon_recheck.proofs.PlanParts.{kind_front}
 use Rattle.mon_recheck.proofs.conditions.read_kind.Goals as goal
 

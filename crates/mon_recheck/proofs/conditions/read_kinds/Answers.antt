@@ -2,7 +2,7 @@ use Rattle.std.proofs.Common.{◌≡◌, ◌+◌, List, [], ◌∷◌, ◌++◌,
 use Rattle.std.specs.List.{enumerate_from}
 use Rattle.mon_events.specs.declared.plan.CondKind.{CondKind}
 use Rattle.mon_events.specs.PlanText.{condition_text}
-use Rattle.mon_recheck.specs.inner.Reading.{Anything}
+use Rattle.mon_recheck.specs.Fronts.{Anything}
 use Rattle.mon_recheck.proofs.Fronts.{AreGoing, Found, going_start}
 use Rattle.mon_recheck.proofs.PlanParts.{kinds_end, kinds_more, kinds_stop, numbered_line}
 use Rattle.mon_recheck.proofs.conditions.read_kinds.Goals as goal

@@ -1,5 +1,5 @@
 use Rattle.std.specs.List.{enumerate_from}
-use Rattle.mon_recheck.specs.inner.Reading.{Anything}
+use Rattle.mon_recheck.specs.Fronts.{Anything}
 use Rattle.mon_recheck.proofs.Fronts.{AreGoing}
 use Rattle.mon_recheck.proofs.PlanParts.{numbered_line}
 use Rattle.mon_recheck.proofs.conditions.read_kinds.Given as goal

@@ -1,5 +1,5 @@
 use Rattle.std.proofs.Common.{List, ℕ, subst}
-use Rattle.mon_recheck.specs.inner.Reading.{IsAfter}
+use Rattle.mon_recheck.specs.Fronts.{IsAfter}
 use Rattle.mon_recheck.proofs.KeptLines.{flag_line}
 use Rattle.mon_recheck.proofs.kept.after_kept.Goals as goal
 

@@ -2,7 +2,7 @@ use Rattle.std.proofs.Common.{◌++◌, List, codes, subst}
 use Rattle.mon_events.specs.declared.plan.Note.{Note}
 use Rattle.mon_events.specs.PlanText.{block_name, block_text, notes_text}
 use Rattle.mon_recheck.specs.Reports.{AreNotesOf}
-use Rattle.mon_recheck.specs.inner.Reading.{Anything, IsAfter}
+use Rattle.mon_recheck.specs.Fronts.{Anything, IsAfter}
 use Rattle.mon_recheck.proofs.Fronts.{either_after, none_there}
 use Rattle.mon_recheck.proofs.PlanParts.{block_parts}
 use Rattle.mon_recheck.proofs.notes.read_list.Goals as goal

@@ -3,7 +3,7 @@ use Rattle.std.specs.List.{enumerate_from}
 use Rattle.mon_events.specs.declared.plan.Note.{Note}
 use Rattle.mon_events.specs.PlanText.{block_text}
 use Rattle.mon_recheck.specs.Reports.{AreNotesOf}
-use Rattle.mon_recheck.specs.inner.Reading.{Anything}
+use Rattle.mon_recheck.specs.Fronts.{Anything}
 use Rattle.mon_recheck.proofs.Fronts.{AreGoing, Found, going_start}
 use Rattle.mon_recheck.proofs.PlanParts.{block_line, lists_end, lists_more, lists_stop}
 use Rattle.mon_recheck.proofs.notes.read_lists.Goals as goal

@@ -1,6 +1,7 @@
 use Rattle.std.proofs.Common.{◌≡◌, ℕ, List, ◌++◌, Option, Bor, rules, codes, decimal, sym, ap, subst, ◌∙◌}
 use Rattle.std.specs.Prelude.{Bool, MatchOption}
-use Rattle.mon_recheck.specs.inner.Reading.{Anything, IsAfter, IsAfterMarks, IsFront, IsNoFront, marks_text}
+use Rattle.mon_recheck.specs.Fronts.{Anything, IsAfter, IsFront, IsNoFront}
+use Rattle.mon_recheck.specs.inner.Reading.{IsAfterMarks, marks_text}
 use Rattle.mon_recheck.proofs.NoteLines.{note_found, note_unmarked}
 use Rattle.mon_recheck.proofs.notes.read_note.Goals as goal
 

@@ -3,7 +3,7 @@ use Rattle.std.specs.Prelude.{List}
 use Rattle.mon_events.specs.declared.plan.Note.{Note}
 use Rattle.mon_events.specs.PlanText.{notes_text}
 use Rattle.mon_recheck.specs.Reports.{AreNotesOf}
-use Rattle.mon_recheck.specs.inner.Reading.{Anything, IsAfter, IsFront}
+use Rattle.mon_recheck.specs.Fronts.{Anything, IsAfter, IsFront}
 use Rattle.mon_recheck.proofs.NoteLines.{notes_either, notes_none}
 use Rattle.mon_recheck.proofs.notes.read_notes.Goals as goal
 

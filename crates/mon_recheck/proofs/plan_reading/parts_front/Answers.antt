@@ -3,7 +3,7 @@ use Rattle.std.specs.Prelude.{List}
 use Rattle.mon_monitor.specs.declared.monitor.Condition.{Condition}
 use Rattle.mon_events.specs.declared.plan.CondKind.{CondKind}
 use Rattle.mon_events.specs.PlanText.{conditions_text}
-use Rattle.mon_recheck.specs.inner.Reading.{Anything, AreFor, IsFront, IsNoFront}
+use Rattle.mon_recheck.specs.Fronts.{Anything, AreFor, IsFront, IsNoFront}
 use Rattle.mon_recheck.proofs.Fronts.{at_none, at_some}
 use Rattle.mon_recheck.proofs.PlanParts.{no_kinds, no_lists, parts_made}
 use Rattle.mon_recheck.proofs.plan_reading.parts_front.Goals as goal

@@ -1,7 +1,8 @@
 use Rattle.std.proofs.Common.{◌≡◌, ◌++◌, List, ℕ, codes, subst, ◌∙◌}
 use Rattle.mon_events.specs.PlanText.{plan_text}
 use Rattle.mon_recheck.specs.Reports.{IsPlanOf}
-use Rattle.mon_recheck.specs.inner.Reading.{IsAfter, IsAfterKept, parts_text}
+use Rattle.mon_recheck.specs.Fronts.{IsAfter, IsAfterKept}
+use Rattle.mon_recheck.specs.inner.Reading.{parts_text}
 use Rattle.mon_recheck.proofs.Fronts.{either_after}
 use Rattle.mon_recheck.proofs.PlanParts.{plan_parts}
 use Rattle.mon_recheck.proofs.plan_reading.plan_front.Goals as goal

@@ -3,7 +3,7 @@ use Rattle.mon_cert.specs.CertText.{cert_text}
 use Rattle.mon_outline.specs.Readings.{IsRead}
 use Rattle.mon_recheck.specs.Readings.{IsReadable}
 use Rattle.mon_recheck.proofs.ReportParts.{line_found, line_none}
-use Rattle.mon_recheck.proofs.report_reading.read_line.Goals as goal
+use Rattle.mon_recheck.proofs.report_reading.read_cert_line.Goals as goal
 
 pub returns-in-Some : goal.returns-in-Some
 returns-in-Some c =
