@@ -1,0 +1,4 @@
+pub mod CountedReports
+pub mod CountedReadings
+pub mod CountedVerdicts
+pub mod inner

@@ -1,0 +1,20 @@
+//! Reports of counted plans: a plan with a certificate for each claim and each question that it
+//! rests on, read from its text and checked without a prover.
+//!
+//! [`read_counted_report`] reads such a text (`specs/CountedReports`, `specs/CountedReadings`):
+//! which conditions are counted shows by the claims that are left out. [`recheck_counted`] says
+//! whether the plan of a [`CountedReport`] is lawful by counting, by its certificates alone
+//! (`specs/CountedVerdicts`). [`write_question`] writes a question as it stands in its line.
+#![tactic(auto)]
+
+mod checking;
+mod finding;
+mod owed;
+mod reading;
+mod report;
+mod writing;
+
+pub use checking::recheck_counted;
+pub use reading::read_counted_report;
+pub use report::CountedReport;
+pub use writing::write_question;
