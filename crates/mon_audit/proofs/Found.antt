@@ -2,7 +2,8 @@
 -- certificate, is lawful.
 use Rattle.std.proofs.Common.{◌≡◌, inl, inr, true, List, [], Option, Some, None, refl, sym, ap, subst, ◌∙◌, arith}
 use Rattle.std.specs.Prelude.{All, IsSomeAnd, unwrap_or}
-use Rattle.std.proofs.lemmas.Bool.{cases_Bool, not_from_false}
+use Rattle.std.proofs.lemmas.Bool.{cases_Bool, not_from_false, true≢false}
+use Rattle.std.proofs.lemmas.List.Elements.{All-weaker}
 use Rattle.std.proofs.lemmas.Option.{slice_get_within}
 use Rattle.mon_monitor.specs.declared.candidate.Candidate.{Candidate}
 use Rattle.mon_monitor.specs.declared.claim.Claim.{Claim}
@@ -10,9 +11,10 @@ use Rattle.mon_monitor.specs.declared.claim.Claim.TheVariants as claims
 use Rattle.mon_monitor.specs.declared.monitor.Block.{Block}
 use Rattle.mon_monitor.specs.Conditions.{HasCondition}
 use Rattle.mon_monitor.specs.MonitorParts.{MonitorParts, IsMonitor}
-use Rattle.mon_monitor.specs.Triples.{Keeps}
+use Rattle.mon_monitor.specs.Triples.{IsInductive, Keeps}
 use Rattle.mon_events.specs.declared.plan.Note.{Note}
 use Rattle.mon_events.specs.declared.plan.Plan.{Plan}
+use Rattle.mon_events.specs.CountClaims.{AreNoted}
 use Rattle.mon_events.specs.Plans.{IsLawful, has_note, notes_at}
 use Rattle.mon_place.specs.Backing.{HasCertificate, backed_claims}
 use Rattle.mon_place.proofs.Backed.{Laws, held, of_kept, of_signal, of_unnoted}
@@ -21,16 +23,24 @@ use Rattle.mon_recheck.specs.Reports.{IsPlanOf}
 use Rattle.mon_recheck.specs.Verdicts.{IsLawfulAtSight}
 use Rattle.mon_recheck.proofs.Pairs.{all_at, at_place, from_places}
 use Rattle.mon_audit.specs.Findings.{IsFirstUnproved, IsProved, asked_claims, is_asked}
+use Rattle.mon_audit.specs.CountedFindings.{is_common}
 use Rattle.mon_audit.specs.inner.Asked.{IsFirstOpen}
 
 abbrev IsBackedIfAsked : MonitorParts → Plan → Claim → Type 0
 IsBackedIfAsked monitor plan claim = is_asked plan claim ≡ true → HasCertificate monitor plan.kept claim
 
-pub found_lawful : Laws → (monitor : MonitorParts) (plan : Plan) → IsMonitor monitor → IsPlanOf monitor plan → IsLawfulAtSight monitor plan
-    → All (HasCertificate monitor plan.kept) (asked_claims monitor plan) → IsLawful monitor plan
-found_lawful laws monitor plan rule of sight certified =
-    let P = IsBackedIfAsked monitor plan in
-    let all : All P (backed_claims monitor plan) = all_filtered (is_asked plan) (HasCertificate monitor plan.kept) (backed_claims monitor plan) certified in
+-- what is kept is inductive, and a pair of block and condition without a note needs none
+pub record IsCommonLawful (monitor : MonitorParts) (plan : Plan) : Type 0 where
+  pub inductive : IsInductive monitor plan.kept
+  pub noted : AreNoted monitor plan
+
+abbrev pub IsBackedIfCommon : MonitorParts → Plan → Claim → Type 0
+IsBackedIfCommon monitor plan claim = is_common claim ≡ true → HasCertificate monitor plan.kept claim
+
+pub common_lawful : Laws → (monitor : MonitorParts) (plan : Plan) → IsMonitor monitor → IsPlanOf monitor plan → IsLawfulAtSight monitor plan
+    → All (IsBackedIfCommon monitor plan) (backed_claims monitor plan) → IsCommonLawful monitor plan
+common_lawful laws monitor plan rule of sight all =
+    let P = IsBackedIfCommon monitor plan in
     record {
       inductive = record {
         starts = sight.starts;
@@ -42,6 +52,24 @@ found_lawful laws monitor plan rule of sight certified =
           let same : notes_at plan block ≡ notes.0 = ap (λ (o : Option (List Note)). unwrap_or o []) notes.1 in
           held laws monitor plan.kept (claims.NoNote block condition) rule within
           (of_unnoted P monitor plan block condition notes.0 all notes.1 first last (ap (λ (own : List Note). has_note own condition) (sym same) ∙ none) refl);
+    }
+
+common_asked : (plan : Plan) (claim : Claim) → is_common claim ≡ true → is_asked plan claim ≡ true
+common_asked plan (claims.Keeps candidate block) is = refl
+common_asked plan (claims.NoNote block condition) is = refl
+common_asked plan (claims.One condition block) is = absurd (true≢false (sym is))
+common_asked plan (claims.NoTest block condition) is = absurd (true≢false (sym is))
+
+pub found_lawful : Laws → (monitor : MonitorParts) (plan : Plan) → IsMonitor monitor → IsPlanOf monitor plan → IsLawfulAtSight monitor plan
+    → All (HasCertificate monitor plan.kept) (asked_claims monitor plan) → IsLawful monitor plan
+found_lawful laws monitor plan rule of sight certified =
+    let P = IsBackedIfAsked monitor plan in
+    let all : All P (backed_claims monitor plan) = all_filtered (is_asked plan) (HasCertificate monitor plan.kept) (backed_claims monitor plan) certified in
+    let common = common_lawful laws monitor plan rule of sight
+    (All-weaker P (IsBackedIfCommon monitor plan) (λ claim backed is. backed (common_asked plan claim is)) (backed_claims monitor plan) all) in
+    record {
+      inductive = common.inductive;
+      noted = common.noted;
       reading = sight.reading;
       broadcasts = sight.broadcasts;
       signals = λ number block there kind. elim (cases_Bool (has_note (notes_at plan number) block.condition)) [

@@ -76,9 +76,10 @@ pub record IsProved (monitor : MonitorParts) (plan : Plan) : Type 0 where
 
 -- ---- findings
 
--- what a finding says of a plan
+-- what a finding says of a plan; where signals aren't counted no question is asked
 abbrev pub IsFinding : MonitorParts → Plan → Finding → Type 0
 IsFinding monitor plan findings.Lawful = IsProved monitor plan
 IsFinding monitor plan (findings.Start kept) = IsFirstFalse monitor plan kept
 IsFinding monitor plan (findings.Kind condition) = IsFirstUnsuited monitor plan condition
 IsFinding monitor plan (findings.Unproved claim) = IsFirstUnproved monitor plan claim
+IsFinding monitor plan (findings.Uncounted question) = ⊥

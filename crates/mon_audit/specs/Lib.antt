@@ -1,3 +1,4 @@
 pub mod Findings
+pub mod CountedFindings
 pub mod FindingText
 pub mod inner

@@ -6,6 +6,7 @@ ghost use Rattle.mon_events.specs.Plans.{has_note, notes_at};
 ghost use Rattle.mon_wp.specs.Expressible.{is_expressible};
 ghost use Rattle.mon_wp.specs.PlainClaims.{MayAsk};
 ghost use Rattle.mon_recheck.specs.Reports.{IsPlanOf};
+ghost use Rattle.mon_audit.specs.CountedFindings.{is_common, is_passing};
 ghost use Rattle.mon_audit.specs.Findings.{asked_claims, is_asked};
 ghost use Rattle.mon_audit.specs.inner.Asked.{IsAnswer, IsFirstOpen};
 
@@ -65,8 +66,62 @@ fn is_asked(plan: &Plan, claim: Claim) -> bool
     }
 }
 
+/// Those of the claims that are asked of any plan.
+pub(crate) fn common_of(alloc: Global, claims: &[Claim]) -> Result<Vec<Claim>, AllocError>
+    ensures { IfOk result (λ some. some.items ≡ filter is_common claims.now) }
+{
+    let mut some = Vec::new(alloc);
+    for claim in claims {
+        let test = is_common(*claim);
+        push_if(&mut some, *claim, test)?;
+    }
+    Ok(some)
+}
+
+fn is_common(claim: Claim) -> bool
+    ensures { result ≡ is_common claim }
+{
+    match claim {
+        Claim::Keeps { .. } => true,
+        Claim::NoNote { .. } => true,
+        Claim::One { .. } => false,
+        Claim::NoTest { .. } => false,
+    }
+}
+
+/// Those of the claims by which the condition is passed on.
+pub(crate) fn passing_of(
+    alloc: Global,
+    plan: &Plan,
+    condition: u32,
+    claims: &[Claim],
+) -> Result<Vec<Claim>, AllocError>
+    ensures { IfOk result (λ some.
+        some.items ≡ filter (is_passing plan.now condition) claims.now) }
+{
+    let mut some = Vec::new(alloc);
+    for claim in claims {
+        let test = is_passing(plan, condition, *claim);
+        push_if(&mut some, *claim, test)?;
+    }
+    Ok(some)
+}
+
+fn is_passing(plan: &Plan, wanted: u32, claim: Claim) -> bool
+    ensures { result ≡ is_passing plan.now wanted claim }
+{
+    match claim {
+        Claim::Keeps { .. } => false,
+        Claim::NoNote { .. } => false,
+        Claim::One { condition, block } => {
+            condition == wanted && !has_note_at(plan, block, wanted)
+        }
+        Claim::NoTest { .. } => false,
+    }
+}
+
 /// Whether the block has a note on the condition.
-fn has_note_at(plan: &Plan, block: u32, condition: u32) -> bool
+pub(crate) fn has_note_at(plan: &Plan, block: u32, condition: u32) -> bool
     ensures { result ≡ has_note (notes_at plan.now block) condition }
 {
     match plan.notes.items().get(block as usize) {

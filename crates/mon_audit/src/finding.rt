@@ -1,11 +1,12 @@
 //! What an audit says.
 
+use mon_count::Question;
 use mon_monitor::Claim;
 
 /// What an audit says of a plan.
 #[derive(Clone, Copy, Debug, PartialEq, Eq)]
 pub enum Finding {
-    /// It is lawful.
+    /// It is lawful, or where signals may be counted, lawful by counting.
     Lawful,
     /// The kept candidate at this place, counted from 0, is the first that is false at the start.
     Start { kept: u32 },
@@ -14,4 +15,7 @@ pub enum Finding {
     Kind { condition: u32 },
     /// The claim is the first for which no certificate is found.
     Unproved { claim: Claim },
+    /// The question is the first for which no certificate is found, of the first condition of kind
+    /// signal that is neither passed on nor counted.
+    Uncounted { question: Question },
 }

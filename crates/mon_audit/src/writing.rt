@@ -2,19 +2,20 @@
 
 ghost use Rattle.std.specs.Prelude.{◌++◌, codes, decimal};
 ghost use Rattle.mon_io.specs.Writing.{Wrote};
-ghost use Rattle.mon_audit.specs.FindingText.{finding_text, kept_name};
+ghost use Rattle.mon_audit.specs.FindingText.{finding_text, kept_name, pair_text, question_text};
 ghost use Rattle.mon_recheck.specs.Reports.{claim_text};
 
 use super::finding::Finding;
 use itoa::Buffer;
+use mon_count::Question;
 use mon_events::Plan;
 use mon_io::{Sink, SinkFailed, write_piece};
 use mon_monitor::{Claim, Monitor};
 use mon_recheck::write_claim;
-use mon_text::write_candidate;
+use mon_text::{write_block_name, write_candidate};
 
 /// Writes the line of a finding: `lawful`, `unlawful: keep x <= 4 at the start`,
-/// `unlawful: condition 2` or `unproved: none put 2`. It takes no memory.
+/// `unlawful: condition 2`, `unproved: none put 2` or `unproved: counts 2 put`. It takes no memory.
 ///
 /// After `SinkFailed` the first bytes of the line were taken, fewer than all and maybe none.
 pub fn write_finding<S: Sink>(
@@ -31,6 +32,7 @@ pub fn write_finding<S: Sink>(
         Finding::Start { kept } => write_start(monitor, plan, kept, out),
         Finding::Kind { condition } => write_kind(condition, out),
         Finding::Unproved { claim } => write_unproved(monitor, claim, out),
+        Finding::Uncounted { question } => write_uncounted(monitor, question, out),
     }
 }
 
@@ -91,4 +93,70 @@ fn write_unproved<S: Sink>(monitor: &Monitor, claim: Claim, out: &mut S) -> Resu
     write_piece(b"unproved: ", out)?;
     write_claim(monitor, claim, out)?;
     write_piece(b"\n", out)
+}
+
+/// `unproved: counts 2 put` and a line feed.
+fn write_uncounted<S: Sink>(
+    monitor: &Monitor,
+    question: Question,
+    out: &mut S,
+) -> Result<(), SinkFailed>
+    ensures { Wrote (S.seen out.old) (S.seen out.new) result
+        (codes "unproved: " ++ question_text monitor.now question ++ codes "\n") }
+{
+    write_piece(b"unproved: ", out)?;
+    write_question(monitor, question, out)?;
+    write_piece(b"\n", out)
+}
+
+/// `counts 2 put`, `gives 2 put` or `first 2 put`.
+fn write_question<S: Sink>(
+    monitor: &Monitor,
+    question: Question,
+    out: &mut S,
+) -> Result<(), SinkFailed>
+    ensures { Wrote (S.seen out.old) (S.seen out.new) result
+        (question_text monitor.now question) }
+{
+    match question {
+        Question::Counts { condition, block } => {
+            write_asked(b"counts ", monitor, condition, block, out)
+        }
+        Question::Gives { condition, block } => {
+            write_asked(b"gives ", monitor, condition, block, out)
+        }
+        Question::First { condition, block } => {
+            write_asked(b"first ", monitor, condition, block, out)
+        }
+    }
+}
+
+/// `2 put` after a word.
+fn write_asked<S: Sink>(
+    word: &[u8],
+    monitor: &Monitor,
+    condition: u32,
+    block: u32,
+    out: &mut S,
+) -> Result<(), SinkFailed>
+    ensures { Wrote (S.seen out.old) (S.seen out.new) result
+        (word.now ++ pair_text monitor.now condition block) }
+{
+    write_piece(word, out)?;
+    write_pair(monitor, condition, block, out)
+}
+
+/// `2 put`: a condition and a block.
+fn write_pair<S: Sink>(
+    monitor: &Monitor,
+    condition: u32,
+    block: u32,
+    out: &mut S,
+) -> Result<(), SinkFailed>
+    ensures { Wrote (S.seen out.old) (S.seen out.new) result
+        (pair_text monitor.now condition block) }
+{
+    write_number(condition, out)?;
+    write_piece(b" ", out)?;
+    write_block_name(monitor, block as usize, out)
 }

@@ -2,6 +2,7 @@ use Rattle.std.proofs.Common.{ℕ, List, length, ap, subst, arith}
 use Rattle.mon_monitor.specs.declared.candidate.Candidate.{Candidate}
 use Rattle.mon_recheck.proofs.Counted.{kept_are_few}
 use Rattle.mon_audit.specs.inner.Seen.{IsFalseAt}
+use Rattle.mon_audit.proofs.FoundByCounting.{start_found}
 use Rattle.mon_audit.proofs.auditing.found.Goals as goal
 
 pub first_false-requires : goal.first_false-requires
@@ -13,7 +14,7 @@ returns-in-Some c =
     let monitor = c.args.monitor.now in
     let told = subst (λ (kept : List Candidate). IsFalseAt monitor kept c.first_false.result) c.items.ensures c.first_false.ensures in
     let own = subst (IsFalseAt monitor c.args.plan.now.kept) c.in-Some.is told in
-    record { here = own.0; before = own.1 }
+    start_found c.args.count monitor c.args.plan.now c.in-Some.kept (record { here = own.0; before = own.1 })
 
 pub suited-requires-clause-starts : goal.suited-requires-clause-starts
 suited-requires-clause-starts c =
