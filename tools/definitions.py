@@ -290,6 +290,9 @@ No wake-up is lost
   mon_events Pending WakePending IsStuck
 Lawful by counting
   mon_events Counts IsLawfulByCounting IsPassedOn IsCounted LeavesCounted slack
+The placed plan, counted, and the rest relayed
+  mon_counted Counted IsCountedFrom IsLeft IsMadeSignal IsTold IsUnnoted IsNoted
+  mon_counted CountedAndRelayed IsCountedAndRelayed
 """
 # What another document says in words: of which nothing beneath is told.
 ELSEWHERE = {

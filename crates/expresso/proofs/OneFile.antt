@@ -10,7 +10,7 @@ use Rattle.mon_monitor.specs.MonitorParts.{MonitorParts}
 use Rattle.mon_events.specs.declared.plan.Plan.{Plan}
 use Rattle.mon_events.specs.PlanText.{plan_text}
 use Rattle.mon_text.specs.FaultText.{unread_text}
-use Rattle.mon_code.specs.Laws.{PrintedCodeLosesNone}
+use Rattle.mon_code.specs.Laws.{CountedCodeLosesNone}
 use Rattle.mon_code.specs.LivePlans.{printed_program}
 use Rattle.mon_numbers.specs.Laws.{PrintedBodiesStep, PrintedNumbersAreWide, PrintedTestsHold, SharedTestsHold, StartsAreShort}
 use Rattle.mon_module.specs.Modules.{rust_text}
@@ -18,7 +18,7 @@ use Rattle.expresso.specs.declared.status.Status.{Status}
 use Rattle.expresso.specs.declared.status.Status.TheVariants as statuses
 use Rattle.expresso.specs.declared.monitor_file.MonitorFile.{MonitorFile}
 use Rattle.mon_command.specs.declared.plan_choice.PlanChoice.{PlanChoice}
-use Rattle.mon_command.specs.declared.plan_choice.PlanChoice.TheVariants.{Placed}
+use Rattle.mon_command.specs.declared.plan_choice.PlanChoice.TheVariants.{Counted}
 use Rattle.mon_command.specs.CommandLine.{Command, check, compile, report, explain, emit}
 use Rattle.mon_why.specs.declared.reason.Reason.{Reason}
 use Rattle.expresso.specs.Placements.{IsChosen, IsPlacement}
@@ -138,16 +138,13 @@ explain_done file tree monitor plan reasons files files_now result out out_now h
     (record { tree = tree; monitor = monitor; plan = plan; reasons = reasons; holds = holds; placement = explained.placement; things = explained.things; each = explained.each; printed = refl })
     (no_rejection files.held file tree monitor holds) steady written
 
-placed_plan : (monitor : MonitorParts) (plan : Plan) → IsChosen Placed monitor plan → IsPlacement monitor plan
-placed_plan monitor plan chosen = subst (IsPlacement monitor) (sym chosen.is) chosen.placement
-
--- under a plan that a monitor is compiled to, threads lose no wake-up by the printed code
-threads_lose_none : PrintedCodeLosesNone → (monitor : MonitorParts) (plan : Plan) → IsPlacement monitor plan → ThreadsLoseNone monitor plan
-threads_lose_none law monitor plan placement = λ clients last fits leads. law monitor plan clients last placement.is fits placement.fits placement.lawful leads
+-- under a counted plan, threads lose no wake-up by the printed code
+threads_lose_none : CountedCodeLosesNone → (monitor : MonitorParts) (plan : Plan) → IsChosen Counted monitor plan → ThreadsLoseNone monitor plan
+threads_lose_none law monitor plan chosen = λ clients last fits leads. law monitor plan clients last chosen.placement.is fits chosen.fits chosen.lawful leads
 
 -- what is so of the program and of the printed bodies, by the laws
 pub record PrintedLaws : Type 0 where
-  pub threads : PrintedCodeLosesNone
+  pub threads : CountedCodeLosesNone
   pub bodies : PrintedBodiesStep
   pub tests : PrintedTestsHold
   pub shared : SharedTestsHold
@@ -179,9 +176,9 @@ moments_stay_short : PrintedBodiesStep → StartsAreShort → (bytes : List ℕ)
 moments_stay_short bodies starts bytes tree monitor plan accepted = λ clients last pass leads.
     moments_short tree (printed_program monitor plan clients) accepted.typed.blocks (bodies_step bodies bytes tree monitor accepted) (start_is_short starts bytes tree monitor accepted) pass last leads
 
-is_as_promised : PrintedLaws → (bytes : List ℕ) (tree : MonitorTree) (monitor : MonitorParts) (plan : Plan) → IsAccepted bytes tree monitor → IsPlacement monitor plan → IsAsPromised tree monitor plan
-is_as_promised laws bytes tree monitor plan accepted placement = record {
-  threads = threads_lose_none laws.threads monitor plan placement;
+is_as_promised : PrintedLaws → (bytes : List ℕ) (tree : MonitorTree) (monitor : MonitorParts) (plan : Plan) → IsAccepted bytes tree monitor → IsChosen Counted monitor plan → IsAsPromised tree monitor plan
+is_as_promised laws bytes tree monitor plan accepted chosen = record {
+  threads = threads_lose_none laws.threads monitor plan chosen;
   bodies = bodies_step laws.bodies bytes tree monitor accepted;
   tests = tests_hold laws.tests bytes tree monitor accepted;
   shared = tests_are_shared laws.shared bytes tree monitor accepted;
@@ -191,10 +188,9 @@ is_as_promised laws bytes tree monitor plan accepted placement = record {
 }
 
 pub emit_done : PrintedLaws → (file : List ℕ) (tree : MonitorTree) (monitor : MonitorParts) (plan : Plan) (files files_now : FilesSeen) (result : Status) (out out_now : SinkSeen)
-    → HoldsMonitor files.held file tree monitor → IsChosen Placed monitor plan → files_now.faults ≡ files.faults
+    → HoldsMonitor files.held file tree monitor → IsChosen Counted monitor plan → files_now.faults ≡ files.faults
     → IsWritten statuses.Done (rust_text tree monitor plan) result out out_now → CommandEnds (emit file) files files_now result out out_now
 emit_done laws file tree monitor plan files files_now result out out_now holds chosen steady written =
-    let placement = placed_plan monitor plan chosen in
     work_ended (emit file) files files_now (rust_text tree monitor plan) result out out_now true
-    (record { tree = tree; monitor = monitor; plan = plan; holds = holds; placement = placement; promised = is_as_promised laws holds.bytes tree monitor plan holds.accepted placement; printed = refl })
+    (record { tree = tree; monitor = monitor; plan = plan; holds = holds; chosen = chosen; promised = is_as_promised laws holds.bytes tree monitor plan holds.accepted chosen; printed = refl })
     (no_rejection files.held file tree monitor holds) steady written

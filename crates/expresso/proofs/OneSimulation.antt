@@ -14,7 +14,9 @@ use Rattle.mon_simulate.specs.Schedules.{IsByRounds, IsDrawn}
 use Rattle.mon_command.specs.declared.plan_choice.PlanChoice.{PlanChoice}
 use Rattle.mon_command.specs.declared.schedule.Schedule.{Schedule}
 use Rattle.mon_command.specs.declared.schedule.Schedule.TheVariants.{Rounds, Drawn}
-use Rattle.expresso.specs.Placements.{IsChosen, IsPlacement, chosen_of}
+use Rattle.mon_command.specs.declared.plan_choice.PlanChoice.TheVariants.{Placed, Relayed, Counted, CountedAndRelayed}
+use Rattle.mon_place.specs.Relayed.{relay_of}
+use Rattle.expresso.specs.Placements.{CountsNothing, IsChosen, IsPlacement}
 use Rattle.expresso.specs.Simulations.{IsScheduled, IsSimulation, most_spurious}
 
 abbrev OneByRounds : Type 0
@@ -53,16 +55,20 @@ OneExactPlan = (monitor : MonitorParts) (plan other : Plan) → FitsPlan monitor
 pub one_placement : OneExactPlan → (monitor : MonitorParts) (plan other : Plan) → HasNoHardClaim monitor → IsPlacement monitor plan → IsPlacement monitor other → plan ≡ other
 one_placement one_exact monitor plan other easy one two = one_exact monitor plan other one.fits two.fits (one.exact easy) (two.exact easy)
 
--- and so one plan that is asked for
-one_chosen : OneExactPlan → (choice : PlanChoice) (monitor : MonitorParts) (plan other : Plan) → HasNoHardClaim monitor → IsChosen choice monitor plan → IsChosen choice monitor other → plan ≡ other
-one_chosen one_exact choice monitor plan other easy one two =
-    one.is ∙ ap (chosen_of monitor choice) (one_placement one_exact monitor one.placed two.placed easy one.placement two.placement) ∙ sym two.is
+-- and so one plan that is asked for, where the choice counts no condition
+one_chosen : OneExactPlan → (choice : PlanChoice) (monitor : MonitorParts) (plan other : Plan) → CountsNothing choice → HasNoHardClaim monitor → IsChosen choice monitor plan → IsChosen choice monitor other → plan ≡ other
+one_chosen one_exact Placed monitor plan other none easy one two =
+    one.is ∙ one_placement one_exact monitor one.placed two.placed easy one.placement two.placement ∙ sym two.is
+one_chosen one_exact Relayed monitor plan other none easy one two =
+    one.is ∙ ap (relay_of monitor) (one_placement one_exact monitor one.placed two.placed easy one.placement two.placement) ∙ sym two.is
+one_chosen one_exact Counted monitor plan other none easy one two = absurd none
+one_chosen one_exact CountedAndRelayed monitor plan other none easy one two = absurd none
 
-pub one_text : OneExactPlan → OneByRounds → OneDrawn → (choice : PlanChoice) (monitor : MonitorParts) (clients : List Client) (schedule : Schedule) (plan other : Plan) (log others : List Entry) (last also : Configuration) → HasNoHardClaim monitor
+pub one_text : OneExactPlan → OneByRounds → OneDrawn → (choice : PlanChoice) (monitor : MonitorParts) (clients : List Client) (schedule : Schedule) (plan other : Plan) (log others : List Entry) (last also : Configuration) → CountsNothing choice → HasNoHardClaim monitor
     → IsSimulation choice (system_under monitor clients plan) schedule log last → IsSimulation choice (system_under monitor clients other) schedule others also
     → plan_and_log_text (system_under monitor clients plan) log last ≡ plan_and_log_text (system_under monitor clients other) others also
-one_text one_exact by_rounds drawn choice monitor clients schedule plan other log others last also easy one two =
-    let plans = one_chosen one_exact choice monitor plan other easy one.placed.chosen two.placed.chosen in
+one_text one_exact by_rounds drawn choice monitor clients schedule plan other log others last also none easy one two =
+    let plans = one_chosen one_exact choice monitor plan other none easy one.placed.chosen two.placed.chosen in
     let moved = subst (λ (placed : Plan). IsSimulation choice (system_under monitor clients placed) schedule others also) (sym plans) two in
     let logs = one_log by_rounds drawn choice (system_under monitor clients plan) schedule log others last also one moved in
     let ends = one_last by_rounds drawn choice (system_under monitor clients plan) schedule log others last also one moved in

@@ -1,5 +1,5 @@
 -- Plans that are asked for, and a machine that ended closed under one.
-use Rattle.std.proofs.Common.{◌≡◌, ℕ, Bool, true, false, List, Result, Ok, Err, IfOk, refl, sym, ap, subst, ◌∙◌, true≢false}
+use Rattle.std.proofs.Common.{◌≡◌, ℕ, Bool, true, false, List, Option, Result, Ok, Err, IfOk, refl, sym, ap, subst, ◌∙◌, true≢false}
 use Rattle.mon_monitor.specs.MonitorParts.{MonitorParts}
 use Rattle.mon_implicit.specs.declared.script.Client.{Client}
 use Rattle.mon_implicit.specs.Scripted.{AreClients}
@@ -7,14 +7,19 @@ use Rattle.mon_implicit.specs.Runs.{IsRun, Ends}
 use Rattle.mon_events.specs.Configurations.{System, situation_of, system_under}
 use Rattle.mon_events.specs.Pending.{IsSystem}
 use Rattle.mon_events.specs.declared.plan.Plan.{Plan}
-use Rattle.mon_events.specs.Plans.{IsLawful, has_note, notes_at}
+use Rattle.mon_events.specs.Plans.{FitsPlan, has_note, notes_at}
+use Rattle.mon_events.specs.Counts.{IsLawfulByCounting}
 use Rattle.mon_events.proofs.Counting.{lawful_by_counting}
 use Rattle.mon_events.specs.Logs.{IsLegal, IsClosed, commits_of}
 use Rattle.mon_explicit.specs.Sections.{FreeMachine, HoldsAlways, HasEnded, opened_free}
 use Rattle.mon_place.specs.Relayed.{RelayedPlansAreLawful, RelayedPlansFit, RelayedPlansOmitNoMore, relay_of}
 use Rattle.mon_command.specs.declared.plan_choice.PlanChoice.{PlanChoice}
-use Rattle.mon_command.specs.declared.plan_choice.PlanChoice.TheVariants.{Placed, Relayed}
-use Rattle.expresso.specs.Placements.{IsChosen, IsPlacement}
+use Rattle.mon_command.specs.declared.plan_choice.PlanChoice.TheVariants.{Placed, Relayed, Counted, CountedAndRelayed}
+use Rattle.mon_counted.specs.declared.counted.Told.{Told}
+use Rattle.mon_counted.specs.Counted.{AreBacked, IsCountedFrom, counted_of}
+use Rattle.mon_counted.specs.CountedAndRelayed.{IsCountedAndRelayed, OmitsNoMore, counted_and_relayed}
+use Rattle.mon_counted.specs.Exact.{HasNoOpenQuestion, IsExactlyCounted}
+use Rattle.expresso.specs.Placements.{IsChosen, IsCountTable, IsLawfulChoice, IsPlacement}
 use Rattle.expresso.specs.PlacedRuns.{IsPlacedRun}
 
 -- ---- plans
@@ -49,6 +54,56 @@ relayed_chosen fit are_lawful omit_no_more choice monitor placed plan is placeme
           (omit_no_more monitor placed block condition placement.fits);
     }))
 
+-- what is known of a plan that was counted, and of the table that made it
+count_table : (monitor : MonitorParts) (placed counted : Plan) (columns : List (Option (List Told))) → counted ≡ counted_of placed columns → IsCountedFrom monitor placed counted
+    → (HasNoOpenQuestion monitor placed.kept → IsExactlyCounted monitor placed counted) → AreBacked monitor placed columns → IsCountTable monitor placed columns
+count_table monitor placed counted columns is from exact backed = record {
+  counted = subst (IsCountedFrom monitor placed) is from;
+  exact = subst (λ (plan : Plan). HasNoOpenQuestion monitor placed.kept → IsExactlyCounted monitor placed plan) is exact;
+  backed = backed;
+}
+
+-- that plan counted
+pub counted_chosen : (choice : PlanChoice) (monitor : MonitorParts) (placed plan : Plan) (columns : List (Option (List Told))) → choice ≡ Counted → IsPlacement monitor placed → plan ≡ counted_of placed columns
+    → IsCountedFrom monitor placed plan → (HasNoOpenQuestion monitor placed.kept → IsExactlyCounted monitor placed plan) → AreBacked monitor placed columns
+    → FitsPlan monitor plan → IsLawfulByCounting monitor plan → OmitsNoMore placed plan → IsChosen choice monitor plan
+counted_chosen choice monitor placed plan columns is placement made from exact backed fits lawful omits = subst (λ (c : PlanChoice). IsChosen c monitor plan) (sym is) (record {
+  placed = placed;
+  placement = placement;
+  is = (columns, record { table = count_table monitor placed plan columns made from exact backed; made = made });
+  fits = fits;
+  lawful = lawful;
+  omits = omits;
+})
+
+-- that plan counted, with the signals relayed on each condition that is not counted
+pub both_chosen : (choice : PlanChoice) (monitor : MonitorParts) (placed counted plan : Plan) (columns : List (Option (List Told))) → choice ≡ CountedAndRelayed → IsPlacement monitor placed
+    → counted ≡ counted_of placed columns → IsCountedFrom monitor placed counted → (HasNoOpenQuestion monitor placed.kept → IsExactlyCounted monitor placed counted) → AreBacked monitor placed columns
+    → plan ≡ counted_and_relayed monitor placed columns → IsCountedAndRelayed monitor placed counted plan
+    → FitsPlan monitor plan → IsLawfulByCounting monitor plan → OmitsNoMore placed plan → IsChosen choice monitor plan
+both_chosen choice monitor placed counted plan columns is placement counted_is from exact backed made mixed fits lawful omits = subst (λ (c : PlanChoice). IsChosen c monitor plan) (sym is) (record {
+  placed = placed;
+  placement = placement;
+  is = (
+    columns,
+    record {
+      table = count_table monitor placed counted columns counted_is from exact backed;
+      made = made;
+      mixed = subst (λ (one : Plan). IsCountedAndRelayed monitor placed one plan) counted_is mixed;
+    },
+  );
+  fits = fits;
+  lawful = lawful;
+  omits = omits;
+})
+
+-- whatever the choice, the plan is lawful by counting
+pub choice_counts : (choice : PlanChoice) (monitor : MonitorParts) (plan : Plan) → IsLawfulChoice choice monitor plan → IsLawfulByCounting monitor plan
+choice_counts Placed monitor plan lawful = lawful_by_counting monitor plan lawful
+choice_counts Relayed monitor plan lawful = lawful_by_counting monitor plan lawful
+choice_counts Counted monitor plan lawful = lawful
+choice_counts CountedAndRelayed monitor plan lawful = lawful
+
 -- ---- runs
 
 pub placed_run : (choice : PlanChoice) (system : System) (next : FreeMachine) → IsChosen choice system.monitor system.plan → next.system ≡ system
@@ -61,7 +116,7 @@ placed_run choice system next chosen same closed always ends = record {
   closed = subst (λ (s : System). IsClosed s next.now) same closed;
   run = subst (λ (s : System). IsRun s.monitor s.clients (commits_of next.log) (situation_of next.now)) same always.run;
   ends = subst (λ (s : System). Ends s.monitor s.clients (situation_of next.now)) same
-      (ends (lawful_by_counting next.system.monitor next.system.plan (subst (λ (s : System). IsLawful s.monitor s.plan) (sym same) chosen.lawful)));
+      (ends (choice_counts choice next.system.monitor next.system.plan (subst (λ (s : System). IsLawfulChoice choice s.monitor s.plan) (sym same) chosen.lawful)));
 }
 
 -- what threads made of it since it was opened

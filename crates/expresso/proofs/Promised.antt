@@ -82,17 +82,15 @@ module _ (one_command : OneCommand) (words : List (List ℕ)) (files files_now :
       → IsFinishedRunText files.held monitor_file clients_file choice text
   done_run command monitor_file clients_file choice text taken shown (inl (workers, also)) =
       subst (λ (c : Command). IsDoneText files.held c text) (one_command words command (run monitor_file clients_file workers choice) taken also) shown
-  done_run command monitor_file clients_file choice text taken shown (inr (also, is)) =
-      subst (λ (p : PlanChoice). IsFinishedRunText files.held monitor_file clients_file p text) (sym is)
-      (subst (λ (c : Command). IsDoneText files.held c text) (one_command words command (block monitor_file clients_file) taken also) shown)
+  done_run command monitor_file clients_file choice text taken shown (inr also) =
+      subst (λ (c : Command). IsDoneText files.held c text) (one_command words command (block monitor_file clients_file choice) taken also) shown
 
   stalled_run : (command : Command) (monitor_file clients_file : List ℕ) (choice : PlanChoice) (text : List ℕ) → Takes words command → IsStalledText files.held command text → RunInThreads words monitor_file clients_file choice
       → IsStalledRunText files.held monitor_file clients_file choice text
   stalled_run command monitor_file clients_file choice text taken shown (inl (workers, also)) =
       subst (λ (c : Command). IsStalledText files.held c text) (one_command words command (run monitor_file clients_file workers choice) taken also) shown
-  stalled_run command monitor_file clients_file choice text taken shown (inr (also, is)) =
-      subst (λ (p : PlanChoice). IsStalledRunText files.held monitor_file clients_file p text) (sym is)
-      (subst (λ (c : Command). IsStalledText files.held c text) (one_command words command (block monitor_file clients_file) taken also) shown)
+  stalled_run command monitor_file clients_file choice text taken shown (inr also) =
+      subst (λ (c : Command). IsStalledText files.held c text) (one_command words command (block monitor_file clients_file choice) taken also) shown
 
   done_kept : Answers words files files_now Done out out_now → Headline words files Done out out_now
   done_kept (text, (command, taken, shown), appends) monitor_file clients_file choice monitor_bytes clients_bytes written also monitor_tells clients_tells sink_tells either = (

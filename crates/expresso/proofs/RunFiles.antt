@@ -37,8 +37,8 @@ simulate_runs monitor clients schedule choice = record { files = refl; refused =
 pub run_runs : (monitor clients : List ℕ) (workers : ℕ) (choice : PlanChoice) → RunsFiles (run monitor clients workers choice) monitor clients
 run_runs monitor clients workers choice = record { files = refl; refused = λ held text is. is; accepted = λ held is. is }
 
-pub block_runs : (monitor clients : List ℕ) → RunsFiles (block monitor clients) monitor clients
-block_runs monitor clients = record { files = refl; refused = λ held text is. is; accepted = λ held is. is }
+pub block_runs : (monitor clients : List ℕ) (choice : PlanChoice) → RunsFiles (block monitor clients choice) monitor clients
+block_runs monitor clients choice = record { files = refl; refused = λ held text is. is; accepted = λ held is. is }
 
 -- files that hold a monitor and its clients are not rejected
 pub held_not_rejected : (held : List ℕ → Option (List ℕ)) (monitor_file clients_file : List ℕ) (monitor : MonitorParts) (clients : List Client)

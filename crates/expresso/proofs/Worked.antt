@@ -13,7 +13,6 @@ use Rattle.mon_text.specs.LogText.{are_done}
 use Rattle.mon_events.specs.Configurations.{system_under}
 use Rattle.mon_text.specs.Laws.{plan_and_log_text}
 use Rattle.mon_command.specs.declared.plan_choice.PlanChoice.{PlanChoice}
-use Rattle.mon_command.specs.declared.plan_choice.PlanChoice.TheVariants.{Placed}
 use Rattle.mon_command.specs.CommandLine.{Command, run, block}
 use Rattle.expresso.specs.declared.status.Status.{Status}
 use Rattle.expresso.specs.PlacedRuns.{IsPlacedRun}
@@ -55,11 +54,7 @@ module _ (monitor_file clients_file : List ℕ) (choice : PlanChoice) (files fil
       → CommandEnds (run monitor_file clients_file workers choice) files files_now result out out_now
   worked_ended workers = run_ended (run monitor_file clients_file workers choice) (record { finished = λ text is. is; stalled = λ text is. is; rejected = λ is. is })
 
-pub called_ended : (monitor_file clients_file : List ℕ) (files files_now : FilesSeen) (monitor : MonitorParts) (plan : Plan) (clients : List Client) (log : List Entry) (last : Configuration) (system : System)
-    → HoldRun files.held monitor_file clients_file monitor clients → IsPlacedRun Placed (system_under monitor clients plan) log last → spurious_in log ≡ 0 → system ≡ system_under monitor clients plan
-    → (result : Status) (out out_now : SinkSeen) → files_now.faults ≡ files.faults
-    → IsWritten (ended (are_done system.clients (situation_of last).places)) (plan_and_log_text system log last) result out out_now
-    → CommandEnds (block monitor_file clients_file) files files_now result out out_now
-called_ended monitor_file clients_file files files_now monitor plan clients log last system held placed unprompted system_is =
-    run_ended monitor_file clients_file Placed files files_now monitor plan clients log last system held placed unprompted system_is
-    (block monitor_file clients_file) (record { finished = λ text is. is; stalled = λ text is. is; rejected = λ is. is })
+  pub called_ended : (result : Status) (out out_now : SinkSeen) → files_now.faults ≡ files.faults
+      → IsWritten (ended (are_done system.clients (situation_of last).places)) (plan_and_log_text system log last) result out out_now
+      → CommandEnds (block monitor_file clients_file choice) files files_now result out out_now
+  called_ended = run_ended (block monitor_file clients_file choice) (record { finished = λ text is. is; stalled = λ text is. is; rejected = λ is. is })

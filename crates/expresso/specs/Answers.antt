@@ -21,7 +21,7 @@ use Rattle.expresso.specs.declared.status.Status.{Status}
 use Rattle.expresso.specs.declared.status.Status.TheVariants.{Done, Refused, Usage, ReadFault}
 use Rattle.expresso.specs.declared.status.Status.TheVariants.{WriteFault, OutOfMemory, Stalled}
 use Rattle.mon_command.specs.declared.plan_choice.PlanChoice.{PlanChoice}
-use Rattle.mon_command.specs.declared.plan_choice.PlanChoice.TheVariants.{Placed}
+use Rattle.mon_command.specs.declared.plan_choice.PlanChoice.TheVariants.{Counted, Placed}
 use Rattle.mon_command.specs.declared.schedule.Schedule.{Schedule}
 use Rattle.mon_command.specs.CommandLine.{Command, check, turns, compile, simulate, run, stress}
 use Rattle.mon_command.specs.CommandLine.{report, recheck, block, audit, explain, emit}
@@ -201,15 +201,15 @@ pub record IsExplainText (held : List ℕ → Option (List ℕ)) (file text : Li
   pub each : All (IsReason monitor plan) reasons
   pub printed : text ≡ explained_text tree monitor plan reasons
 
--- the text of the Rust module of the monitor of the file, under a plan that it is compiled to: what
--- threads do by the code of that plan is a run of the monitor, no wake-up is lost, and each printed
--- body does the step of its block
+-- the text of the Rust module of the monitor of the file, under a counted plan: what threads do by
+-- the code of that plan is a run of the monitor, no wake-up is lost, and each printed body does the
+-- step of its block
 pub record IsEmitText (held : List ℕ → Option (List ℕ)) (file text : List ℕ) : Type 0 where
   pub tree : MonitorTree
   pub monitor : MonitorParts
   pub plan : Plan
   pub holds : HoldsMonitor held file tree monitor
-  pub placement : IsPlacement monitor plan
+  pub chosen : IsChosen Counted monitor plan
   pub promised : IsAsPromised tree monitor plan
   pub printed : text ≡ rust_text tree monitor plan
 
@@ -230,7 +230,8 @@ IsDoneText held (run monitor clients workers choice) text =
 IsDoneText held (stress number workers) text = IsStressText number text
 IsDoneText held (report file) text = IsReportText held file text
 IsDoneText held (recheck monitor report_file) text = IsRecheckText held monitor report_file text
-IsDoneText held (block monitor clients) text = IsFinishedRunText held monitor clients Placed text
+IsDoneText held (block monitor clients choice) text =
+    IsFinishedRunText held monitor clients choice text
 IsDoneText held (audit monitor plan_file) text = IsAuditText held monitor plan_file text
 IsDoneText held (explain file) text = IsExplainText held file text
 IsDoneText held (emit file) text = IsEmitText held file text
@@ -252,8 +253,8 @@ IsStalledText held (run monitor clients workers choice) text =
 IsStalledText held (stress number workers) text = ⊥
 IsStalledText held (report file) text = ⊥
 IsStalledText held (recheck monitor report_file) text = ⊥
-IsStalledText held (block monitor clients) text =
-    IsStalledRunText held monitor clients Placed text
+IsStalledText held (block monitor clients choice) text =
+    IsStalledRunText held monitor clients choice text
 IsStalledText held (audit monitor plan_file) text = ⊥
 IsStalledText held (explain file) text = ⊥
 IsStalledText held (emit file) text = ⊥
@@ -326,7 +327,7 @@ IsRefusedText held (stress number workers) text = ⊥
 IsRefusedText held (report file) text = IsMonitorRefusal held file text
 IsRefusedText held (recheck monitor report_file) text =
     IsRecheckRefusal held monitor report_file text
-IsRefusedText held (block monitor clients) text = IsRunRefusal held monitor clients text
+IsRefusedText held (block monitor clients choice) text = IsRunRefusal held monitor clients text
 IsRefusedText held (audit monitor plan_file) text = IsAuditRefusal held monitor plan_file text
 IsRefusedText held (explain file) text = IsMonitorRefusal held file text
 IsRefusedText held (emit file) text = IsMonitorRefusal held file text
@@ -444,7 +445,7 @@ AcceptsFiles held (run monitor clients workers choice) = AcceptsRun held monitor
 AcceptsFiles held (stress number workers) = Unit {0}
 AcceptsFiles held (report file) = AcceptsMonitor held file
 AcceptsFiles held (recheck monitor report_file) = AcceptsReport held monitor report_file
-AcceptsFiles held (block monitor clients) = AcceptsRun held monitor clients
+AcceptsFiles held (block monitor clients choice) = AcceptsRun held monitor clients
 AcceptsFiles held (audit monitor plan_file) = AcceptsPlan held monitor plan_file
 AcceptsFiles held (explain file) = AcceptsMonitor held file
 AcceptsFiles held (emit file) = AcceptsMonitor held file
@@ -459,7 +460,7 @@ RejectsFiles held (run monitor clients workers choice) = RejectsRun held monitor
 RejectsFiles held (stress number workers) = ⊥
 RejectsFiles held (report file) = RejectsMonitor held file
 RejectsFiles held (recheck monitor report_file) = RejectsReport held monitor report_file
-RejectsFiles held (block monitor clients) = RejectsRun held monitor clients
+RejectsFiles held (block monitor clients choice) = RejectsRun held monitor clients
 RejectsFiles held (audit monitor plan_file) = RejectsPlan held monitor plan_file
 RejectsFiles held (explain file) = RejectsMonitor held file
 RejectsFiles held (emit file) = RejectsMonitor held file

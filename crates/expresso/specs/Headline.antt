@@ -21,13 +21,12 @@ use Rattle.mon_place.specs.Exact.{IsExact, IsLicensed}
 use Rattle.mon_text.specs.LogText.{log_text}
 use Rattle.mon_events.specs.Configurations.{system_under}
 use Rattle.mon_command.specs.declared.plan_choice.PlanChoice.{PlanChoice}
-use Rattle.mon_command.specs.declared.plan_choice.PlanChoice.TheVariants.{Placed}
 use Rattle.mon_command.specs.CommandLine.{Takes, run, block}
 use Rattle.expresso.specs.declared.status.Status.{Status}
 use Rattle.expresso.specs.declared.status.Status.TheVariants.{Done, Stalled}
 use Rattle.expresso.specs.MonitorFiles.{IsAccepted}
 use Rattle.expresso.specs.ClientFiles.{AreAccepted}
-use Rattle.expresso.specs.Placements.{chosen_of}
+use Rattle.expresso.specs.Placements.{IsChosenFrom, IsLawfulChoice}
 
 -- What the text of `run` or `block` says of the bytes of the two files, with the plan that was
 -- asked for and the status that it comes with.
@@ -50,12 +49,13 @@ pub record IsHeadlineText (choice : PlanChoice) (monitor_bytes clients_bytes : L
       ++ log_text (system_under monitor clients plan) log last
   pub is : IsSystem (system_under monitor clients plan)
   pub few : AreClients clients
-  -- The plan is lawful. (So no wake-up is lost under it: the law `no_wakeup_is_lost` of
-  -- `mon_events`.)
-  pub lawful : IsLawful monitor plan
-  -- It is the plan that was placed, or with `--relay` that one with its signals relayed. The placed
-  -- one fits the monitor and is lawful too.
-  pub chosen : plan ≡ chosen_of monitor choice placed
+  -- The plan is lawful, and with `--count` it is lawful by counting. (So no wake-up is lost under
+  -- it: the laws `no_wakeup_is_lost` and `counting_loses_no_wakeup` of `mon_events`.)
+  pub lawful : IsLawfulChoice choice monitor plan
+  -- It is the plan that was placed, or with `--relay` that one with its signals relayed. With
+  -- `--count` it is that one counted, by a table of which each entry has an accepted certificate.
+  -- With both, what is not counted is relayed. The placed one fits the monitor and is lawful too.
+  pub chosen : IsChosenFrom choice monitor placed plan
   pub placed_fits : FitsPlan monitor placed
   pub placed_lawful : IsLawful monitor placed
   -- Every notification that the plan omits is one that the placed plan omits. Each of those has an
@@ -84,12 +84,11 @@ pub record IsHeadlineText (choice : PlanChoice) (monitor_bytes clients_bytes : L
   -- The status is `Stalled` exactly where some client has a call left.
   pub stalled : (status ≡ Stalled) ↔ (IsFinished clients (situation_of last) → ⊥)
 
--- The words are those of `run` with these files and this choice of the plan, or those of `block`
--- with these files: it is always under the plan that is placed.
+-- The words are those of `run` or of `block` with these files and this choice of the plan.
 abbrev pub RunInThreads : List (List ℕ) → List ℕ → List ℕ → PlanChoice → Type 0
 RunInThreads words monitor_file clients_file choice =
     ((workers : ℕ) × Takes words (run monitor_file clients_file workers choice))
-    ⊎ (Takes words (block monitor_file clients_file) × (choice ≡ Placed))
+    ⊎ Takes words (block monitor_file clients_file choice)
 
 -- The words are such, the files and the sink tell their bytes, and the status is `Done` or
 -- `Stalled`: then the bytes that were appended are such a text.

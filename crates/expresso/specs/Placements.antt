@@ -1,14 +1,20 @@
 -- Plans that a monitor may be compiled to, and those that its clients run under.
-use Rattle.std.specs.Prelude.{◌≡◌, ℕ, false}
+use Rattle.std.specs.Prelude.{◌≡◌, ℕ, false, List, Option}
 use Rattle.mon_command.specs.declared.plan_choice.PlanChoice.{PlanChoice}
-use Rattle.mon_command.specs.declared.plan_choice.PlanChoice.TheVariants.{Placed, Relayed}
+use Rattle.mon_command.specs.declared.plan_choice.PlanChoice.TheVariants.{Placed, Relayed, Counted}
+use Rattle.mon_command.specs.declared.plan_choice.PlanChoice.TheVariants.{CountedAndRelayed}
 use Rattle.mon_monitor.specs.MonitorParts.{MonitorParts, IsMonitor}
 use Rattle.mon_events.specs.declared.plan.Plan.{Plan}
 use Rattle.mon_events.specs.Plans.{FitsPlan, IsLawful, has_note, notes_at}
+use Rattle.mon_events.specs.Counts.{IsLawfulByCounting}
 use Rattle.mon_prune.specs.Hardness.{HasNoHardClaim}
 use Rattle.mon_place.specs.Backing.{IsBacked}
 use Rattle.mon_place.specs.Exact.{IsExact, IsLicensed}
 use Rattle.mon_place.specs.Relayed.{relay_of}
+use Rattle.mon_counted.specs.declared.counted.Told.{Told}
+use Rattle.mon_counted.specs.Counted.{AreBacked, IsCountedFrom, counted_of}
+use Rattle.mon_counted.specs.CountedAndRelayed.{IsCountedAndRelayed, counted_and_relayed}
+use Rattle.mon_counted.specs.Exact.{HasNoOpenQuestion, IsExactlyCounted}
 
 pub record IsPlacement (monitor : MonitorParts) (plan : Plan) : Type 0 where
   pub is : IsMonitor monitor
@@ -22,20 +28,68 @@ pub record IsPlacement (monitor : MonitorParts) (plan : Plan) : Type 0 where
   -- where no claim of the monitor is hard, as of a small one, it does exactly what it has to
   pub exact : HasNoHardClaim monitor → IsExact monitor plan
 
+-- ---- what is counted
+
+-- what a table says of the conditions that are counted, and of each block on each of them
+pub record IsCountTable (monitor : MonitorParts) (placed : Plan)
+    (columns : List (Option (List Told))) : Type 0 where
+  -- the plan that it makes is the placed one, counted: it falls short of counting what may be
+  -- counted, and of the fewest notes, only where a query may stay open
+  pub counted : IsCountedFrom monitor placed (counted_of placed columns)
+  -- exactly so where no question may stay open
+  pub exact : HasNoOpenQuestion monitor placed.kept
+      → IsExactlyCounted monitor placed (counted_of placed columns)
+  -- a block with no note or a signal has certificates that this is enough
+  pub backed : AreBacked monitor placed columns
+
+-- the table makes this plan of the placed one
+pub record IsCountedBy (monitor : MonitorParts) (placed plan : Plan)
+    (columns : List (Option (List Told))) : Type 0 where
+  pub table : IsCountTable monitor placed columns
+  pub made : plan ≡ counted_of placed columns
+
+-- it makes this one, with the signals relayed on each condition that is not counted
+pub record IsCountedAndRelayedBy (monitor : MonitorParts) (placed plan : Plan)
+    (columns : List (Option (List Told))) : Type 0 where
+  pub table : IsCountTable monitor placed columns
+  pub made : plan ≡ counted_and_relayed monitor placed columns
+  pub mixed : IsCountedAndRelayed monitor placed (counted_of placed columns) plan
+
+-- ---- choices
+
 -- the plan that is asked for, where this one is placed
-abbrev pub chosen_of : MonitorParts → PlanChoice → Plan → Plan
-chosen_of monitor Placed placed = placed
-chosen_of monitor Relayed placed = relay_of monitor placed
+abbrev pub IsChosenFrom : PlanChoice → MonitorParts → Plan → Plan → Type 0
+IsChosenFrom Placed monitor placed plan = plan ≡ placed
+IsChosenFrom Relayed monitor placed plan = plan ≡ relay_of monitor placed
+IsChosenFrom Counted monitor placed plan =
+    (columns : List (Option (List Told))) × IsCountedBy monitor placed plan columns
+IsChosenFrom CountedAndRelayed monitor placed plan =
+    (columns : List (Option (List Told))) × IsCountedAndRelayedBy monitor placed plan columns
+
+-- the choice counts no condition
+abbrev pub CountsNothing : PlanChoice → Type 0
+CountsNothing Placed = Unit {0}
+CountsNothing Relayed = Unit {0}
+CountsNothing Counted = ⊥
+CountsNothing CountedAndRelayed = ⊥
+
+-- a counted plan is lawful by counting, and every other one lawful
+abbrev pub IsLawfulChoice : PlanChoice → MonitorParts → Plan → Type 0
+IsLawfulChoice Placed monitor plan = IsLawful monitor plan
+IsLawfulChoice Relayed monitor plan = IsLawful monitor plan
+IsLawfulChoice Counted monitor plan = IsLawfulByCounting monitor plan
+IsLawfulChoice CountedAndRelayed monitor plan = IsLawfulByCounting monitor plan
 
 -- a plan that is asked for
 pub record IsChosen (choice : PlanChoice) (monitor : MonitorParts) (plan : Plan) : Type 0 where
-  -- it is one that the monitor may be compiled to, or that one with its signals relayed
+  -- it is one that the monitor may be compiled to, or that one counted, or with its signals
+  -- relayed, or both
   pub placed : Plan
   pub placement : IsPlacement monitor placed
-  pub is : plan ≡ chosen_of monitor choice placed
+  pub is : IsChosenFrom choice monitor placed plan
   pub fits : FitsPlan monitor plan
   -- so no wake-up of clients whose calls fit is lost under it
-  pub lawful : IsLawful monitor plan
+  pub lawful : IsLawfulChoice choice monitor plan
   -- where it has no note, the placed plan has none, with a certificate that none is needed
   pub omits : (block condition : ℕ) → has_note (notes_at plan block) condition ≡ false
       → has_note (notes_at placed block) condition ≡ false

@@ -12,7 +12,7 @@ use Rattle.expresso.specs.Answers.{IsUnreadOrMemory}
 abbrev pub HasThreads : Command → Type 0
 HasThreads (run monitor clients workers choice) = Unit {0}
 HasThreads (stress number workers) = Unit {0}
-HasThreads (block monitor clients) = Unit {0}
+HasThreads (block monitor clients choice) = Unit {0}
 HasThreads command = ⊥
 
 -- What a call that reads leaves of files: their count of faults does not fall, and what they hold

@@ -1,8 +1,7 @@
-//! `expresso block FILE CLIENTS`.
+//! `expresso block FILE CLIENTS [--count]`.
 
 ghost use Rattle.std.specs.Prelude.{◌≡◌, [], ◌∷◌, All, IfOk};
 ghost use Rattle.mon_command.specs.CommandLine.{block};
-ghost use Rattle.mon_command.specs.declared.plan_choice.PlanChoice.TheVariants.{Placed};
 ghost use Rattle.mon_implicit.specs.Scripted.{FitsScripts};
 ghost use Rattle.mon_explicit.specs.Sections.{spurious_in};
 ghost use Rattle.mon_events.specs.Configurations.{system_under};
@@ -25,23 +24,24 @@ use std::alloc::{AllocError, Global};
 use std::sync::Wait;
 use std::thread::Threads;
 
-/// A caller for each client runs it on their monitor to the end, under the plan that the monitor is
-/// compiled to. All memory is taken here.
+/// A caller for each client runs it on their monitor to the end, under the plan that is asked for.
+/// All memory is taken here.
 fn called<R: Threads + Wait + Sync, G: Gate>(
     rt: &R,
     alloc: Global,
     monitor: Monitor,
     scripts: Scripts,
+    choice: PlanChoice,
     gate: &G,
 ) -> Result<FreeMonitor, AllocError>
     requires fits { FitsScripts monitor scripts }
     ensures system { IfOk result (λ free.
         free.system ≡ system_under monitor scripts free.system.plan) }
-    ensures placed { IfOk result (λ free. IsPlacedRun Placed
+    ensures placed { IfOk result (λ free. IsPlacedRun choice
         (system_under monitor scripts free.system.plan) free.log free.now) }
     ensures unprompted { IfOk result (λ free. spurious_in free.log ≡ 0) }
 {
-    let plan = plan_of(alloc, &monitor, PlanChoice::Placed)?;
+    let plan = plan_of(alloc, &monitor, choice)?;
     let free = FreeMonitor::open(alloc, monitor, plan, scripts, 0)?;
     run_callers(rt, alloc, free, gate)
 }
@@ -53,12 +53,13 @@ pub(crate) fn block_files<R: Threads + Wait + Sync, F: Files, S: Sink, G: Gate>(
     alloc: Global,
     monitor: &str,
     clients: &str,
+    choice: PlanChoice,
     files: &mut F,
     out: &mut S,
     gate: &G,
 ) -> Status
     requires { All (F.may_read files.old) (monitor.now ∷ clients.now ∷ []) }
-    ensures ended { CommandEnds (block monitor.now clients.now)
+    ensures ended { CommandEnds (block monitor.now clients.now choice)
         (F.seen files.old) (F.seen files.new) result (S.seen out.old) (S.seen out.new) }
     ensures files { KeepsFiles (F.seen files.old) (F.seen files.new)
         (F.may_read files.old) (F.may_read files.new) }
@@ -67,7 +68,7 @@ pub(crate) fn block_files<R: Threads + Wait + Sync, F: Files, S: Sink, G: Gate>(
         Ok(input) => input,
         Err(status) => return status,
     };
-    match called(rt, alloc, monitor, scripts, gate) {
+    match called(rt, alloc, monitor, scripts, choice, gate) {
         Ok(free) => show_plan_and_log(&free, out),
         Err(AllocError) => Status::OutOfMemory,
     }

@@ -1,4 +1,4 @@
-//! `expresso compile FILE [--relay]`.
+//! `expresso compile FILE [--count] [--relay]`.
 
 ghost use Rattle.mon_command.specs.CommandLine.{compile};
 ghost use Rattle.expresso.specs.ProgramEnds.{KeepsFiles};

@@ -8,14 +8,14 @@ use crate::input::monitor_of;
 use crate::placement::plan_of;
 use crate::status::Status;
 use crate::text::show_module;
-use mon_code::printed_code_loses_none;
+use mon_code::counted_code_loses_none;
 use mon_command::PlanChoice;
 use mon_io::{Files, Sink};
 use mon_numbers::{printed_bodies_step, printed_numbers_are_wide, printed_tests_hold};
 use std::alloc::{AllocError, Global};
 
-/// Compiles a monitor file and writes its Rust module under the plan that is placed, or the line of
-/// its first fault.
+/// Compiles a monitor file and writes its Rust module under the counted plan, or the line of its
+/// first fault.
 pub(crate) fn emit_file<F: Files, S: Sink>(
     alloc: Global,
     file: &str,
@@ -28,7 +28,7 @@ pub(crate) fn emit_file<F: Files, S: Sink>(
     ensures files { KeepsFiles (F.seen files.old) (F.seen files.new)
         (F.may_read files.old) (F.may_read files.new) }
 {
-    printed_code_loses_none();
+    counted_code_loses_none();
     printed_bodies_step();
     printed_tests_hold();
     printed_numbers_are_wide();
@@ -36,7 +36,7 @@ pub(crate) fn emit_file<F: Files, S: Sink>(
         Ok(found) => found,
         Err(status) => return status,
     };
-    match plan_of(alloc, &found.monitor, PlanChoice::Placed) {
+    match plan_of(alloc, &found.monitor, PlanChoice::Counted) {
         Ok(plan) => show_module(&found.tree, &found.monitor, &plan, out),
         Err(AllocError) => Status::OutOfMemory,
     }

@@ -20,7 +20,7 @@ ghost use Rattle.expresso.specs.Answers.{IsDoneText, IsRefusedText};
 ghost use Rattle.expresso.specs.CheckedPlans.{IsSafePlan, IsSafeReport};
 ghost use Rattle.expresso.specs.MonitorFiles.{IsAccepted};
 ghost use Rattle.expresso.specs.ClientFiles.{AreAccepted};
-ghost use Rattle.expresso.specs.Placements.{IsPlacement};
+ghost use Rattle.expresso.specs.Placements.{CountsNothing, IsPlacement};
 ghost use Rattle.expresso.specs.PrintedReports.{AreRunAndReport, IsPrintedReport};
 ghost use Rattle.expresso.specs.Simulations.{IsSimulation};
 
@@ -70,13 +70,14 @@ pub fn one_simulation()
 }
 
 /// A monitor none of whose claims is hard, as of a small one, is compiled to one plan, so its
-/// clients have one simulation by a schedule and a choice of the plan, and `simulate` has one text.
+/// clients have one simulation by a schedule and a choice of the plan that counts no condition, and
+/// `simulate` has one text.
 pub fn one_simulated_text()
     ensures plans { (monitor : MonitorParts) (plan other : Plan) → HasNoHardClaim monitor
         → IsPlacement monitor plan → IsPlacement monitor other → plan ≡ other }
     ensures texts { (choice : PlanChoice) (monitor : MonitorParts) (clients : List Client)
         (schedule : Schedule) (plan other : Plan) (log others : List Entry)
-        (last also : Configuration) → HasNoHardClaim monitor
+        (last also : Configuration) → CountsNothing choice → HasNoHardClaim monitor
         → IsSimulation choice (system_under monitor clients plan) schedule log last
         → IsSimulation choice (system_under monitor clients other) schedule others also
         → plan_and_log_text (system_under monitor clients plan) log last

@@ -8,10 +8,10 @@
 //! client run it in place of workers. `report` prints the plan with a certificate of each claim
 //! that it rests on, and `recheck` checks such a text without the prover. `audit` says whether a
 //! plan that was written by hand is lawful, or what it lacks. `explain` prints a plan with a state
-//! that shows why each thing stands in it that costs something. `emit` prints a monitor under its
-//! plan as a module of Rust, for threads of any program to call.
+//! that shows why each thing stands in it that costs something. `emit` prints a monitor under the
+//! counted plan as a module of Rust, for threads of any program to call.
 //!
-//! `--relay` asks for the plan with its signals relayed.
+//! `--relay` asks for the plan with its signals relayed, and `--count` for the counted plan.
 //!
 //! Its clause `headline` is `specs/Headline`: what `run` and `block` promise. `specs/ProgramEnds`
 //! says what every call promises, `specs/Answers` what each command prints, and `specs/Exit` which

@@ -5,6 +5,7 @@ ghost use Rattle.mon_place.specs.Backing.{AreProofs, backed_claims};
 ghost use Rattle.expresso.specs.Placements.{IsChosen, IsPlacement};
 
 use mon_command::PlanChoice;
+use mon_counted::{count_plan, relay_uncounted};
 use mon_events::Plan;
 use mon_monitor::Monitor;
 use mon_place::{PlacedPlan, place, relay, relayed_plans_are_lawful};
@@ -23,8 +24,8 @@ pub(crate) fn placed_of(alloc: Global, monitor: &Monitor) -> Result<PlacedPlan, 
     Ok(placed)
 }
 
-/// The plan that is asked for: one that the monitor is compiled to, or that one with its signals
-/// relayed. It fails only for want of memory.
+/// The plan that is asked for: one that the monitor is compiled to, or that one counted, or with
+/// its signals relayed, or both. It fails only for want of memory.
 pub(crate) fn plan_of(
     alloc: Global,
     monitor: &Monitor,
@@ -38,6 +39,15 @@ pub(crate) fn plan_of(
         PlanChoice::Placed => Ok(placed.plan),
         PlanChoice::Relayed => {
             let relayed = relay(alloc, monitor, &placed.plan)?;
+            Ok(relayed)
+        }
+        PlanChoice::Counted => {
+            let counted = count_plan(alloc, monitor, &placed.plan)?;
+            Ok(counted.plan)
+        }
+        PlanChoice::CountedAndRelayed => {
+            let counted = count_plan(alloc, monitor, &placed.plan)?;
+            let relayed = relay_uncounted(alloc, monitor, &placed.plan, &counted)?;
             Ok(relayed)
         }
     }

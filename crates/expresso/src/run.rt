@@ -1,4 +1,4 @@
-//! `expresso run FILE CLIENTS [--workers N] [--relay]`.
+//! `expresso run FILE CLIENTS [--workers N] [--count] [--relay]`.
 
 ghost use Rattle.std.specs.Prelude.{◌≡◌, [], ◌∷◌, All, IfOk};
 ghost use Rattle.mon_command.specs.CommandLine.{run};

@@ -1,4 +1,4 @@
-//! `expresso simulate FILE CLIENTS [--seed N] [--spurious K] [--relay]`.
+//! `expresso simulate FILE CLIENTS [--seed N] [--spurious K] [--count] [--relay]`.
 
 ghost use Rattle.std.specs.Prelude.{◌≡◌, ◌≤◌, ◌+◌, [], ◌∷◌, All, IfOk};
 ghost use Rattle.mon_implicit.specs.Scripted.{FitsScripts};

@@ -98,9 +98,11 @@ pub(crate) fn work_in_threads<R: Threads + Wait + Sync, F: Files, S: Sink, G: Ga
             rt, alloc, monitor, clients, workers, choice, files, out, gate,
         ),
         Command::Stress { number, workers } => stress(rt, alloc, number, workers, out, gate),
-        Command::Block { monitor, clients } => {
-            block_files(rt, alloc, monitor, clients, files, out, gate)
-        }
+        Command::Block {
+            monitor,
+            clients,
+            choice,
+        } => block_files(rt, alloc, monitor, clients, choice, files, out, gate),
         _ => unreachable!(),
     }
 }
