@@ -99,13 +99,13 @@ block endWrite: 1 broadcast, 3 signal tested
 USAGE_TEXT = b"""usage:
 expresso check FILE
 expresso turns FILE CLIENTS
-expresso compile FILE [--relay]
-expresso simulate FILE CLIENTS [--seed N] [--spurious K] [--relay]
-expresso run FILE CLIENTS [--workers N] [--relay]
+expresso compile FILE [--count] [--relay]
+expresso simulate FILE CLIENTS [--seed N] [--spurious K] [--count] [--relay]
+expresso run FILE CLIENTS [--workers N] [--count] [--relay]
 expresso stress N [--workers N]
 expresso report FILE
 expresso recheck FILE REPORT
-expresso block FILE CLIENTS
+expresso block FILE CLIENTS [--count]
 expresso audit FILE PLAN
 expresso explain FILE
 expresso emit FILE

@@ -2,7 +2,7 @@
 """`tools/emitted.py MONITOR PLAN` prints the module of Rust that `expresso emit` prints of a monitor.
 
 It shares no code with the product. MONITOR is in canonical form, as `expresso check` prints it, and
-PLAN is the plan that `expresso compile` prints of it.
+PLAN is the plan that `expresso compile --count` prints of it.
 """
 
 import pathlib

@@ -23,7 +23,7 @@ judge() {
     "$program" emit "$1" >"$made/$2.rs" || fail "$1: no module"
     cmp "$made/$2.rs" "bench/emitted/$2.rs" || fail "$1: not the module that is kept"
     "$program" check "$1" >"$made/monitor" || fail "$1: no canonical form"
-    "$program" compile "$1" >"$made/plan" || fail "$1: no plan"
+    "$program" compile --count "$1" >"$made/plan" || fail "$1: no plan"
     tools/emitted.py "$made/monitor" "$made/plan" | cmp - "$made/$2.rs" || fail "$1: the second reader prints another"
 }
 

@@ -101,6 +101,7 @@ def readme(checker):
     four = checker.file("four.mon", buffer.replace("CAP = 1", "CAP = 4"))
     both = "condition 1 broadcast: count < CAP\ncondition 2 broadcast: count > 0\n"
     checker.wants("README", 0, both, ["compile", four])
+    checker.wants("README", 0, both.replace("broadcast", "signal"), ["compile", four, "--count"])
     wrong = checker.file("wrong.mon", buffer.replace("< CAP", "< CAPACITY"))
     checker.wants("README", 1, f"refused: {wrong}:4:35: unknown name\n", ["check", wrong])
     listed = next(it for it in blocks if "# the plan\n" in it)

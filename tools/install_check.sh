@@ -187,9 +187,10 @@ expresso simulate --seed=4 lock.mon lo|locks.cl
 expresso audit lock.mon lo|lock.plan
 expresso recheck lock.mon lock.r|lock.report
 expresso compile --re|--relay
+expresso compile --c|--count
 expresso run lock.mon locks.cl --w|--workers
-expresso run lock.mon locks.cl --|--relay --workers
-expresso run lock.mon locks.cl --relay --|--workers
+expresso run lock.mon locks.cl --|--count --relay --workers
+expresso run lock.mon locks.cl --relay --|--count --workers
 expresso simulate lock.mon locks.cl --s|--seed --spurious
 expresso check --|
 expresso check lock.mon lo|

@@ -45,7 +45,7 @@ impl ReadersWriters {
 
     /// Waits until `!writing && queued == 0 && readers < MOST`.
     ///
-    /// Wakes all calls that wait until `readers > 0`.
+    /// Wakes one call that waits until `readers > 0`.
     ///
     /// # Errors
     ///
@@ -64,14 +64,14 @@ impl ReadersWriters {
         let copy = *inner;
         drop(inner);
         if copy.asleep_end_read > 0 {
-            self.can_end_read.notify_all();
+            self.can_end_read.notify_one();
         }
         Ok(())
     }
 
     /// Answers `None` where `!writing && queued == 0 && readers < MOST` is false.
     ///
-    /// Wakes all calls that wait until `readers > 0`.
+    /// Wakes one call that waits until `readers > 0`.
     ///
     /// # Errors
     ///
@@ -88,7 +88,7 @@ impl ReadersWriters {
         let copy = *inner;
         drop(inner);
         if copy.asleep_end_read > 0 {
-            self.can_end_read.notify_all();
+            self.can_end_read.notify_one();
         }
         Ok(Some(()))
     }
@@ -154,7 +154,7 @@ impl ReadersWriters {
     /// Does not wait.
     ///
     /// Wakes one call that waits until `readers == 0 && !writing && queued > 0`, where that now holds.
-    /// Wakes all calls that wait until `queued != 0`.
+    /// Wakes one call that waits until `queued != 0`.
     ///
     /// # Errors
     ///
@@ -168,7 +168,7 @@ impl ReadersWriters {
             self.can_start_write.notify_one();
         }
         if copy.asleep_cancel > 0 {
-            self.can_cancel.notify_all();
+            self.can_cancel.notify_one();
         }
         Ok(())
     }

@@ -72,7 +72,7 @@ impl Semaphore {
 
     /// Waits until `free >= 1`.
     ///
-    /// Wakes all calls that wait until `free < LIMIT`.
+    /// Wakes one call that waits until `free < LIMIT`.
     ///
     /// # Errors
     ///
@@ -91,14 +91,14 @@ impl Semaphore {
         let copy = *inner;
         drop(inner);
         if copy.asleep_give > 0 {
-            self.can_give.notify_all();
+            self.can_give.notify_one();
         }
         Ok(())
     }
 
     /// Answers `None` where `free >= 1` is false.
     ///
-    /// Wakes all calls that wait until `free < LIMIT`.
+    /// Wakes one call that waits until `free < LIMIT`.
     ///
     /// # Errors
     ///
@@ -115,7 +115,7 @@ impl Semaphore {
         let copy = *inner;
         drop(inner);
         if copy.asleep_give > 0 {
-            self.can_give.notify_all();
+            self.can_give.notify_one();
         }
         Ok(Some(()))
     }
@@ -172,7 +172,7 @@ impl Semaphore {
 
     /// Waits until `free < LIMIT`.
     ///
-    /// Wakes all calls that wait until `free > 0`.
+    /// Wakes one call that waits until `free > 0`.
     /// Wakes one call that waits until `free >= 2`, where that now holds.
     ///
     /// # Errors
@@ -192,7 +192,7 @@ impl Semaphore {
         let copy = *inner;
         drop(inner);
         if copy.asleep_take_all > 0 {
-            self.can_take_all.notify_all();
+            self.can_take_all.notify_one();
         }
         if copy.asleep_take_two > 0 && copy.state.can_take_two() {
             self.can_take_two.notify_one();
@@ -202,7 +202,7 @@ impl Semaphore {
 
     /// Answers `None` where `free < LIMIT` is false.
     ///
-    /// Wakes all calls that wait until `free > 0`.
+    /// Wakes one call that waits until `free > 0`.
     /// Wakes one call that waits until `free >= 2`, where that now holds.
     ///
     /// # Errors
@@ -220,7 +220,7 @@ impl Semaphore {
         let copy = *inner;
         drop(inner);
         if copy.asleep_take_all > 0 {
-            self.can_take_all.notify_all();
+            self.can_take_all.notify_one();
         }
         if copy.asleep_take_two > 0 && copy.state.can_take_two() {
             self.can_take_two.notify_one();

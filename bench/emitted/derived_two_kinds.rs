@@ -41,7 +41,7 @@ impl TwoKinds {
 
     /// Waits until `total < ROOM`.
     ///
-    /// Wakes all calls that wait until `red > 0`.
+    /// Wakes one call that waits until `red > 0`.
     /// Wakes one call that waits until `total == ROOM`, where that now holds.
     ///
     /// # Errors
@@ -61,7 +61,7 @@ impl TwoKinds {
         let copy = *inner;
         drop(inner);
         if copy.asleep_get_red > 0 {
-            self.can_get_red.notify_all();
+            self.can_get_red.notify_one();
         }
         if copy.asleep_drain > 0 && copy.state.can_drain() {
             self.can_drain.notify_one();
@@ -71,7 +71,7 @@ impl TwoKinds {
 
     /// Answers `None` where `total < ROOM` is false.
     ///
-    /// Wakes all calls that wait until `red > 0`.
+    /// Wakes one call that waits until `red > 0`.
     /// Wakes one call that waits until `total == ROOM`, where that now holds.
     ///
     /// # Errors
@@ -89,7 +89,7 @@ impl TwoKinds {
         let copy = *inner;
         drop(inner);
         if copy.asleep_get_red > 0 {
-            self.can_get_red.notify_all();
+            self.can_get_red.notify_one();
         }
         if copy.asleep_drain > 0 && copy.state.can_drain() {
             self.can_drain.notify_one();
@@ -99,7 +99,7 @@ impl TwoKinds {
 
     /// Waits until `total < ROOM`.
     ///
-    /// Wakes all calls that wait until `red < total`.
+    /// Wakes one call that waits until `red < total`.
     /// Wakes one call that waits until `total == ROOM`, where that now holds.
     ///
     /// # Errors
@@ -119,7 +119,7 @@ impl TwoKinds {
         let copy = *inner;
         drop(inner);
         if copy.asleep_get_blue > 0 {
-            self.can_get_blue.notify_all();
+            self.can_get_blue.notify_one();
         }
         if copy.asleep_drain > 0 && copy.state.can_drain() {
             self.can_drain.notify_one();
@@ -129,7 +129,7 @@ impl TwoKinds {
 
     /// Answers `None` where `total < ROOM` is false.
     ///
-    /// Wakes all calls that wait until `red < total`.
+    /// Wakes one call that waits until `red < total`.
     /// Wakes one call that waits until `total == ROOM`, where that now holds.
     ///
     /// # Errors
@@ -147,7 +147,7 @@ impl TwoKinds {
         let copy = *inner;
         drop(inner);
         if copy.asleep_get_blue > 0 {
-            self.can_get_blue.notify_all();
+            self.can_get_blue.notify_one();
         }
         if copy.asleep_drain > 0 && copy.state.can_drain() {
             self.can_drain.notify_one();
@@ -157,8 +157,8 @@ impl TwoKinds {
 
     /// Waits until `total < ROOM`.
     ///
-    /// Wakes all calls that wait until `red > 0`, where that now holds.
-    /// Wakes all calls that wait until `red < total`, where that now holds.
+    /// Wakes one call that waits until `red > 0`, where that now holds.
+    /// Wakes one call that waits until `red < total`, where that now holds.
     /// Wakes one call that waits until `total == ROOM`, where that now holds.
     ///
     /// # Errors
@@ -178,10 +178,10 @@ impl TwoKinds {
         let copy = *inner;
         drop(inner);
         if copy.asleep_get_red > 0 && copy.state.can_get_red() {
-            self.can_get_red.notify_all();
+            self.can_get_red.notify_one();
         }
         if copy.asleep_get_blue > 0 && copy.state.can_get_blue() {
-            self.can_get_blue.notify_all();
+            self.can_get_blue.notify_one();
         }
         if copy.asleep_drain > 0 && copy.state.can_drain() {
             self.can_drain.notify_one();
@@ -191,8 +191,8 @@ impl TwoKinds {
 
     /// Answers `None` where `total < ROOM` is false.
     ///
-    /// Wakes all calls that wait until `red > 0`, where that now holds.
-    /// Wakes all calls that wait until `red < total`, where that now holds.
+    /// Wakes one call that waits until `red > 0`, where that now holds.
+    /// Wakes one call that waits until `red < total`, where that now holds.
     /// Wakes one call that waits until `total == ROOM`, where that now holds.
     ///
     /// # Errors
@@ -210,10 +210,10 @@ impl TwoKinds {
         let copy = *inner;
         drop(inner);
         if copy.asleep_get_red > 0 && copy.state.can_get_red() {
-            self.can_get_red.notify_all();
+            self.can_get_red.notify_one();
         }
         if copy.asleep_get_blue > 0 && copy.state.can_get_blue() {
-            self.can_get_blue.notify_all();
+            self.can_get_blue.notify_one();
         }
         if copy.asleep_drain > 0 && copy.state.can_drain() {
             self.can_drain.notify_one();
@@ -223,7 +223,7 @@ impl TwoKinds {
 
     /// Waits until `red > 0`.
     ///
-    /// Wakes all calls that wait until `total < ROOM`.
+    /// Wakes one call that waits until `total < ROOM`.
     ///
     /// # Errors
     ///
@@ -242,14 +242,14 @@ impl TwoKinds {
         let copy = *inner;
         drop(inner);
         if copy.asleep_put_red > 0 {
-            self.can_put_red.notify_all();
+            self.can_put_red.notify_one();
         }
         Ok(())
     }
 
     /// Answers `None` where `red > 0` is false.
     ///
-    /// Wakes all calls that wait until `total < ROOM`.
+    /// Wakes one call that waits until `total < ROOM`.
     ///
     /// # Errors
     ///
@@ -266,14 +266,14 @@ impl TwoKinds {
         let copy = *inner;
         drop(inner);
         if copy.asleep_put_red > 0 {
-            self.can_put_red.notify_all();
+            self.can_put_red.notify_one();
         }
         Ok(Some(()))
     }
 
     /// Waits until `red < total`.
     ///
-    /// Wakes all calls that wait until `total < ROOM`.
+    /// Wakes one call that waits until `total < ROOM`.
     ///
     /// # Errors
     ///
@@ -292,14 +292,14 @@ impl TwoKinds {
         let copy = *inner;
         drop(inner);
         if copy.asleep_put_red > 0 {
-            self.can_put_red.notify_all();
+            self.can_put_red.notify_one();
         }
         Ok(())
     }
 
     /// Answers `None` where `red < total` is false.
     ///
-    /// Wakes all calls that wait until `total < ROOM`.
+    /// Wakes one call that waits until `total < ROOM`.
     ///
     /// # Errors
     ///
@@ -316,7 +316,7 @@ impl TwoKinds {
         let copy = *inner;
         drop(inner);
         if copy.asleep_put_red > 0 {
-            self.can_put_red.notify_all();
+            self.can_put_red.notify_one();
         }
         Ok(Some(()))
     }

@@ -191,9 +191,9 @@ impl Weights {
 
     /// Waits until `free < LIMIT`.
     ///
-    /// Wakes all calls that wait until `free >= 5`, where that now holds.
-    /// Wakes all calls that wait until `free >= 10`, where that now holds.
-    /// Wakes all calls that wait until `free >= 15`, where that now holds.
+    /// Wakes one call that waits until `free >= 5`, where that now holds.
+    /// Wakes one call that waits until `free >= 10`, where that now holds.
+    /// Wakes one call that waits until `free >= 15`, where that now holds.
     ///
     /// # Errors
     ///
@@ -212,22 +212,22 @@ impl Weights {
         let copy = *inner;
         drop(inner);
         if copy.asleep_take5 > 0 && copy.state.can_take5() {
-            self.can_take5.notify_all();
+            self.can_take5.notify_one();
         }
         if copy.asleep_take10 > 0 && copy.state.can_take10() {
-            self.can_take10.notify_all();
+            self.can_take10.notify_one();
         }
         if copy.asleep_take15 > 0 && copy.state.can_take15() {
-            self.can_take15.notify_all();
+            self.can_take15.notify_one();
         }
         Ok(())
     }
 
     /// Answers `None` where `free < LIMIT` is false.
     ///
-    /// Wakes all calls that wait until `free >= 5`, where that now holds.
-    /// Wakes all calls that wait until `free >= 10`, where that now holds.
-    /// Wakes all calls that wait until `free >= 15`, where that now holds.
+    /// Wakes one call that waits until `free >= 5`, where that now holds.
+    /// Wakes one call that waits until `free >= 10`, where that now holds.
+    /// Wakes one call that waits until `free >= 15`, where that now holds.
     ///
     /// # Errors
     ///
@@ -244,13 +244,13 @@ impl Weights {
         let copy = *inner;
         drop(inner);
         if copy.asleep_take5 > 0 && copy.state.can_take5() {
-            self.can_take5.notify_all();
+            self.can_take5.notify_one();
         }
         if copy.asleep_take10 > 0 && copy.state.can_take10() {
-            self.can_take10.notify_all();
+            self.can_take10.notify_one();
         }
         if copy.asleep_take15 > 0 && copy.state.can_take15() {
-            self.can_take15.notify_all();
+            self.can_take15.notify_one();
         }
         Ok(Some(()))
     }

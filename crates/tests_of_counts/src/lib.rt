@@ -1,4 +1,4 @@
-//! Tests of counted plans, which no command asks for yet.
+//! Tests of counted plans, each beside what is not counted.
 //!
 //! There are only tests. Every answer was worked out by hand from the rules of plans and of
 //! counting.

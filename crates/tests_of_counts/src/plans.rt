@@ -1,6 +1,6 @@
 //! Which plans come of placed ones by counting.
 
-use mon_counted::count_plan;
+use mon_counted::{count_plan, relay_uncounted};
 use mon_events::Plan;
 use mon_io::MemSink;
 use mon_monitor::Monitor;
@@ -27,6 +27,15 @@ fn counts_to(alloc: Global, text: &[u8], plan: &[u8]) -> Option<bool> {
     let placed = place(alloc, &monitor).ok()?;
     let counted = count_plan(alloc, &monitor, &placed.plan).ok()?;
     Some(is_text_of(alloc, &monitor, &counted.plan, plan))
+}
+
+/// Whether the counted plan of the monitor of a text has this text where the rest is relayed.
+fn relays_the_rest_to(alloc: Global, text: &[u8], plan: &[u8]) -> Option<bool> {
+    let monitor = checked(alloc, text)?;
+    let placed = place(alloc, &monitor).ok()?;
+    let counted = count_plan(alloc, &monitor, &placed.plan).ok()?;
+    let relayed = relay_uncounted(alloc, &monitor, &placed.plan, &counted).ok()?;
+    Some(is_text_of(alloc, &monitor, &relayed, plan))
 }
 
 /// Whether the placed plan of the monitor of a text has this text, and so has the counted one.
@@ -99,6 +108,22 @@ fn a_semaphore_signals_once_for_a_permit_and_broadcasts_for_two(rt: HostRuntime)
         counts_to(rt.alloc(), SEMAPHORE, SEMAPHORE_COUNTED),
         Some(true)
     );
+}
+
+// Each block that waits at `true` hands on there. The broadcast of `releaseTwo` stays.
+const SEMAPHORE_RELAYED: &[u8] = b"plan Semaphore
+keep free >= 0
+condition 1 signal: free > 0
+condition 2 signal: true
+block acquire: none
+block release: 1 signal, 2 signal tested
+block releaseTwo: 1 broadcast, 2 signal tested
+";
+
+#[test]
+fn what_is_counted_is_not_relayed(rt: HostRuntime) {
+    let relayed = relays_the_rest_to(rt.alloc(), SEMAPHORE, SEMAPHORE_RELAYED);
+    assert_eq!(rt; relayed, Some(true));
 }
 
 const READERS_WRITERS: &[u8] = b"monitor ReadersWriters {
