@@ -19,7 +19,7 @@ use Rattle.mon_implicit.specs.Steps.{BlockSteps, given, held, reply_of}
 use Rattle.mon_events.specs.declared.plan.Note.{Note}
 use Rattle.mon_code.specs.Executions.{AreNotified, Executes, Frame, IsMove, IsThread, Moment, Position, Program, RunsBody, Thread, call_of, goes, new_thread, start}
 use Rattle.mon_code.specs.Executions.Position.{Notified}
-use Rattle.mon_code.specs.Executions.IsMove.{calls, takes, passes, falls_asleep, wakes, retakes, refuses, runs_body, notifies, unlocks, returns}
+use Rattle.mon_code.specs.Executions.IsMove.{calls, takes, passes, falls_asleep, wakes, retakes, refuses, runs_body, notifies, unlocks, releases, returns}
 use Rattle.mon_code.specs.Executions.Executes.{none_yet, one_more}
 use Rattle.mon_code.proofs.Lists.{came}
 use Rattle.mon_code.proofs.Views.{thread_before}
@@ -153,6 +153,8 @@ module _ (tree : MonitorTree) (program : Program) (blocks : AreBlocksOf tree.dec
   move_short before next short (notifies thread frame move) =
       subst IsShortMoment (sym move.becomes) (record { state = short.state; locals = goes_short move.woken thread frame _ (woken_short before move.note move.woken short.locals move.notified) (short.locals thread frame _ move.at) })
   move_short before next short (unlocks thread frame move) =
+      subst IsShortMoment (sym move.becomes) (record { state = short.state; locals = keeps_short before.threads thread frame frame _ _ short.locals move.at refl })
+  move_short before next short (releases thread frame move) =
       subst IsShortMoment (sym move.becomes) (record { state = short.state; locals = keeps_short before.threads thread frame frame _ _ short.locals move.at refl })
   move_short before next short (returns thread frame move) =
       subst IsShortMoment (sym move.becomes) (record { state = short.state; locals = keeps_short before.threads thread frame (record frame { past = frame.past + 1 }) _ _ short.locals move.at refl })
