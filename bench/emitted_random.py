@@ -23,8 +23,8 @@ from emitted import Source, module_text  # noqa: E402
 from trees import If, Return, read_tree  # noqa: E402
 
 WORDS = ("self Self _ __ Ok Err Some None state State next answer match match_ try startRead start_read x X y new lock "
-         "wait drop narrow inner Inner copy asleep_x Overflow Mutex Option i64 i128 std async dyn a__b can_x run_x x_ _x await clone Result "
-         "try_x try_new_ box gen readX read_x").split()
+         "wait drop narrow inner Inner copy asleep_x Overflow Mutex Option i64 i128 std async dyn a__b can_x run_x x_ "
+         "_x await clone Result try_x try_new_ box gen readX read_x").split()
 LEAST, MOST = -2 ** 63, 2 ** 63 - 1
 CALLS = 40
 SIGNS = "==", "!=", "<", "<=", ">", ">="
