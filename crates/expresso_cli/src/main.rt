@@ -1,12 +1,18 @@
 //! `expresso`: monitors with implicit signals.
 //!
-//! `main` hands the runtime, the words, the files of the system, standard output and a gate that
-//! holds nobody to the top call, [`expresso::expresso`], and gives the number of its status.
+//! `main` hands the runtime, the words, the files of the system, standard output, standard error for
+//! hints, and a gate that holds nobody to the top call, [`expresso_hints::expresso_with_hints`], and
+//! gives the number of its status.
 #![tactic(auto)]
 
-use expresso::{Status, exit_status, expresso};
+mod outside;
+
+use expresso::{Status, exit_status};
+use expresso_hints::expresso_with_hints;
+use mon_help::KeptFiles;
 use mon_io::{RealFiles, StdSink};
 use mon_pool::OpenGate;
+use outside::{ErrorSink, RealNames};
 use std::process::ExitCode;
 use std::{env, io};
 
@@ -20,9 +26,20 @@ fn words_given<R: std::rt::Env + AllocGlobal>(rt: &R) -> io::Result<Vec<String>>
 fn main(rt: HostRuntime) -> ExitCode {
     match words_given(&rt) {
         Ok(words) => {
-            let mut files = RealFiles::new(&rt);
+            let mut files = KeptFiles::new(rt.alloc(), RealFiles::new(&rt));
+            let names = RealNames::new(&rt);
             let mut out = StdSink::new(&rt);
-            let status = expresso(&rt, rt.alloc(), &words, &mut files, &mut out, &OpenGate);
+            let mut hints = ErrorSink::new(rt.alloc(), rt.stderr());
+            let status = expresso_with_hints(
+                &rt,
+                rt.alloc(),
+                &words,
+                &mut files,
+                &names,
+                &mut out,
+                &mut hints,
+                &OpenGate,
+            );
             ExitCode::from(exit_status(status))
         }
         Err(error) if error.kind() == io::ErrorKind::OutOfMemory => {

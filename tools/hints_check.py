@@ -1,0 +1,187 @@
+#!/usr/bin/env python3
+"""Checks the hints that the built program writes to standard error: of inputs that a person types each row says which
+words the hint has, and under what the caret stands. Words and files are written by hand; what is expected is too.
+
+tools/hints_check.py [PROGRAM]"""
+import os
+import subprocess
+import sys
+import tempfile
+
+TOP = os.path.dirname(os.path.dirname(os.path.abspath(__file__)))
+PROGRAM = os.path.abspath(sys.argv[1] if len(sys.argv) > 1 else os.path.join(TOP, "crates/expresso_cli/out/expresso_cli"))
+
+BUFFER = """monitor Buffer {
+  int count = 0;
+  bool open = true;
+  method put(int n) waituntil (count < 4) { count = count + n; }
+  method get() waituntil (count > 0) { count = count - 1; }
+}
+"""
+PLAN = """plan Buffer
+keep count >= 0
+condition 1 broadcast: count < 4
+condition 2 broadcast: count > 0
+block put: 1 broadcast, 2 broadcast
+block get: 1 broadcast, 2 broadcast
+"""
+
+# of monitors: what stands in place of a piece of BUFFER, what the caret's place begins with, the words of the hint
+MONITORS = [
+    ("count = 0;\n", "count = 0\n", "bool", "expected `;` after `0`"),
+    ("count < 4", "count = 4", "= 4", "`==` compares; `=` assigns"),
+    ("count = count - 1", "count == count - 1", "== count", "`=` assigns; `==` compares"),
+    ("count = count + n", "count += n", "+= n", "there is no `+=`"),
+    ("count = count - 1", "count--", "--;", "there is no `--`"),
+    ("count < 4", "count < 4 & open", "& open", "and is written `&&`"),
+    ("count < 4", "count < 4 | open", "| open", "or is written `||`"),
+    ("count < 4", "count < 4 and open", "and open", "and is written `&&`"),
+    ("  int count", "  /* fields */ int count", "/* fields", "there is no `/* */`"),
+    ("{ count = count - 1; }", "{ while (count > 0) { count = count - 1; } }", "(count > 0) { count", "there is no `while`"),
+    ("int count", "i32 count", "i32", "a number's type is `int`"),
+    ("bool open", "boolean open", "boolean", "a truth value's type is `bool`"),
+    ("{ count = count - 1; }", "{ if (open) { } else if (count > 1) { } }", "if (count > 1)", "there is no `else if`"),
+    ("count = count - 1; }", "return; }", "; }", "a `return` has a value"),
+    ("int count", "int local", "local", "`local` is a reserved word"),
+    ("int count = 0", "int count = CAP", "CAP", "only a number may stand here, and not `CAP`"),
+    ("method get() waituntil (count > 0) {", "method get() {", "{ count = count - 1", "a guard is missing"),
+    ("waituntil (count > 0)", "waituntil count > 0", "count > 0", "a condition stands in parentheses"),
+    ("int count", "int z\u00fchler", "?", "`\u00fc` is no sign of the language"),
+    ("monitor Buffer", "\ufeffmonitor Buffer", "?", "byte order mark"),
+    ("count + n", "coutn + n", "coutn", "`coutn` isn't there, but `count` is"),
+    ("count + n", "count / n", "/ n", "there is no division"),
+    ("count + n", "count + amount", "amount", "no constant, field, input or local is named `amount`"),
+    ("bool open = true", "bool open = True", "True", "a `bool` begins as `true` or `false`"),
+    ("count < 4", "(count < 4", "{ count = count + n", "a `)` is missing"),
+    ("put(int n)", "put(n)", "n) waituntil", "an input has a type"),
+    ("count < 4", "0 < count < 4", "< 4", "join two of them by `&&`"),
+    ("int count = 0;", "int count;", ";", "a value is missing"),
+    ("- 1; }\n}", "- 1; }\n", "", "the file ends ahead of a `}`"),
+    ("count + n", "count * n", "* n", "one side of a `*`"),
+    ("count = count + n", "n = count", "n = count", "only fields and locals are assigned"),
+    ("count = count - 1; }", "int x = 0; }", "int x", "locals ahead of `waituntil`"),
+    ("int count", "const int CAP", "int CAP", "a constant has no type"),
+    ("count < 4", "count => 4", "=> 4", "at least is written `>=`"),
+    ("count = count + n;", "count = count + n", "}", "expected `;` after `n`"),
+]
+
+# of clients: the text, what the caret's place begins with, the words of the hint
+CLIENTS = [
+    ("client A { put(1) get(); }", "get()", "expected `;` or a sign as `+` after `)`"),
+    ("client A { put(n); }", "n);", "only numbers, `true` and `false`"),
+    ("client A { putt(1); }", "putt(1)", "`putt` isn't there, but `put` is"),
+    ("client A { take(); }", "take()", "the monitor has no method `take`"),
+    ("client A { put(); }", "put()", "`put` has 1 input"),
+    ("client A { repeat n { get(); } }", "n {", "a repetition is written `repeat 3 { .. }`"),
+    ("thread A { get(); }", "thread", "a client begins with `client NAME {`"),
+    ("client A { get(); } client A { get(); }", "A { get(); }", "`A` names something further up already"),
+    (BUFFER, "monitor", "the file of clients comes second"),
+]
+
+# of plans: what stands in place of a piece of PLAN, the place, the words of the hint
+PLANS = [
+    ("plan Buffer", "plan  Buffer", "line 1, column 6: expected `Buffer`"),
+    ("count >= 0", "count>=0", "line 2, column 1: no plan of this monitor keeps this"),
+    ("1 broadcast: count", "1 broadcast : count", "line 3, column 22: expected `: count < 4`"),
+    ("2 broadcast: count > 0", "2 broadcast: count >0", "line 4, column 31: expected ` 0`"),
+    ("block get: 1 broadcast, 2 broadcast\n", "", "line 6, column 1: expected `block get: `"),
+    ("block get: 1 broadcast, 2 broadcast\n", "block get: 1 broadcast, 2 broadcast", "a line feed is missing at the end"),
+    ("block put: 1 broadcast, 2", "block put: 1 broadcast,2", "line 5, column 23: expected notes"),
+    ("block put", "block get", "line 5, column 7: expected `put: `"),
+    ("condition 1", "condition 2", "line 3, column 11: expected `1 signal: count < 4`"),
+]
+
+# words, and the words of the hint
+WORDS = [
+    (["cehck", "m.mon"], "no command `cehck`; `check`?"),
+    (["test", "m.mon"], "no command `test`"),
+    ([], "a command is missing"),
+    (["run", "m.mon", "c.cl", "--workers", "20"], "workers is 1 to 16"),
+    (["run", "m.mon", "c.cl", "--workers=0"], "workers is 1 to 16"),
+    (["simulate", "m.mon", "c.cl", "--spurious", "3"], "`--spurious` wants `--seed`"),
+    (["run", "m.mon", "c.cl", "--wrokers", "2"], "no option `--wrokers`; `--workers`?"),
+    (["check", "m.mon", "--workers", "2"], "`check` has no `--workers`"),
+    (["run", "m.mon"], "`run` wants FILE CLIENTS"),
+    (["simulate", "m.mon", "c.cl", "--seed", "1", "--seed", "2"], "`--seed` stands twice"),
+    (["simulate", "m.mon", "c.cl", "--seed"], "the seed is 0 to"),
+    (["stress", "many"], "`stress` wants a number"),
+]
+
+# names that can't be read
+NAMES = [
+    ("gone.mon", "`gone.mon` isn't there"),
+    ("folder", "`folder` is a folder, and no file"),
+]
+
+faults = 0
+folder = tempfile.mkdtemp()
+
+
+def tell(row, hints):
+    global faults
+    faults += 1
+    print(f"hints of {row}:\n{hints}")
+
+
+def run(words):
+    ended = subprocess.run([PROGRAM, *words], cwd=folder, capture_output=True, timeout=60)
+    return ended.returncode, ended.stdout.decode(errors="replace"), ended.stderr.decode(errors="replace")
+
+
+def write(name, text):
+    with open(os.path.join(folder, name), "w", encoding="utf-8", newline="") as file:
+        file.write(text)
+
+
+def under_caret(hints):
+    """What stands in the shown line from the caret's column on."""
+    lines = hints.split("\n")
+    if len(lines) < 2 or lines[1].strip() != "^":
+        return None
+    return lines[0][lines[1].index("^"):]
+
+
+def check_file(row, words, place, wanted):
+    status, out, hints = run(words)
+    found = under_caret(hints)
+    good = status == 1 and out.startswith("refused: ") and wanted in hints and found is not None
+    if good and place is not None:
+        good = found.startswith(place) if place else found == ""
+    if not good:
+        tell(row, hints)
+
+
+write("m.mon", BUFFER)
+status, out, hints = run(["check", "m.mon"])
+if status != 0 or hints:
+    tell("a good monitor", out + hints)
+for piece, instead, place, wanted in MONITORS:
+    assert BUFFER.count(piece) >= 1, piece
+    write("bad.mon", BUFFER.replace(piece, instead, 1))
+    check_file(instead, ["check", "bad.mon"], place, wanted)
+for text, place, wanted in CLIENTS:
+    write("bad.cl", text)
+    check_file(text, ["turns", "m.mon", "bad.cl"], place, wanted)
+write("good.plan", PLAN)
+status, out, hints = run(["audit", "m.mon", "good.plan"])
+if status != 0 or hints:
+    tell("a good plan", out + hints)
+for piece, instead, wanted in PLANS:
+    assert PLAN.count(piece) >= 1, piece
+    write("bad.plan", PLAN.replace(piece, instead, 1))
+    check_file(instead, ["audit", "m.mon", "bad.plan"], None, wanted)
+os.mkdir(os.path.join(folder, "folder"))
+for name, wanted in NAMES:
+    status, out, hints = run(["check", name])
+    if status != 3 or wanted not in hints:
+        tell(name, out + hints)
+usage = run(["--help"])[1]
+for words, wanted in WORDS:
+    status, out, hints = run(words)
+    if status != 2 or out != usage or hints.count("\n") != 1 or wanted not in hints:
+        tell(words, out + hints)
+if run(["--help"])[2]:
+    tell("--help", run(["--help"])[2])
+rows = len(MONITORS) + len(CLIENTS) + len(PLANS) + len(NAMES) + len(WORDS)
+print(f"hints: {rows} inputs, {faults} without the hint that they want")
+sys.exit(1 if faults else 0)
