@@ -106,7 +106,7 @@ expresso stress N [--workers N]
 expresso report FILE
 expresso recheck FILE REPORT
 expresso block FILE CLIENTS [--count]
-expresso audit FILE PLAN
+expresso audit FILE PLAN [--count]
 expresso explain FILE
 expresso emit FILE
 """

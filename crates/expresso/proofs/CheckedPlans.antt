@@ -1,49 +1,72 @@
 -- What `recheck` accepts and `audit` calls lawful loses no wake-up.
-use Rattle.std.proofs.Common.{◌≡◌, ℕ, List, Option, Some, subst}
+use Rattle.std.proofs.Common.{◌≡◌, ℕ, Bool, true, false, List, Option, Some, subst}
 use Rattle.mon_tree.specs.declared.tree.MonitorTree.{MonitorTree}
 use Rattle.mon_syntax.specs.Grammar.{IsParsed}
 use Rattle.mon_syntax.proofs.NameLaws.{monitor_named}
+use Rattle.mon_monitor.specs.declared.monitor.Condition.{Condition}
 use Rattle.mon_monitor.specs.MonitorParts.{MonitorParts, IsMonitor}
 use Rattle.mon_types.proofs.MonitorMade.{typed_is_monitor}
 use Rattle.mon_types.proofs.Small.{parsed_has_blocks}
 use Rattle.mon_implicit.specs.declared.script.Client.{Client}
 use Rattle.mon_implicit.specs.Scripted.{FitsScripts}
 use Rattle.mon_events.specs.declared.plan.Plan.{Plan}
-use Rattle.mon_events.specs.Plans.{FitsPlan, IsLawful}
+use Rattle.mon_monitor.specs.Inputs.{reads_inputs}
+use Rattle.mon_events.specs.Counts.{IsLawfulByCounting}
+use Rattle.mon_events.specs.Plans.{FitsPlan, IsCondition, WakesAll}
 use Rattle.mon_events.specs.Configurations.{system_under}
-use Rattle.mon_events.specs.Laws.{ClosedIsTheEnd, HasLawfulPlan, StuckIsTheEnd, WakesArePending}
-use Rattle.mon_code.specs.Laws.{PrintedCodeLosesNone}
-use Rattle.expresso.proofs.LawfulFits.{lawful_fits}
+use Rattle.mon_events.specs.Laws.{CountedClosedIsTheEnd, CountedStuckIsTheEnd, CountedWakesArePending, HasCountingPlan, LawfulIsByCounting}
+use Rattle.mon_code.specs.Laws.{CountedCodeLosesNone}
+use Rattle.expresso.proofs.LawfulFits.{lawful_fits, reading_fits}
+use Rattle.mon_audit.specs.declared.finding.Finding.TheVariants as findings
+use Rattle.mon_audit.specs.CountedFindings.{IsFindingBy}
 use Rattle.mon_command.specs.CommandLine.{audit, recheck}
 use Rattle.expresso.specs.MonitorFiles.{IsAccepted}
 use Rattle.expresso.specs.PlanFiles.{MayBeLawful}
 use Rattle.expresso.specs.ReportFiles.{IsRechecked}
 use Rattle.expresso.specs.Answers.{IsDoneText}
-use Rattle.expresso.specs.CheckedPlans.{IsSafePlan, IsSafeReport, LosesNoWakeup}
+use Rattle.expresso.specs.CheckedPlans.{IsLawfulBy, IsSafePlan, IsSafeReport, LosesNoWakeup}
 use Rattle.expresso.proofs.Telling.{holds_same}
 
 -- the laws of events and of code
 pub record WakeLaws : Type 0 where
-  pub pending : WakesArePending
-  pub ends : StuckIsTheEnd
-  pub closed : ClosedIsTheEnd
-  pub threads : PrintedCodeLosesNone
+  pub lawful : LawfulIsByCounting
+  pub pending : CountedWakesArePending
+  pub ends : CountedStuckIsTheEnd
+  pub closed : CountedClosedIsTheEnd
+  pub threads : CountedCodeLosesNone
 
 -- ---- one monitor and one plan
 
-has_lawful_plan : (monitor : MonitorParts) (plan : Plan) (clients : List Client) → IsMonitor monitor → FitsPlan monitor plan → IsLawful monitor plan → FitsScripts monitor clients → HasLawfulPlan (system_under monitor clients plan)
-has_lawful_plan monitor plan clients is fits lawful scripts = record { is = record { rule = is; scripts = scripts; plan = fits }; lawful = lawful }
+has_counting_plan : (monitor : MonitorParts) (plan : Plan) (clients : List Client) → IsMonitor monitor → FitsPlan monitor plan → IsLawfulByCounting monitor plan → FitsScripts monitor clients → HasCountingPlan (system_under monitor clients plan)
+has_counting_plan monitor plan clients is fits lawful scripts = record { is = record { rule = is; scripts = scripts; plan = fits }; lawful = lawful }
 
-loses_none : WakeLaws → (monitor : MonitorParts) (plan : Plan) → IsMonitor monitor → FitsPlan monitor plan → IsLawful monitor plan → LosesNoWakeup monitor plan
-loses_none laws monitor plan is fits lawful = record {
-  is = is;
-  fits = fits;
-  lawful = lawful;
-  pending = λ clients events last scripts happened. laws.pending (system_under monitor clients plan) events last (has_lawful_plan monitor plan clients is fits lawful scripts) happened;
-  ends = λ clients events last scripts happened stuck. laws.ends (system_under monitor clients plan) events last (has_lawful_plan monitor plan clients is fits lawful scripts) happened stuck;
-  closed = λ clients log last scripts legal closed. laws.closed (system_under monitor clients plan) log last (has_lawful_plan monitor plan clients is fits lawful scripts) legal closed;
-  threads = λ clients last scripts leads. laws.threads monitor plan clients last is scripts fits lawful leads;
-}
+by_counting : WakeLaws → (count : Bool) (monitor : MonitorParts) (plan : Plan) → IsLawfulBy count monitor plan → IsLawfulByCounting monitor plan
+by_counting laws false monitor plan lawful = laws.lawful monitor plan lawful
+by_counting laws true monitor plan lawful = lawful
+
+loses_none : WakeLaws → (count : Bool) (monitor : MonitorParts) (plan : Plan) → IsMonitor monitor → FitsPlan monitor plan → IsLawfulBy count monitor plan → LosesNoWakeup count monitor plan
+loses_none laws count monitor plan is fits lawful =
+    let counted = by_counting laws count monitor plan lawful in
+    record {
+      is = is;
+      fits = fits;
+      lawful = lawful;
+      pending = λ clients events last scripts happened. laws.pending (system_under monitor clients plan) events last (has_counting_plan monitor plan clients is fits counted scripts) happened;
+      ends = λ clients events last scripts happened stuck. laws.ends (system_under monitor clients plan) events last (has_counting_plan monitor plan clients is fits counted scripts) happened stuck;
+      closed = λ clients log last scripts legal closed. laws.closed (system_under monitor clients plan) log last (has_counting_plan monitor plan clients is fits counted scripts) legal closed;
+      threads = λ clients last scripts leads. laws.threads monitor plan clients last is scripts fits counted leads;
+    }
+
+-- what a plan that is found lawful is
+found_lawful : (count : Bool) (monitor : MonitorParts) (plan : Plan) → IsFindingBy count monitor plan findings.Lawful → IsLawfulBy count monitor plan
+found_lawful false monitor plan found = found.lawful
+found_lawful true monitor plan found = found.counting
+
+-- a condition that reads inputs has only untested broadcasts
+lawful_reading : (count : Bool) (monitor : MonitorParts) (plan : Plan) → IsLawfulBy count monitor plan
+    → (number : ℕ) (condition : Condition) → IsCondition monitor number condition → reads_inputs condition.guard ≡ true → WakesAll plan number
+lawful_reading false monitor plan lawful = lawful.reading
+lawful_reading true monitor plan lawful = lawful.reading
 
 -- ---- files
 
@@ -67,24 +90,25 @@ safe_report laws held monitor_file report_file text monitor_bytes report_bytes m
       report = report;
       accepted = accepted;
       rechecked = rechecked;
-      safe = loses_none laws done.monitor report.plan (accepted_is_monitor monitor_bytes done.tree done.monitor accepted)
+      safe = loses_none laws false done.monitor report.plan (accepted_is_monitor monitor_bytes done.tree done.monitor accepted)
           (lawful_fits done.monitor report.plan rechecked.is.read.is.plan rechecked.accepted.lawful) rechecked.accepted.lawful;
     }
 
-pub safe_plan : WakeLaws → (held : List ℕ → Option (List ℕ)) (monitor_file plan_file text monitor_bytes plan_bytes : List ℕ) → held monitor_file ≡ Some monitor_bytes → held plan_file ≡ Some plan_bytes
-    → IsDoneText held (audit monitor_file plan_file) text → IsSafePlan monitor_bytes plan_bytes
-safe_plan laws held monitor_file plan_file text monitor_bytes plan_bytes monitor_tells plan_tells done =
+pub safe_plan : WakeLaws → (held : List ℕ → Option (List ℕ)) (monitor_file plan_file text monitor_bytes plan_bytes : List ℕ) (count : Bool) → held monitor_file ≡ Some monitor_bytes → held plan_file ≡ Some plan_bytes
+    → IsDoneText held (audit monitor_file plan_file count) text → IsSafePlan count monitor_bytes plan_bytes
+safe_plan laws held monitor_file plan_file text monitor_bytes plan_bytes count monitor_tells plan_tells done =
     let plan = done.line.plan in
     let accepted : IsAccepted monitor_bytes done.tree done.monitor = subst (λ (b : List ℕ). IsAccepted b done.tree done.monitor)
     (holds_same held monitor_file monitor_bytes done.holds.bytes monitor_tells done.holds.told) done.holds.accepted in
-    let audited : MayBeLawful plan_bytes done.monitor plan = subst (λ (b : List ℕ). MayBeLawful b done.monitor plan)
+    let audited : MayBeLawful count plan_bytes done.monitor plan = subst (λ (b : List ℕ). MayBeLawful count b done.monitor plan)
     (holds_same held plan_file plan_bytes done.bytes plan_tells done.told) done.line.found in
+    let lawful = found_lawful count done.monitor plan audited.lawful in
     record {
       tree = done.tree;
       monitor = done.monitor;
       plan = plan;
       accepted = accepted;
       audited = audited;
-      safe = loses_none laws done.monitor plan (accepted_is_monitor monitor_bytes done.tree done.monitor accepted)
-          (lawful_fits done.monitor plan audited.is.read.is audited.lawful.lawful) audited.lawful.lawful;
+      safe = loses_none laws count done.monitor plan (accepted_is_monitor monitor_bytes done.tree done.monitor accepted)
+          (reading_fits done.monitor plan audited.is.read.is (lawful_reading count done.monitor plan lawful)) lawful;
     }

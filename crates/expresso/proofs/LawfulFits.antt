@@ -8,7 +8,7 @@ use Rattle.mon_monitor.specs.Inputs.{reads_inputs}
 use Rattle.mon_monitor.specs.MonitorParts.{MonitorParts}
 use Rattle.mon_events.specs.declared.plan.Note.{Note}
 use Rattle.mon_events.specs.declared.plan.Plan.{Plan}
-use Rattle.mon_events.specs.Plans.{FitsNote, FitsNotes, FitsPlan, IsCondition, IsLawful, IsUntestedBroadcast}
+use Rattle.mon_events.specs.Plans.{FitsNote, FitsNotes, FitsPlan, IsCondition, IsLawful, IsUntestedBroadcast, WakesAll}
 use Rattle.mon_recheck.specs.Reports.{AreNotesOf, IsOnCondition, IsPlanOf}
 
 -- a note on the condition, if it is on this one, is an untested broadcast
@@ -42,19 +42,27 @@ fits_each monitor (note ∷ notes) on untested = All-cons (FitsNote monitor) not
     (fits_note monitor note (All-head (IsOnCondition monitor) note notes on) (λ condition is reads. All-head (IsUntestedOn note.condition) note notes (untested note.condition condition is reads) refl))
     (fits_each monitor notes (All-tail (IsOnCondition monitor) note notes on) (λ number condition is reads. All-tail (IsUntestedOn number) note notes (untested number condition is reads)))
 
-fits_at : (monitor : MonitorParts) (plan : Plan) → IsPlanOf monitor plan → IsLawful monitor plan → (block : ℕ) → block < length plan.notes → FitsNotes monitor (get_or plan.notes block [])
-fits_at monitor plan is lawful block inside =
+-- a condition that reads inputs has only untested broadcasts
+abbrev pub IsReading : MonitorParts → Plan → Type 0
+IsReading monitor plan =
+    (number : ℕ) (condition : Condition) → IsCondition monitor number condition → reads_inputs condition.guard ≡ true → WakesAll plan number
+
+fits_at : (monitor : MonitorParts) (plan : Plan) → IsPlanOf monitor plan → IsReading monitor plan → (block : ℕ) → block < length plan.notes → FitsNotes monitor (get_or plan.notes block [])
+fits_at monitor plan is reading block inside =
     let own : AreNotesOf monitor (get_or plan.notes block []) = All-get_or (AreNotesOf monitor) plan.notes block [] inside is.each in
     record {
       rising = own.rising;
       each = fits_each monitor (get_or plan.notes block []) own.each
-          (λ number condition there reads. subst (λ (notes : List Note). All (IsUntestedOn number) notes) (unwrap_or-slice_get plan.notes block []) ((lawful.reading number condition there reads).notes block));
+          (λ number condition there reads. subst (λ (notes : List Note). All (IsUntestedOn number) notes) (unwrap_or-slice_get plan.notes block []) ((reading number condition there reads).notes block));
     }
 
-pub lawful_fits : (monitor : MonitorParts) (plan : Plan) → IsPlanOf monitor plan → IsLawful monitor plan → FitsPlan monitor plan
-lawful_fits monitor plan is lawful = record {
+pub reading_fits : (monitor : MonitorParts) (plan : Plan) → IsPlanOf monitor plan → IsReading monitor plan → FitsPlan monitor plan
+reading_fits monitor plan is reading = record {
   kept = is.kept;
   kinds = is.kinds;
   notes = is.notes;
-  each = All-from_get_or (FitsNotes monitor) plan.notes [] (fits_at monitor plan is lawful);
+  each = All-from_get_or (FitsNotes monitor) plan.notes [] (fits_at monitor plan is reading);
 }
+
+pub lawful_fits : (monitor : MonitorParts) (plan : Plan) → IsPlanOf monitor plan → IsLawful monitor plan → FitsPlan monitor plan
+lawful_fits monitor plan is lawful = reading_fits monitor plan is lawful.reading

@@ -1,5 +1,5 @@
 -- What the program answers.
-use Rattle.std.specs.Prelude.{◌≡◌, ◌<◌, ◌⊎◌, ℕ, List, All, Any, map, Option, Some, IfSome}
+use Rattle.std.specs.Prelude.{◌≡◌, ◌<◌, ◌⊎◌, ℕ, Bool, List, All, Any, map, Option, Some, IfSome}
 use Rattle.std.specs.Prelude.{codes}
 use Rattle.std.specs.Io.KnownBytes.{Appends}
 use Rattle.mon_io.specs.Outside.{FilesSeen, SinkSeen, AppendsFront, Rises}
@@ -178,15 +178,16 @@ pub record IsRecheckText (held : List ℕ
   pub told : HoldsBytes held report_file bytes
   pub line : IsAcceptanceLine monitor bytes text
 
--- the line that says that the plan of the second file is lawful for the monitor of the first
+-- the line that says that the plan of the second file is lawful for the monitor of the first, where
+-- signals may be counted or not
 pub record IsAuditText (held : List ℕ
-    → Option (List ℕ)) (monitor_file plan_file text : List ℕ) : Type 0 where
+    → Option (List ℕ)) (count : Bool) (monitor_file plan_file text : List ℕ) : Type 0 where
   pub tree : MonitorTree
   pub monitor : MonitorParts
   pub bytes : List ℕ
   pub holds : HoldsMonitor held monitor_file tree monitor
   pub told : HoldsBytes held plan_file bytes
-  pub line : IsLawfulLine monitor bytes text
+  pub line : IsLawfulLine count monitor bytes text
 
 -- the text of a plan that the monitor of the file is compiled to, and why each thing stands in it
 -- that costs something
@@ -232,7 +233,8 @@ IsDoneText held (report file) text = IsReportText held file text
 IsDoneText held (recheck monitor report_file) text = IsRecheckText held monitor report_file text
 IsDoneText held (block monitor clients choice) text =
     IsFinishedRunText held monitor clients choice text
-IsDoneText held (audit monitor plan_file) text = IsAuditText held monitor plan_file text
+IsDoneText held (audit monitor plan_file count) text =
+    IsAuditText held count monitor plan_file text
 IsDoneText held (explain file) text = IsExplainText held file text
 IsDoneText held (emit file) text = IsEmitText held file text
 
@@ -255,7 +257,7 @@ IsStalledText held (report file) text = ⊥
 IsStalledText held (recheck monitor report_file) text = ⊥
 IsStalledText held (block monitor clients choice) text =
     IsStalledRunText held monitor clients choice text
-IsStalledText held (audit monitor plan_file) text = ⊥
+IsStalledText held (audit monitor plan_file count) text = ⊥
 IsStalledText held (explain file) text = ⊥
 IsStalledText held (emit file) text = ⊥
 
@@ -301,18 +303,18 @@ IsRecheckRefusal held monitor report_file text =
 
 -- the monitor file is accepted, and the line refuses the plan's file
 pub record IsPlanRefusal (held : List ℕ
-    → Option (List ℕ)) (monitor_file plan_file text : List ℕ) : Type 0 where
+    → Option (List ℕ)) (count : Bool) (monitor_file plan_file text : List ℕ) : Type 0 where
   pub tree : MonitorTree
   pub monitor : MonitorParts
   pub bytes : List ℕ
   pub holds : HoldsMonitor held monitor_file tree monitor
   pub told : HoldsBytes held plan_file bytes
-  pub line : IsPlanRefusalLine monitor plan_file bytes text
+  pub line : IsPlanRefusalLine count monitor plan_file bytes text
 
 -- the line of the first of both files that is not accepted
-abbrev pub IsAuditRefusal : (List ℕ → Option (List ℕ)) → List ℕ → List ℕ → List ℕ → Type 0
-IsAuditRefusal held monitor plan_file text =
-    IsMonitorRefusal held monitor text ⊎ IsPlanRefusal held monitor plan_file text
+abbrev pub IsAuditRefusal : (List ℕ → Option (List ℕ)) → Bool → List ℕ → List ℕ → List ℕ → Type 0
+IsAuditRefusal held count monitor plan_file text =
+    IsMonitorRefusal held monitor text ⊎ IsPlanRefusal held count monitor plan_file text
 
 -- the line that refuses a file of the command; `stress` has no files
 abbrev pub IsRefusedText : (List ℕ → Option (List ℕ)) → Command → List ℕ → Type 0
@@ -328,7 +330,8 @@ IsRefusedText held (report file) text = IsMonitorRefusal held file text
 IsRefusedText held (recheck monitor report_file) text =
     IsRecheckRefusal held monitor report_file text
 IsRefusedText held (block monitor clients choice) text = IsRunRefusal held monitor clients text
-IsRefusedText held (audit monitor plan_file) text = IsAuditRefusal held monitor plan_file text
+IsRefusedText held (audit monitor plan_file count) text =
+    IsAuditRefusal held count monitor plan_file text
 IsRefusedText held (explain file) text = IsMonitorRefusal held file text
 IsRefusedText held (emit file) text = IsMonitorRefusal held file text
 
@@ -420,20 +423,20 @@ RejectsReport held monitor_file report_file =
 
 -- the two files tell their bytes: a monitor's, and those of a plan of which nothing may be found
 -- but that it is lawful
-abbrev pub AcceptsPlan : (List ℕ → Option (List ℕ)) → List ℕ → List ℕ → Type 0
-AcceptsPlan held monitor_file plan_file =
+abbrev pub AcceptsPlan : (List ℕ → Option (List ℕ)) → Bool → List ℕ → List ℕ → Type 0
+AcceptsPlan held count monitor_file plan_file =
     (monitor_bytes : List ℕ) × (plan_bytes : List ℕ) × (tree : MonitorTree)
     × (monitor : MonitorParts) × (plan : Plan)
     × (held monitor_file ≡ Some monitor_bytes) × (held plan_file ≡ Some plan_bytes)
-    × IsAccepted monitor_bytes tree monitor × IsAudited plan_bytes monitor plan
+    × IsAccepted monitor_bytes tree monitor × IsAudited count plan_bytes monitor plan
 
 -- they tell their bytes, and these are not a monitor's and those of a plan that may be found lawful
-abbrev pub RejectsPlan : (List ℕ → Option (List ℕ)) → List ℕ → List ℕ → Type 0
-RejectsPlan held monitor_file plan_file =
+abbrev pub RejectsPlan : (List ℕ → Option (List ℕ)) → Bool → List ℕ → List ℕ → Type 0
+RejectsPlan held count monitor_file plan_file =
     (monitor_bytes : List ℕ) × (plan_bytes : List ℕ) × (held monitor_file ≡ Some monitor_bytes)
     × (held plan_file ≡ Some plan_bytes)
     × ((tree : MonitorTree) (monitor : MonitorParts) (plan : Plan)
-    → IsAccepted monitor_bytes tree monitor → MayBeLawful plan_bytes monitor plan → ⊥)
+    → IsAccepted monitor_bytes tree monitor → MayBeLawful count plan_bytes monitor plan → ⊥)
 
 -- the files of the command tell their bytes, which are accepted; `stress` has no files
 abbrev pub AcceptsFiles : (List ℕ → Option (List ℕ)) → Command → Type 0
@@ -446,7 +449,7 @@ AcceptsFiles held (stress number workers) = Unit {0}
 AcceptsFiles held (report file) = AcceptsMonitor held file
 AcceptsFiles held (recheck monitor report_file) = AcceptsReport held monitor report_file
 AcceptsFiles held (block monitor clients choice) = AcceptsRun held monitor clients
-AcceptsFiles held (audit monitor plan_file) = AcceptsPlan held monitor plan_file
+AcceptsFiles held (audit monitor plan_file count) = AcceptsPlan held count monitor plan_file
 AcceptsFiles held (explain file) = AcceptsMonitor held file
 AcceptsFiles held (emit file) = AcceptsMonitor held file
 
@@ -461,7 +464,7 @@ RejectsFiles held (stress number workers) = ⊥
 RejectsFiles held (report file) = RejectsMonitor held file
 RejectsFiles held (recheck monitor report_file) = RejectsReport held monitor report_file
 RejectsFiles held (block monitor clients choice) = RejectsRun held monitor clients
-RejectsFiles held (audit monitor plan_file) = RejectsPlan held monitor plan_file
+RejectsFiles held (audit monitor plan_file count) = RejectsPlan held count monitor plan_file
 RejectsFiles held (explain file) = RejectsMonitor held file
 RejectsFiles held (emit file) = RejectsMonitor held file
 

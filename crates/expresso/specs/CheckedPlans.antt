@@ -1,5 +1,5 @@
 -- What is true of the plans that `recheck` accepts and `audit` calls lawful.
-use Rattle.std.specs.Prelude.{ℕ, List}
+use Rattle.std.specs.Prelude.{ℕ, Bool, true, false, List}
 use Rattle.mon_tree.specs.declared.tree.MonitorTree.{MonitorTree}
 use Rattle.mon_monitor.specs.MonitorParts.{MonitorParts, IsMonitor}
 use Rattle.mon_implicit.specs.declared.script.Client.{Client}
@@ -8,6 +8,7 @@ use Rattle.mon_implicit.specs.Runs.{Ends}
 use Rattle.mon_events.specs.declared.event.Event.{Event}
 use Rattle.mon_events.specs.declared.log.Entry.{Entry}
 use Rattle.mon_events.specs.declared.plan.Plan.{Plan}
+use Rattle.mon_events.specs.Counts.{IsLawfulByCounting}
 use Rattle.mon_events.specs.Plans.{FitsPlan, IsLawful}
 use Rattle.mon_events.specs.Configurations.{Configuration, situation_of, system_under}
 use Rattle.mon_events.specs.Events.{AreEvents}
@@ -19,11 +20,17 @@ use Rattle.expresso.specs.PlanFiles.{MayBeLawful}
 use Rattle.expresso.specs.PrintedPrograms.{ThreadsLoseNone}
 use Rattle.expresso.specs.ReportFiles.{IsRechecked}
 
--- Whatever clients call that fits the monitor, under the plan no wake-up of them is lost.
-pub record LosesNoWakeup (monitor : MonitorParts) (plan : Plan) : Type 0 where
+-- lawful, or where signals may be counted, lawful by counting
+abbrev pub IsLawfulBy : Bool → MonitorParts → Plan → Type 0
+IsLawfulBy false monitor plan = IsLawful monitor plan
+IsLawfulBy true monitor plan = IsLawfulByCounting monitor plan
+
+-- Whatever clients call that fits the monitor, under the plan, whose signals may be counted or not,
+-- no wake-up of them is lost.
+pub record LosesNoWakeup (count : Bool) (monitor : MonitorParts) (plan : Plan) : Type 0 where
   pub is : IsMonitor monitor
   pub fits : FitsPlan monitor plan
-  pub lawful : IsLawful monitor plan
+  pub lawful : IsLawfulBy count monitor plan
   -- Whatever events come from the start, spurious wake-ups among them: where no one owns the lock
   -- and a client waits whose guard is true, some client is woken on its condition.
   pub pending : (clients : List Client) (events : List Event) (last : Configuration)
@@ -51,14 +58,14 @@ pub record IsSafeReport (monitor_bytes report_bytes : List ℕ) : Type 0 where
   pub report : Report
   pub accepted : IsAccepted monitor_bytes tree monitor
   pub rechecked : IsRechecked report_bytes monitor report
-  pub safe : LosesNoWakeup monitor report.plan
+  pub safe : LosesNoWakeup false monitor report.plan
 
 -- The bytes are a monitor's, and those of a plan of it that loses no wake-up. (No other plan of it
 -- has these bytes: `only` of `IsTextOfPlan`.)
-pub record IsSafePlan (monitor_bytes plan_bytes : List ℕ) : Type 0 where
+pub record IsSafePlan (count : Bool) (monitor_bytes plan_bytes : List ℕ) : Type 0 where
   pub tree : MonitorTree
   pub monitor : MonitorParts
   pub plan : Plan
   pub accepted : IsAccepted monitor_bytes tree monitor
-  pub audited : MayBeLawful plan_bytes monitor plan
-  pub safe : LosesNoWakeup monitor plan
+  pub audited : MayBeLawful count plan_bytes monitor plan
+  pub safe : LosesNoWakeup count monitor plan

@@ -21,7 +21,7 @@ usage_text =
     ++ codes "expresso report FILE\n"
     ++ codes "expresso recheck FILE REPORT\n"
     ++ codes "expresso block FILE CLIENTS [--count]\n"
-    ++ codes "expresso audit FILE PLAN\n"
+    ++ codes "expresso audit FILE PLAN [--count]\n"
     ++ codes "expresso explain FILE\n"
     ++ codes "expresso emit FILE\n"
 

@@ -1,7 +1,9 @@
-//! `expresso audit FILE PLAN`.
+//! `expresso audit FILE PLAN [--count]`.
 
 ghost use Rattle.std.specs.Prelude.{[], ◌∷◌, All, IfOk};
+ghost use Rattle.mon_audit.specs.CountedFindings.{IsFindingBy};
 ghost use Rattle.mon_command.specs.CommandLine.{audit};
+ghost use Rattle.mon_recheck.specs.Reports.{IsPlanOf};
 ghost use Rattle.expresso.specs.ProgramEnds.{KeepsFiles};
 ghost use Rattle.expresso.specs.inner.Auditing.{IsAuditDone, IsFound, found_status, found_text};
 ghost use Rattle.expresso.specs.inner.Ending.{CommandEnds, IsWritten};
@@ -10,7 +12,7 @@ use crate::input::open_both;
 use crate::reading::OTHER_BYTES;
 use crate::status::Status;
 use crate::text::{show_fault, show_finding};
-use mon_audit::{Finding, audit};
+use mon_audit::{Finding, audit, audit_by_counting};
 use mon_events::Plan;
 use mon_io::{Files, Sink};
 use mon_monitor::Monitor;
@@ -27,17 +29,19 @@ pub(crate) struct Found {
     pub finding: Finding,
 }
 
-/// Reads both files, the monitor first, asks whether the plan of the second is lawful, and writes
-/// that it is, or the line of the first fault.
+/// Reads both files, the monitor first, asks whether the plan of the second is lawful, or where
+/// signals may be counted, lawful by counting, and writes that it is, or the line of the first
+/// fault.
 pub(crate) fn audit_files<F: Files, S: Sink>(
     alloc: Global,
     monitor: &str,
     plan: &str,
+    count: bool,
     files: &mut F,
     out: &mut S,
 ) -> Status
     requires files { All (F.may_read files.old) (monitor.now ∷ plan.now ∷ []) }
-    ensures ended { CommandEnds (audit monitor.now plan.now)
+    ensures ended { CommandEnds (audit monitor.now plan.now count)
         (F.seen files.old) (F.seen files.new) result (S.seen out.old) (S.seen out.new) }
     ensures files { KeepsFiles (F.seen files.old) (F.seen files.new)
         (F.may_read files.old) (F.may_read files.new) }
@@ -48,17 +52,32 @@ pub(crate) fn audit_files<F: Files, S: Sink>(
         Ok(opened) => opened,
         Err(status) => return status,
     };
-    judge(alloc, plan, &opened.bytes, &opened.found.monitor, out)
+    judge(
+        alloc,
+        plan,
+        count,
+        &opened.bytes,
+        &opened.found.monitor,
+        out,
+    )
 }
 
 /// Writes what is to be said of the bytes of a plan's file.
-fn judge<S: Sink>(alloc: Global, file: &str, bytes: &[u8], monitor: &Monitor, out: &mut S) -> Status
-    ensures { IsAuditDone monitor.now file.now bytes.now result (S.seen out.old) (S.seen out.new) }
+fn judge<S: Sink>(
+    alloc: Global,
+    file: &str,
+    count: bool,
+    bytes: &[u8],
+    monitor: &Monitor,
+    out: &mut S,
+) -> Status
+    ensures { IsAuditDone count monitor.now file.now bytes.now result
+        (S.seen out.old) (S.seen out.new) }
 {
     if bytes.len() > OTHER_BYTES {
         return show_fault(&Fault::OtherTooLong { file }, out);
     }
-    match audited(alloc, monitor, bytes) {
+    match audited(alloc, monitor, count, bytes) {
         Ok(found) => show_found(monitor, file, &found, out),
         Err(AllocError) => Status::OutOfMemory,
     }
@@ -77,12 +96,34 @@ fn show_found<S: Sink>(monitor: &Monitor, file: &str, found: &Option<Found>, out
 
 /// The plan that bytes are with what is found of it, and nothing where they are none. It fails only
 /// for want of memory.
-fn audited(alloc: Global, monitor: &Monitor, bytes: &[u8]) -> Result<Option<Found>, AllocError>
-    ensures { IfOk result (IsFound monitor.now bytes.now) }
+fn audited(
+    alloc: Global,
+    monitor: &Monitor,
+    count: bool,
+    bytes: &[u8],
+) -> Result<Option<Found>, AllocError>
+    ensures { IfOk result (IsFound count monitor.now bytes.now) }
 {
     let Some(plan) = read_plan(alloc, monitor, bytes)? else {
         return Ok(None);
     };
-    let finding = audit(alloc, monitor, &plan)?;
+    let finding = finding_by(alloc, monitor, count, &plan)?;
     Ok(Some(Found { plan, finding }))
+}
+
+/// What is found of the plan, whose signals may be counted or not. It fails only for want of memory.
+fn finding_by(
+    alloc: Global,
+    monitor: &Monitor,
+    count: bool,
+    plan: &Plan,
+) -> Result<Finding, AllocError>
+    requires { IsPlanOf monitor.now plan.now }
+    ensures { IfOk result (IsFindingBy count monitor.now plan.now) }
+{
+    if count {
+        audit_by_counting(alloc, monitor, plan)
+    } else {
+        audit(alloc, monitor, plan)
+    }
 }

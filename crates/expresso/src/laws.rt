@@ -1,6 +1,6 @@
 //! What follows from the definitions alone.
 
-ghost use Rattle.std.specs.Prelude.{◌≡◌, ℕ, List, Option, Some, length};
+ghost use Rattle.std.specs.Prelude.{◌≡◌, ℕ, Bool, List, Option, Some, length};
 ghost use Rattle.mon_tree.specs.declared.tree.MonitorTree.{MonitorTree};
 ghost use Rattle.mon_monitor.specs.MonitorParts.{MonitorParts};
 ghost use Rattle.mon_implicit.specs.declared.script.Client.{Client};
@@ -24,8 +24,8 @@ ghost use Rattle.expresso.specs.Placements.{CountsNothing, IsPlacement};
 ghost use Rattle.expresso.specs.PrintedReports.{AreRunAndReport, IsPrintedReport};
 ghost use Rattle.expresso.specs.Simulations.{IsSimulation};
 
-use mon_code::printed_code_loses_none;
-use mon_events::{legal_logs_run, no_wakeup_is_lost};
+use mon_code::counted_code_loses_none;
+use mon_events::counting_loses_no_wakeup;
 use mon_place::one_exact_plan;
 use mon_recheck::printed_reports_are_accepted;
 use mon_simulate::{one_drawn_log, one_log_by_rounds};
@@ -126,8 +126,9 @@ pub fn runs_are_reported()
 }
 
 /// What `recheck` accepts, and what `audit` calls lawful, loses no wake-up: the bytes of the one
-/// file are a monitor's, those of the other are of a plan that fits it and is lawful, and whatever
-/// clients call that fits the monitor, no wake-up of them is lost under the plan.
+/// file are a monitor's, those of the other are of a plan that fits it and is lawful, with
+/// `--count` by counting, and whatever clients call that fits the monitor, no wake-up of them is
+/// lost under the plan.
 pub fn checked_plans_lose_no_wakeup()
     ensures reports { (held : List ℕ → Option (List ℕ))
         (monitor_file report_file text monitor_bytes report_bytes : List ℕ)
@@ -135,12 +136,11 @@ pub fn checked_plans_lose_no_wakeup()
         → IsDoneText held (recheck monitor_file report_file) text
         → IsSafeReport monitor_bytes report_bytes }
     ensures plans { (held : List ℕ → Option (List ℕ))
-        (monitor_file plan_file text monitor_bytes plan_bytes : List ℕ)
+        (monitor_file plan_file text monitor_bytes plan_bytes : List ℕ) (count : Bool)
         → held monitor_file ≡ Some monitor_bytes → held plan_file ≡ Some plan_bytes
-        → IsDoneText held (audit monitor_file plan_file) text
-        → IsSafePlan monitor_bytes plan_bytes }
+        → IsDoneText held (audit monitor_file plan_file count) text
+        → IsSafePlan count monitor_bytes plan_bytes }
 {
-    no_wakeup_is_lost();
-    legal_logs_run();
-    printed_code_loses_none();
+    counting_loses_no_wakeup();
+    counted_code_loses_none();
 }

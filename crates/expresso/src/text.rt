@@ -69,7 +69,7 @@ pub(crate) fn show_usage<S: Sink>(out: &mut S) -> Status
             b"expresso report FILE\n",
             b"expresso recheck FILE REPORT\n",
             b"expresso block FILE CLIENTS [--count]\n",
-            b"expresso audit FILE PLAN\n",
+            b"expresso audit FILE PLAN [--count]\n",
             b"expresso explain FILE\n",
             b"expresso emit FILE\n",
         ],
@@ -199,6 +199,7 @@ fn audit_status(finding: Finding) -> Status
         Finding::Start { .. } => Status::Refused,
         Finding::Kind { .. } => Status::Refused,
         Finding::Unproved { .. } => Status::Refused,
+        Finding::Uncounted { .. } => Status::Refused,
     }
 }
 

@@ -62,7 +62,11 @@ pub(crate) fn work<'a, F: Files, S: Sink>(
         Command::Recheck { monitor, report } => {
             Ok(recheck_files(alloc, monitor, report, files, out))
         }
-        Command::Audit { monitor, plan } => Ok(audit_files(alloc, monitor, plan, files, out)),
+        Command::Audit {
+            monitor,
+            plan,
+            count,
+        } => Ok(audit_files(alloc, monitor, plan, count, files, out)),
         Command::Explain { monitor } => Ok(explain_file(alloc, monitor, files, out)),
         Command::Emit { monitor } => Ok(emit_file(alloc, monitor, files, out)),
         Command::Run { .. } => Err(command),

@@ -103,6 +103,12 @@ block_found given monitor clients choice rounds no_workers no_relay chosen_is =
     let unused = schedule_unused given rounds in
     λ i. cond ((unused i || is_some (no_workers i)) || no_relay i) None (Some (block monitor clients (chosen_is i)))
 
+audit_found : (given : Given) (monitor plan_file : Text) (count : Bool) → HasNoSchedule given → given.workers ≡ None → given.relay ≡ false → given.count ≡ count
+    → counted_if given (audit monitor plan_file given.count) ≡ Some (audit monitor plan_file count)
+audit_found given monitor plan_file count rounds no_workers no_relay count_is =
+    let unused = schedule_unused given rounds in
+    λ i. cond ((unused i || is_some (no_workers i)) || no_relay i) None (Some (audit monitor plan_file (count_is i)))
+
 compile_found : (given : Given) (monitor : Text) (choice : PlanChoice) → HasNoSchedule given → given.workers ≡ None → choice_in given ≡ choice
     → compile_if given monitor ≡ Some (compile monitor choice)
 compile_found given monitor choice rounds no_workers chosen_is =
@@ -147,7 +153,7 @@ pair_named name given monitor clients =
     (cond (bytes_eq name (codes "run")) (run_if given monitor clients)
     (cond (bytes_eq name (codes "recheck")) (plain_if given (recheck monitor clients))
     (cond (bytes_eq name (codes "block")) (counted_if given (block monitor clients (choice_in given)))
-    (cond (bytes_eq name (codes "audit")) (plain_if given (audit monitor clients)) None)))))
+    (cond (bytes_eq name (codes "audit")) (counted_if given (audit monitor clients given.count)) None)))))
 
 single_found : (given : Given) (name value : Text) (command : Command) → given.command ≡ name → given.values ≡ value ∷ []
     → single_named name given value ≡ Some command → command_if given ≡ Some command
@@ -172,7 +178,9 @@ command_found given (recheck m r) asks = pair_found given (codes "recheck") m r 
 command_found given (block m c p) asks =
     let (rounds, no_workers, no_relay, chosen_is) = asks.has_options in
     pair_found given (codes "block") m c (block m c p) asks.name asks.has_values (block_found given m c p rounds no_workers no_relay chosen_is)
-command_found given (audit m p) asks = pair_found given (codes "audit") m p (audit m p) asks.name asks.has_values (plain_found given (audit m p) asks.has_options)
+command_found given (audit m p n) asks =
+    let (rounds, no_workers, no_relay, count_is) = asks.has_options in
+    pair_found given (codes "audit") m p (audit m p n) asks.name asks.has_values (audit_found given m p n rounds no_workers no_relay count_is)
 command_found given (turns m c) asks = pair_found given (codes "turns") m c (turns m c) asks.name asks.has_values (plain_found given (turns m c) asks.has_options)
 command_found given (simulate m c s p) asks =
     let (is, no_workers, chosen_is) = asks.has_options in
@@ -205,6 +213,18 @@ block_asks given monitor clients found name values e =
     let (settings, no_relay) = neither (has_settings given) given.relay unused in
     let (rounds, no_workers) = neither (has_schedule given) (is_some given.workers) settings in
     subst (Asks given) (same_Some (block monitor clients (choice_in given)) found same) (record {
+      name = name;
+      has_values = values;
+      has_options = (no_schedule given rounds, none_given given.workers no_workers, no_relay, refl);
+    })
+
+audit_asks : (given : Given) (monitor plan_file : Text) (found : Command) → given.command ≡ codes "audit" → given.values ≡ monitor ∷ plan_file ∷ []
+    → counted_if given (audit monitor plan_file given.count) ≡ Some found → Asks given found
+audit_asks given monitor plan_file found name values e =
+    let (unused, same) = cond_second (has_settings given || given.relay) (Some (audit monitor plan_file given.count)) found e in
+    let (settings, no_relay) = neither (has_settings given) given.relay unused in
+    let (rounds, no_workers) = neither (has_schedule given) (is_some given.workers) settings in
+    subst (Asks given) (same_Some (audit monitor plan_file given.count) found same) (record {
       name = name;
       has_values = values;
       has_options = (no_schedule given rounds, none_given given.workers no_workers, no_relay, refl);
@@ -298,9 +318,7 @@ pair_asks given monitor clients found values e =
     (λ no_recheck later. chosen (bytes_eq given.command (codes "block")) _ _ found later
     (λ is made. block_asks given monitor clients found (named given (codes "block") is) values made)
     (λ no_block last. chosen (bytes_eq given.command (codes "audit")) _ _ found last
-    (λ is made.
-    let (unused, same) = plain_is given (audit monitor clients) found made in
-    subst (Asks given) same (record { name = named given (codes "audit") is; has_values = values; has_options = unused }))
+    (λ is made. audit_asks given monitor clients found (named given (codes "audit") is) values made)
     (λ no_audit none. absurd (none-some found none)))))))
 
 values_ask : (given : Given) (values : List Text) (found : Command) → given.values ≡ values → command_of_values given values ≡ Some found → Asks given found

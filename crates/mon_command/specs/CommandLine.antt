@@ -35,8 +35,9 @@ pub data Command : Type 0 where
   -- runs the clients of the second file on the monitor of the first, under such a plan, by a caller
   -- for each client
   block : List ℕ → List ℕ → PlanChoice → Command
-  -- says whether a plan, the second file, is lawful for the monitor of the first
-  audit : List ℕ → List ℕ → Command
+  -- says whether a plan, the second file, is lawful for the monitor of the first, or with `--count`
+  -- whether it is so by counting
+  audit : List ℕ → List ℕ → Bool → Command
   -- compiles a monitor to a plan, and shows why each thing stands that costs something
   explain : List ℕ → Command
   -- compiles a monitor to a plan, and prints it under that plan as a module of Rust
@@ -164,7 +165,7 @@ name_of (stress number workers) = codes "stress"
 name_of (report monitor) = codes "report"
 name_of (recheck monitor report_file) = codes "recheck"
 name_of (block monitor clients choice) = codes "block"
-name_of (audit monitor plan_file) = codes "audit"
+name_of (audit monitor plan_file count) = codes "audit"
 name_of (explain monitor) = codes "explain"
 name_of (emit monitor) = codes "emit"
 
@@ -180,7 +181,7 @@ HasValues values (stress number workers) =
 HasValues values (report monitor) = values ≡ monitor ∷ []
 HasValues values (recheck monitor report_file) = values ≡ monitor ∷ report_file ∷ []
 HasValues values (block monitor clients choice) = values ≡ monitor ∷ clients ∷ []
-HasValues values (audit monitor plan_file) = values ≡ monitor ∷ plan_file ∷ []
+HasValues values (audit monitor plan_file count) = values ≡ monitor ∷ plan_file ∷ []
 HasValues values (explain monitor) = values ≡ monitor ∷ []
 HasValues values (emit monitor) = values ≡ monitor ∷ []
 
@@ -194,7 +195,7 @@ abbrev pub HasNoOptions : Given → Type 0
 HasNoOptions given = HasNoSchedule given × (given.workers ≡ None) × HasNoChoice given
 
 -- the options are the command's own: a schedule for `simulate`, workers for `run` and `stress`,
--- `--relay` for `compile`, `simulate` and `run`, and `--count` for these and `block`
+-- `--relay` for `compile`, `simulate` and `run`, and `--count` for these, `block` and `audit`
 abbrev pub HasOptions : Given → Command → Type 0
 HasOptions given (check monitor) = HasNoOptions given
 HasOptions given (turns monitor clients) = HasNoOptions given
@@ -212,7 +213,8 @@ HasOptions given (recheck monitor report_file) = HasNoOptions given
 HasOptions given (block monitor clients choice) =
     HasNoSchedule given × (given.workers ≡ None) × (given.relay ≡ false)
     × (choice_in given ≡ choice)
-HasOptions given (audit monitor plan_file) = HasNoOptions given
+HasOptions given (audit monitor plan_file count) =
+    HasNoSchedule given × (given.workers ≡ None) × (given.relay ≡ false) × (given.count ≡ count)
 HasOptions given (explain monitor) = HasNoOptions given
 HasOptions given (emit monitor) = HasNoOptions given
 
@@ -243,7 +245,7 @@ files_of (stress number workers) = []
 files_of (report monitor) = monitor ∷ []
 files_of (recheck monitor report_file) = monitor ∷ report_file ∷ []
 files_of (block monitor clients choice) = monitor ∷ clients ∷ []
-files_of (audit monitor plan_file) = monitor ∷ plan_file ∷ []
+files_of (audit monitor plan_file count) = monitor ∷ plan_file ∷ []
 files_of (explain monitor) = monitor ∷ []
 files_of (emit monitor) = monitor ∷ []
 

@@ -86,11 +86,12 @@ fn pair_asked<'a>(given: &Given<'a>, monitor: &'a str, other: &'a str) -> Option
             },
         )
     } else if given.command == "audit" {
-        plain_asked(
+        counted_asked(
             given,
             Command::Audit {
                 monitor,
                 plan: other,
+                count: given.count,
             },
         )
     } else {

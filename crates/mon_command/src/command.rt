@@ -65,10 +65,12 @@ pub enum Command<'a> {
         clients: &'a str,
         choice: PlanChoice,
     },
-    /// Says whether a plan that is written by hand is lawful for the monitor of another file.
+    /// Says whether a plan that is written by hand is lawful for the monitor of another file, or
+    /// where signals may be counted, lawful by counting.
     Audit {
         monitor: &'a str,
         plan: &'a str,
+        count: bool,
     },
     /// Compiles a monitor to a plan, with a state that shows why each thing stands that costs
     /// something.

@@ -1,11 +1,11 @@
 -- What is said of the bytes of a plan's file.
-use Rattle.std.specs.Prelude.{◌⊎◌, ℕ, List, Option, Some, None}
+use Rattle.std.specs.Prelude.{◌⊎◌, ℕ, Bool, List, Option, Some, None}
 use Rattle.mon_io.specs.Outside.{SinkSeen}
 use Rattle.mon_monitor.specs.MonitorParts.{MonitorParts}
 use Rattle.mon_recheck.specs.Readings.{IsPlanRead}
 use Rattle.mon_audit.specs.declared.finding.Finding.{Finding}
 use Rattle.mon_audit.specs.declared.finding.Finding.TheVariants as findings
-use Rattle.mon_audit.specs.Findings.{IsFinding}
+use Rattle.mon_audit.specs.CountedFindings.{IsFindingBy}
 use Rattle.mon_audit.specs.FindingText.{finding_text}
 use Rattle.mon_text.specs.FaultText.{not_plan_text}
 use Rattle.expresso.specs.declared.audit.Found.{Found}
@@ -14,11 +14,12 @@ use Rattle.expresso.specs.declared.status.Status.TheVariants as statuses
 use Rattle.expresso.specs.PlanFiles.{IsLawfulLine, IsPlanRefusalLine}
 use Rattle.expresso.specs.inner.Ending.{IsTurnedAway, IsWritten}
 
--- the plan that the bytes are, and what is found of it; they are none
-abbrev pub IsFound : MonitorParts → List ℕ → Option Found → Type 0
-IsFound monitor bytes (Some found) =
-    IsPlanRead monitor bytes (Some found.plan) × IsFinding monitor found.plan found.finding
-IsFound monitor bytes None = IsPlanRead monitor bytes None
+-- the plan that the bytes are, and what is found of it, where signals may be counted or not; they
+-- are none
+abbrev pub IsFound : Bool → MonitorParts → List ℕ → Option Found → Type 0
+IsFound count monitor bytes (Some found) =
+    IsPlanRead monitor bytes (Some found.plan) × IsFindingBy count monitor found.plan found.finding
+IsFound count monitor bytes None = IsPlanRead monitor bytes None
 
 -- the status of a finding
 abbrev pub audit_status : Finding → Status
@@ -35,8 +36,9 @@ found_text monitor file (Some found) = finding_text monitor found.plan found.fin
 found_text monitor file None = not_plan_text file
 
 -- the file was turned away, or its plan is lawful and the line that says so was written
-abbrev pub IsAuditDone : MonitorParts → List ℕ → List ℕ → Status → SinkSeen → SinkSeen → Type 0
-IsAuditDone monitor file bytes result out out_now =
-    IsTurnedAway (IsPlanRefusalLine monitor file bytes) result out out_now
-    ⊎ ((text : List ℕ) × IsLawfulLine monitor bytes text
+abbrev pub IsAuditDone : Bool → MonitorParts → List ℕ → List ℕ → Status → SinkSeen → SinkSeen
+    → Type 0
+IsAuditDone count monitor file bytes result out out_now =
+    IsTurnedAway (IsPlanRefusalLine count monitor file bytes) result out out_now
+    ⊎ ((text : List ℕ) × IsLawfulLine count monitor bytes text
     × IsWritten statuses.Done text result out out_now)

@@ -102,7 +102,8 @@ pair_if given monitor other =
     (cond (bytes_eq given.command (codes "recheck")) (plain_if given (recheck monitor other))
     (cond (bytes_eq given.command (codes "block"))
     (counted_if given (block monitor other (choice_in given)))
-    (cond (bytes_eq given.command (codes "audit")) (plain_if given (audit monitor other))
+    (cond (bytes_eq given.command (codes "audit"))
+    (counted_if given (audit monitor other given.count))
     None)))))
 
 -- the command that these values ask for

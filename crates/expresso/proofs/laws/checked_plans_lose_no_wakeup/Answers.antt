@@ -3,16 +3,18 @@ use Rattle.expresso.proofs.laws.checked_plans_lose_no_wakeup.Goals as goal
 
 pub returns-clause-reports : goal.returns-clause-reports
 returns-clause-reports c = safe_report (record {
-  pending = c.no_wakeup_is_lost.ensures.pending;
-  ends = c.no_wakeup_is_lost.ensures.ends;
-  closed = c.legal_logs_run.ensures.ends;
-  threads = c.printed_code_loses_none.ensures;
+  lawful = c.counting_loses_no_wakeup.ensures.lawful;
+  pending = c.counting_loses_no_wakeup.ensures.pending;
+  ends = c.counting_loses_no_wakeup.ensures.ends;
+  closed = c.counting_loses_no_wakeup.ensures.closed;
+  threads = c.counted_code_loses_none.ensures.printed;
 })
 
 pub returns-clause-plans : goal.returns-clause-plans
 returns-clause-plans c = safe_plan (record {
-  pending = c.no_wakeup_is_lost.ensures.pending;
-  ends = c.no_wakeup_is_lost.ensures.ends;
-  closed = c.legal_logs_run.ensures.ends;
-  threads = c.printed_code_loses_none.ensures;
+  lawful = c.counting_loses_no_wakeup.ensures.lawful;
+  pending = c.counting_loses_no_wakeup.ensures.pending;
+  ends = c.counting_loses_no_wakeup.ensures.ends;
+  closed = c.counting_loses_no_wakeup.ensures.closed;
+  threads = c.counted_code_loses_none.ensures.printed;
 })
