@@ -137,7 +137,7 @@ impl JobGate {
 
     /// Does not wait.
     ///
-    /// Wakes all calls that wait until `used < CAP || !open`.
+    /// Wakes one call that waits until `used < CAP || !open`.
     ///
     /// # Errors
     ///
@@ -148,7 +148,7 @@ impl JobGate {
         let copy = *inner;
         drop(inner);
         if copy.asleep_reserve > 0 {
-            self.can_reserve.notify_all();
+            self.can_reserve.notify_one();
         }
         Ok(())
     }
