@@ -1,4 +1,4 @@
-//! Tests of counted plans, each beside what is not counted.
+//! Tests of counted plans, each beside what is not counted, and of their reports.
 //!
 //! There are only tests. Every answer was worked out by hand from the rules of plans and of
 //! counting.
@@ -6,3 +6,5 @@
 
 #[cfg(test)]
 mod plans;
+#[cfg(test)]
+mod reports;

@@ -1,0 +1,115 @@
+//! Counted reports, read and checked.
+
+use mon_monitor::Monitor;
+use mon_recheck::Verdict;
+use mon_tally::{read_counted_report, recheck_counted};
+use samples::checked;
+use std::alloc::{AllocError, Global};
+use std::test::Fail;
+
+const BUFFER: &[u8] = b"monitor Buffer {
+  const CAP = 4;
+  int count = 0;
+  method put() waituntil (count < CAP) {
+    count = count + 1;
+  }
+  method get() waituntil (count > 0) {
+    count = count - 1;
+  }
+}
+";
+
+// The plan, and the claims that it rests on: none that one waiter is enough, since both conditions
+// are counted. These lines are 1 to 15.
+const CLAIMS: &[u8] = b"plan Buffer
+keep count >= 0
+keep count <= 4
+condition 1 signal: count < CAP
+condition 2 signal: count > 0
+block put: 2 signal
+block get: 1 signal
+proof keep count >= 0 put: split 1 chain 1 0 1 3 1
+proof keep count >= 0 get: split 1 chain 1 3 1 2 1
+proof keep count <= 4 put: split 1 chain 1 2 1 3 1
+proof keep count <= 4 get: split 1 chain 1 1 1 3 1
+proof none put 1: chain 1 2 1 3 1
+proof none get 2: chain 1 3 1 2 1
+proof untested put 2: split 1 chain 1 0 1 4 1
+proof untested get 1: split 1 chain 1 1 1 4 1
+";
+
+// Lines 16 and 17.
+const FIRST_PUT: &[u8] =
+    b"proof counts 1 put: split 1 split 3 split 0 chain 1 7 1 6 1 chain 1 7 1 5 1\n";
+
+const FIRST_GET: &[u8] =
+    b"proof gives 1 get: split 1 split 3 split 0 chain 1 1 1 7 1 chain 1 7 1 5 1\n";
+
+// Lines 18 to 21.
+const OTHERS: &[u8] = b"proof first 1 get: split 1 split 2 split 0 chain 1 5 1 3 1
+proof gives 2 put: split 1 split 3 split 0 chain 1 7 1 3 1 chain 1 5 1 7 1
+proof first 2 put: split 1 split 2 split 0 chain 1 3 1 5 1
+proof counts 2 get: split 1 split 3 split 0 chain 1 7 1 6 1 chain 1 5 1 7 1
+";
+
+/// The verdict on the report that the bytes are, and nothing where they are none.
+fn verdict_of(
+    alloc: Global,
+    monitor: &Monitor,
+    bytes: &[u8],
+) -> Result<Option<Verdict>, AllocError> {
+    match read_counted_report(alloc, monitor, bytes)? {
+        Some(report) => Ok(Some(recheck_counted(alloc, monitor, &report)?)),
+        None => Ok(None),
+    }
+}
+
+/// The text of a report of these parts.
+fn joined(alloc: Global, put: &[u8], get: &[u8]) -> Result<Vec<u8>, AllocError> {
+    let mut text = Vec::from_slice(alloc, CLAIMS)?;
+    text.extend_from_slice(put)?;
+    text.extend_from_slice(get)?;
+    text.extend_from_slice(OTHERS)?;
+    Ok(text)
+}
+
+/// The verdict on the report of these parts.
+fn judged(alloc: Global, put: &[u8], get: &[u8]) -> Option<Option<Verdict>> {
+    let monitor = checked(alloc, BUFFER)?;
+    let text = joined(alloc, put, get).ok()?;
+    verdict_of(alloc, &monitor, &text).ok()
+}
+
+#[test]
+fn a_counted_report_is_accepted(rt: HostRuntime) {
+    let all = Some(Some(Verdict::Accepted { claims: 14 }));
+    assert_eq!(rt; judged(rt.alloc(), FIRST_PUT, FIRST_GET), all);
+}
+
+#[test]
+fn a_changed_certificate_of_a_question_is_rejected_by_its_line(rt: HostRuntime) {
+    let changed = b"proof gives 1 get: split 1 split 3 split 0 chain 1 1 1 7 1 chain 1 7 1 6 1\n";
+    let line = Some(Some(Verdict::Unproved { line: 17 }));
+    assert_eq!(rt; judged(rt.alloc(), FIRST_PUT, changed), line);
+}
+
+#[test]
+fn a_report_without_a_question_is_none(rt: HostRuntime) {
+    assert_eq!(rt; judged(rt.alloc(), FIRST_PUT, b""), Some(None));
+}
+
+// Condition 1 has no note in `put`, so `counts` is owed of it, and `gives` won't do.
+#[test]
+fn a_report_with_another_question_or_block_is_none(rt: HostRuntime) {
+    let gives = b"proof gives 1 put: split 1 split 3 split 0 chain 1 7 1 6 1 chain 1 7 1 5 1\n";
+    assert_eq!(rt; judged(rt.alloc(), gives, FIRST_GET), Some(None));
+    let other = b"proof counts 1 get: split 1 split 3 split 0 chain 1 7 1 6 1 chain 1 7 1 5 1\n";
+    assert_eq!(rt; judged(rt.alloc(), other, FIRST_GET), Some(None));
+}
+
+// A claim that one waiter is enough stands before the questions, and none is owed of condition 1.
+#[test]
+fn a_report_that_says_that_one_is_enough_is_none(rt: HostRuntime) {
+    let one = b"proof one 1 put: split 1 chain 1 2 1 3 1\n";
+    assert_eq!(rt; judged(rt.alloc(), one, FIRST_GET), Some(None));
+}
