@@ -7,7 +7,7 @@ use mon_monitor::Monitor;
 use mon_place::place;
 use mon_text::write_plan;
 use samples::checked;
-use std::alloc::Global;
+use std::alloc::{AllocError, Global};
 use std::test::Fail;
 
 /// Whether the text of the plan is this.
@@ -29,12 +29,19 @@ fn counts_to(alloc: Global, text: &[u8], plan: &[u8]) -> Option<bool> {
     Some(is_text_of(alloc, &monitor, &counted.plan, plan))
 }
 
-/// Whether the counted plan of the monitor of a text has this text where the rest is relayed.
+/// The counted plan of a monitor where the rest is relayed.
+fn counted_and_relayed(alloc: Global, monitor: &Monitor) -> Result<Plan, AllocError> {
+    let _blocks = monitor.blocks();
+    let placed = place(alloc, monitor)?;
+    let counted = count_plan(alloc, monitor, &placed.plan)?;
+    let relayed = relay_uncounted(alloc, monitor, &placed.plan, &counted)?;
+    Ok(relayed)
+}
+
+/// Whether that plan of the monitor of a text has this text.
 fn relays_the_rest_to(alloc: Global, text: &[u8], plan: &[u8]) -> Option<bool> {
     let monitor = checked(alloc, text)?;
-    let placed = place(alloc, &monitor).ok()?;
-    let counted = count_plan(alloc, &monitor, &placed.plan).ok()?;
-    let relayed = relay_uncounted(alloc, &monitor, &placed.plan, &counted).ok()?;
+    let relayed = counted_and_relayed(alloc, &monitor).ok()?;
     Some(is_text_of(alloc, &monitor, &relayed, plan))
 }
 
