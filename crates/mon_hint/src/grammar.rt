@@ -210,7 +210,7 @@ fn pairs<'a>(place: &Around<'a>) -> Option<Hint<'a>> {
         Some(Hint::of(b"a local has a type: `local int x = 0;`"))
     } else if is(here, "local") && is_type(place.text(place.index.saturating_add(1))) {
         Some(Hint::of(b"locals stand between the inputs and the first `waituntil`"))
-    } else if !is(before, "(") && !is(before, ",") && is_type(here) && !is_type(before) {
+    } else if is_type(here) && (is(before, ";") || is(before, "{") || is(before, "}")) {
         Some(Hint::of(b"fields stand ahead of the methods, locals ahead of `waituntil`"))
     } else if is_asked(before) && !is(here, "(") {
         Some(Hint::quoting(
