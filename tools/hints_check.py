@@ -162,6 +162,8 @@ for piece, instead, place, wanted in MONITORS:
 for text, place, wanted in CLIENTS:
     write("bad.cl", text)
     check_file(text, ["turns", "m.mon", "bad.cl"], place, wanted)
+# of the plan every line is right where a call puts one
+write("m.mon", BUFFER.replace("put(int n)", "put()").replace("count + n", "count + 1"))
 write("good.plan", PLAN)
 status, out, hints = run(["audit", "m.mon", "good.plan"])
 if status != 0 or hints:
