@@ -7,7 +7,7 @@ use mon_base::KEYWORDS;
 use mon_tokens::TokenKind;
 
 /// What is said of signs that other languages have.
-const WRONG_SIGNS: [(&[u8], &[u8]); 9] = [
+const WRONG_SIGNS: [(&[u8], &[u8]); 10] = [
     (b"+=", b"there is no `+=`: write `count = count + 1;`"),
     (b"-=", b"there is no `-=`: write `count = count - 1;`"),
     (b"*=", b"there is no `*=`: write `count = count * 2;`"),
@@ -17,13 +17,17 @@ const WRONG_SIGNS: [(&[u8], &[u8]); 9] = [
     (b"=<", b"at most is written `<=`"),
     (b"=!", b"differs is written `!=`"),
     (
+        b"->",
+        b"nobody declares what a method answers: `return` says it",
+    ),
+    (
         b"*/",
         b"a comment begins with `//` and ends with its line: there is no `/* */`",
     ),
 ];
 
 /// What is said of words that other languages have.
-const WRONG_WORDS: [(&[u8], &[u8]); 42] = [
+const WRONG_WORDS: [(&[u8], &[u8]); 59] = [
     (
         b"while",
         b"there is no `while`: a call waits by `waituntil`, and a client repeats",
@@ -123,6 +127,71 @@ const WRONG_WORDS: [(&[u8], &[u8]); 42] = [
         b"nobody writes signals: Expresso finds whom a body has to wake",
     ),
     (
+        b"private",
+        b"nothing stands ahead of a field's type or of `method`",
+    ),
+    (
+        b"public",
+        b"nothing stands ahead of a field's type or of `method`",
+    ),
+    (
+        b"protected",
+        b"nothing stands ahead of a field's type or of `method`",
+    ),
+    (
+        b"static",
+        b"nothing stands ahead of a field's type or of `method`",
+    ),
+    (
+        b"final",
+        b"nothing stands ahead of a field's type or of `method`",
+    ),
+    (
+        b"pub",
+        b"nothing stands ahead of a field's type or of `method`",
+    ),
+    (
+        b"synchronized",
+        b"nothing stands ahead of a field's type or of `method`",
+    ),
+    (
+        b"elif",
+        b"there is no `elif`: write `else { if (..) { .. } }`",
+    ),
+    (
+        b"elseif",
+        b"there is no `elseif`: write `else { if (..) { .. } }`",
+    ),
+    (
+        b"elsif",
+        b"there is no `elsif`: write `else { if (..) { .. } }`",
+    ),
+    (b"pass", b"a body that does nothing is empty: `{ }`"),
+    (
+        b"throw",
+        b"there are no exceptions: a call waits until its guard holds",
+    ),
+    (
+        b"raise",
+        b"there are no exceptions: a call waits until its guard holds",
+    ),
+    (
+        b"waitUntil",
+        b"a guard is written `waituntil (..)`, in small letters",
+    ),
+    (
+        b"WaitUntil",
+        b"a guard is written `waituntil (..)`, in small letters",
+    ),
+    (
+        b"wait_until",
+        b"a guard is written `waituntil (..)`, in small letters",
+    ),
+    (
+        b"when",
+        b"a guard is written `waituntil (..)`, in small letters",
+    ),
+    (
         b"wait",
         b"a call waits by its guard: `waituntil (..) { .. }`",
     ),
@@ -132,6 +201,8 @@ const WRONG_WORDS: [(&[u8], &[u8]); 42] = [
 pub(crate) fn monitor_hint<'a>(place: &Around<'a>) -> Option<Hint<'a>> {
     monitor_start(place)
         .or(foreign(place))
+        .or(braces(place))
+        .or(answers(place))
         .or(pairs(place))
         .or(reserved(place))
         .or(declaration(place))
@@ -145,7 +216,9 @@ pub(crate) fn monitor_hint<'a>(place: &Around<'a>) -> Option<Hint<'a>> {
 /// What is likely wrong where the grammar of clients stops.
 pub(crate) fn clients_hint<'a>(place: &Around<'a>) -> Option<Hint<'a>> {
     clients_start(place)
+        .or(calls(place))
         .or(foreign(place))
+        .or(braces(place))
         .or(repetition(place))
         .or(reserved(place))
         .or(argument(place))
@@ -192,6 +265,48 @@ fn foreign<'a>(place: &Around<'a>) -> Option<Hint<'a>> {
     }
     let said = said_of(&WRONG_WORDS, place.before(1))?;
     Some(Hint::of(said))
+}
+
+/// A `;` behind a brace.
+fn braces<'a>(place: &Around<'a>) -> Option<Hint<'a>> {
+    if is(place.before(1), "}") && is(place.here(), ";") {
+        return Some(Hint::of(b"no `;` stands behind `}`"));
+    }
+    None
+}
+
+/// What a method answers, in its header, and signs of two characters that are no sign here.
+fn answers<'a>(place: &Around<'a>) -> Option<Hint<'a>> {
+    if is(place.before(1), "method") && is_type(place.here()) {
+        return Some(Hint::of(b"nobody declares what a method answers: `return` says it"));
+    }
+    if is(place.before(1), "<") && is(place.here(), ">") {
+        return Some(Hint::of(b"differs is written `!=`"));
+    }
+    None
+}
+
+/// What a client writes that only calls.
+fn calls<'a>(place: &Around<'a>) -> Option<Hint<'a>> {
+    let before = place.before(1);
+    let here = place.here();
+    if is(here, "=") {
+        return Some(Hint::of(b"a client only calls, as `get();`: the log has what is answered"));
+    }
+    if is(before, "try") && is(here, "{") {
+        return Some(Hint::of(b"a call that tries is written `try get();`"));
+    }
+    if is(here, ";") && begins_statement(place.before(2)) {
+        return Some(Hint::quoting(
+            b"a call has parentheses: `()` is missing behind ",
+            before,
+            b"",
+        ));
+    }
+    if is(before, ")") && is(here, "{") {
+        return Some(Hint::of(b"a client only calls and repeats, as `repeat 3 { get(); }`"));
+    }
+    None
 }
 
 /// Two tokens that never stand beside each other.
@@ -254,7 +369,8 @@ fn reserved<'a>(place: &Around<'a>) -> Option<Hint<'a>> {
     if !is_reserved(here) {
         return None;
     }
-    if is_naming(place.before(1)) || is(next, "=") || begins_value(place.before(1)) {
+    let is_value = begins_value(place.before(1)) && !is(here, "true") && !is(here, "false");
+    if is_naming(place.before(1)) || is(next, "=") || is_value {
         return Some(Hint::quoting(b"", here, b" is a reserved word, and no name"));
     }
     None
@@ -285,6 +401,9 @@ fn declaration<'a>(place: &Around<'a>) -> Option<Hint<'a>> {
     }
     if is(place.before(1), "=") && is_declared(place.before(3)) {
         return Some(begun(place.before(3), here));
+    }
+    if is(place.before(2), "=") && is_declared(place.before(4)) && is(here, ",") {
+        return Some(Hint::of(b"each field has a type and a value of its own: `int a = 0;`"));
     }
     if is(place.before(2), "=") && is_declared(place.before(4)) && is_sum(here) {
         return Some(Hint::of(b"only one number may stand here, and no sum"));

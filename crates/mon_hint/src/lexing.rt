@@ -1,11 +1,12 @@
 //! Hints of places where no token starts.
 
+use crate::around::Around;
 use crate::hint::Hint;
-use crate::near::said_at_front;
+use crate::near::{is, said_at_front};
 use mon_base::is_word_byte;
 
 /// What is said of signs that no token begins with.
-const FOREIGN_SIGNS: [(&[u8], &[u8]); 20] = [
+const FOREIGN_SIGNS: [(&[u8], &[u8]); 22] = [
     (
         b"/*",
         b"a comment begins with `//` and ends with its line: there is no `/* */`",
@@ -20,6 +21,11 @@ const FOREIGN_SIGNS: [(&[u8], &[u8]); 20] = [
     (b"%", b"there is no remainder: sums have `+`, `-` and `*`"),
     (b"^", b"there is no `^`: sums have `+`, `-` and `*`"),
     (b"#", b"a comment begins with `//`, not with `#`"),
+    (b":=", b"`=` assigns; `==` compares"),
+    (
+        b"::",
+        b"a call has the name of its method alone, as `get();`",
+    ),
     (
         b":",
         b"a type stands before its name, with no `:`, as in `int count = 0;`",
@@ -56,7 +62,20 @@ const FOREIGN_SIGNS: [(&[u8], &[u8]); 20] = [
 ];
 
 /// What is likely wrong where no token starts.
-pub(crate) fn lexing_hint<'a>(rest: &'a [u8]) -> Option<Hint<'a>> {
+pub(crate) fn lexing_hint<'a>(place: &Around<'a>) -> Option<Hint<'a>> {
+    if is(place.rest().get(..1).unwrap_or(b""), ":") {
+        if is(place.before(2), "const") {
+            return Some(Hint::of(b"a constant has no type: `const CAP = 1;`"));
+        }
+        if is(place.before(2), "monitor") || is(place.before(2), "client") {
+            return Some(Hint::quoting(b"expected `{` after ", place.before(1), b""));
+        }
+    }
+    sign_hint(place.rest())
+}
+
+/// What is likely wrong of the bytes with which no token starts.
+fn sign_hint<'a>(rest: &'a [u8]) -> Option<Hint<'a>> {
     if let Some(said) = said_at_front(&FOREIGN_SIGNS, rest) {
         return Some(Hint::of(said));
     }

@@ -79,7 +79,7 @@ fn monitor_fault_hint<'a>(
 ) -> Option<Hint<'a>> {
     let place = Around::new(bytes, tokens, fault.at);
     match fault.what {
-        Refusal::Lex => lexing_hint(place.rest()),
+        Refusal::Lex => lexing_hint(&place),
         Refusal::Syntax => monitor_hint(&place),
         what => rule_hint(what, &place, &place),
     }
@@ -95,7 +95,7 @@ fn clients_fault_hint<'a>(
 ) -> Option<Hint<'a>> {
     let place = Around::new(bytes, tokens, fault.at);
     match fault.what {
-        Refusal::Lex => lexing_hint(place.rest()),
+        Refusal::Lex => lexing_hint(&place),
         Refusal::Syntax => clients_hint(&place),
         what => rule_hint(what, &place, &Around::new(monitor, methods, 0)),
     }
