@@ -63,6 +63,17 @@ MONITORS = [
     ("int count", "const int CAP", "int CAP", "a constant has no type"),
     ("count < 4", "count => 4", "=> 4", "at least is written `>=`"),
     ("count = count + n;", "count = count + n", "}", "expected `;` after `n`"),
+    ("method get()", "method int get()", "int get", "nobody declares what a method answers"),
+    ("method get()", "method get() -> int", "-> int", "nobody declares what a method answers"),
+    ("count < 4", "count <> 4", "> 4", "differs is written `!=`"),
+    ("int count = 0", "int count := 0", ":= 0", "`=` assigns; `==` compares"),
+    ("int count = 0;", "int count = 0, more = 0;", ", more", "each field has a type and a value of its own"),
+    ("int count = 0", "private int count = 0", "private", "nothing stands ahead of a field's type"),
+    ("int count = 0", "int count = true", "true", "only a number may stand here, and not `true`"),
+    ("int count = 0", "const CAP: i64 = 4", ": i64", "a constant has no type"),
+    ("count - 1; }", "count - 1; };", ";", "no `;` stands behind `}`"),
+    ("Buffer {", "Buffer:", ":", "expected `{` after `Buffer`"),
+    ("method get() waituntil", "method get() waitUntil", "waitUntil", "a guard is written `waituntil (..)`"),
 ]
 
 # of clients: the text, what the caret's place begins with, the words of the hint
@@ -76,6 +87,11 @@ CLIENTS = [
     ("thread A { get(); }", "thread", "a client begins with `client NAME {`"),
     ("client A { get(); } client A { get(); }", "A { get(); }", "`A` names something further up already"),
     (BUFFER, "monitor", "the file of clients comes second"),
+    ("client A { get; }", "; }", "`()` is missing behind `get`"),
+    ("client A { x = get(); }", "= get()", "a client only calls"),
+    ("client A: get();", ": get()", "expected `{` after `A`"),
+    ("client A { try { get(); } }", "{ get()", "a call that tries is written `try get();`"),
+    ("client A { while (true) { get(); } }", "{ get()", "a client only calls and repeats"),
 ]
 
 # of plans: what stands in place of a piece of PLAN, the place, the words of the hint
