@@ -48,19 +48,19 @@ write_program() {
 
 ghost use Rattle.std.specs.Prelude.{◌≡◌, ◌<◌, IfSome, length};
 ghost use Rattle.std.specs.List.{All};
-ghost use Rattle.mon_implicit.specs.Scripted.{FitsScripts};
+ghost use Rattle.machine_implicit.specs.Scripted.{FitsScripts};
 
-use mon_base::Name;
-use mon_events::Outcome;
-use mon_explicit::FreeMonitor;
-use mon_implicit::{Call, Client, Scripts, are_clients, scripts_fit};
-use mon_list::Seq;
-use mon_lock::{Pass, SharedMonitor};
-use mon_monitor::Monitor;
-use mon_place::place;
-use mon_syntax::parse_monitor;
-use mon_tokens::tokens;
-use mon_types::check;
+use lang_base::Name;
+use machine_events::Outcome;
+use machine_explicit::FreeMonitor;
+use machine_implicit::{Call, Client, Scripts, are_clients, scripts_fit};
+use base_list::Seq;
+use threads_lock::{Pass, SharedMonitor};
+use lang_monitor::Monitor;
+use plan_place::place;
+use lang_syntax::parse_monitor;
+use lang_tokens::tokens;
+use lang_types::check;
 use std::alloc::{AllocError, Global};
 use std::sync::Wait;
 use std::sync::atomic::{AtomicU64, Ordering};
@@ -484,7 +484,7 @@ write_answers() {
   cat <<ANSWERS
 use denote.Param.Send.{sendable}
 use Rattle.std.proofs.Crossing.{crosses}
-use Rattle.mon_lock.proofs.Crossing.{pass_send, shared_sync}
+use Rattle.threads_lock.proofs.Crossing.{pass_send, shared_sync}
 use Rattle.lock_bench.proofs.$1.Goals as goal
 
 pub for_each_mut-requires-send-T : goal.for_each_mut-requires-send-T
@@ -498,7 +498,7 @@ ANSWERS
 # Builds the program in a workspace of its own.
 build_program() {
   local space=$work/space needed
-  needed=$(stands_on mon_lock mon_place mon_types)
+  needed=$(stands_on threads_lock plan_place lang_types)
   mkdir -p "$space/crates"
   cp "$root/HANDLES" "$space"
   for name in $needed; do

@@ -268,49 +268,49 @@ def ends_document():
 # What stands there as code, by subject: crate, file and names.
 CODE = """
 A plan is lawful
-  mon_events Plans IsLawful WakesAll EachNoteOn IsUntestedBroadcast
-  mon_monitor Triples IsInductive
+  machine_events Plans IsLawful WakesAll EachNoteOn IsUntestedBroadcast
+  lang_monitor Triples IsInductive
 What is asked of a block
-  mon_monitor Triples Keeps NoneNeeded OneEnough NoTestNeeded IsValidQuery
-  mon_monitor Bodies IsValid
-  mon_monitor Queries keeps_query none_needed_query one_enough_query no_test_query
+  lang_monitor Triples Keeps NoneNeeded OneEnough NoTestNeeded IsValidQuery
+  lang_monitor Bodies IsValid
+  lang_monitor Queries keeps_query none_needed_query one_enough_query no_test_query
 A plan is backed, and a certificate refutes
-  mon_place Backing IsBacked HasCertificate Certifies backed_claims
-  mon_cert Refutes Refutes RefutesFrom closes are_opposite chain_closes chain_goes is_absurd
+  plan_place Backing IsBacked HasCertificate Certifies backed_claims
+  logic_cert Refutes Refutes RefutesFrom closes are_opposite chain_closes chain_goes is_absurd
 A run of the implicit monitor
-  mon_implicit Runs IsRun IsRunBy IsNextCommit Ends CanAct
-  mon_implicit Places may_step IsStep IsCallStep IsRefusal
-  mon_implicit Steps IsBlockStep BlockSteps
+  machine_implicit Runs IsRun IsRunBy IsNextCommit Ends CanAct
+  machine_implicit Places may_step IsStep IsCallStep IsRefusal
+  machine_implicit Steps IsBlockStep BlockSteps
 The seven events
-  mon_events Events IsEvent Begins Locks WantsLock Waits Runs Refuses StepsInside notes_after
-  mon_events Events Notifies Wakes WakesOne WakesEach WakesNobody fires Unlocks WakesSpuriously
+  machine_events Events IsEvent Begins Locks WantsLock Waits Runs Refuses StepsInside notes_after
+  machine_events Events Notifies Wakes WakesOne WakesEach WakesNobody fires Unlocks WakesSpuriously
 A legal log, and where it ends
-  mon_events Logs IsLegal IsSection IsBegun IsNotified IsChosen IsFirstWaiter IsClosed rests
+  machine_events Logs IsLegal IsSection IsBegun IsNotified IsChosen IsFirstWaiter IsClosed rests
 No wake-up is lost
-  mon_events Pending WakePending IsStuck
+  machine_events Pending WakePending IsStuck
 Lawful by counting
-  mon_events Counts IsLawfulByCounting IsPassedOn IsCounted LeavesCounted slack
+  machine_events Counts IsLawfulByCounting IsPassedOn IsCounted LeavesCounted slack
 The placed plan, counted, and the rest relayed
-  mon_counted Counted IsCountedFrom IsLeft IsMadeSignal IsTold IsUnnoted IsNoted
-  mon_counted CountedAndRelayed IsCountedAndRelayed
+  plan_counted Counted IsCountedFrom IsLeft IsMadeSignal IsTold IsUnnoted IsNoted
+  plan_counted CountedAndRelayed IsCountedAndRelayed
 """
 # What another document says in words: of which nothing beneath is told.
 ELSEWHERE = {
-    ("mon_command", "CommandLine", "Takes"): "../README.md#commands",
-    ("mon_tokens", "Spelling", "Spells"): "RULES.md#the-grammar",
-    ("mon_syntax", "Grammar", "Derives"): "RULES.md#the-grammar",
-    ("mon_syntax", "ClientGrammar", "DerivesClients"): "RULES.md#the-grammar",
-    ("mon_rules", "Rules", "faults_of"): "RULES.md#what-is-printed-where-a-rule-is-broken",
-    ("mon_monitor", "MonitorParts", "IsMonitor"): "RULES.md",
-    ("mon_script", "Faults", "faults_of"): "RULES.md#what-is-printed-where-a-rule-is-broken",
-    ("mon_types", "Typed", "IsTyped"): "PROMISES.md#from-bytes-to-monitors-and-clients",
-    ("mon_prune", "Hardness", "MayStayOpen"): "PROMISES.md#queries-and-certificates",
-    ("mon_prune", "Hardness", "IsHard"): "PROMISES.md#queries-and-certificates",
-    ("mon_wp", "NegatedQueries", "negated_query"): "PROMISES.md#queries-and-certificates",
-    ("mon_monitor", "Candidates", "candidates_of"): "GUIDE.md#how-to-read-a-plan",
-    ("mon_place", "Relayed", "relay_of"): "ARCHITECTURE.md#the-words",
-    ("mon_events", "PlanText", "plan_text"): "GUIDE.md#how-to-read-a-plan",
-    ("mon_text", "LogText", "log_text"): "GUIDE.md#how-to-read-a-log",
+    ("front_command", "CommandLine", "Takes"): "../README.md#commands",
+    ("lang_tokens", "Spelling", "Spells"): "RULES.md#the-grammar",
+    ("lang_syntax", "Grammar", "Derives"): "RULES.md#the-grammar",
+    ("lang_syntax", "ClientGrammar", "DerivesClients"): "RULES.md#the-grammar",
+    ("lang_rules", "Rules", "faults_of"): "RULES.md#what-is-printed-where-a-rule-is-broken",
+    ("lang_monitor", "MonitorParts", "IsMonitor"): "RULES.md",
+    ("lang_script", "Faults", "faults_of"): "RULES.md#what-is-printed-where-a-rule-is-broken",
+    ("lang_types", "Typed", "IsTyped"): "PROMISES.md#from-bytes-to-monitors-and-clients",
+    ("plan_prune", "Hardness", "MayStayOpen"): "PROMISES.md#queries-and-certificates",
+    ("plan_prune", "Hardness", "IsHard"): "PROMISES.md#queries-and-certificates",
+    ("logic_wp", "NegatedQueries", "negated_query"): "PROMISES.md#queries-and-certificates",
+    ("lang_monitor", "Candidates", "candidates_of"): "GUIDE.md#how-to-read-a-plan",
+    ("plan_place", "Relayed", "relay_of"): "ARCHITECTURE.md#the-words",
+    ("machine_events", "PlanText", "plan_text"): "GUIDE.md#how-to-read-a-plan",
+    ("report_text", "LogText", "log_text"): "GUIDE.md#how-to-read-a-log",
 }
 
 

@@ -1,7 +1,7 @@
 #!/usr/bin/env python3
 """Checks editors/: the TextMate grammar, and Vim's files where Vim is installed.
 
-What a token is, is read from the sources of the lexer: the keywords from mon_base, the signs from mon_tokens. In every
+What a token is, is read from the sources of the lexer: the keywords from lang_base, the signs from lang_tokens. In every
 monitor and client file of the repository and of the rows each byte of each token has to be coloured as what it is, and
 a place at which no token starts as a fault; in examples each name by its role. So this fails where the language gains
 a keyword or a sign that the editors don't know. Vim also has to lay out monitors as the program prints them.
@@ -125,13 +125,13 @@ def spelled_in(path, table):
 
 @functools.cache
 def keywords():
-    return set(spelled_in("crates/mon_base/src/identifier.rt", r"const KEYWORDS: [^=]* = \[(.*?)\];"))
+    return set(spelled_in("crates/lang_base/src/identifier.rt", r"const KEYWORDS: [^=]* = \[(.*?)\];"))
 
 
 @functools.cache
 def signs():
     """The signs, longer ones first."""
-    return spelled_in("crates/mon_tokens/src/token.rt", r"const SIGNS: [^=]* = \[(.*?)\n\];")
+    return spelled_in("crates/lang_tokens/src/token.rt", r"const SIGNS: [^=]* = \[(.*?)\n\];")
 
 
 @functools.cache

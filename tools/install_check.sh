@@ -88,14 +88,14 @@ grep -q "^tools/install.sh \[PREFIX\] --remove " "$made/said" || fail "its help:
 same "its help"
 breaks "a file as prefix" "you may not make files in" "$installer" file
 breaks "a prefix in a file" "you may not make files in" "$installer" file/prefix
-echo mon_text >"$made/fails"
+echo report_text >"$made/fails"
 breaks "a proof that fails" "not everything was proved" "$installer" prefix
 same "a proof that fails"
 mkdir -p "$XDG_CACHE_HOME/expresso/crates/that_was/out"
 echo link >"$made/fails"
 breaks "a program that isn't built" "the program was not built" "$installer" prefix
 same "a program that isn't built"
-[ -d "$XDG_CACHE_HOME/expresso/crates/mon_list/out" ] || fail "a program that isn't built: what was proved is gone"
+[ -d "$XDG_CACHE_HOME/expresso/crates/base_list/out" ] || fail "a program that isn't built: what was proved is gone"
 [ ! -e "$XDG_CACHE_HOME/expresso/crates/that_was" ] || fail "a crate that is no longer there: its folder is left"
 : >"$made/fails"
 mv usage whole_usage
@@ -121,8 +121,8 @@ holds "a second call" "$installer" prefix
 grep -q "nothing to do" "$made/said" || fail "a second call: $(cat "$made/said")"
 [ ! -s calls ] || fail "a second call: it proves"
 same "a second call"
-echo mon_list >"$made/fails"
-printf '// changed\n' >>"$made/copy/crates/mon_base/src/lib.rt"
+echo base_list >"$made/fails"
+printf '// changed\n' >>"$made/copy/crates/lang_base/src/lib.rt"
 breaks "a change whose proof fails" "not everything was proved" "$installer" prefix
 same "a change whose proof fails"
 : >"$made/fails"

@@ -1,10 +1,10 @@
 -- What was written for a command is what the status says.
 use Rattle.std.proofs.Common.{ℕ, List, refl, sym, subst, inl, inr}
 use Rattle.std.specs.Io.KnownBytes.{Appends}
-use Rattle.mon_io.specs.Outside.{FilesSeen, SinkSeen}
+use Rattle.base_io.specs.Outside.{FilesSeen, SinkSeen}
 use Rattle.expresso.specs.declared.status.Status.{Status}
 use Rattle.expresso.specs.declared.status.Status.TheVariants as statuses
-use Rattle.mon_command.specs.CommandLine.{Command, Takes, TakesNone}
+use Rattle.front_command.specs.CommandLine.{Command, Takes, TakesNone}
 use Rattle.expresso.specs.Texts.{usage_text}
 use Rattle.expresso.specs.Answers.{IsText, Answers}
 use Rattle.expresso.specs.inner.Ending.{AnswersCommand, IsCommandText, IsWritten}

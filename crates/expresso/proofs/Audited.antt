@@ -1,17 +1,17 @@
 -- How `audit` ends.
 use Rattle.std.proofs.Common.{◌≡◌, ℕ, ◌<◌, ◌≤◌, Bool, true, List, [], ◌∷◌, length, Option, Some, None, refl, sym, subst, ◌∙◌, inl, inr, arith}
 use Rattle.std.specs.Prelude.{IfSome}
-use Rattle.mon_io.specs.Outside.{FilesSeen, SinkSeen, IsRead}
-use Rattle.mon_tree.specs.declared.tree.MonitorTree.{MonitorTree}
-use Rattle.mon_monitor.specs.MonitorParts.{MonitorParts}
-use Rattle.mon_events.specs.declared.plan.Plan.{Plan}
-use Rattle.mon_recheck.specs.Readings.{IsPlanRead}
-use Rattle.mon_audit.specs.declared.finding.Finding.{Finding}
-use Rattle.mon_audit.specs.declared.finding.Finding.TheVariants as findings
-use Rattle.mon_audit.specs.CountedFindings.{IsFindingBy}
-use Rattle.mon_audit.specs.FindingText.{finding_text}
-use Rattle.mon_text.specs.FaultText.{not_plan_text, other_too_long_text}
-use Rattle.mon_command.specs.CommandLine.{audit}
+use Rattle.base_io.specs.Outside.{FilesSeen, SinkSeen, IsRead}
+use Rattle.lang_tree.specs.declared.tree.MonitorTree.{MonitorTree}
+use Rattle.lang_monitor.specs.MonitorParts.{MonitorParts}
+use Rattle.machine_events.specs.declared.plan.Plan.{Plan}
+use Rattle.report_recheck.specs.Readings.{IsPlanRead}
+use Rattle.report_audit.specs.declared.finding.Finding.{Finding}
+use Rattle.report_audit.specs.declared.finding.Finding.TheVariants as findings
+use Rattle.report_audit.specs.CountedFindings.{IsFindingBy}
+use Rattle.report_audit.specs.FindingText.{finding_text}
+use Rattle.report_text.specs.FaultText.{not_plan_text, other_too_long_text}
+use Rattle.front_command.specs.CommandLine.{audit}
 use Rattle.expresso.specs.declared.audit.Found.{Found}
 use Rattle.expresso.specs.declared.status.Status.{Status}
 use Rattle.expresso.specs.declared.status.Status.TheVariants as statuses

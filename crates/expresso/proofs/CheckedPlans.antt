@@ -1,25 +1,25 @@
 -- What `recheck` accepts and `audit` calls lawful loses no wake-up.
 use Rattle.std.proofs.Common.{◌≡◌, ℕ, Bool, true, false, List, Option, Some, subst}
-use Rattle.mon_tree.specs.declared.tree.MonitorTree.{MonitorTree}
-use Rattle.mon_syntax.specs.Grammar.{IsParsed}
-use Rattle.mon_syntax.proofs.NameLaws.{monitor_named}
-use Rattle.mon_monitor.specs.declared.monitor.Condition.{Condition}
-use Rattle.mon_monitor.specs.MonitorParts.{MonitorParts, IsMonitor}
-use Rattle.mon_types.proofs.MonitorMade.{typed_is_monitor}
-use Rattle.mon_types.proofs.Small.{parsed_has_blocks}
-use Rattle.mon_implicit.specs.declared.script.Client.{Client}
-use Rattle.mon_implicit.specs.Scripted.{FitsScripts}
-use Rattle.mon_events.specs.declared.plan.Plan.{Plan}
-use Rattle.mon_monitor.specs.Inputs.{reads_inputs}
-use Rattle.mon_events.specs.Counts.{IsLawfulByCounting}
-use Rattle.mon_events.specs.Plans.{FitsPlan, IsCondition, WakesAll}
-use Rattle.mon_events.specs.Configurations.{system_under}
-use Rattle.mon_events.specs.Laws.{CountedClosedIsTheEnd, CountedStuckIsTheEnd, CountedWakesArePending, HasCountingPlan, LawfulIsByCounting}
-use Rattle.mon_code.specs.Laws.{CountedCodeLosesNone}
+use Rattle.lang_tree.specs.declared.tree.MonitorTree.{MonitorTree}
+use Rattle.lang_syntax.specs.Grammar.{IsParsed}
+use Rattle.lang_syntax.proofs.NameLaws.{monitor_named}
+use Rattle.lang_monitor.specs.declared.monitor.Condition.{Condition}
+use Rattle.lang_monitor.specs.MonitorParts.{MonitorParts, IsMonitor}
+use Rattle.lang_types.proofs.MonitorMade.{typed_is_monitor}
+use Rattle.lang_types.proofs.Small.{parsed_has_blocks}
+use Rattle.machine_implicit.specs.declared.script.Client.{Client}
+use Rattle.machine_implicit.specs.Scripted.{FitsScripts}
+use Rattle.machine_events.specs.declared.plan.Plan.{Plan}
+use Rattle.lang_monitor.specs.Inputs.{reads_inputs}
+use Rattle.machine_events.specs.Counts.{IsLawfulByCounting}
+use Rattle.machine_events.specs.Plans.{FitsPlan, IsCondition, WakesAll}
+use Rattle.machine_events.specs.Configurations.{system_under}
+use Rattle.machine_events.specs.Laws.{CountedClosedIsTheEnd, CountedStuckIsTheEnd, CountedWakesArePending, HasCountingPlan, LawfulIsByCounting}
+use Rattle.emit_code.specs.Laws.{CountedCodeLosesNone}
 use Rattle.expresso.proofs.LawfulFits.{lawful_fits, reading_fits}
-use Rattle.mon_audit.specs.declared.finding.Finding.TheVariants as findings
-use Rattle.mon_audit.specs.CountedFindings.{IsFindingBy}
-use Rattle.mon_command.specs.CommandLine.{audit, recheck}
+use Rattle.report_audit.specs.declared.finding.Finding.TheVariants as findings
+use Rattle.report_audit.specs.CountedFindings.{IsFindingBy}
+use Rattle.front_command.specs.CommandLine.{audit, recheck}
 use Rattle.expresso.specs.MonitorFiles.{IsAccepted}
 use Rattle.expresso.specs.PlanFiles.{MayBeLawful}
 use Rattle.expresso.specs.ReportFiles.{IsRechecked}

@@ -1,7 +1,7 @@
 -- Where nothing fails, the status is the one that the words and the files ask for.
 use Rattle.std.proofs.Common.{◌≡◌, ℕ, List, subst}
-use Rattle.mon_io.specs.Outside.{FilesSeen, SinkSeen}
-use Rattle.mon_command.specs.CommandLine.{Command, Takes}
+use Rattle.base_io.specs.Outside.{FilesSeen, SinkSeen}
+use Rattle.front_command.specs.CommandLine.{Command, Takes}
 use Rattle.expresso.specs.declared.status.Status.{Status}
 use Rattle.expresso.specs.Answers.{IsFaultless, Accepts, Rejects, AcceptsFiles, RejectsFiles, IsWorkedOrMemory, IsRefusedOrMemory, IsStoppedOrMemory}
 use Rattle.expresso.specs.inner.Ending.{CommandEnds}

@@ -1,10 +1,10 @@
 -- How a command ends, by what was written last.
 use Rattle.std.proofs.Common.{◌≡◌, ℕ, Bool, true, false, List, sym, subst, inl, inr, arith}
-use Rattle.mon_io.specs.Outside.{FilesSeen, SinkSeen, Rises}
-use Rattle.mon_text.specs.FaultText.{unread_text}
+use Rattle.base_io.specs.Outside.{FilesSeen, SinkSeen, Rises}
+use Rattle.report_text.specs.FaultText.{unread_text}
 use Rattle.expresso.specs.declared.status.Status.{Status}
 use Rattle.expresso.specs.declared.status.Status.TheVariants as statuses
-use Rattle.mon_command.specs.CommandLine.{Command}
+use Rattle.front_command.specs.CommandLine.{Command}
 use Rattle.expresso.specs.Answers.{AcceptsFiles, RejectsFiles, IsRefusedText, IsUnreadText, IsWorkedOrMemory, IsRefusedOrMemory, IsStoppedOrMemory, IsUnreadOrMemory}
 use Rattle.expresso.specs.inner.Ending.{CommandEnds, IsCommandText, IsUnread, IsWritten, ended}
 

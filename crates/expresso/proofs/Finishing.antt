@@ -3,13 +3,13 @@ use Rattle.std.proofs.Common.{◌≡◌, ℕ, zero, suc, ◌+◌, ◌≤◌, Boo
 use Rattle.std.specs.Prelude.{◌&&◌, nat_le, slice_get}
 use Rattle.std.specs.List.{list_all, enumerate_from}
 use Rattle.std.proofs.lemmas.Bool.{false≢true}
-use Rattle.mon_implicit.specs.declared.script.Client.{Client}
-use Rattle.mon_implicit.specs.declared.place.Place.{Place}
-use Rattle.mon_implicit.specs.Scripted.{calls_of}
-use Rattle.mon_implicit.specs.Places.{call_at}
-use Rattle.mon_implicit.specs.Runs.{Situation, IsFinished}
-use Rattle.mon_text.specs.TurnsText.{has_done}
-use Rattle.mon_text.specs.LogText.{are_done}
+use Rattle.machine_implicit.specs.declared.script.Client.{Client}
+use Rattle.machine_implicit.specs.declared.place.Place.{Place}
+use Rattle.machine_implicit.specs.Scripted.{calls_of}
+use Rattle.machine_implicit.specs.Places.{call_at}
+use Rattle.machine_implicit.specs.Runs.{Situation, IsFinished}
+use Rattle.report_text.specs.TurnsText.{has_done}
+use Rattle.report_text.specs.LogText.{are_done}
 
 -- nothing stands from the end on
 past_end : {X : Type 0} (xs : List X) (i : ℕ) → length xs ≤ i → slice_get xs i ≡ None

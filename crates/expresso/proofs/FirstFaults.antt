@@ -1,17 +1,17 @@
 -- Why bytes are no source file: the first fault of each step, and that an accepted file has none.
 use Rattle.std.proofs.Common.{◌≡◌, ℕ, ◌≤◌, List, [], ◌∷◌, length, Result, Err, sym, ap, subst, ◌∙◌, arith, inl, inr}
-use Rattle.mon_base.specs.SourceFaults.{IsFirstOf, IsLeast}
-use Rattle.mon_base.specs.declared.source_fault.SourceFault.{SourceFault}
-use Rattle.mon_base.specs.declared.source_fault.Refusal.TheVariants.{Lex}
-use Rattle.mon_base.specs.declared.source_fault.SourceError.{SourceError}
-use Rattle.mon_base.specs.declared.source_fault.SourceError.TheVariants.{Fault, OutOfMemory}
-use Rattle.mon_tokens.specs.declared.token.Token.{Token}
-use Rattle.mon_tokens.specs.Lexing.{IsAt}
-use Rattle.mon_tokens.specs.Spelling.{Spells, StartsNoToken}
-use Rattle.mon_tokens.specs.Words.{words}
-use Rattle.mon_syntax.specs.Grammar.{IsMonitorFile, Rule}
-use Rattle.mon_syntax.specs.ClientGrammar.{IsClientFile}
-use Rattle.mon_syntax.specs.Fault.{IsFault, Parses}
+use Rattle.lang_base.specs.SourceFaults.{IsFirstOf, IsLeast}
+use Rattle.lang_base.specs.declared.source_fault.SourceFault.{SourceFault}
+use Rattle.lang_base.specs.declared.source_fault.Refusal.TheVariants.{Lex}
+use Rattle.lang_base.specs.declared.source_fault.SourceError.{SourceError}
+use Rattle.lang_base.specs.declared.source_fault.SourceError.TheVariants.{Fault, OutOfMemory}
+use Rattle.lang_tokens.specs.declared.token.Token.{Token}
+use Rattle.lang_tokens.specs.Lexing.{IsAt}
+use Rattle.lang_tokens.specs.Spelling.{Spells, StartsNoToken}
+use Rattle.lang_tokens.specs.Words.{words}
+use Rattle.lang_syntax.specs.Grammar.{IsMonitorFile, Rule}
+use Rattle.lang_syntax.specs.ClientGrammar.{IsClientFile}
+use Rattle.lang_syntax.specs.Fault.{IsFault, Parses}
 use Rattle.expresso.specs.FirstFaults.{IsBrokenFile, IsFirstFault, IsRefusalLine, IsStuckFile, IsUnfitFile}
 use Rattle.expresso.specs.inner.Input.{HasCause}
 

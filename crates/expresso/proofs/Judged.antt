@@ -2,27 +2,27 @@
 use Rattle.std.proofs.Common.{◌≡◌, ℕ, ◌<◌, ◌≤◌, true, false, List, [], ◌∷◌, length, Option, Some, None, map, refl, sym, ap, subst, ◌∙◌, inl, inr, arith}
 use Rattle.std.specs.Prelude.{All, IfSome, IsSomeAnd, slice_get}
 use Rattle.std.proofs.lemmas.Bool.{true≢false}
-use Rattle.mon_io.specs.Outside.{FilesSeen, SinkSeen, IsRead}
-use Rattle.mon_tree.specs.declared.tree.MonitorTree.{MonitorTree}
-use Rattle.mon_monitor.specs.MonitorParts.{MonitorParts}
-use Rattle.mon_monitor.specs.Queries.{query_of}
-use Rattle.mon_cert.specs.declared.cert.Cert.{Cert}
-use Rattle.mon_monitor.specs.declared.claim.Claim.{Claim}
-use Rattle.mon_monitor.specs.declared.candidate.Candidate.{Candidate}
-use Rattle.mon_wp.specs.Limits.{is_query_within}
-use Rattle.mon_place.specs.declared.placed.PlacedPlan.{PlacedPlan}
-use Rattle.mon_place.specs.Backing.{AreProofs, backed_claims}
-use Rattle.mon_text.specs.FaultText.{not_report_text, other_too_long_text}
-use Rattle.mon_recheck.specs.declared.report.Report.{Report}
-use Rattle.mon_recheck.specs.declared.report.Verdict.{Verdict}
-use Rattle.mon_recheck.specs.declared.report.Verdict.TheVariants as verdicts
-use Rattle.mon_outline.specs.Outlines.{HasTypedNumbers}
-use Rattle.mon_recheck.specs.Readings.{IsReportRead}
-use Rattle.mon_recheck.specs.Reports.{IsReport, placed_text, proofs_of, report_of, report_text}
-use Rattle.mon_recheck.specs.Verdicts.{AreChecked, IsOpen, IsProof, IsVerdict, verdict_text}
-use Rattle.mon_recheck.specs.Verdicts.{IsAccepted as IsAcceptedReport}
-use Rattle.mon_recheck.proofs.Pairs.{all_at}
-use Rattle.mon_command.specs.CommandLine.{report, recheck}
+use Rattle.base_io.specs.Outside.{FilesSeen, SinkSeen, IsRead}
+use Rattle.lang_tree.specs.declared.tree.MonitorTree.{MonitorTree}
+use Rattle.lang_monitor.specs.MonitorParts.{MonitorParts}
+use Rattle.lang_monitor.specs.Queries.{query_of}
+use Rattle.logic_cert.specs.declared.cert.Cert.{Cert}
+use Rattle.lang_monitor.specs.declared.claim.Claim.{Claim}
+use Rattle.lang_monitor.specs.declared.candidate.Candidate.{Candidate}
+use Rattle.logic_wp.specs.Limits.{is_query_within}
+use Rattle.plan_place.specs.declared.placed.PlacedPlan.{PlacedPlan}
+use Rattle.plan_place.specs.Backing.{AreProofs, backed_claims}
+use Rattle.report_text.specs.FaultText.{not_report_text, other_too_long_text}
+use Rattle.report_recheck.specs.declared.report.Report.{Report}
+use Rattle.report_recheck.specs.declared.report.Verdict.{Verdict}
+use Rattle.report_recheck.specs.declared.report.Verdict.TheVariants as verdicts
+use Rattle.logic_outline.specs.Outlines.{HasTypedNumbers}
+use Rattle.report_recheck.specs.Readings.{IsReportRead}
+use Rattle.report_recheck.specs.Reports.{IsReport, placed_text, proofs_of, report_of, report_text}
+use Rattle.report_recheck.specs.Verdicts.{AreChecked, IsOpen, IsProof, IsVerdict, verdict_text}
+use Rattle.report_recheck.specs.Verdicts.{IsAccepted as IsAcceptedReport}
+use Rattle.report_recheck.proofs.Pairs.{all_at}
+use Rattle.front_command.specs.CommandLine.{report, recheck}
 use Rattle.expresso.specs.declared.status.Status.{Status}
 use Rattle.expresso.specs.declared.status.Status.TheVariants as statuses
 use Rattle.expresso.specs.Placements.{IsPlacement}

@@ -1,7 +1,7 @@
 -- What calls that read leave of files, one after the other.
 use Rattle.std.proofs.Common.{◌≡◌, ℕ, ◌≤◌, List, refl, ◌∙◌, arith}
 use Rattle.std.specs.Prelude.{◌↔◌}
-use Rattle.mon_io.specs.Outside.{FilesSeen}
+use Rattle.base_io.specs.Outside.{FilesSeen}
 use Rattle.expresso.specs.ProgramEnds.{KeepsFiles}
 
 -- no call

@@ -2,20 +2,20 @@
 use Rattle.std.proofs.Common.{◌≡◌, ℕ, ◌++◌, ◌∷◌, [], List, length, codes, pos, sym, ap, ap₂, subst, ◌∙◌, arith}
 use Rattle.std.specs.Prelude.{decimal}
 use Rattle.std.proofs.lemmas.Fmt.{decimal_digit, decimal_step}
-use Rattle.mon_base.specs.declared.value.Value.{Value}
-use Rattle.mon_base.specs.declared.value.Value.TheVariants as values
-use Rattle.mon_monitor.specs.MonitorParts.{MonitorParts}
-use Rattle.mon_implicit.specs.declared.script.Client.{Client}
-use Rattle.mon_implicit.specs.Runs.{Situation, Ends, IsFinished, IsRun}
-use Rattle.mon_events.specs.declared.log.Entry.{Entry}
-use Rattle.mon_events.specs.Configurations.{System, Configuration, situation_of}
-use Rattle.mon_events.specs.Logs.{commits_of}
-use Rattle.mon_text.specs.TurnsText.{end_text, state_text}
-use Rattle.mon_text.specs.LogText.{are_done}
-use Rattle.mon_text.specs.SummaryText.{calls_text, summary_text}
-use Rattle.mon_stress.specs.LargeInput.{buffer_of, capacity_of, producers_and_consumers}
-use Rattle.mon_stress.specs.Laws.{IsDone}
-use Rattle.mon_stress.proofs.LargeRuns.{every_run}
+use Rattle.lang_base.specs.declared.value.Value.{Value}
+use Rattle.lang_base.specs.declared.value.Value.TheVariants as values
+use Rattle.lang_monitor.specs.MonitorParts.{MonitorParts}
+use Rattle.machine_implicit.specs.declared.script.Client.{Client}
+use Rattle.machine_implicit.specs.Runs.{Situation, Ends, IsFinished, IsRun}
+use Rattle.machine_events.specs.declared.log.Entry.{Entry}
+use Rattle.machine_events.specs.Configurations.{System, Configuration, situation_of}
+use Rattle.machine_events.specs.Logs.{commits_of}
+use Rattle.report_text.specs.TurnsText.{end_text, state_text}
+use Rattle.report_text.specs.LogText.{are_done}
+use Rattle.report_text.specs.SummaryText.{calls_text, summary_text}
+use Rattle.machine_stress.specs.LargeInput.{buffer_of, capacity_of, producers_and_consumers}
+use Rattle.machine_stress.specs.Laws.{IsDone}
+use Rattle.machine_stress.proofs.LargeRuns.{every_run}
 use Rattle.expresso.proofs.Finishing.{finished_done}
 
 -- ---- numbers

@@ -3,13 +3,13 @@ use Rattle.std.proofs.Common.{◌≡◌, ℕ, ◌-◌, ◌<◌, Bool, true, fals
 use Rattle.std.specs.Prelude.{All, IsSomeAnd, get_or}
 use Rattle.std.proofs.lemmas.List.Elements.{All-nil, All-cons, All-head, All-tail, All-get_or, All-from_get_or}
 use Rattle.std.proofs.lemmas.Option.{slice_get_cases, unwrap_or-slice_get}
-use Rattle.mon_monitor.specs.declared.monitor.Condition.{Condition}
-use Rattle.mon_monitor.specs.Inputs.{reads_inputs}
-use Rattle.mon_monitor.specs.MonitorParts.{MonitorParts}
-use Rattle.mon_events.specs.declared.plan.Note.{Note}
-use Rattle.mon_events.specs.declared.plan.Plan.{Plan}
-use Rattle.mon_events.specs.Plans.{FitsNote, FitsNotes, FitsPlan, IsCondition, IsLawful, IsUntestedBroadcast, WakesAll}
-use Rattle.mon_recheck.specs.Reports.{AreNotesOf, IsOnCondition, IsPlanOf}
+use Rattle.lang_monitor.specs.declared.monitor.Condition.{Condition}
+use Rattle.lang_monitor.specs.Inputs.{reads_inputs}
+use Rattle.lang_monitor.specs.MonitorParts.{MonitorParts}
+use Rattle.machine_events.specs.declared.plan.Note.{Note}
+use Rattle.machine_events.specs.declared.plan.Plan.{Plan}
+use Rattle.machine_events.specs.Plans.{FitsNote, FitsNotes, FitsPlan, IsCondition, IsLawful, IsUntestedBroadcast, WakesAll}
+use Rattle.report_recheck.specs.Reports.{AreNotesOf, IsOnCondition, IsPlanOf}
 
 -- a note on the condition, if it is on this one, is an untested broadcast
 abbrev IsUntestedOn : ℕ → Note → Type 0

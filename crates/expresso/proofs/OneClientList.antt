@@ -1,11 +1,11 @@
 -- Bytes stand for one list of a monitor's clients at most.
 use Rattle.std.proofs.Common.{◌≡◌, ℕ, List, sym, ap, subst, ◌∙◌}
-use Rattle.mon_tokens.specs.declared.token.Token.{Token}
-use Rattle.mon_tree.specs.declared.tree.ClientsTree.{ClientsTree}
-use Rattle.mon_syntax.specs.ClientGrammar.{DerivesClients}
-use Rattle.mon_monitor.specs.MonitorParts.{MonitorParts}
-use Rattle.mon_implicit.specs.declared.script.Client.{Client}
-use Rattle.mon_script.specs.Scripts.{clients_of}
+use Rattle.lang_tokens.specs.declared.token.Token.{Token}
+use Rattle.lang_tree.specs.declared.tree.ClientsTree.{ClientsTree}
+use Rattle.lang_syntax.specs.ClientGrammar.{DerivesClients}
+use Rattle.lang_monitor.specs.MonitorParts.{MonitorParts}
+use Rattle.machine_implicit.specs.declared.script.Client.{Client}
+use Rattle.lang_script.specs.Scripts.{clients_of}
 use Rattle.expresso.specs.ClientFiles.{AreAccepted}
 use Rattle.expresso.proofs.FirstFaults.{OneClientsTree, OneSpelling}
 

@@ -1,26 +1,26 @@
 -- How a command that works on the monitor of one file ends.
 use Rattle.std.proofs.Common.{◌≡◌, ℕ, true, List, [], Option, Result, Ok, Err, refl, sym, subst, ◌∙◌, arith, inl, inr}
 use Rattle.std.specs.Prelude.{Any, IfErr, IfOk}
-use Rattle.mon_io.specs.Outside.{FilesSeen, SinkSeen, IsRead}
-use Rattle.mon_tree.specs.declared.tree.MonitorTree.{MonitorTree}
-use Rattle.mon_syntax.specs.Grammar.{IsMonitorFile}
-use Rattle.mon_rules.specs.Rules.{faults_of}
-use Rattle.mon_printer.specs.Canonical.{tree_text}
-use Rattle.mon_monitor.specs.MonitorParts.{MonitorParts}
-use Rattle.mon_events.specs.declared.plan.Plan.{Plan}
-use Rattle.mon_events.specs.PlanText.{plan_text}
-use Rattle.mon_text.specs.FaultText.{unread_text}
-use Rattle.mon_code.specs.Laws.{CountedCodeLosesNone}
-use Rattle.mon_code.specs.LivePlans.{printed_program}
-use Rattle.mon_numbers.specs.Laws.{PrintedBodiesStep, PrintedNumbersAreWide, PrintedTestsHold, SharedTestsHold, StartsAreShort}
-use Rattle.mon_module.specs.Modules.{rust_text}
+use Rattle.base_io.specs.Outside.{FilesSeen, SinkSeen, IsRead}
+use Rattle.lang_tree.specs.declared.tree.MonitorTree.{MonitorTree}
+use Rattle.lang_syntax.specs.Grammar.{IsMonitorFile}
+use Rattle.lang_rules.specs.Rules.{faults_of}
+use Rattle.lang_printer.specs.Canonical.{tree_text}
+use Rattle.lang_monitor.specs.MonitorParts.{MonitorParts}
+use Rattle.machine_events.specs.declared.plan.Plan.{Plan}
+use Rattle.machine_events.specs.PlanText.{plan_text}
+use Rattle.report_text.specs.FaultText.{unread_text}
+use Rattle.emit_code.specs.Laws.{CountedCodeLosesNone}
+use Rattle.emit_code.specs.LivePlans.{printed_program}
+use Rattle.emit_numbers.specs.Laws.{PrintedBodiesStep, PrintedNumbersAreWide, PrintedTestsHold, SharedTestsHold, StartsAreShort}
+use Rattle.emit_module.specs.Modules.{rust_text}
 use Rattle.expresso.specs.declared.status.Status.{Status}
 use Rattle.expresso.specs.declared.status.Status.TheVariants as statuses
 use Rattle.expresso.specs.declared.monitor_file.MonitorFile.{MonitorFile}
-use Rattle.mon_command.specs.declared.plan_choice.PlanChoice.{PlanChoice}
-use Rattle.mon_command.specs.declared.plan_choice.PlanChoice.TheVariants.{Counted}
-use Rattle.mon_command.specs.CommandLine.{Command, check, compile, report, explain, emit}
-use Rattle.mon_why.specs.declared.reason.Reason.{Reason}
+use Rattle.front_command.specs.declared.plan_choice.PlanChoice.{PlanChoice}
+use Rattle.front_command.specs.declared.plan_choice.PlanChoice.TheVariants.{Counted}
+use Rattle.front_command.specs.CommandLine.{Command, check, compile, report, explain, emit}
+use Rattle.plan_why.specs.declared.reason.Reason.{Reason}
 use Rattle.expresso.specs.Placements.{IsChosen, IsPlacement}
 use Rattle.expresso.specs.MonitorFiles.{IsAccepted}
 use Rattle.expresso.specs.PrintedPrograms.{BodiesStep, IsAsPromised, MomentsStayShort, NumbersStayWide, StartIsShort, TestsAreShared, TestsHold, ThreadsLoseNone}

@@ -3,18 +3,18 @@ use Rattle.std.proofs.Common.{◌≡◌, ◌⊎◌, ℕ, zero, suc, ◌+◌, ◌
 use Rattle.std.specs.List.{slice_get}
 use Rattle.std.specs.Option.{IsSomeAnd}
 use Rattle.std.proofs.lemmas.List.Elements.{All-head, All-tail}
-use Rattle.mon_linear.specs.declared.formula.Formula.{Formula}
-use Rattle.mon_tokens.specs.declared.token.Token.{Token}
-use Rattle.mon_tree.specs.declared.tree.Decl.{Decl}
-use Rattle.mon_tree.specs.declared.tree.BlockTree.{BlockTree}
-use Rattle.mon_tree.specs.declared.tree.MonitorTree.{MonitorTree}
-use Rattle.mon_syntax.specs.Grammar.{Derives}
-use Rattle.mon_monitor.specs.declared.monitor.Block.{Block}
-use Rattle.mon_monitor.specs.declared.monitor.Condition.{Condition}
-use Rattle.mon_monitor.specs.MonitorParts.{MonitorParts}
-use Rattle.mon_forms.specs.declared.scope.Entry.{Entry}
-use Rattle.mon_forms.specs.Scope.{scope_of}
-use Rattle.mon_types.specs.Typed.{IsTyped, IsBlockOf, AreBlocksOf, AreConditions, PlacedBlock, blocks_from, condition_of}
+use Rattle.logic_linear.specs.declared.formula.Formula.{Formula}
+use Rattle.lang_tokens.specs.declared.token.Token.{Token}
+use Rattle.lang_tree.specs.declared.tree.Decl.{Decl}
+use Rattle.lang_tree.specs.declared.tree.BlockTree.{BlockTree}
+use Rattle.lang_tree.specs.declared.tree.MonitorTree.{MonitorTree}
+use Rattle.lang_syntax.specs.Grammar.{Derives}
+use Rattle.lang_monitor.specs.declared.monitor.Block.{Block}
+use Rattle.lang_monitor.specs.declared.monitor.Condition.{Condition}
+use Rattle.lang_monitor.specs.MonitorParts.{MonitorParts}
+use Rattle.lang_forms.specs.declared.scope.Entry.{Entry}
+use Rattle.lang_forms.specs.Scope.{scope_of}
+use Rattle.lang_types.specs.Typed.{IsTyped, IsBlockOf, AreBlocksOf, AreConditions, PlacedBlock, blocks_from, condition_of}
 use Rattle.expresso.specs.MonitorFiles.{IsAccepted}
 use Rattle.expresso.proofs.FirstFaults.{OneSpelling, OneTree}
 

@@ -1,9 +1,9 @@
 -- `report` prints the certificates of the plan of a run, where no claim is hard.
 use Rattle.std.proofs.Common.{◌≡◌, ℕ, List, Option, sym, subst}
-use Rattle.mon_monitor.specs.MonitorParts.{MonitorParts}
-use Rattle.mon_events.specs.declared.plan.Plan.{Plan}
-use Rattle.mon_place.specs.Backing.{AreProofs, backed_claims}
-use Rattle.mon_command.specs.declared.plan_choice.PlanChoice.{PlanChoice}
+use Rattle.lang_monitor.specs.MonitorParts.{MonitorParts}
+use Rattle.machine_events.specs.declared.plan.Plan.{Plan}
+use Rattle.plan_place.specs.Backing.{AreProofs, backed_claims}
+use Rattle.front_command.specs.declared.plan_choice.PlanChoice.{PlanChoice}
 use Rattle.expresso.specs.declared.status.Status.{Status}
 use Rattle.expresso.specs.MonitorFiles.{IsAccepted}
 use Rattle.expresso.specs.Placements.{IsPlacement}

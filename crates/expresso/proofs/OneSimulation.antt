@@ -1,21 +1,21 @@
 -- A schedule has one simulation under a plan, and a monitor without a hard claim one plan.
 use Rattle.std.proofs.Common.{◌≡◌, ℕ, List, sym, ap, subst, ◌∙◌}
-use Rattle.mon_monitor.specs.MonitorParts.{MonitorParts}
-use Rattle.mon_implicit.specs.declared.script.Client.{Client}
-use Rattle.mon_events.specs.declared.plan.Plan.{Plan}
-use Rattle.mon_events.specs.Plans.{FitsPlan}
-use Rattle.mon_events.specs.declared.log.Entry.{Entry}
-use Rattle.mon_events.specs.Configurations.{System, Configuration, system_under}
-use Rattle.mon_prune.specs.Hardness.{HasNoHardClaim}
-use Rattle.mon_place.specs.Exact.{IsExact}
-use Rattle.mon_text.specs.Laws.{plan_and_log_text}
-use Rattle.mon_explicit.specs.Sections.{FreeMachine, opened_free}
-use Rattle.mon_simulate.specs.Schedules.{IsByRounds, IsDrawn}
-use Rattle.mon_command.specs.declared.plan_choice.PlanChoice.{PlanChoice}
-use Rattle.mon_command.specs.declared.schedule.Schedule.{Schedule}
-use Rattle.mon_command.specs.declared.schedule.Schedule.TheVariants.{Rounds, Drawn}
-use Rattle.mon_command.specs.declared.plan_choice.PlanChoice.TheVariants.{Placed, Relayed, Counted, CountedAndRelayed}
-use Rattle.mon_place.specs.Relayed.{relay_of}
+use Rattle.lang_monitor.specs.MonitorParts.{MonitorParts}
+use Rattle.machine_implicit.specs.declared.script.Client.{Client}
+use Rattle.machine_events.specs.declared.plan.Plan.{Plan}
+use Rattle.machine_events.specs.Plans.{FitsPlan}
+use Rattle.machine_events.specs.declared.log.Entry.{Entry}
+use Rattle.machine_events.specs.Configurations.{System, Configuration, system_under}
+use Rattle.plan_prune.specs.Hardness.{HasNoHardClaim}
+use Rattle.plan_place.specs.Exact.{IsExact}
+use Rattle.report_text.specs.Laws.{plan_and_log_text}
+use Rattle.machine_explicit.specs.Sections.{FreeMachine, opened_free}
+use Rattle.machine_simulate.specs.Schedules.{IsByRounds, IsDrawn}
+use Rattle.front_command.specs.declared.plan_choice.PlanChoice.{PlanChoice}
+use Rattle.front_command.specs.declared.schedule.Schedule.{Schedule}
+use Rattle.front_command.specs.declared.schedule.Schedule.TheVariants.{Rounds, Drawn}
+use Rattle.front_command.specs.declared.plan_choice.PlanChoice.TheVariants.{Placed, Relayed, Counted, CountedAndRelayed}
+use Rattle.plan_place.specs.Relayed.{relay_of}
 use Rattle.expresso.specs.Placements.{CountsNothing, IsChosen, IsPlacement}
 use Rattle.expresso.specs.Simulations.{IsScheduled, IsSimulation, most_spurious}
 

@@ -2,10 +2,10 @@
 use Rattle.std.proofs.Common.{◌≡◌, ℕ, ◌<◌, ◌≤◌, List, Result, Ok, Err, subst, ◌∙◌, inl, inr, refl, arith}
 use Rattle.std.specs.Prelude.{OnOk}
 use Rattle.std.specs.Io.KnownBytes.{Keeps}
-use Rattle.mon_io.specs.declared.sink.SinkFailed.{SinkFailed}
-use Rattle.mon_io.specs.Outside.{FilesSeen, SinkSeen, Rises}
-use Rattle.mon_io.specs.Writing.{Wrote}
-use Rattle.mon_io.proofs.WrittenBytes.{appends_kept}
+use Rattle.base_io.specs.declared.sink.SinkFailed.{SinkFailed}
+use Rattle.base_io.specs.Outside.{FilesSeen, SinkSeen, Rises}
+use Rattle.base_io.specs.Writing.{Wrote}
+use Rattle.base_io.proofs.WrittenBytes.{appends_kept}
 use Rattle.expresso.specs.declared.status.Status.{Status}
 use Rattle.expresso.specs.declared.status.Status.TheVariants.{WriteFault}
 use Rattle.expresso.specs.inner.Ending.{IsQuiet, IsWritten}

@@ -1,24 +1,24 @@
 -- Plans that are asked for, and a machine that ended closed under one.
 use Rattle.std.proofs.Common.{◌≡◌, ℕ, Bool, true, false, List, Option, Result, Ok, Err, IfOk, refl, sym, ap, subst, ◌∙◌, true≢false}
-use Rattle.mon_monitor.specs.MonitorParts.{MonitorParts}
-use Rattle.mon_implicit.specs.declared.script.Client.{Client}
-use Rattle.mon_implicit.specs.Scripted.{AreClients}
-use Rattle.mon_implicit.specs.Runs.{IsRun, Ends}
-use Rattle.mon_events.specs.Configurations.{System, situation_of, system_under}
-use Rattle.mon_events.specs.Pending.{IsSystem}
-use Rattle.mon_events.specs.declared.plan.Plan.{Plan}
-use Rattle.mon_events.specs.Plans.{FitsPlan, has_note, notes_at}
-use Rattle.mon_events.specs.Counts.{IsLawfulByCounting}
-use Rattle.mon_events.proofs.Counting.{lawful_by_counting}
-use Rattle.mon_events.specs.Logs.{IsLegal, IsClosed, commits_of}
-use Rattle.mon_explicit.specs.Sections.{FreeMachine, HoldsAlways, HasEnded, opened_free}
-use Rattle.mon_place.specs.Relayed.{RelayedPlansAreLawful, RelayedPlansFit, RelayedPlansOmitNoMore, relay_of}
-use Rattle.mon_command.specs.declared.plan_choice.PlanChoice.{PlanChoice}
-use Rattle.mon_command.specs.declared.plan_choice.PlanChoice.TheVariants.{Placed, Relayed, Counted, CountedAndRelayed}
-use Rattle.mon_counted.specs.declared.counted.Told.{Told}
-use Rattle.mon_counted.specs.Counted.{AreBacked, IsCountedFrom, counted_of}
-use Rattle.mon_counted.specs.CountedAndRelayed.{IsCountedAndRelayed, OmitsNoMore, counted_and_relayed}
-use Rattle.mon_counted.specs.Exact.{HasNoOpenQuestion, IsExactlyCounted}
+use Rattle.lang_monitor.specs.MonitorParts.{MonitorParts}
+use Rattle.machine_implicit.specs.declared.script.Client.{Client}
+use Rattle.machine_implicit.specs.Scripted.{AreClients}
+use Rattle.machine_implicit.specs.Runs.{IsRun, Ends}
+use Rattle.machine_events.specs.Configurations.{System, situation_of, system_under}
+use Rattle.machine_events.specs.Pending.{IsSystem}
+use Rattle.machine_events.specs.declared.plan.Plan.{Plan}
+use Rattle.machine_events.specs.Plans.{FitsPlan, has_note, notes_at}
+use Rattle.machine_events.specs.Counts.{IsLawfulByCounting}
+use Rattle.machine_events.proofs.Counting.{lawful_by_counting}
+use Rattle.machine_events.specs.Logs.{IsLegal, IsClosed, commits_of}
+use Rattle.machine_explicit.specs.Sections.{FreeMachine, HoldsAlways, HasEnded, opened_free}
+use Rattle.plan_place.specs.Relayed.{RelayedPlansAreLawful, RelayedPlansFit, RelayedPlansOmitNoMore, relay_of}
+use Rattle.front_command.specs.declared.plan_choice.PlanChoice.{PlanChoice}
+use Rattle.front_command.specs.declared.plan_choice.PlanChoice.TheVariants.{Placed, Relayed, Counted, CountedAndRelayed}
+use Rattle.plan_counted.specs.declared.counted.Told.{Told}
+use Rattle.plan_counted.specs.Counted.{AreBacked, IsCountedFrom, counted_of}
+use Rattle.plan_counted.specs.CountedAndRelayed.{IsCountedAndRelayed, OmitsNoMore, counted_and_relayed}
+use Rattle.plan_counted.specs.Exact.{HasNoOpenQuestion, IsExactlyCounted}
 use Rattle.expresso.specs.Placements.{IsChosen, IsCountTable, IsLawfulChoice, IsPlacement}
 use Rattle.expresso.specs.PlacedRuns.{IsPlacedRun}
 

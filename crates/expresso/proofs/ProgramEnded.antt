@@ -2,10 +2,10 @@
 -- before the words were read.
 use Rattle.std.proofs.Common.{◌≡◌, ℕ, ◌≤◌, List, Result, Ok, Err, refl, sym, subst, ◌∙◌, inl, inr, arith}
 use Rattle.std.specs.Prelude.{IfOk, IfErr}
-use Rattle.mon_io.specs.Outside.{FilesSeen, SinkSeen, Rises}
-use Rattle.mon_command.specs.declared.command.Command.{Command as Words}
-use Rattle.mon_command.specs.CommandLine.{Command, Takes, TakesNone}
-use Rattle.mon_command.specs.Commands.{command_meant}
+use Rattle.base_io.specs.Outside.{FilesSeen, SinkSeen, Rises}
+use Rattle.front_command.specs.declared.command.Command.{Command as Words}
+use Rattle.front_command.specs.CommandLine.{Command, Takes, TakesNone}
+use Rattle.front_command.specs.Commands.{command_meant}
 use Rattle.expresso.specs.declared.status.Status.{Status}
 use Rattle.expresso.specs.declared.status.Status.TheVariants as statuses
 use Rattle.expresso.specs.Texts.{usage_text}

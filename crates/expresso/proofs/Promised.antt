@@ -1,12 +1,12 @@
 -- The answer of a call keeps what `run` and `block` promise.
 use Rattle.std.proofs.Common.{◌≡◌, ◌++◌, ℕ, List, Option, Some, None, inl, inr, sym, ap, subst, ◌∙◌}
 use Rattle.std.specs.Io.KnownBytes.{Appends}
-use Rattle.mon_io.specs.Outside.{FilesSeen, SinkSeen}
-use Rattle.mon_implicit.specs.declared.script.Client.{Client}
-use Rattle.mon_implicit.specs.Runs.{IsFinished}
-use Rattle.mon_events.specs.Configurations.{Configuration, situation_of}
-use Rattle.mon_command.specs.declared.plan_choice.PlanChoice.{PlanChoice}
-use Rattle.mon_command.specs.CommandLine.{Command, Takes, run, block}
+use Rattle.base_io.specs.Outside.{FilesSeen, SinkSeen}
+use Rattle.machine_implicit.specs.declared.script.Client.{Client}
+use Rattle.machine_implicit.specs.Runs.{IsFinished}
+use Rattle.machine_events.specs.Configurations.{Configuration, situation_of}
+use Rattle.front_command.specs.declared.plan_choice.PlanChoice.{PlanChoice}
+use Rattle.front_command.specs.CommandLine.{Command, Takes, run, block}
 use Rattle.expresso.specs.declared.status.Status.{Status}
 use Rattle.expresso.specs.declared.status.Status.TheVariants.{Done, Stalled}
 use Rattle.expresso.specs.MonitorFiles.{IsAccepted}

@@ -1,9 +1,9 @@
 -- The numbers of a command that words ask for are in range.
 use Rattle.std.proofs.Common.{ℕ, ◌≤◌, List, Option, Some, None, arith}
-use Rattle.mon_base.specs.Limits.{MOST_SPURIOUS, WORKERS}
-use Rattle.mon_command.specs.declared.schedule.Schedule.{Schedule}
-use Rattle.mon_command.specs.declared.schedule.Schedule.TheVariants.{Rounds, Drawn}
-use Rattle.mon_command.specs.CommandLine.{Command, check, turns, compile, simulate, run, stress, report, recheck, block, audit, explain, emit, IsSchedule, IsSpurious, IsWorkers, Takes}
+use Rattle.lang_base.specs.Limits.{MOST_SPURIOUS, WORKERS}
+use Rattle.front_command.specs.declared.schedule.Schedule.{Schedule}
+use Rattle.front_command.specs.declared.schedule.Schedule.TheVariants.{Rounds, Drawn}
+use Rattle.front_command.specs.CommandLine.{Command, check, turns, compile, simulate, run, stress, report, recheck, block, audit, explain, emit, IsSchedule, IsSpurious, IsWorkers, Takes}
 use Rattle.expresso.specs.Simulations.{most_spurious}
 use Rattle.expresso.specs.inner.Ranges.{IsInRange}
 

@@ -2,21 +2,21 @@
 use Rattle.std.proofs.Common.{◌≡◌, ◌≤◌, ℕ, List, length, Option, Some, None, sym, ap, subst, ◌∙◌, arith, inl, inr}
 use Rattle.std.specs.Prelude.{unwrap_or}
 use Rattle.std.proofs.lemmas.List.{length-map}
-use Rattle.mon_tree.specs.declared.tree.MonitorTree.{MonitorTree}
-use Rattle.mon_syntax.specs.Grammar.{IsMonitorFile}
-use Rattle.mon_rules.specs.Rules.{faults_of}
-use Rattle.mon_monitor.specs.MonitorParts.{MonitorParts}
-use Rattle.mon_prune.specs.Hardness.{HasNoHardClaim}
-use Rattle.mon_place.specs.declared.placed.PlacedPlan.{PlacedPlan}
-use Rattle.mon_place.specs.declared.placed.Proof.{Proof}
-use Rattle.mon_recheck.specs.declared.report.Report.{Report}
-use Rattle.mon_recheck.specs.declared.report.Verdict.{Verdict}
-use Rattle.mon_recheck.specs.declared.report.Verdict.TheVariants as verdicts
-use Rattle.mon_recheck.specs.EasyPlacements.{IsEasyPlacement}
-use Rattle.mon_recheck.specs.Readings.{IsReportRead}
-use Rattle.mon_recheck.specs.Reports.{placed_text, report_of}
-use Rattle.mon_recheck.specs.Verdicts.{IsVerdict, verdict_text}
-use Rattle.mon_recheck.proofs.PlacedTexts.{placed_lines}
+use Rattle.lang_tree.specs.declared.tree.MonitorTree.{MonitorTree}
+use Rattle.lang_syntax.specs.Grammar.{IsMonitorFile}
+use Rattle.lang_rules.specs.Rules.{faults_of}
+use Rattle.lang_monitor.specs.MonitorParts.{MonitorParts}
+use Rattle.plan_prune.specs.Hardness.{HasNoHardClaim}
+use Rattle.plan_place.specs.declared.placed.PlacedPlan.{PlacedPlan}
+use Rattle.plan_place.specs.declared.placed.Proof.{Proof}
+use Rattle.report_recheck.specs.declared.report.Report.{Report}
+use Rattle.report_recheck.specs.declared.report.Verdict.{Verdict}
+use Rattle.report_recheck.specs.declared.report.Verdict.TheVariants as verdicts
+use Rattle.report_recheck.specs.EasyPlacements.{IsEasyPlacement}
+use Rattle.report_recheck.specs.Readings.{IsReportRead}
+use Rattle.report_recheck.specs.Reports.{placed_text, report_of}
+use Rattle.report_recheck.specs.Verdicts.{IsVerdict, verdict_text}
+use Rattle.report_recheck.proofs.PlacedTexts.{placed_lines}
 use Rattle.expresso.specs.MonitorFiles.{IsAccepted}
 use Rattle.expresso.specs.ReportFiles.{IsAcceptance, IsAcceptanceLine, IsReportRefusalLine}
 use Rattle.expresso.specs.Answers.{HoldsMonitor, IsMonitorRefusal, IsRecheckRefusal, IsRecheckText, IsReportText}

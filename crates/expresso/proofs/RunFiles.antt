@@ -2,18 +2,18 @@
 -- run.
 use Rattle.std.proofs.Common.{◌≡◌, ℕ, List, [], ◌∷◌, Option, Some, None, refl, sym, subst, ◌∙◌, inl, inr, arith}
 use Rattle.std.specs.Prelude.{Any}
-use Rattle.mon_io.specs.Outside.{FilesSeen, SinkSeen, IsRead, Rises}
-use Rattle.mon_tree.specs.declared.tree.MonitorTree.{MonitorTree}
-use Rattle.mon_syntax.specs.ClientGrammar.{IsClientFile}
-use Rattle.mon_script.specs.Faults.{faults_of as clients_faults}
-use Rattle.mon_monitor.specs.MonitorParts.{MonitorParts}
-use Rattle.mon_implicit.specs.declared.script.Client.{Client}
-use Rattle.mon_text.specs.FaultText.{unread_text}
+use Rattle.base_io.specs.Outside.{FilesSeen, SinkSeen, IsRead, Rises}
+use Rattle.lang_tree.specs.declared.tree.MonitorTree.{MonitorTree}
+use Rattle.lang_syntax.specs.ClientGrammar.{IsClientFile}
+use Rattle.lang_script.specs.Faults.{faults_of as clients_faults}
+use Rattle.lang_monitor.specs.MonitorParts.{MonitorParts}
+use Rattle.machine_implicit.specs.declared.script.Client.{Client}
+use Rattle.report_text.specs.FaultText.{unread_text}
 use Rattle.expresso.specs.declared.status.Status.{Status}
 use Rattle.expresso.specs.declared.status.Status.TheVariants as statuses
-use Rattle.mon_command.specs.declared.plan_choice.PlanChoice.{PlanChoice}
-use Rattle.mon_command.specs.declared.schedule.Schedule.{Schedule}
-use Rattle.mon_command.specs.CommandLine.{Command, turns, simulate, run, block}
+use Rattle.front_command.specs.declared.plan_choice.PlanChoice.{PlanChoice}
+use Rattle.front_command.specs.declared.schedule.Schedule.{Schedule}
+use Rattle.front_command.specs.CommandLine.{Command, turns, simulate, run, block}
 use Rattle.expresso.specs.FirstFaults.{IsRefusalLine}
 use Rattle.expresso.specs.MonitorFiles.{IsAccepted}
 use Rattle.expresso.specs.Answers.{AcceptsMonitor, AcceptsRun, RejectsRun, HoldRun, HoldsMonitor, IsUnreadText}

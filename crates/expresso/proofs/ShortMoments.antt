@@ -3,27 +3,27 @@ use Rattle.std.proofs.Common.{◌≡◌, ℕ, zero, suc, ◌+◌, List, [], ◌�
 use Rattle.std.specs.Prelude.{All, IsSomeAnd, slice_get}
 use Rattle.std.proofs.lemmas.List.Elements.{All-nil, All-head, All-tail}
 use Rattle.std.proofs.lemmas.Option.{none-some, same_Some}
-use Rattle.mon_base.specs.declared.value.Value.{Value}
-use Rattle.mon_base.specs.declared.value.Value.TheVariants as values
-use Rattle.mon_tree.specs.declared.tree.Decl.{Decl}
-use Rattle.mon_tree.specs.declared.tree.MonitorTree.{MonitorTree}
-use Rattle.mon_monitor.specs.declared.monitor.Block.{Block}
-use Rattle.mon_monitor.specs.Bodies.{Inputs, Memory}
-use Rattle.mon_types.specs.Typed.{AreBlocksOf, PlacedBlock, blocks_from}
-use Rattle.mon_implicit.specs.declared.commit.Reply.{Reply}
-use Rattle.mon_implicit.specs.declared.commit.Reply.TheVariants as replies
-use Rattle.mon_implicit.specs.declared.script.Call.{Call}
-use Rattle.mon_implicit.specs.declared.script.Client.{Client}
-use Rattle.mon_implicit.specs.Scripted.{calls_of}
-use Rattle.mon_implicit.specs.Steps.{BlockSteps, given, held, reply_of}
-use Rattle.mon_events.specs.declared.plan.Note.{Note}
-use Rattle.mon_code.specs.Executions.{AreNotified, Executes, Frame, IsMove, IsThread, Moment, Position, Program, RunsBody, Thread, call_of, goes, new_thread, start}
-use Rattle.mon_code.specs.Executions.Position.{Notified}
-use Rattle.mon_code.specs.Executions.IsMove.{calls, takes, passes, falls_asleep, wakes, retakes, refuses, runs_body, notifies, unlocks, releases, returns}
-use Rattle.mon_code.specs.Executions.Executes.{none_yet, one_more}
-use Rattle.mon_code.proofs.Lists.{came}
-use Rattle.mon_code.proofs.Views.{thread_before}
-use Rattle.mon_numbers.specs.Laws.{AreShort, CallSteps}
+use Rattle.lang_base.specs.declared.value.Value.{Value}
+use Rattle.lang_base.specs.declared.value.Value.TheVariants as values
+use Rattle.lang_tree.specs.declared.tree.Decl.{Decl}
+use Rattle.lang_tree.specs.declared.tree.MonitorTree.{MonitorTree}
+use Rattle.lang_monitor.specs.declared.monitor.Block.{Block}
+use Rattle.lang_monitor.specs.Bodies.{Inputs, Memory}
+use Rattle.lang_types.specs.Typed.{AreBlocksOf, PlacedBlock, blocks_from}
+use Rattle.machine_implicit.specs.declared.commit.Reply.{Reply}
+use Rattle.machine_implicit.specs.declared.commit.Reply.TheVariants as replies
+use Rattle.machine_implicit.specs.declared.script.Call.{Call}
+use Rattle.machine_implicit.specs.declared.script.Client.{Client}
+use Rattle.machine_implicit.specs.Scripted.{calls_of}
+use Rattle.machine_implicit.specs.Steps.{BlockSteps, given, held, reply_of}
+use Rattle.machine_events.specs.declared.plan.Note.{Note}
+use Rattle.emit_code.specs.Executions.{AreNotified, Executes, Frame, IsMove, IsThread, Moment, Position, Program, RunsBody, Thread, call_of, goes, new_thread, start}
+use Rattle.emit_code.specs.Executions.Position.{Notified}
+use Rattle.emit_code.specs.Executions.IsMove.{calls, takes, passes, falls_asleep, wakes, retakes, refuses, runs_body, notifies, unlocks, releases, returns}
+use Rattle.emit_code.specs.Executions.Executes.{none_yet, one_more}
+use Rattle.emit_code.proofs.Lists.{came}
+use Rattle.emit_code.proofs.Views.{thread_before}
+use Rattle.emit_numbers.specs.Laws.{AreShort, CallSteps}
 use Rattle.expresso.specs.PrintedPrograms.{BodiesStep, IsShortMoment, PassShort, StartIsShort}
 
 -- ---- lists and options

@@ -1,19 +1,19 @@
 -- How `simulate` ends where the clients were run.
 use Rattle.std.proofs.Common.{◌≡◌, ℕ, Bool, true, false, List, refl, sym, subst, ◌∙◌}
 use Rattle.std.proofs.lemmas.Bool.{false≢true}
-use Rattle.mon_io.specs.Outside.{FilesSeen, SinkSeen}
-use Rattle.mon_monitor.specs.MonitorParts.{MonitorParts}
-use Rattle.mon_implicit.specs.declared.script.Client.{Client}
-use Rattle.mon_events.specs.declared.log.Entry.{Entry}
-use Rattle.mon_events.specs.declared.plan.Plan.{Plan}
-use Rattle.mon_events.specs.Configurations.{System, Configuration, situation_of}
-use Rattle.mon_events.specs.Logs.{IsClosed}
-use Rattle.mon_text.specs.LogText.{are_done}
-use Rattle.mon_events.specs.Configurations.{system_under}
-use Rattle.mon_text.specs.Laws.{plan_and_log_text}
-use Rattle.mon_command.specs.declared.plan_choice.PlanChoice.{PlanChoice}
-use Rattle.mon_command.specs.declared.schedule.Schedule.{Schedule}
-use Rattle.mon_command.specs.CommandLine.{simulate}
+use Rattle.base_io.specs.Outside.{FilesSeen, SinkSeen}
+use Rattle.lang_monitor.specs.MonitorParts.{MonitorParts}
+use Rattle.machine_implicit.specs.declared.script.Client.{Client}
+use Rattle.machine_events.specs.declared.log.Entry.{Entry}
+use Rattle.machine_events.specs.declared.plan.Plan.{Plan}
+use Rattle.machine_events.specs.Configurations.{System, Configuration, situation_of}
+use Rattle.machine_events.specs.Logs.{IsClosed}
+use Rattle.report_text.specs.LogText.{are_done}
+use Rattle.machine_events.specs.Configurations.{system_under}
+use Rattle.report_text.specs.Laws.{plan_and_log_text}
+use Rattle.front_command.specs.declared.plan_choice.PlanChoice.{PlanChoice}
+use Rattle.front_command.specs.declared.schedule.Schedule.{Schedule}
+use Rattle.front_command.specs.CommandLine.{simulate}
 use Rattle.expresso.specs.declared.status.Status.{Status}
 use Rattle.expresso.specs.Simulations.{IsSimulation}
 use Rattle.expresso.specs.Answers.{HoldRun, IsSimulateText}

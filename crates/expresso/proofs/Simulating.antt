@@ -1,23 +1,23 @@
 -- What a schedule leads to from the start is a simulation.
 use Rattle.std.proofs.Common.{◌≡◌, ℕ, ◌+◌, ◌≤◌, ◌++◌, List, sym, ap, subst, ◌∙◌, arith}
-use Rattle.mon_monitor.specs.MonitorParts.{MonitorParts}
-use Rattle.mon_implicit.specs.declared.script.Client.{Client}
-use Rattle.mon_events.specs.declared.plan.Plan.{Plan}
-use Rattle.mon_events.specs.Configurations.{System}
-use Rattle.mon_events.specs.Logs.{IsClosed}
-use Rattle.mon_explicit.specs.Sections.{FreeMachine, HoldsAlways, HasEnded, opened_free, spurious_in}
-use Rattle.mon_events.specs.PlanText.{plan_text}
-use Rattle.mon_text.specs.LogText.{log_text}
-use Rattle.mon_simulate.specs.Schedules.{Extends, IsByRounds, IsDrawn}
-use Rattle.mon_command.specs.declared.plan_choice.PlanChoice.{PlanChoice}
-use Rattle.mon_command.specs.declared.schedule.Schedule.{Schedule}
-use Rattle.mon_command.specs.declared.schedule.Schedule.TheVariants.{Rounds, Drawn}
+use Rattle.lang_monitor.specs.MonitorParts.{MonitorParts}
+use Rattle.machine_implicit.specs.declared.script.Client.{Client}
+use Rattle.machine_events.specs.declared.plan.Plan.{Plan}
+use Rattle.machine_events.specs.Configurations.{System}
+use Rattle.machine_events.specs.Logs.{IsClosed}
+use Rattle.machine_explicit.specs.Sections.{FreeMachine, HoldsAlways, HasEnded, opened_free, spurious_in}
+use Rattle.machine_events.specs.PlanText.{plan_text}
+use Rattle.report_text.specs.LogText.{log_text}
+use Rattle.machine_simulate.specs.Schedules.{Extends, IsByRounds, IsDrawn}
+use Rattle.front_command.specs.declared.plan_choice.PlanChoice.{PlanChoice}
+use Rattle.front_command.specs.declared.schedule.Schedule.{Schedule}
+use Rattle.front_command.specs.declared.schedule.Schedule.TheVariants.{Rounds, Drawn}
 use Rattle.expresso.specs.Placements.{IsChosen}
 use Rattle.expresso.specs.Simulations.{IsScheduled, IsSimulation, most_spurious}
 use Rattle.expresso.specs.inner.Schedules.{IsRunOut}
 use Rattle.expresso.proofs.Placed.{placed_run}
-use Rattle.mon_events.specs.Configurations.{system_under}
-use Rattle.mon_text.specs.Laws.{plan_and_log_text}
+use Rattle.machine_events.specs.Configurations.{system_under}
+use Rattle.report_text.specs.Laws.{plan_and_log_text}
 
 pub rounds_run_out : (schedule : Schedule) (before next : FreeMachine) → schedule ≡ Rounds → IsByRounds 0 before next → IsClosed next.system next.now → Extends before next
     → spurious_in next.log ≡ spurious_in before.log → HoldsAlways next → HasEnded next → IsRunOut schedule before next

@@ -1,27 +1,27 @@
 -- How `stress` ends where the workers ran the large input.
 use Rattle.std.proofs.Common.{◌≡◌, ℕ, true, List, refl, sym, subst, ◌∙◌}
-use Rattle.mon_io.specs.Outside.{FilesSeen, SinkSeen}
-use Rattle.mon_monitor.specs.MonitorParts.{MonitorParts}
-use Rattle.mon_implicit.specs.declared.script.Client.{Client}
-use Rattle.mon_implicit.specs.Runs.{IsFinished}
-use Rattle.mon_events.specs.declared.log.Entry.{Entry}
-use Rattle.mon_events.specs.declared.plan.Plan.{Plan}
-use Rattle.mon_events.specs.Configurations.{System, Configuration, situation_of}
-use Rattle.mon_events.specs.Logs.{IsClosed, commits_of}
-use Rattle.mon_explicit.specs.Sections.{spurious_in}
-use Rattle.mon_text.specs.LogText.{are_done}
-use Rattle.mon_events.specs.Configurations.{system_under}
-use Rattle.mon_text.specs.SummaryText.{summary_text}
-use Rattle.mon_command.specs.declared.plan_choice.PlanChoice.TheVariants.{Placed}
-use Rattle.mon_command.specs.CommandLine.{stress}
-use Rattle.mon_stress.specs.LargeInput.{buffer_of, capacity_of, producers_and_consumers}
+use Rattle.base_io.specs.Outside.{FilesSeen, SinkSeen}
+use Rattle.lang_monitor.specs.MonitorParts.{MonitorParts}
+use Rattle.machine_implicit.specs.declared.script.Client.{Client}
+use Rattle.machine_implicit.specs.Runs.{IsFinished}
+use Rattle.machine_events.specs.declared.log.Entry.{Entry}
+use Rattle.machine_events.specs.declared.plan.Plan.{Plan}
+use Rattle.machine_events.specs.Configurations.{System, Configuration, situation_of}
+use Rattle.machine_events.specs.Logs.{IsClosed, commits_of}
+use Rattle.machine_explicit.specs.Sections.{spurious_in}
+use Rattle.report_text.specs.LogText.{are_done}
+use Rattle.machine_events.specs.Configurations.{system_under}
+use Rattle.report_text.specs.SummaryText.{summary_text}
+use Rattle.front_command.specs.declared.plan_choice.PlanChoice.TheVariants.{Placed}
+use Rattle.front_command.specs.CommandLine.{stress}
+use Rattle.machine_stress.specs.LargeInput.{buffer_of, capacity_of, producers_and_consumers}
 use Rattle.expresso.specs.declared.status.Status.{Status}
 use Rattle.expresso.specs.PlacedRuns.{IsPlacedRun}
 use Rattle.expresso.specs.Answers.{IsStressText}
 use Rattle.expresso.specs.inner.Ending.{CommandEnds, IsWritten, ended}
 use Rattle.expresso.proofs.Finishing.{finished_done}
 use Rattle.expresso.proofs.Ending.{work_ended}
-use Rattle.mon_stress.specs.Laws.{EveryLargeRunEndsDone}
+use Rattle.machine_stress.specs.Laws.{EveryLargeRunEndsDone}
 use Rattle.expresso.proofs.LargeSummary.{large_summary}
 
 -- the large input of a number, under a plan

@@ -2,15 +2,15 @@
 use Rattle.std.proofs.Common.{◌≡◌, ℕ, Bool, true, false, List, refl, sym, subst}
 use Rattle.std.specs.Prelude.{IsTrue, ◌↔◌}
 use Rattle.std.proofs.lemmas.Bool.{false≢true}
-use Rattle.mon_io.specs.Outside.{FilesSeen, SinkSeen}
-use Rattle.mon_monitor.specs.MonitorParts.{MonitorParts}
-use Rattle.mon_implicit.specs.declared.commit.Turns.{Turns}
-use Rattle.mon_implicit.specs.declared.script.Client.{Client}
-use Rattle.mon_implicit.specs.Runs.{IsFinished}
-use Rattle.mon_implicit.specs.Rounds.{AreTurnsByRounds, end_of}
-use Rattle.mon_text.specs.TurnsText.{turns_text}
+use Rattle.base_io.specs.Outside.{FilesSeen, SinkSeen}
+use Rattle.lang_monitor.specs.MonitorParts.{MonitorParts}
+use Rattle.machine_implicit.specs.declared.commit.Turns.{Turns}
+use Rattle.machine_implicit.specs.declared.script.Client.{Client}
+use Rattle.machine_implicit.specs.Runs.{IsFinished}
+use Rattle.machine_implicit.specs.Rounds.{AreTurnsByRounds, end_of}
+use Rattle.report_text.specs.TurnsText.{turns_text}
 use Rattle.expresso.specs.declared.status.Status.{Status}
-use Rattle.mon_command.specs.CommandLine.{turns}
+use Rattle.front_command.specs.CommandLine.{turns}
 use Rattle.expresso.specs.Answers.{HoldRun, IsTurnsText}
 use Rattle.expresso.specs.inner.Ending.{CommandEnds, IsCommandText, IsWritten, ended}
 use Rattle.expresso.proofs.RunFiles.{held_not_rejected}

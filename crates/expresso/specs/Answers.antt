@@ -2,52 +2,52 @@
 use Rattle.std.specs.Prelude.{◌≡◌, ◌<◌, ◌⊎◌, ℕ, Bool, List, All, Any, map, Option, Some, IfSome}
 use Rattle.std.specs.Prelude.{codes}
 use Rattle.std.specs.Io.KnownBytes.{Appends}
-use Rattle.mon_io.specs.Outside.{FilesSeen, SinkSeen, AppendsFront, Rises}
-use Rattle.mon_tree.specs.declared.tree.MonitorTree.{MonitorTree}
-use Rattle.mon_printer.specs.Canonical.{tree_text}
-use Rattle.mon_monitor.specs.MonitorParts.{MonitorParts}
-use Rattle.mon_implicit.specs.declared.commit.Turns.{Turns}
-use Rattle.mon_implicit.specs.declared.script.Client.{Client}
-use Rattle.mon_implicit.specs.Runs.{IsFinished}
-use Rattle.mon_implicit.specs.Rounds.{AreTurnsByRounds, end_of}
-use Rattle.mon_events.specs.declared.log.Entry.{Entry}
-use Rattle.mon_events.specs.declared.plan.Plan.{Plan}
-use Rattle.mon_events.specs.Configurations.{Configuration, situation_of}
-use Rattle.mon_events.specs.PlanText.{plan_text}
-use Rattle.mon_explicit.specs.Sections.{spurious_in}
-use Rattle.mon_text.specs.TurnsText.{turns_text}
-use Rattle.mon_text.specs.FaultText.{unread_text}
+use Rattle.base_io.specs.Outside.{FilesSeen, SinkSeen, AppendsFront, Rises}
+use Rattle.lang_tree.specs.declared.tree.MonitorTree.{MonitorTree}
+use Rattle.lang_printer.specs.Canonical.{tree_text}
+use Rattle.lang_monitor.specs.MonitorParts.{MonitorParts}
+use Rattle.machine_implicit.specs.declared.commit.Turns.{Turns}
+use Rattle.machine_implicit.specs.declared.script.Client.{Client}
+use Rattle.machine_implicit.specs.Runs.{IsFinished}
+use Rattle.machine_implicit.specs.Rounds.{AreTurnsByRounds, end_of}
+use Rattle.machine_events.specs.declared.log.Entry.{Entry}
+use Rattle.machine_events.specs.declared.plan.Plan.{Plan}
+use Rattle.machine_events.specs.Configurations.{Configuration, situation_of}
+use Rattle.machine_events.specs.PlanText.{plan_text}
+use Rattle.machine_explicit.specs.Sections.{spurious_in}
+use Rattle.report_text.specs.TurnsText.{turns_text}
+use Rattle.report_text.specs.FaultText.{unread_text}
 use Rattle.expresso.specs.declared.status.Status.{Status}
 use Rattle.expresso.specs.declared.status.Status.TheVariants.{Done, Refused, Usage, ReadFault}
 use Rattle.expresso.specs.declared.status.Status.TheVariants.{WriteFault, OutOfMemory, Stalled}
-use Rattle.mon_command.specs.declared.plan_choice.PlanChoice.{PlanChoice}
-use Rattle.mon_command.specs.declared.plan_choice.PlanChoice.TheVariants.{Counted, Placed}
-use Rattle.mon_command.specs.declared.schedule.Schedule.{Schedule}
-use Rattle.mon_command.specs.CommandLine.{Command, check, turns, compile, simulate, run, stress}
-use Rattle.mon_command.specs.CommandLine.{report, recheck, block, audit, explain, emit}
-use Rattle.mon_command.specs.CommandLine.{Takes, TakesNone, files_of}
-use Rattle.mon_stress.specs.LargeInput.{buffer_of, capacity_of, producers_and_consumers}
+use Rattle.front_command.specs.declared.plan_choice.PlanChoice.{PlanChoice}
+use Rattle.front_command.specs.declared.plan_choice.PlanChoice.TheVariants.{Counted, Placed}
+use Rattle.front_command.specs.declared.schedule.Schedule.{Schedule}
+use Rattle.front_command.specs.CommandLine.{Command, check, turns, compile, simulate, run, stress}
+use Rattle.front_command.specs.CommandLine.{report, recheck, block, audit, explain, emit}
+use Rattle.front_command.specs.CommandLine.{Takes, TakesNone, files_of}
+use Rattle.machine_stress.specs.LargeInput.{buffer_of, capacity_of, producers_and_consumers}
 use Rattle.expresso.specs.Placements.{IsChosen, IsPlacement}
 use Rattle.expresso.specs.PlacedRuns.{IsPlacedRun}
 use Rattle.expresso.specs.Simulations.{IsSimulation}
-use Rattle.mon_events.specs.Configurations.{system_under}
-use Rattle.mon_text.specs.Laws.{plan_and_log_text}
-use Rattle.mon_text.specs.SummaryText.{summary_text}
+use Rattle.machine_events.specs.Configurations.{system_under}
+use Rattle.report_text.specs.Laws.{plan_and_log_text}
+use Rattle.report_text.specs.SummaryText.{summary_text}
 use Rattle.expresso.specs.FirstFaults.{IsRefusalLine}
 use Rattle.expresso.specs.MonitorFiles.{IsAccepted, IsFirstOfMonitor}
 use Rattle.expresso.specs.ClientFiles.{AreAccepted, IsFirstOfClients}
 use Rattle.expresso.specs.ReportFiles.{IsAcceptanceLine, IsRechecked}
 use Rattle.expresso.specs.ReportFiles.{IsReportRefusalLine}
 use Rattle.expresso.specs.PlanFiles.{IsAudited, IsLawfulLine, IsPlanRefusalLine, MayBeLawful}
-use Rattle.mon_place.specs.declared.placed.PlacedPlan.{PlacedPlan}
-use Rattle.mon_place.specs.Backing.{AreProofs, backed_claims}
-use Rattle.mon_recheck.specs.declared.report.Report.{Report}
-use Rattle.mon_outline.specs.Outlines.{HasTypedNumbers}
-use Rattle.mon_recheck.specs.Reports.{report_of, report_text}
-use Rattle.mon_why.specs.declared.reason.Reason.{Reason}
-use Rattle.mon_why.specs.Reasons.{IsReason}
-use Rattle.mon_why.specs.Things.{things_of}
-use Rattle.mon_module.specs.Modules.{rust_text}
+use Rattle.plan_place.specs.declared.placed.PlacedPlan.{PlacedPlan}
+use Rattle.plan_place.specs.Backing.{AreProofs, backed_claims}
+use Rattle.report_recheck.specs.declared.report.Report.{Report}
+use Rattle.logic_outline.specs.Outlines.{HasTypedNumbers}
+use Rattle.report_recheck.specs.Reports.{report_of, report_text}
+use Rattle.plan_why.specs.declared.reason.Reason.{Reason}
+use Rattle.plan_why.specs.Reasons.{IsReason}
+use Rattle.plan_why.specs.Things.{things_of}
+use Rattle.emit_module.specs.Modules.{rust_text}
 use Rattle.expresso.specs.PrintedPrograms.{IsAsPromised}
 use Rattle.expresso.specs.Texts.{explained_text, usage_text}
 

@@ -1,20 +1,20 @@
 -- What is true of the plans that `recheck` accepts and `audit` calls lawful.
 use Rattle.std.specs.Prelude.{ℕ, Bool, true, false, List}
-use Rattle.mon_tree.specs.declared.tree.MonitorTree.{MonitorTree}
-use Rattle.mon_monitor.specs.MonitorParts.{MonitorParts, IsMonitor}
-use Rattle.mon_implicit.specs.declared.script.Client.{Client}
-use Rattle.mon_implicit.specs.Scripted.{FitsScripts}
-use Rattle.mon_implicit.specs.Runs.{Ends}
-use Rattle.mon_events.specs.declared.event.Event.{Event}
-use Rattle.mon_events.specs.declared.log.Entry.{Entry}
-use Rattle.mon_events.specs.declared.plan.Plan.{Plan}
-use Rattle.mon_events.specs.Counts.{IsLawfulByCounting}
-use Rattle.mon_events.specs.Plans.{FitsPlan, IsLawful}
-use Rattle.mon_events.specs.Configurations.{Configuration, situation_of, system_under}
-use Rattle.mon_events.specs.Events.{AreEvents}
-use Rattle.mon_events.specs.Logs.{IsLegal, IsClosed}
-use Rattle.mon_events.specs.Pending.{WakePending, IsStuck}
-use Rattle.mon_recheck.specs.declared.report.Report.{Report}
+use Rattle.lang_tree.specs.declared.tree.MonitorTree.{MonitorTree}
+use Rattle.lang_monitor.specs.MonitorParts.{MonitorParts, IsMonitor}
+use Rattle.machine_implicit.specs.declared.script.Client.{Client}
+use Rattle.machine_implicit.specs.Scripted.{FitsScripts}
+use Rattle.machine_implicit.specs.Runs.{Ends}
+use Rattle.machine_events.specs.declared.event.Event.{Event}
+use Rattle.machine_events.specs.declared.log.Entry.{Entry}
+use Rattle.machine_events.specs.declared.plan.Plan.{Plan}
+use Rattle.machine_events.specs.Counts.{IsLawfulByCounting}
+use Rattle.machine_events.specs.Plans.{FitsPlan, IsLawful}
+use Rattle.machine_events.specs.Configurations.{Configuration, situation_of, system_under}
+use Rattle.machine_events.specs.Events.{AreEvents}
+use Rattle.machine_events.specs.Logs.{IsLegal, IsClosed}
+use Rattle.machine_events.specs.Pending.{WakePending, IsStuck}
+use Rattle.report_recheck.specs.declared.report.Report.{Report}
 use Rattle.expresso.specs.MonitorFiles.{IsAccepted}
 use Rattle.expresso.specs.PlanFiles.{MayBeLawful}
 use Rattle.expresso.specs.PrintedPrograms.{ThreadsLoseNone}

@@ -1,15 +1,15 @@
 -- Client files: which are accepted, and what the first fault of the others is.
 use Rattle.std.specs.Prelude.{◌≡◌, ◌≤◌, ℕ, List, [], length}
-use Rattle.mon_base.specs.Limits.{FILE_BYTES}
-use Rattle.mon_base.specs.declared.source_fault.SourceFault.{SourceFault}
-use Rattle.mon_tokens.specs.declared.token.Token.{Token}
-use Rattle.mon_tree.specs.declared.tree.ClientsTree.{ClientsTree}
-use Rattle.mon_tokens.specs.Spelling.{Spells}
-use Rattle.mon_syntax.specs.ClientGrammar.{DerivesClients, IsClientFile}
-use Rattle.mon_monitor.specs.MonitorParts.{MonitorParts}
-use Rattle.mon_implicit.specs.declared.script.Client.{Client}
-use Rattle.mon_script.specs.Faults.{faults_of}
-use Rattle.mon_script.specs.Scripts.{IsScripted}
+use Rattle.lang_base.specs.Limits.{FILE_BYTES}
+use Rattle.lang_base.specs.declared.source_fault.SourceFault.{SourceFault}
+use Rattle.lang_tokens.specs.declared.token.Token.{Token}
+use Rattle.lang_tree.specs.declared.tree.ClientsTree.{ClientsTree}
+use Rattle.lang_tokens.specs.Spelling.{Spells}
+use Rattle.lang_syntax.specs.ClientGrammar.{DerivesClients, IsClientFile}
+use Rattle.lang_monitor.specs.MonitorParts.{MonitorParts}
+use Rattle.machine_implicit.specs.declared.script.Client.{Client}
+use Rattle.lang_script.specs.Faults.{faults_of}
+use Rattle.lang_script.specs.Scripts.{IsScripted}
 use Rattle.expresso.specs.FirstFaults.{IsFirstFault}
 
 -- the bytes are a client file that stands for these clients of the monitor

@@ -1,16 +1,16 @@
 -- The first fault of a source file, a monitor's or its clients': by size, tokens, grammar and
 -- rules.
 use Rattle.std.specs.Prelude.{◌≡◌, ◌<◌, ◌≤◌, ◌⊎◌, List, ℕ, length}
-use Rattle.mon_base.specs.Limits.{FILE_BYTES}
-use Rattle.mon_base.specs.SourceFaults.{IsLeast}
-use Rattle.mon_base.specs.declared.source_fault.SourceFault.{SourceFault}
-use Rattle.mon_base.specs.declared.source_fault.Refusal.TheVariants.{Lex, Syntax}
-use Rattle.mon_tokens.specs.declared.token.Token.{Token}
-use Rattle.mon_tokens.specs.Spelling.{Spells, StartsNoToken}
-use Rattle.mon_tokens.specs.Words.{words}
-use Rattle.mon_syntax.specs.Grammar.{Rule}
-use Rattle.mon_syntax.specs.Fault.{IsFaultAt}
-use Rattle.mon_text.specs.FaultText.{too_long_text, place_text}
+use Rattle.lang_base.specs.Limits.{FILE_BYTES}
+use Rattle.lang_base.specs.SourceFaults.{IsLeast}
+use Rattle.lang_base.specs.declared.source_fault.SourceFault.{SourceFault}
+use Rattle.lang_base.specs.declared.source_fault.Refusal.TheVariants.{Lex, Syntax}
+use Rattle.lang_tokens.specs.declared.token.Token.{Token}
+use Rattle.lang_tokens.specs.Spelling.{Spells, StartsNoToken}
+use Rattle.lang_tokens.specs.Words.{words}
+use Rattle.lang_syntax.specs.Grammar.{Rule}
+use Rattle.lang_syntax.specs.Fault.{IsFaultAt}
+use Rattle.report_text.specs.FaultText.{too_long_text, place_text}
 
 -- no token, blank or comment starts at the fault's place, and what comes before is whole
 pub record IsStuckFile (bytes : List ℕ) (fault : SourceFault) : Type 0 where

@@ -1,27 +1,27 @@
 -- What `run` promises, however many workers run and however their steps interleave, and `block`,
 -- which has a caller for each client in place of workers.
 use Rattle.std.specs.Prelude.{◌≡◌, ◌⊎◌, ◌↔◌, ◌++◌, ℕ, false, List, Some}
-use Rattle.mon_io.specs.Outside.{FilesSeen, SinkSeen}
-use Rattle.mon_tree.specs.declared.tree.MonitorTree.{MonitorTree}
-use Rattle.mon_monitor.specs.MonitorParts.{MonitorParts}
-use Rattle.mon_implicit.specs.declared.script.Client.{Client}
-use Rattle.mon_implicit.specs.Scripted.{AreClients}
-use Rattle.mon_implicit.specs.Runs.{IsRun, Ends, IsFinished}
-use Rattle.mon_events.specs.declared.log.Entry.{Entry}
-use Rattle.mon_events.specs.declared.plan.Plan.{Plan}
-use Rattle.mon_events.specs.Configurations.{Configuration, situation_of}
-use Rattle.mon_events.specs.Logs.{IsLegal, IsClosed, commits_of}
-use Rattle.mon_events.specs.Pending.{IsSystem}
-use Rattle.mon_events.specs.Plans.{FitsPlan, IsLawful, has_note, notes_at}
-use Rattle.mon_events.specs.PlanText.{plan_text}
-use Rattle.mon_explicit.specs.Sections.{spurious_in}
-use Rattle.mon_prune.specs.Hardness.{HasNoHardClaim}
-use Rattle.mon_place.specs.Backing.{IsBacked}
-use Rattle.mon_place.specs.Exact.{IsExact, IsLicensed}
-use Rattle.mon_text.specs.LogText.{log_text}
-use Rattle.mon_events.specs.Configurations.{system_under}
-use Rattle.mon_command.specs.declared.plan_choice.PlanChoice.{PlanChoice}
-use Rattle.mon_command.specs.CommandLine.{Takes, run, block}
+use Rattle.base_io.specs.Outside.{FilesSeen, SinkSeen}
+use Rattle.lang_tree.specs.declared.tree.MonitorTree.{MonitorTree}
+use Rattle.lang_monitor.specs.MonitorParts.{MonitorParts}
+use Rattle.machine_implicit.specs.declared.script.Client.{Client}
+use Rattle.machine_implicit.specs.Scripted.{AreClients}
+use Rattle.machine_implicit.specs.Runs.{IsRun, Ends, IsFinished}
+use Rattle.machine_events.specs.declared.log.Entry.{Entry}
+use Rattle.machine_events.specs.declared.plan.Plan.{Plan}
+use Rattle.machine_events.specs.Configurations.{Configuration, situation_of}
+use Rattle.machine_events.specs.Logs.{IsLegal, IsClosed, commits_of}
+use Rattle.machine_events.specs.Pending.{IsSystem}
+use Rattle.machine_events.specs.Plans.{FitsPlan, IsLawful, has_note, notes_at}
+use Rattle.machine_events.specs.PlanText.{plan_text}
+use Rattle.machine_explicit.specs.Sections.{spurious_in}
+use Rattle.plan_prune.specs.Hardness.{HasNoHardClaim}
+use Rattle.plan_place.specs.Backing.{IsBacked}
+use Rattle.plan_place.specs.Exact.{IsExact, IsLicensed}
+use Rattle.report_text.specs.LogText.{log_text}
+use Rattle.machine_events.specs.Configurations.{system_under}
+use Rattle.front_command.specs.declared.plan_choice.PlanChoice.{PlanChoice}
+use Rattle.front_command.specs.CommandLine.{Takes, run, block}
 use Rattle.expresso.specs.declared.status.Status.{Status}
 use Rattle.expresso.specs.declared.status.Status.TheVariants.{Done, Stalled}
 use Rattle.expresso.specs.MonitorFiles.{IsAccepted}
@@ -44,13 +44,13 @@ pub record IsHeadlineText (choice : PlanChoice) (monitor_bytes clients_bytes : L
   pub clients_accepted : AreAccepted clients_bytes monitor clients
   -- The text is that of a plan, and then that of a log which led to the last configuration. (For
   -- this monitor and these clients no other plan and no
-  -- other log that is legal under it have this text: the law `text_names_log` of `mon_text`.)
+  -- other log that is legal under it have this text: the law `text_names_log` of `report_text`.)
   pub printed : text ≡ plan_text monitor plan
       ++ log_text (system_under monitor clients plan) log last
   pub is : IsSystem (system_under monitor clients plan)
   pub few : AreClients clients
   -- The plan is lawful, and with `--count` it is lawful by counting. (So no wake-up is lost under
-  -- it: the laws `no_wakeup_is_lost` and `counting_loses_no_wakeup` of `mon_events`.)
+  -- it: the laws `no_wakeup_is_lost` and `counting_loses_no_wakeup` of `machine_events`.)
   pub lawful : IsLawfulChoice choice monitor plan
   -- It is the plan that was placed, or with `--relay` that one with its signals relayed. With
   -- `--count` it is that one counted, by a table of which each entry has an accepted certificate.

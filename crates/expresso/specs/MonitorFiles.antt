@@ -1,14 +1,14 @@
 -- Monitor files: which are accepted, and what the first fault of the others is.
 use Rattle.std.specs.Prelude.{◌≡◌, ◌≤◌, ℕ, List, [], length}
-use Rattle.mon_base.specs.Limits.{FILE_BYTES}
-use Rattle.mon_base.specs.declared.source_fault.SourceFault.{SourceFault}
-use Rattle.mon_tokens.specs.declared.token.Token.{Token}
-use Rattle.mon_tree.specs.declared.tree.MonitorTree.{MonitorTree}
-use Rattle.mon_tokens.specs.Spelling.{Spells}
-use Rattle.mon_syntax.specs.Grammar.{Derives, IsMonitorFile}
-use Rattle.mon_rules.specs.Rules.{faults_of}
-use Rattle.mon_monitor.specs.MonitorParts.{MonitorParts}
-use Rattle.mon_types.specs.Typed.{IsTyped}
+use Rattle.lang_base.specs.Limits.{FILE_BYTES}
+use Rattle.lang_base.specs.declared.source_fault.SourceFault.{SourceFault}
+use Rattle.lang_tokens.specs.declared.token.Token.{Token}
+use Rattle.lang_tree.specs.declared.tree.MonitorTree.{MonitorTree}
+use Rattle.lang_tokens.specs.Spelling.{Spells}
+use Rattle.lang_syntax.specs.Grammar.{Derives, IsMonitorFile}
+use Rattle.lang_rules.specs.Rules.{faults_of}
+use Rattle.lang_monitor.specs.MonitorParts.{MonitorParts}
+use Rattle.lang_types.specs.Typed.{IsTyped}
 use Rattle.expresso.specs.FirstFaults.{IsFirstFault}
 
 -- the bytes are a monitor file with this tree, which stands for this monitor

@@ -1,12 +1,12 @@
 -- Runs of a monitor by sections, under a plan that is asked for.
 use Rattle.std.specs.Prelude.{List}
-use Rattle.mon_implicit.specs.Scripted.{AreClients}
-use Rattle.mon_implicit.specs.Runs.{IsRun, Ends}
-use Rattle.mon_events.specs.declared.log.Entry.{Entry}
-use Rattle.mon_events.specs.Configurations.{System, Configuration, situation_of}
-use Rattle.mon_events.specs.Logs.{IsLegal, IsClosed, commits_of}
-use Rattle.mon_events.specs.Pending.{IsSystem}
-use Rattle.mon_command.specs.declared.plan_choice.PlanChoice.{PlanChoice}
+use Rattle.machine_implicit.specs.Scripted.{AreClients}
+use Rattle.machine_implicit.specs.Runs.{IsRun, Ends}
+use Rattle.machine_events.specs.declared.log.Entry.{Entry}
+use Rattle.machine_events.specs.Configurations.{System, Configuration, situation_of}
+use Rattle.machine_events.specs.Logs.{IsLegal, IsClosed, commits_of}
+use Rattle.machine_events.specs.Pending.{IsSystem}
+use Rattle.front_command.specs.declared.plan_choice.PlanChoice.{PlanChoice}
 use Rattle.expresso.specs.Placements.{IsChosen}
 
 -- the log of such a run, and the configuration in which it ended

@@ -1,20 +1,21 @@
 -- Plans that a monitor may be compiled to, and those that its clients run under.
 use Rattle.std.specs.Prelude.{◌≡◌, ℕ, false, List, Option}
-use Rattle.mon_command.specs.declared.plan_choice.PlanChoice.{PlanChoice}
-use Rattle.mon_command.specs.declared.plan_choice.PlanChoice.TheVariants.{Placed, Relayed, Counted}
-use Rattle.mon_command.specs.declared.plan_choice.PlanChoice.TheVariants.{CountedAndRelayed}
-use Rattle.mon_monitor.specs.MonitorParts.{MonitorParts, IsMonitor}
-use Rattle.mon_events.specs.declared.plan.Plan.{Plan}
-use Rattle.mon_events.specs.Plans.{FitsPlan, IsLawful, has_note, notes_at}
-use Rattle.mon_events.specs.Counts.{IsLawfulByCounting}
-use Rattle.mon_prune.specs.Hardness.{HasNoHardClaim}
-use Rattle.mon_place.specs.Backing.{IsBacked}
-use Rattle.mon_place.specs.Exact.{IsExact, IsLicensed}
-use Rattle.mon_place.specs.Relayed.{relay_of}
-use Rattle.mon_counted.specs.declared.counted.Told.{Told}
-use Rattle.mon_counted.specs.Counted.{AreBacked, IsCountedFrom, counted_of}
-use Rattle.mon_counted.specs.CountedAndRelayed.{IsCountedAndRelayed, counted_and_relayed}
-use Rattle.mon_counted.specs.Exact.{HasNoOpenQuestion, IsExactlyCounted}
+use Rattle.front_command.specs.declared.plan_choice.PlanChoice.{PlanChoice}
+use Rattle.front_command.specs.declared.plan_choice.PlanChoice.TheVariants.{Placed, Relayed}
+use Rattle.front_command.specs.declared.plan_choice.PlanChoice.TheVariants.{Counted}
+use Rattle.front_command.specs.declared.plan_choice.PlanChoice.TheVariants.{CountedAndRelayed}
+use Rattle.lang_monitor.specs.MonitorParts.{MonitorParts, IsMonitor}
+use Rattle.machine_events.specs.declared.plan.Plan.{Plan}
+use Rattle.machine_events.specs.Plans.{FitsPlan, IsLawful, has_note, notes_at}
+use Rattle.machine_events.specs.Counts.{IsLawfulByCounting}
+use Rattle.plan_prune.specs.Hardness.{HasNoHardClaim}
+use Rattle.plan_place.specs.Backing.{IsBacked}
+use Rattle.plan_place.specs.Exact.{IsExact, IsLicensed}
+use Rattle.plan_place.specs.Relayed.{relay_of}
+use Rattle.plan_counted.specs.declared.counted.Told.{Told}
+use Rattle.plan_counted.specs.Counted.{AreBacked, IsCountedFrom, counted_of}
+use Rattle.plan_counted.specs.CountedAndRelayed.{IsCountedAndRelayed, counted_and_relayed}
+use Rattle.plan_counted.specs.Exact.{HasNoOpenQuestion, IsExactlyCounted}
 
 pub record IsPlacement (monitor : MonitorParts) (plan : Plan) : Type 0 where
   pub is : IsMonitor monitor

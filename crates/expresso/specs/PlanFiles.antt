@@ -1,13 +1,13 @@
 -- Plan files: which hold a plan of a monitor, what is found of it, and which line refuses others.
 use Rattle.std.specs.Prelude.{◌≡◌, ◌<◌, ◌≤◌, ◌⊎◌, ℕ, Bool, List, Some, None, length}
-use Rattle.mon_monitor.specs.MonitorParts.{MonitorParts}
-use Rattle.mon_events.specs.declared.plan.Plan.{Plan}
-use Rattle.mon_recheck.specs.Readings.{IsPlanRead}
-use Rattle.mon_audit.specs.declared.finding.Finding.{Finding}
-use Rattle.mon_audit.specs.declared.finding.Finding.TheVariants as findings
-use Rattle.mon_audit.specs.CountedFindings.{IsFindingBy}
-use Rattle.mon_audit.specs.FindingText.{finding_text}
-use Rattle.mon_text.specs.FaultText.{not_plan_text, other_too_long_text}
+use Rattle.lang_monitor.specs.MonitorParts.{MonitorParts}
+use Rattle.machine_events.specs.declared.plan.Plan.{Plan}
+use Rattle.report_recheck.specs.Readings.{IsPlanRead}
+use Rattle.report_audit.specs.declared.finding.Finding.{Finding}
+use Rattle.report_audit.specs.declared.finding.Finding.TheVariants as findings
+use Rattle.report_audit.specs.CountedFindings.{IsFindingBy}
+use Rattle.report_audit.specs.FindingText.{finding_text}
+use Rattle.report_text.specs.FaultText.{not_plan_text, other_too_long_text}
 use Rattle.expresso.specs.ReportFiles.{OTHER_BYTES}
 
 -- the bytes are those of a file with the text of this plan of the monitor

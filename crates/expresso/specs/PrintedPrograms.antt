@@ -1,28 +1,28 @@
 -- What threads do by the code that is printed of a monitor under its plan, what the printed bodies
 -- and tests do, and how large the numbers are that are kept and made on the way.
 use Rattle.std.specs.Prelude.{◌≡◌, ℕ, false, List, ◌∷◌, All, Some, slice_get}
-use Rattle.mon_base.specs.declared.value.Value.{Value}
-use Rattle.mon_tree.specs.declared.tree.MonitorTree.{MonitorTree}
-use Rattle.mon_monitor.specs.declared.monitor.Block.{Block}
-use Rattle.mon_monitor.specs.Bodies.{Inputs, Memory}
-use Rattle.mon_monitor.specs.Inputs.{reads_inputs}
-use Rattle.mon_monitor.specs.MonitorParts.{MonitorParts, locals_in, start_of}
-use Rattle.mon_types.specs.KeptMeaning.{expressions_in}
-use Rattle.mon_types.specs.Typed.{PlacedBlock, blocks_from}
-use Rattle.mon_implicit.specs.declared.script.Client.{Client}
-use Rattle.mon_implicit.specs.Scripted.{FitsScripts}
-use Rattle.mon_implicit.specs.Steps.{condition_truth, guard_truth}
-use Rattle.mon_events.specs.declared.plan.Plan.{Plan}
-use Rattle.mon_code.specs.Executions.{Frame, IsThread, Moment, Position}
-use Rattle.mon_code.specs.Laws.{Leads, LosesNone}
-use Rattle.mon_code.specs.LivePlans.{printed_program}
-use Rattle.mon_numbers.specs.Laws.{AreShort, CallSteps, StaysWide, scope_in}
-use Rattle.mon_numbers.specs.Tests.{printed_test}
+use Rattle.lang_base.specs.declared.value.Value.{Value}
+use Rattle.lang_tree.specs.declared.tree.MonitorTree.{MonitorTree}
+use Rattle.lang_monitor.specs.declared.monitor.Block.{Block}
+use Rattle.lang_monitor.specs.Bodies.{Inputs, Memory}
+use Rattle.lang_monitor.specs.Inputs.{reads_inputs}
+use Rattle.lang_monitor.specs.MonitorParts.{MonitorParts, locals_in, start_of}
+use Rattle.lang_types.specs.KeptMeaning.{expressions_in}
+use Rattle.lang_types.specs.Typed.{PlacedBlock, blocks_from}
+use Rattle.machine_implicit.specs.declared.script.Client.{Client}
+use Rattle.machine_implicit.specs.Scripted.{FitsScripts}
+use Rattle.machine_implicit.specs.Steps.{condition_truth, guard_truth}
+use Rattle.machine_events.specs.declared.plan.Plan.{Plan}
+use Rattle.emit_code.specs.Executions.{Frame, IsThread, Moment, Position}
+use Rattle.emit_code.specs.Laws.{Leads, LosesNone}
+use Rattle.emit_code.specs.LivePlans.{printed_program}
+use Rattle.emit_numbers.specs.Laws.{AreShort, CallSteps, StaysWide, scope_in}
+use Rattle.emit_numbers.specs.Tests.{printed_test}
 
 -- Any number of threads call the methods, each as often as it does, with arguments that fit. Then
 -- at each moment of each execution all that `LosesNone` lists is so: what ran is a run of the
 -- implicit monitor, calls answer its replies, no wake-up is lost, and where no thread can move none
--- hangs whose guard is true. This is the law `printed_code_loses_none` of `mon_code` for one plan.
+-- hangs whose guard is true. This is the law `printed_code_loses_none` of `emit_code` for one plan.
 abbrev pub ThreadsLoseNone : MonitorParts → Plan → Type 0
 ThreadsLoseNone monitor plan =
     (clients : List Client) (last : Moment) → FitsScripts monitor clients
@@ -32,7 +32,7 @@ ThreadsLoseNone monitor plan =
 -- From each state within 64 bits, with such arguments and locals, a call of the function that is
 -- printed of a block's body is a step of the block: it answers an overflow just where a value
 -- leaves 64 bits, and the state is then as before. This is the law `printed_bodies_step` of
--- `mon_numbers` for one monitor.
+-- `emit_numbers` for one monitor.
 abbrev pub BodiesStep : MonitorTree → MonitorParts → Type 0
 BodiesStep tree monitor =
     (index : ℕ) (placed : PlacedBlock) (block : Block) (state : List Value) (inputs : Inputs)
@@ -43,7 +43,7 @@ BodiesStep tree monitor =
 
 -- A call of the function that is printed of a block's guard answers whether the guard is true: with
 -- the inputs where the guard reads any, and else without them. This is the law `printed_tests_hold`
--- of `mon_numbers` for one monitor.
+-- of `emit_numbers` for one monitor.
 abbrev pub TestsHold : MonitorTree → MonitorParts → Type 0
 TestsHold tree monitor =
     (index : ℕ) (placed : PlacedBlock) (block : Block) (state : List Value) (inputs : Inputs)

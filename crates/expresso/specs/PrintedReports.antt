@@ -1,7 +1,7 @@
 -- Files that hold what `report` printed, and what `report` and `run` print of one file.
 use Rattle.std.specs.Prelude.{◌≡◌, ◌≤◌, ℕ, List, Option, Some, length}
-use Rattle.mon_prune.specs.Hardness.{HasNoHardClaim}
-use Rattle.mon_command.specs.declared.plan_choice.PlanChoice.{PlanChoice}
+use Rattle.plan_prune.specs.Hardness.{HasNoHardClaim}
+use Rattle.front_command.specs.declared.plan_choice.PlanChoice.{PlanChoice}
 use Rattle.expresso.specs.declared.status.Status.{Status}
 use Rattle.expresso.specs.Answers.{IsReportText}
 use Rattle.expresso.specs.Headline.{IsHeadlineText}

@@ -1,7 +1,7 @@
 -- How a call of the program ends.
 use Rattle.std.specs.Prelude.{◌≡◌, ◌<◌, ◌≤◌, ◌↔◌, ℕ, List}
-use Rattle.mon_io.specs.Outside.{FilesSeen, SinkSeen, Rises}
-use Rattle.mon_command.specs.CommandLine.{Command, run, stress, block, TakesNone}
+use Rattle.base_io.specs.Outside.{FilesSeen, SinkSeen, Rises}
+use Rattle.front_command.specs.CommandLine.{Command, run, stress, block, TakesNone}
 use Rattle.expresso.specs.declared.status.Status.{Status}
 use Rattle.expresso.specs.declared.status.Status.TheVariants.{ReadFault, WriteFault, OutOfMemory}
 use Rattle.expresso.specs.Answers.{Answers, Accepts, Rejects, IsFaultless, IsWorkedOrMemory}

@@ -1,13 +1,13 @@
 -- Report files: which are reports of a monitor, which of them are accepted, and which line refuses
 -- the others.
 use Rattle.std.specs.Prelude.{◌≡◌, ◌<◌, ◌≤◌, ◌⊎◌, ℕ, List, Some, None, length}
-use Rattle.mon_monitor.specs.MonitorParts.{MonitorParts}
-use Rattle.mon_recheck.specs.declared.report.Report.{Report}
-use Rattle.mon_recheck.specs.declared.report.Verdict.{Verdict}
-use Rattle.mon_recheck.specs.declared.report.Verdict.TheVariants as verdicts
-use Rattle.mon_recheck.specs.Readings.{IsReportRead}
-use Rattle.mon_recheck.specs.Verdicts.{IsAccepted, IsVerdict, verdict_text}
-use Rattle.mon_text.specs.FaultText.{not_report_text, other_too_long_text}
+use Rattle.lang_monitor.specs.MonitorParts.{MonitorParts}
+use Rattle.report_recheck.specs.declared.report.Report.{Report}
+use Rattle.report_recheck.specs.declared.report.Verdict.{Verdict}
+use Rattle.report_recheck.specs.declared.report.Verdict.TheVariants as verdicts
+use Rattle.report_recheck.specs.Readings.{IsReportRead}
+use Rattle.report_recheck.specs.Verdicts.{IsAccepted, IsVerdict, verdict_text}
+use Rattle.report_text.specs.FaultText.{not_report_text, other_too_long_text}
 
 -- the most bytes of a file that is no monitor and no clients
 abbrev pub OTHER_BYTES : ℕ

@@ -1,12 +1,12 @@
 -- Simulations: runs of a monitor by sections that a schedule leads to.
 use Rattle.std.specs.Prelude.{◌≤◌, ℕ, List}
-use Rattle.mon_events.specs.declared.log.Entry.{Entry}
-use Rattle.mon_events.specs.Configurations.{System, Configuration}
-use Rattle.mon_explicit.specs.Sections.{FreeMachine, opened_free, spurious_in}
-use Rattle.mon_simulate.specs.Schedules.{IsByRounds, IsDrawn}
-use Rattle.mon_command.specs.declared.plan_choice.PlanChoice.{PlanChoice}
-use Rattle.mon_command.specs.declared.schedule.Schedule.{Schedule}
-use Rattle.mon_command.specs.declared.schedule.Schedule.TheVariants.{Rounds, Drawn}
+use Rattle.machine_events.specs.declared.log.Entry.{Entry}
+use Rattle.machine_events.specs.Configurations.{System, Configuration}
+use Rattle.machine_explicit.specs.Sections.{FreeMachine, opened_free, spurious_in}
+use Rattle.machine_simulate.specs.Schedules.{IsByRounds, IsDrawn}
+use Rattle.front_command.specs.declared.plan_choice.PlanChoice.{PlanChoice}
+use Rattle.front_command.specs.declared.schedule.Schedule.{Schedule}
+use Rattle.front_command.specs.declared.schedule.Schedule.TheVariants.{Rounds, Drawn}
 use Rattle.expresso.specs.PlacedRuns.{IsPlacedRun}
 
 -- the most spurious wake-ups of a schedule

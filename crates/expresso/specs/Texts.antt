@@ -1,13 +1,14 @@
--- What the program itself prints. Plans are texts of `mon_events`; runs, logs, summaries and faults
--- of `mon_text`; canonical forms of `mon_printer`; reports and verdicts of `mon_recheck`;
--- findings of `mon_audit`; reasons of `mon_reasons`; modules of `mon_module`.
+-- What the program itself prints. Plans are texts of `machine_events`; runs, logs, summaries and
+-- faults of `report_text`; canonical forms of `lang_printer`; reports and verdicts of
+-- `report_recheck`; findings of `report_audit`; reasons of `report_reasons`; modules of
+-- `emit_module`.
 use Rattle.std.specs.Prelude.{ℕ, List, ◌++◌, codes}
-use Rattle.mon_tree.specs.declared.tree.MonitorTree.{MonitorTree}
-use Rattle.mon_monitor.specs.MonitorParts.{MonitorParts}
-use Rattle.mon_events.specs.declared.plan.Plan.{Plan}
-use Rattle.mon_events.specs.PlanText.{plan_text}
-use Rattle.mon_why.specs.declared.reason.Reason.{Reason}
-use Rattle.mon_reasons.specs.ReasonText.{reasons_text}
+use Rattle.lang_tree.specs.declared.tree.MonitorTree.{MonitorTree}
+use Rattle.lang_monitor.specs.MonitorParts.{MonitorParts}
+use Rattle.machine_events.specs.declared.plan.Plan.{Plan}
+use Rattle.machine_events.specs.PlanText.{plan_text}
+use Rattle.plan_why.specs.declared.reason.Reason.{Reason}
+use Rattle.report_reasons.specs.ReasonText.{reasons_text}
 
 abbrev pub usage_text : List ℕ
 usage_text =

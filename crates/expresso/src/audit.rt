@@ -1,9 +1,9 @@
 //! `expresso audit FILE PLAN [--count]`.
 
 ghost use Rattle.std.specs.Prelude.{[], ◌∷◌, All, IfOk};
-ghost use Rattle.mon_audit.specs.CountedFindings.{IsFindingBy};
-ghost use Rattle.mon_command.specs.CommandLine.{audit};
-ghost use Rattle.mon_recheck.specs.Reports.{IsPlanOf};
+ghost use Rattle.report_audit.specs.CountedFindings.{IsFindingBy};
+ghost use Rattle.front_command.specs.CommandLine.{audit};
+ghost use Rattle.report_recheck.specs.Reports.{IsPlanOf};
 ghost use Rattle.expresso.specs.ProgramEnds.{KeepsFiles};
 ghost use Rattle.expresso.specs.inner.Auditing.{IsAuditDone, IsFound, found_status, found_text};
 ghost use Rattle.expresso.specs.inner.Ending.{CommandEnds, IsWritten};
@@ -12,14 +12,14 @@ use crate::input::open_both;
 use crate::reading::OTHER_BYTES;
 use crate::status::Status;
 use crate::text::{show_fault, show_finding};
-use mon_audit::{Finding, audit, audit_by_counting};
-use mon_events::Plan;
-use mon_io::{Files, Sink};
-use mon_monitor::Monitor;
-use mon_recheck::read_plan;
-use mon_syntax::derives_one_tree;
-use mon_text::Fault;
-use mon_tokens::one_spelling;
+use base_io::{Files, Sink};
+use lang_monitor::Monitor;
+use lang_syntax::derives_one_tree;
+use lang_tokens::one_spelling;
+use machine_events::Plan;
+use report_audit::{Finding, audit, audit_by_counting};
+use report_recheck::read_plan;
+use report_text::Fault;
 use std::alloc::{AllocError, Global};
 
 /// A plan, and what was found of it.

@@ -1,13 +1,13 @@
 //! `expresso check FILE`.
 
-ghost use Rattle.mon_command.specs.CommandLine.{check};
+ghost use Rattle.front_command.specs.CommandLine.{check};
 ghost use Rattle.expresso.specs.ProgramEnds.{KeepsFiles};
 ghost use Rattle.expresso.specs.inner.Ending.{CommandEnds};
 
 use crate::input::monitor_of;
 use crate::status::Status;
 use crate::text::show_tree;
-use mon_io::{Files, Sink};
+use base_io::{Files, Sink};
 use std::alloc::Global;
 
 /// Checks a monitor file and writes its canonical form, or the line of its first fault.

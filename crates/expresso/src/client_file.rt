@@ -1,17 +1,17 @@
 //! From the bytes of a client file to its scripts.
 
 ghost use Rattle.std.specs.Prelude.{◌≤◌, IfErr, IfOk, length};
-ghost use Rattle.mon_base.specs.Limits.{FILE_BYTES};
-ghost use Rattle.mon_implicit.specs.Scripted.{FitsScripts};
+ghost use Rattle.lang_base.specs.Limits.{FILE_BYTES};
+ghost use Rattle.machine_implicit.specs.Scripted.{FitsScripts};
 ghost use Rattle.expresso.specs.ClientFiles.{AreAccepted, IsFirstOfClients};
 ghost use Rattle.expresso.specs.inner.Input.{HasCause};
 
-use mon_base::SourceError;
-use mon_implicit::Scripts;
-use mon_monitor::Monitor;
-use mon_script::clients;
-use mon_syntax::{names_are_identifiers, parse_clients};
-use mon_tokens::tokens;
+use lang_base::SourceError;
+use lang_monitor::Monitor;
+use lang_script::clients;
+use lang_syntax::{names_are_identifiers, parse_clients};
+use lang_tokens::tokens;
+use machine_implicit::Scripts;
 use std::alloc::Global;
 
 /// The scripts that bytes stand for, of clients of this monitor.

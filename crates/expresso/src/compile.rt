@@ -1,6 +1,6 @@
 //! `expresso compile FILE [--count] [--relay]`.
 
-ghost use Rattle.mon_command.specs.CommandLine.{compile};
+ghost use Rattle.front_command.specs.CommandLine.{compile};
 ghost use Rattle.expresso.specs.ProgramEnds.{KeepsFiles};
 ghost use Rattle.expresso.specs.inner.Ending.{CommandEnds};
 
@@ -8,8 +8,8 @@ use crate::input::monitor_of;
 use crate::placement::plan_of;
 use crate::status::Status;
 use crate::text::show_plan;
-use mon_command::PlanChoice;
-use mon_io::{Files, Sink};
+use base_io::{Files, Sink};
+use front_command::PlanChoice;
 use std::alloc::{AllocError, Global};
 
 /// Compiles a monitor file and writes the plan that is asked for, or the line of its first fault.

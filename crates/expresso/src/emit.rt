@@ -1,6 +1,6 @@
 //! `expresso emit FILE`.
 
-ghost use Rattle.mon_command.specs.CommandLine.{emit};
+ghost use Rattle.front_command.specs.CommandLine.{emit};
 ghost use Rattle.expresso.specs.ProgramEnds.{KeepsFiles};
 ghost use Rattle.expresso.specs.inner.Ending.{CommandEnds};
 
@@ -8,10 +8,10 @@ use crate::input::monitor_of;
 use crate::placement::plan_of;
 use crate::status::Status;
 use crate::text::show_module;
-use mon_code::counted_code_loses_none;
-use mon_command::PlanChoice;
-use mon_io::{Files, Sink};
-use mon_numbers::{printed_bodies_step, printed_numbers_are_wide, printed_tests_hold};
+use base_io::{Files, Sink};
+use emit_code::counted_code_loses_none;
+use emit_numbers::{printed_bodies_step, printed_numbers_are_wide, printed_tests_hold};
+use front_command::PlanChoice;
 use std::alloc::{AllocError, Global};
 
 /// Compiles a monitor file and writes its Rust module under the counted plan, or the line of its

@@ -1,7 +1,7 @@
 //! `expresso explain FILE`.
 
 ghost use Rattle.std.specs.Prelude.{IfOk};
-ghost use Rattle.mon_command.specs.CommandLine.{explain};
+ghost use Rattle.front_command.specs.CommandLine.{explain};
 ghost use Rattle.expresso.specs.ProgramEnds.{KeepsFiles};
 ghost use Rattle.expresso.specs.inner.Ending.{CommandEnds};
 ghost use Rattle.expresso.specs.inner.Explaining.{IsExplained};
@@ -10,10 +10,10 @@ use crate::input::monitor_of;
 use crate::placement::placed_of;
 use crate::status::Status;
 use crate::text::show_explanation;
-use mon_events::Plan;
-use mon_io::{Files, Sink};
-use mon_monitor::Monitor;
-use mon_why::{Reason, reasons};
+use base_io::{Files, Sink};
+use lang_monitor::Monitor;
+use machine_events::Plan;
+use plan_why::{Reason, reasons};
 use std::alloc::{AllocError, Global};
 
 /// A plan that a monitor is compiled to, and why each thing in it stands that costs something.

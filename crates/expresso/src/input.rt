@@ -1,8 +1,8 @@
 //! A monitor, alone or with another file, from the files that a command names.
 
 ghost use Rattle.std.specs.Prelude.{◌≡◌, [], ◌∷◌, All, IfErr, IfOk, OnOk};
-ghost use Rattle.mon_implicit.specs.Scripted.{FitsScripts};
-ghost use Rattle.mon_io.specs.Outside.{IsRead};
+ghost use Rattle.machine_implicit.specs.Scripted.{FitsScripts};
+ghost use Rattle.base_io.specs.Outside.{IsRead};
 ghost use Rattle.expresso.specs.FirstFaults.{IsRefusalLine};
 ghost use Rattle.expresso.specs.MonitorFiles.{IsAccepted, IsFirstOfMonitor};
 ghost use Rattle.expresso.specs.ClientFiles.{AreAccepted, IsFirstOfClients};
@@ -16,14 +16,14 @@ use crate::monitor_file::{MonitorFile, read_monitor};
 use crate::reading::bytes_of;
 use crate::status::Status;
 use crate::text::show_fault;
-use mon_base::SourceError;
-use mon_base::limits::FILE_BYTES;
-use mon_implicit::Scripts;
-use mon_io::{Files, Sink};
-use mon_monitor::Monitor;
-use mon_syntax::derives_one_tree;
-use mon_text::Fault;
-use mon_tokens::one_spelling;
+use base_io::{Files, Sink};
+use lang_base::SourceError;
+use lang_base::limits::FILE_BYTES;
+use lang_monitor::Monitor;
+use lang_syntax::derives_one_tree;
+use lang_tokens::one_spelling;
+use machine_implicit::Scripts;
+use report_text::Fault;
 use std::alloc::Global;
 
 /// The tree and the monitor that the bytes of a file stand for. Where there is no monitor, the

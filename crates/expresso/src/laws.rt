@@ -1,20 +1,20 @@
 //! What follows from the definitions alone.
 
 ghost use Rattle.std.specs.Prelude.{◌≡◌, ℕ, Bool, List, Option, Some, length};
-ghost use Rattle.mon_tree.specs.declared.tree.MonitorTree.{MonitorTree};
-ghost use Rattle.mon_monitor.specs.MonitorParts.{MonitorParts};
-ghost use Rattle.mon_implicit.specs.declared.script.Client.{Client};
-ghost use Rattle.mon_events.specs.declared.log.Entry.{Entry};
-ghost use Rattle.mon_events.specs.declared.plan.Plan.{Plan};
-ghost use Rattle.mon_events.specs.Configurations.{System, Configuration, system_under};
-ghost use Rattle.mon_prune.specs.Hardness.{HasNoHardClaim};
-ghost use Rattle.mon_text.specs.Laws.{plan_and_log_text};
-ghost use Rattle.mon_command.specs.declared.plan_choice.PlanChoice.{PlanChoice};
-ghost use Rattle.mon_recheck.specs.declared.report.Verdict.TheVariants.{Accepted};
-ghost use Rattle.mon_recheck.specs.Verdicts.{verdict_text};
-ghost use Rattle.mon_place.specs.Backing.{AreProofs, backed_claims};
-ghost use Rattle.mon_command.specs.CommandLine.{audit, recheck};
-ghost use Rattle.mon_command.specs.declared.schedule.Schedule.{Schedule};
+ghost use Rattle.lang_tree.specs.declared.tree.MonitorTree.{MonitorTree};
+ghost use Rattle.lang_monitor.specs.MonitorParts.{MonitorParts};
+ghost use Rattle.machine_implicit.specs.declared.script.Client.{Client};
+ghost use Rattle.machine_events.specs.declared.log.Entry.{Entry};
+ghost use Rattle.machine_events.specs.declared.plan.Plan.{Plan};
+ghost use Rattle.machine_events.specs.Configurations.{System, Configuration, system_under};
+ghost use Rattle.plan_prune.specs.Hardness.{HasNoHardClaim};
+ghost use Rattle.report_text.specs.Laws.{plan_and_log_text};
+ghost use Rattle.front_command.specs.declared.plan_choice.PlanChoice.{PlanChoice};
+ghost use Rattle.report_recheck.specs.declared.report.Verdict.TheVariants.{Accepted};
+ghost use Rattle.report_recheck.specs.Verdicts.{verdict_text};
+ghost use Rattle.plan_place.specs.Backing.{AreProofs, backed_claims};
+ghost use Rattle.front_command.specs.CommandLine.{audit, recheck};
+ghost use Rattle.front_command.specs.declared.schedule.Schedule.{Schedule};
 ghost use Rattle.expresso.specs.declared.status.Status.{Status};
 ghost use Rattle.expresso.specs.Answers.{IsDoneText, IsRefusedText};
 ghost use Rattle.expresso.specs.CheckedPlans.{IsSafePlan, IsSafeReport};
@@ -24,13 +24,13 @@ ghost use Rattle.expresso.specs.Placements.{CountsNothing, IsPlacement};
 ghost use Rattle.expresso.specs.PrintedReports.{AreRunAndReport, IsPrintedReport};
 ghost use Rattle.expresso.specs.Simulations.{IsSimulation};
 
-use mon_code::counted_code_loses_none;
-use mon_events::counting_loses_no_wakeup;
-use mon_place::one_exact_plan;
-use mon_recheck::printed_reports_are_accepted;
-use mon_simulate::{one_drawn_log, one_log_by_rounds};
-use mon_syntax::derives_one_tree;
-use mon_tokens::one_spelling;
+use emit_code::counted_code_loses_none;
+use lang_syntax::derives_one_tree;
+use lang_tokens::one_spelling;
+use machine_events::counting_loses_no_wakeup;
+use machine_simulate::{one_drawn_log, one_log_by_rounds};
+use plan_place::one_exact_plan;
+use report_recheck::printed_reports_are_accepted;
 
 /// Bytes are accepted as one tree at most, and as one monitor.
 pub fn accepts_one_monitor()

@@ -1,16 +1,16 @@
 //! From the bytes of a monitor file to its tree and its monitor.
 
 ghost use Rattle.std.specs.Prelude.{◌≤◌, IfErr, IfOk, length};
-ghost use Rattle.mon_base.specs.Limits.{FILE_BYTES};
+ghost use Rattle.lang_base.specs.Limits.{FILE_BYTES};
 ghost use Rattle.expresso.specs.MonitorFiles.{IsAccepted, IsFirstOfMonitor};
 ghost use Rattle.expresso.specs.inner.Input.{HasCause};
 
-use mon_base::SourceError;
-use mon_monitor::Monitor;
-use mon_syntax::parse_monitor;
-use mon_tokens::tokens;
-use mon_tree::MonitorTree;
-use mon_types::check;
+use lang_base::SourceError;
+use lang_monitor::Monitor;
+use lang_syntax::parse_monitor;
+use lang_tokens::tokens;
+use lang_tree::MonitorTree;
+use lang_types::check;
 use std::alloc::Global;
 
 /// A monitor file that is accepted.

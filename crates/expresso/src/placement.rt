@@ -1,14 +1,14 @@
 //! The plan that a monitor is compiled to, and the one that is asked for.
 
 ghost use Rattle.std.specs.Prelude.{IfOk};
-ghost use Rattle.mon_place.specs.Backing.{AreProofs, backed_claims};
+ghost use Rattle.plan_place.specs.Backing.{AreProofs, backed_claims};
 ghost use Rattle.expresso.specs.Placements.{IsChosen, IsPlacement};
 
-use mon_command::PlanChoice;
-use mon_counted::{count_plan, relay_uncounted};
-use mon_events::Plan;
-use mon_monitor::Monitor;
-use mon_place::{PlacedPlan, place, relay, relayed_plans_are_lawful};
+use front_command::PlanChoice;
+use lang_monitor::Monitor;
+use machine_events::Plan;
+use plan_counted::{count_plan, relay_uncounted};
+use plan_place::{PlacedPlan, place, relay, relayed_plans_are_lawful};
 use std::alloc::{AllocError, Global};
 
 /// A plan that the monitor is compiled to, with a proof of each claim that it rests on. It fails

@@ -2,20 +2,20 @@
 
 ghost use Rattle.std.specs.Prelude.{◌≡◌, IfErr, IfOk, OnErr, map};
 ghost use Rattle.std.specs.String.{string_bytes};
-ghost use Rattle.mon_command.specs.CommandLine.{MayReadFiles, Takes};
-ghost use Rattle.mon_command.specs.Commands.{command_meant};
+ghost use Rattle.front_command.specs.CommandLine.{MayReadFiles, Takes};
+ghost use Rattle.front_command.specs.Commands.{command_meant};
 ghost use Rattle.expresso.specs.Headline.{Headline};
 ghost use Rattle.expresso.specs.ProgramEnds.{HasThreads, KeepsFiles, ProgramEnds};
 
 use crate::status::Status;
 use crate::text::show_usage;
 use crate::work::{work, work_in_threads};
-use mon_command::{Command, CommandFault, command_of, one_command};
-use mon_io::{Files, Sink};
-use mon_pool::Gate;
+use base_io::{Files, Sink};
+use front_command::{Command, CommandFault, command_of, one_command};
 use std::alloc::Global;
 use std::sync::Wait;
 use std::thread::Threads;
+use threads_pool::Gate;
 
 /// The program: `run FILE CLIENTS [--workers N]` compiles the monitor of a file to a plan, has
 /// workers run the clients of another in threads under it, and writes the plan, the log and the

@@ -1,14 +1,14 @@
 //! The bytes of the files that a command names.
 
 ghost use Rattle.std.specs.Prelude.{IfErr, IfOk, OnOk};
-ghost use Rattle.mon_io.specs.Outside.{IsRead};
+ghost use Rattle.base_io.specs.Outside.{IsRead};
 ghost use Rattle.expresso.specs.ProgramEnds.{KeepsFiles};
 ghost use Rattle.expresso.specs.inner.Ending.{IsQuiet, IsUnread};
 
 use crate::status::Status;
 use crate::text::show_fault;
-use mon_io::{FileFault, Files, Sink};
-use mon_text::Fault;
+use base_io::{FileFault, Files, Sink};
+use report_text::Fault;
 use std::alloc::Global;
 
 /// The most bytes of a file that is no monitor and no clients. Definitions give it the same name

@@ -1,7 +1,7 @@
 //! `expresso recheck FILE REPORT`.
 
 ghost use Rattle.std.specs.Prelude.{[], ◌∷◌, All, IfOk};
-ghost use Rattle.mon_command.specs.CommandLine.{recheck};
+ghost use Rattle.front_command.specs.CommandLine.{recheck};
 ghost use Rattle.expresso.specs.ProgramEnds.{KeepsFiles};
 ghost use Rattle.expresso.specs.inner.Ending.{CommandEnds, IsWritten};
 ghost use Rattle.expresso.specs.inner.Judging.{IsFinding, IsJudged, finding_status, finding_text};
@@ -10,12 +10,12 @@ use crate::input::open_both;
 use crate::reading::OTHER_BYTES;
 use crate::status::Status;
 use crate::text::{show_fault, show_verdict};
-use mon_io::{Files, Sink};
-use mon_monitor::Monitor;
-use mon_recheck::{Verdict, read_report, recheck};
-use mon_syntax::derives_one_tree;
-use mon_text::Fault;
-use mon_tokens::one_spelling;
+use base_io::{Files, Sink};
+use lang_monitor::Monitor;
+use lang_syntax::derives_one_tree;
+use lang_tokens::one_spelling;
+use report_recheck::{Verdict, read_report, recheck};
+use report_text::Fault;
 use std::alloc::{AllocError, Global};
 
 /// Reads both files, the monitor first, checks the report of the second without the prover, and

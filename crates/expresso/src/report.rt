@@ -1,6 +1,6 @@
 //! `expresso report FILE`.
 
-ghost use Rattle.mon_command.specs.CommandLine.{report};
+ghost use Rattle.front_command.specs.CommandLine.{report};
 ghost use Rattle.expresso.specs.ProgramEnds.{KeepsFiles};
 ghost use Rattle.expresso.specs.inner.Ending.{CommandEnds};
 
@@ -8,8 +8,8 @@ use crate::input::monitor_of;
 use crate::placement::placed_of;
 use crate::status::Status;
 use crate::text::show_report;
-use mon_io::{Files, Sink};
-use mon_recheck::{placed_text_is_report_text, read_numbers};
+use base_io::{Files, Sink};
+use report_recheck::{placed_text_is_report_text, read_numbers};
 use std::alloc::{AllocError, Global};
 
 /// Compiles a monitor file and writes the plan with a certificate of each claim that it rests on,

@@ -1,10 +1,10 @@
 //! `expresso run FILE CLIENTS [--workers N] [--count] [--relay]`.
 
 ghost use Rattle.std.specs.Prelude.{◌≡◌, [], ◌∷◌, All, IfOk};
-ghost use Rattle.mon_command.specs.CommandLine.{run};
-ghost use Rattle.mon_implicit.specs.Scripted.{FitsScripts};
-ghost use Rattle.mon_explicit.specs.Sections.{spurious_in};
-ghost use Rattle.mon_events.specs.Configurations.{system_under};
+ghost use Rattle.front_command.specs.CommandLine.{run};
+ghost use Rattle.machine_implicit.specs.Scripted.{FitsScripts};
+ghost use Rattle.machine_explicit.specs.Sections.{spurious_in};
+ghost use Rattle.machine_events.specs.Configurations.{system_under};
 ghost use Rattle.expresso.specs.PlacedRuns.{IsPlacedRun};
 ghost use Rattle.expresso.specs.ProgramEnds.{KeepsFiles};
 ghost use Rattle.expresso.specs.inner.Ending.{CommandEnds};
@@ -14,15 +14,15 @@ use crate::input::{Input, input_of};
 use crate::placement::plan_of;
 use crate::status::Status;
 use crate::text::show_plan_and_log;
-use mon_command::PlanChoice;
-use mon_explicit::FreeMonitor;
-use mon_implicit::Scripts;
-use mon_io::{Files, Sink};
-use mon_monitor::Monitor;
-use mon_pool::{Gate, run_pool};
+use base_io::{Files, Sink};
+use front_command::PlanChoice;
+use lang_monitor::Monitor;
+use machine_explicit::FreeMonitor;
+use machine_implicit::Scripts;
 use std::alloc::{AllocError, Global};
 use std::sync::Wait;
 use std::thread::Threads;
+use threads_pool::{Gate, run_pool};
 
 /// So many workers run the clients on their monitor to the end, under the plan that is asked for.
 /// All memory is taken here.

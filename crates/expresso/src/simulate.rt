@@ -1,11 +1,11 @@
 //! `expresso simulate FILE CLIENTS [--seed N] [--spurious K] [--count] [--relay]`.
 
 ghost use Rattle.std.specs.Prelude.{◌≡◌, ◌≤◌, ◌+◌, [], ◌∷◌, All, IfOk};
-ghost use Rattle.mon_implicit.specs.Scripted.{FitsScripts};
-ghost use Rattle.mon_explicit.specs.Sections.{MOST_SPURIOUS, spurious_in};
-ghost use Rattle.mon_command.specs.CommandLine.{simulate};
+ghost use Rattle.machine_implicit.specs.Scripted.{FitsScripts};
+ghost use Rattle.machine_explicit.specs.Sections.{MOST_SPURIOUS, spurious_in};
+ghost use Rattle.front_command.specs.CommandLine.{simulate};
 ghost use Rattle.expresso.specs.Simulations.{IsSimulation, most_spurious};
-ghost use Rattle.mon_events.specs.Configurations.{system_under};
+ghost use Rattle.machine_events.specs.Configurations.{system_under};
 ghost use Rattle.expresso.specs.ProgramEnds.{KeepsFiles};
 ghost use Rattle.expresso.specs.inner.Ending.{CommandEnds};
 ghost use Rattle.expresso.specs.inner.Schedules.{IsRunOut};
@@ -14,10 +14,10 @@ use crate::input::{Input, input_of};
 use crate::placement::plan_of;
 use crate::status::Status;
 use crate::text::show_plan_and_log;
-use mon_command::{PlanChoice, Schedule};
-use mon_explicit::FreeMonitor;
-use mon_io::{Files, Sink};
-use mon_simulate::{drawn, rounds};
+use base_io::{Files, Sink};
+use front_command::{PlanChoice, Schedule};
+use machine_explicit::FreeMonitor;
+use machine_simulate::{drawn, rounds};
 use std::alloc::{AllocError, Global};
 
 /// The most spurious wake-ups of a schedule.

@@ -1,20 +1,20 @@
 //! `expresso stress N [--workers N]`.
 
-ghost use Rattle.mon_command.specs.CommandLine.{stress};
-ghost use Rattle.mon_io.specs.Outside.{FilesSeen};
+ghost use Rattle.front_command.specs.CommandLine.{stress};
+ghost use Rattle.base_io.specs.Outside.{FilesSeen};
 ghost use Rattle.expresso.specs.inner.Ending.{CommandEnds};
 ghost use Rattle.expresso.specs.inner.Ranges.{AreWorkers};
 
 use crate::run::worked;
 use crate::status::Status;
 use crate::text::show_summary;
-use mon_command::PlanChoice;
-use mon_io::Sink;
-use mon_pool::Gate;
-use mon_stress::{LargeInput, every_large_run_ends_done, large_input};
+use base_io::Sink;
+use front_command::PlanChoice;
+use machine_stress::{LargeInput, every_large_run_ends_done, large_input};
 use std::alloc::{AllocError, Global};
 use std::sync::Wait;
 use std::thread::Threads;
+use threads_pool::Gate;
 
 /// Has workers run the large input that a number stands for, and writes the summary of the log. It
 /// reads no file.

@@ -2,21 +2,21 @@
 //! comes to. No writer takes memory.
 
 ghost use Rattle.std.specs.Prelude.{◌≡◌, ℕ, List};
-ghost use Rattle.mon_io.specs.Outside.{SinkSeen};
-ghost use Rattle.mon_io.specs.Writing.{Wrote};
-ghost use Rattle.mon_events.specs.Configurations.{situation_of};
-ghost use Rattle.mon_events.specs.Logs.{IsClosed};
-ghost use Rattle.mon_events.specs.PlanText.{plan_text};
-ghost use Rattle.mon_printer.specs.Canonical.{tree_text};
-ghost use Rattle.mon_text.specs.Faults.{fault_text};
-ghost use Rattle.mon_text.specs.LogText.{are_done};
-ghost use Rattle.mon_text.specs.TurnsText.{turns_text};
-ghost use Rattle.mon_text.specs.Laws.{plan_and_log_text};
-ghost use Rattle.mon_text.specs.SummaryText.{summary_text};
-ghost use Rattle.mon_recheck.specs.Reports.{placed_text};
-ghost use Rattle.mon_recheck.specs.Verdicts.{verdict_text};
-ghost use Rattle.mon_audit.specs.FindingText.{finding_text};
-ghost use Rattle.mon_module.specs.Modules.{rust_text};
+ghost use Rattle.base_io.specs.Outside.{SinkSeen};
+ghost use Rattle.base_io.specs.Writing.{Wrote};
+ghost use Rattle.machine_events.specs.Configurations.{situation_of};
+ghost use Rattle.machine_events.specs.Logs.{IsClosed};
+ghost use Rattle.machine_events.specs.PlanText.{plan_text};
+ghost use Rattle.lang_printer.specs.Canonical.{tree_text};
+ghost use Rattle.report_text.specs.Faults.{fault_text};
+ghost use Rattle.report_text.specs.LogText.{are_done};
+ghost use Rattle.report_text.specs.TurnsText.{turns_text};
+ghost use Rattle.report_text.specs.Laws.{plan_and_log_text};
+ghost use Rattle.report_text.specs.SummaryText.{summary_text};
+ghost use Rattle.report_recheck.specs.Reports.{placed_text};
+ghost use Rattle.report_recheck.specs.Verdicts.{verdict_text};
+ghost use Rattle.report_audit.specs.FindingText.{finding_text};
+ghost use Rattle.emit_module.specs.Modules.{rust_text};
 ghost use Rattle.expresso.specs.Texts.{explained_text, usage_text};
 ghost use Rattle.expresso.specs.inner.Auditing.{audit_status};
 ghost use Rattle.expresso.specs.inner.Ending.{IsWritten, ended, fault_status};
@@ -24,19 +24,21 @@ ghost use Rattle.expresso.specs.inner.Judging.{verdict_status};
 
 use crate::explain::Explanation;
 use crate::status::Status;
-use mon_audit::{Finding, write_finding};
-use mon_events::Plan;
-use mon_explicit::FreeMonitor;
-use mon_implicit::{Scripts, Turns};
-use mon_io::{Sink, SinkFailed, write_pieces};
-use mon_module::write_rust;
-use mon_monitor::Monitor;
-use mon_place::PlacedPlan;
-use mon_printer::print_monitor;
-use mon_reasons::write_reasons;
-use mon_recheck::{Verdict, write_report, write_verdict};
-use mon_text::{Fault, are_done, write_fault, write_log, write_plan, write_summary, write_turns};
-use mon_tree::MonitorTree;
+use base_io::{Sink, SinkFailed, write_pieces};
+use emit_module::write_rust;
+use lang_monitor::Monitor;
+use lang_printer::print_monitor;
+use lang_tree::MonitorTree;
+use machine_events::Plan;
+use machine_explicit::FreeMonitor;
+use machine_implicit::{Scripts, Turns};
+use plan_place::PlacedPlan;
+use report_audit::{Finding, write_finding};
+use report_reasons::write_reasons;
+use report_recheck::{Verdict, write_report, write_verdict};
+use report_text::{
+    Fault, are_done, write_fault, write_log, write_plan, write_summary, write_turns,
+};
 
 /// Hands on what was written of a text, and gives the status that the text comes to.
 #[tactic(auto, using(crate::proofs::Outcomes::text_handed_on, crate::proofs::Outcomes::flush_failed, crate::proofs::Outcomes::write_failed))]

@@ -1,15 +1,15 @@
 //! `expresso turns FILE CLIENTS`.
 
 ghost use Rattle.std.specs.Prelude.{[], ◌∷◌, All};
-ghost use Rattle.mon_command.specs.CommandLine.{turns};
+ghost use Rattle.front_command.specs.CommandLine.{turns};
 ghost use Rattle.expresso.specs.ProgramEnds.{KeepsFiles};
 ghost use Rattle.expresso.specs.inner.Ending.{CommandEnds};
 
 use crate::input::input_of;
 use crate::status::Status;
 use crate::text::show_turns;
-use mon_implicit::turns;
-use mon_io::{Files, Sink};
+use base_io::{Files, Sink};
+use machine_implicit::turns;
 use std::alloc::{AllocError, Global};
 
 /// Reads both files, the monitor first, runs the clients on the monitor by rounds, and writes the

@@ -1,8 +1,8 @@
 //! What is done for a command.
 
 ghost use Rattle.std.specs.Prelude.{◌≡◌, All, IfErr, IfOk, OnErr};
-ghost use Rattle.mon_command.specs.CommandLine.{files_of};
-ghost use Rattle.mon_command.specs.Commands.{command_meant};
+ghost use Rattle.front_command.specs.CommandLine.{files_of};
+ghost use Rattle.front_command.specs.Commands.{command_meant};
 ghost use Rattle.expresso.specs.ProgramEnds.{HasThreads, KeepsFiles};
 ghost use Rattle.expresso.specs.inner.Ending.{CommandEnds};
 ghost use Rattle.expresso.specs.inner.Ranges.{IsInRange};
@@ -20,12 +20,12 @@ use crate::simulate::simulate_files;
 use crate::status::Status;
 use crate::stress::stress;
 use crate::turns::take_turns;
-use mon_command::Command;
-use mon_io::{Files, Sink};
-use mon_pool::Gate;
+use base_io::{Files, Sink};
+use front_command::Command;
 use std::alloc::Global;
 use std::sync::Wait;
 use std::thread::Threads;
+use threads_pool::Gate;
 
 /// Does what a command asks for, and writes its text or the line of the first fault of its files. A
 /// command that runs clients in threads is handed back, with nothing done.

@@ -7,14 +7,14 @@
 
 mod outside;
 
+use base_io::{RealFiles, StdSink};
 use expresso::{Status, exit_status};
 use expresso_hints::expresso_with_hints;
-use mon_help::KeptFiles;
-use mon_io::{RealFiles, StdSink};
-use mon_pool::OpenGate;
+use front_help::KeptFiles;
 use outside::{ErrorSink, RealNames};
 use std::process::ExitCode;
 use std::{env, io};
+use threads_pool::OpenGate;
 
 /// The exit status where the words can't be read: no number of a `Status`.
 const UNREADABLE_WORDS: u8 = 7;

@@ -1,7 +1,7 @@
 //! Standard error, and what the names of the system stand for.
 
-use mon_help::{NameKind, Names};
-use mon_io::{Sink, SinkFailed};
+use base_io::{Sink, SinkFailed};
+use front_help::{NameKind, Names};
 use std::alloc::Global;
 use std::io::{ErrorKind, Write};
 use std::rt::Files;

@@ -2,25 +2,25 @@
 //!
 //! [`expresso_with_hints`] is the call [`expresso::expresso`], and promises the same of files and of
 //! the first output. Where words or files are refused it writes to the second one what is likely
-//! wrong (`mon_hint`): of words ahead of the usage, of files after the line that refuses them.
+//! wrong (`front_hint`): of words ahead of the usage, of files after the line that refuses them.
 #![tactic(auto)]
 
 mod naming;
 
 ghost use Rattle.std.specs.Prelude.{map};
 ghost use Rattle.std.specs.String.{string_bytes};
-ghost use Rattle.mon_command.specs.CommandLine.{MayReadFiles};
+ghost use Rattle.front_command.specs.CommandLine.{MayReadFiles};
 ghost use Rattle.expresso.specs.Headline.{Headline};
 ghost use Rattle.expresso.specs.ProgramEnds.{KeepsFiles, ProgramEnds};
 
 use crate::naming::{help_with_words, named_in};
+use base_io::{Files, Sink};
 use expresso::{Status, expresso};
-use mon_help::{KeptFiles, Names, help_with_reading, help_with_refusal};
-use mon_io::{Files, Sink};
-use mon_pool::Gate;
+use front_help::{KeptFiles, Names, help_with_reading, help_with_refusal};
 use std::alloc::Global;
 use std::sync::Wait;
 use std::thread::Threads;
+use threads_pool::Gate;
 
 /// Does what [`expresso`] does with these words, files, output and gate, and promises the same of
 /// it. Beside it hints are written to `hints`: what is likely wrong of words that are no command,

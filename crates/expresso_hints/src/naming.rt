@@ -1,9 +1,9 @@
 //! The files that words name, and what is wrong of words.
 
-use mon_command::{Command, CommandFault, command_of};
-use mon_help::{Named, Other, help};
-use mon_hint::words_hint;
-use mon_io::Sink;
+use base_io::Sink;
+use front_command::{Command, CommandFault, command_of};
+use front_help::{Named, Other, help};
+use front_hint::words_hint;
 use std::alloc::Global;
 
 /// Writes what is likely wrong of words, the program's name first, that are no command.

@@ -1,13 +1,13 @@
 //! Calls of the program over files and a sink in memory.
 
+use base_io::{MemFile, MemFiles, MemSink};
+use base_list::Seq;
 use expresso::{Status, expresso};
-use mon_base::Name;
-use mon_io::{MemFile, MemFiles, MemSink};
-use mon_list::Seq;
-use mon_pool::OpenGate;
+use lang_base::Name;
 use std::alloc::{AllocError, Global};
 use std::sync::Wait;
 use std::thread::Threads;
+use threads_pool::OpenGate;
 
 /// A file in memory, or a text that rows name.
 #[derive(Drop)]

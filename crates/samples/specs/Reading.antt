@@ -1,15 +1,15 @@
 -- What a text is read as.
 use Rattle.std.specs.Prelude.{ℕ, List}
-use Rattle.mon_tokens.specs.declared.token.Token.{Token}
-use Rattle.mon_tree.specs.declared.tree.ClientsTree.{ClientsTree}
-use Rattle.mon_tree.specs.declared.tree.MonitorTree.{MonitorTree}
-use Rattle.mon_tokens.specs.Spelling.{Spells}
-use Rattle.mon_syntax.specs.ClientGrammar.{DerivesClients}
-use Rattle.mon_syntax.specs.Grammar.{Derives}
-use Rattle.mon_monitor.specs.MonitorParts.{MonitorParts}
-use Rattle.mon_types.specs.Typed.{IsTyped}
-use Rattle.mon_implicit.specs.declared.script.Client.{Client}
-use Rattle.mon_script.specs.Scripts.{IsScripted}
+use Rattle.lang_tokens.specs.declared.token.Token.{Token}
+use Rattle.lang_tree.specs.declared.tree.ClientsTree.{ClientsTree}
+use Rattle.lang_tree.specs.declared.tree.MonitorTree.{MonitorTree}
+use Rattle.lang_tokens.specs.Spelling.{Spells}
+use Rattle.lang_syntax.specs.ClientGrammar.{DerivesClients}
+use Rattle.lang_syntax.specs.Grammar.{Derives}
+use Rattle.lang_monitor.specs.MonitorParts.{MonitorParts}
+use Rattle.lang_types.specs.Typed.{IsTyped}
+use Rattle.machine_implicit.specs.declared.script.Client.{Client}
+use Rattle.lang_script.specs.Scripts.{IsScripted}
 
 -- the text is a monitor file that stands for this monitor
 pub record IsMonitorOf (text : List ℕ) (monitor : MonitorParts) : Type 0 where

@@ -2,8 +2,8 @@
 
 ghost use Rattle.std.specs.Prelude.{◌≡◌, [], IfOk, false};
 
-use mon_events::{CondKind, Note, NoteList, Plan};
-use mon_list::Seq;
+use base_list::Seq;
+use machine_events::{CondKind, Note, NoteList, Plan};
 use std::alloc::{AllocError, Global};
 
 /// A signal on a condition, by its number.

@@ -1,18 +1,18 @@
 //! From a text to a monitor, and to its clients.
 
 ghost use Rattle.std.specs.Prelude.{◌≤◌, IfSome, IsSome, length};
-ghost use Rattle.mon_base.specs.Limits.{FILE_BYTES};
-ghost use Rattle.mon_tokens.specs.Spelling.{Spells};
-ghost use Rattle.mon_implicit.specs.Scripted.{FitsScripts};
+ghost use Rattle.lang_base.specs.Limits.{FILE_BYTES};
+ghost use Rattle.lang_tokens.specs.Spelling.{Spells};
+ghost use Rattle.machine_implicit.specs.Scripted.{FitsScripts};
 ghost use Rattle.samples.specs.Reading.{AreClientsOf, IsMonitorOf};
 
-use mon_base::limits;
-use mon_implicit::Scripts;
-use mon_monitor::Monitor;
-use mon_script::clients;
-use mon_syntax::{names_are_identifiers, parse_clients, parse_monitor};
-use mon_tokens::{Token, tokens};
-use mon_types::check;
+use lang_base::limits;
+use lang_monitor::Monitor;
+use lang_script::clients;
+use lang_syntax::{names_are_identifiers, parse_clients, parse_monitor};
+use lang_tokens::{Token, tokens};
+use lang_types::check;
+use machine_implicit::Scripts;
 use std::alloc::Global;
 
 /// The tokens of a text that is short enough.

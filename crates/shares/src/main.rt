@@ -5,8 +5,8 @@
 mod threads;
 
 use anyhow::{Context, Result};
-use mon_explicit::FreeMonitor;
-use mon_place::place;
+use machine_explicit::FreeMonitor;
+use plan_place::place;
 use samples::{checked, scripts_read};
 use std::alloc::Global;
 use threads::{Told, share};

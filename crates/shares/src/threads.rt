@@ -4,14 +4,14 @@ ghost use Rattle.std.specs.Prelude.{◌≡◌, ◌<◌, length};
 ghost use Rattle.std.specs.List.{All};
 ghost use Rattle.shares.specs.inner.Places.{IsPlace};
 
-use mon_call::{BlockingMonitor, Caller, CommitEnd};
-use mon_events::{Entry, Outcome};
-use mon_explicit::FreeMonitor;
+use machine_events::{Entry, Outcome};
+use machine_explicit::FreeMonitor;
 use std::alloc::{AllocError, Global};
 use std::sync::Wait;
 use std::sync::atomic::{AtomicU64, Ordering};
 use std::thread;
 use std::thread::Threads;
+use threads_call::{BlockingMonitor, Caller, CommitEnd};
 
 /// What the threads share: the monitor, how many clients it has, and how many threads work, and
 /// worked at most.
@@ -117,7 +117,7 @@ fn serve<R: Wait>(rt: &R, shop: &Shop, caller: &mut Caller, client: u32)
 }
 
 /// Whether the client's next call replied: it blocks until it does, or the client is over.
-#[tactic(auto, using(mon_call::proofs::Committing::commits_system))]
+#[tactic(auto, using(threads_call::proofs::Committing::commits_system))]
 fn commit<R: Wait>(rt: &R, shop: &Shop, caller: &mut Caller, client: u32) -> bool
     requires own { IsPlace shop.now.monitor caller.old }
     requires client { client < shop.now.clients }

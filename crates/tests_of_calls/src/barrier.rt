@@ -1,10 +1,10 @@
 //! Callers that wait for the last of them, each in a thread of its own.
 
 use super::opening::opened;
-use mon_call::{OpenGate, run_callers};
-use mon_events::{Entry, Outcome};
+use machine_events::{Entry, Outcome};
 use samples::monitors::BUFFER;
 use std::test::Fail;
+use threads_call::{OpenGate, run_callers};
 
 /// Whoever comes last frees all others.
 const BARRIER: &[u8] = b"monitor Barrier {

@@ -3,16 +3,16 @@
 ghost use Rattle.std.specs.Prelude.{◌≡◌, ◌<◌, length};
 
 use super::opening::opened;
-use mon_call::{BlockingMonitor, Caller, CommitEnd};
-use mon_events::{Entry, Outcome};
-use mon_explicit::FreeMonitor;
-use mon_implicit::Reply;
-use mon_lock::Receipt;
+use machine_events::{Entry, Outcome};
+use machine_explicit::FreeMonitor;
+use machine_implicit::Reply;
 use samples::monitors::{BUFFER, TWICE};
 use std::alloc::Global;
 use std::process::Abort;
 use std::sync::Wait;
 use std::test::Fail;
+use threads_call::{BlockingMonitor, Caller, CommitEnd};
+use threads_lock::Receipt;
 
 /// The first client.
 const A: u32 = 0;
@@ -55,7 +55,7 @@ impl Calling {
     }
 
     /// How the next call ends, where there is a client of this number. Tickets are left out.
-    #[tactic(auto, using(mon_call::proofs::Committing::commits_system))]
+    #[tactic(auto, using(threads_call::proofs::Committing::commits_system))]
     fn commit<R: Wait>(&mut self, rt: &R, client: u32) -> Option<CommitEnd> {
         if client < self.clients {
             Some(at_no_ticket(self.monitor.commit(rt, &mut self.caller, client)))

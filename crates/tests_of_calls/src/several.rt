@@ -7,8 +7,7 @@ ghost use Rattle.std.specs.List.{All};
 ghost use Rattle.tests_of_calls.specs.inner.Places.{IsPlace};
 
 use super::opening::opened;
-use mon_call::{BlockingMonitor, Caller, CommitEnd};
-use mon_explicit::FreeMonitor;
+use machine_explicit::FreeMonitor;
 use samples::monitors::BUFFER;
 use std::alloc::{AllocError, Global};
 use std::process::Abort;
@@ -18,6 +17,7 @@ use std::test::Fail;
 use std::thread;
 use std::thread::Threads;
 use std::time::{Clock, Instant};
+use threads_call::{BlockingMonitor, Caller, CommitEnd};
 
 /// How often the threads of a test begin anew: a wake-up is lost in few of all orders.
 const ROUNDS: u32 = 1_000;
@@ -70,7 +70,7 @@ fn call_for<R: Wait>(rt: &R, hall: &Hall, caller: &mut Caller, client: u32, call
 }
 
 /// Whether the client's next call replied.
-#[tactic(auto, using(mon_call::proofs::Committing::commits_system))]
+#[tactic(auto, using(threads_call::proofs::Committing::commits_system))]
 fn commit<R: Wait>(rt: &R, hall: &Hall, caller: &mut Caller, client: u32) -> bool
     requires own { IsPlace hall.now.monitor caller.old }
     requires client { client < hall.now.clients }

@@ -1,14 +1,14 @@
 //! Calls of the program over files and sinks in memory, and what is demanded of them.
 
+use base_io::{MemFile, MemFiles, MemSink};
+use base_list::Seq;
 use expresso::{Status, expresso};
-use mon_base::Name;
-use mon_io::{MemFile, MemFiles, MemSink};
-use mon_list::Seq;
-use mon_pool::Gate;
+use lang_base::Name;
 use std::alloc::{AllocError, Global};
 use std::process::Abort;
 use std::sync::Wait;
 use std::thread::Threads;
+use threads_pool::Gate;
 
 /// How much a sink takes.
 pub(crate) const ROOM: u64 = 1 << 20;

@@ -4,13 +4,13 @@
 
 use super::asking::{Call, answers_through, asked, begins_and_ends};
 use expresso::Status;
-use mon_pool::Gate;
 use samples::monitors::{BUFFER, LEVEL};
 use std::sync::Wait;
 use std::sync::atomic::{AtomicU64, Ordering};
 use std::test::Fail;
 use std::thread;
 use std::thread::Threads;
+use threads_pool::Gate;
 
 /// The most turns for which a call is held.
 const MOST_TURNS: u64 = 10_000_000;

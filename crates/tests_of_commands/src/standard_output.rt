@@ -4,9 +4,8 @@
 ghost use Rattle.std.specs.Prelude.{◌≤◌, IfOk, length};
 
 use super::asking::{Call, ROOM, asked, texts_of, two_files};
+use base_io::{MemSink, StdSink};
 use expresso::{Status, expresso, without_threads};
-use mon_io::{MemSink, StdSink};
-use mon_pool::OpenGate;
 use samples::clients::TWO;
 use samples::monitors::BUFFER;
 use std::alloc::{AllocError, Global};
@@ -18,6 +17,7 @@ use std::process::Abort;
 use std::sync::Wait;
 use std::test::Fail;
 use std::thread::Threads;
+use threads_pool::OpenGate;
 
 const ALONE: &[&str] = &["expresso"];
 

@@ -1,11 +1,11 @@
 //! Which plans come of placed ones by counting.
 
-use mon_counted::{count_plan, relay_uncounted};
-use mon_events::Plan;
-use mon_io::MemSink;
-use mon_monitor::Monitor;
-use mon_place::place;
-use mon_text::write_plan;
+use base_io::MemSink;
+use lang_monitor::Monitor;
+use machine_events::Plan;
+use plan_counted::{count_plan, relay_uncounted};
+use plan_place::place;
+use report_text::write_plan;
 use samples::checked;
 use std::alloc::{AllocError, Global};
 use std::test::Fail;

@@ -1,8 +1,8 @@
 //! Counted reports, read and checked.
 
-use mon_monitor::Monitor;
-use mon_recheck::Verdict;
-use mon_tally::{read_counted_report, recheck_counted};
+use lang_monitor::Monitor;
+use report_recheck::Verdict;
+use report_tally::{read_counted_report, recheck_counted};
 use samples::checked;
 use std::alloc::{AllocError, Global};
 use std::test::Fail;

@@ -1,6 +1,6 @@
 //! The files of the system, and a sink in memory for which there is no memory.
 
-use mon_io::{FileFault, Files, MemSink, RealFiles};
+use base_io::{FileFault, Files, MemSink, RealFiles};
 use std::alloc::Global;
 use std::test::Fail;
 use std::{env, fs, process};
@@ -25,7 +25,7 @@ fn a_sink_in_memory_of_all_the_numbers_has_no_memory(rt: HostRuntime) {
 #[test]
 fn real_files_read_up_to_a_limit_and_count_faults(rt: HostRuntime) -> Result<(), Fail> {
     let folder = env::temp_dir(&rt)?;
-    let name = format!(in rt.alloc(); "mon_io-{}", process::id(rt.process()))?;
+    let name = format!(in rt.alloc(); "base_io-{}", process::id(rt.process()))?;
     let path = folder.join(rt.alloc(), name.as_str())?;
     let text = path
         .as_path()

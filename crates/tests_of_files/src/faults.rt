@@ -1,8 +1,8 @@
 //! The faults of source files as texts: the words that the program prints of them.
 
-use mon_base::{Counted, Refusal, SourceError, SourceFault};
-use mon_io::MemSink;
-use mon_text::{Fault, write_fault};
+use base_io::MemSink;
+use lang_base::{Counted, Refusal, SourceError, SourceFault};
+use report_text::{Fault, write_fault};
 use std::alloc::{AllocError, Global};
 use std::test::Fail;
 

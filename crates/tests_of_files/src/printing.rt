@@ -1,11 +1,11 @@
 //! Client files in canonical form, which no command prints.
 
-use mon_base::limits::FILE_BYTES;
-use mon_io::MemSink;
-use mon_printer::print_clients;
-use mon_syntax::parse_clients;
-use mon_tokens::tokens;
-use mon_tree::ClientsTree;
+use base_io::MemSink;
+use lang_base::limits::FILE_BYTES;
+use lang_printer::print_clients;
+use lang_syntax::parse_clients;
+use lang_tokens::tokens;
+use lang_tree::ClientsTree;
 use std::alloc::Global;
 use std::test::Fail;
 

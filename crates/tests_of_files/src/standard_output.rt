@@ -2,7 +2,7 @@
 
 ghost use Rattle.std.specs.Prelude.{◌≤◌, IfOk, length};
 
-use mon_io::{Sink, SinkFailed, StdSink, write_whole};
+use base_io::{Sink, SinkFailed, StdSink, write_whole};
 use std::alloc::Global;
 use std::cell::{Cell, RefCell};
 use std::fmt::Display;

@@ -1,11 +1,11 @@
 //! Guards in trees: where they begin, and how they are shown.
 
-use mon_base::limits::FILE_BYTES;
-use mon_forms::first_place;
-use mon_printer::shown_text;
-use mon_syntax::parse_monitor;
-use mon_tokens::tokens;
-use mon_tree::{BlockTree, MonitorTree};
+use lang_base::limits::FILE_BYTES;
+use lang_forms::first_place;
+use lang_printer::shown_text;
+use lang_syntax::parse_monitor;
+use lang_tokens::tokens;
+use lang_tree::{BlockTree, MonitorTree};
 use std::alloc::Global;
 use std::test::Fail;
 

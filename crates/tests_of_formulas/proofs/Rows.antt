@@ -1,11 +1,11 @@
 -- Rows that are kept one by one, and whether they are a light cube.
 use Rattle.std.proofs.Common.{◌≡◌, ℕ, ◌+◌, ◌<◌, Bool, true, false, not, List, [], ◌∷◌, ◌++◌, length, map, take, get_or, sym, subst, ap, refl, ◌∙◌}
 use Rattle.std.specs.Prelude.{IsTrue, ◌↔◌}
-use Rattle.mon_linear.specs.Linear.{Linear}
-use Rattle.mon_linear.specs.LightCubes.{IsLightCube}
-use Rattle.mon_elim.specs.declared.rows.Numbered.{Numbered}
-use Rattle.mon_elim.specs.Chains.{rows_in}
-use Rattle.mon_elim.proofs.Lists.{map_append, take_next}
+use Rattle.logic_linear.specs.Linear.{Linear}
+use Rattle.logic_linear.specs.LightCubes.{IsLightCube}
+use Rattle.logic_elim.specs.declared.rows.Numbered.{Numbered}
+use Rattle.logic_elim.specs.Chains.{rows_in}
+use Rattle.logic_elim.proofs.Lists.{map_append, take_next}
 
 pub one_more : (rows : List Linear) (i : ℕ) (row : Linear) (kept after : List Numbered) (one : Numbered) → i < length rows → row ≡ get_or rows i row → one.row ≡ row → after ≡ kept ++ one ∷ []
     → rows_in kept ≡ take i rows → rows_in after ≡ take (i + 1) rows

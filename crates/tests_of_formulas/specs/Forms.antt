@@ -1,6 +1,6 @@
 -- The forms that the tests make: of one variable and of two.
 use Rattle.std.specs.Prelude.{ℕ, ℤ, [], ◌∷◌}
-use Rattle.mon_linear.specs.Linear.{Linear}
+use Rattle.logic_linear.specs.Linear.{Linear}
 
 -- times * x + constant, where x has place 1
 abbrev pub one_variable : ℤ → ℤ → Linear

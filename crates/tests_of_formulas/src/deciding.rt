@@ -1,12 +1,12 @@
 //! Which cubes are light, and which of them have a solution in fractions.
 
 ghost use Rattle.std.specs.Prelude.{◌≡◌, IfOk};
-ghost use Rattle.mon_elim.specs.Chains.{rows_in};
+ghost use Rattle.logic_elim.specs.Chains.{rows_in};
 
 use super::shapes::form;
-use mon_cert::WideRow;
-use mon_elim::{Numbered, Rows, decide, is_light};
-use mon_linear::Lin;
+use logic_cert::WideRow;
+use logic_elim::{Numbered, Rows, decide, is_light};
+use logic_linear::Lin;
 use std::alloc::{AllocError, Global};
 use std::test::Fail;
 

@@ -1,7 +1,7 @@
 //! Which rows are difference rows, and which forms are the same.
 
 use super::shapes::form;
-use mon_linear::{Lin, Term, is_difference};
+use logic_linear::{Lin, Term, is_difference};
 use std::alloc::{AllocError, Global};
 use std::test::Fail;
 

@@ -1,12 +1,12 @@
 //! Substitution and negation of rows whose numbers are at the ends of their range.
 
 ghost use Rattle.std.specs.Prelude.{IfOk, IsTrue};
-ghost use Rattle.mon_linear.specs.Linear.{IsLinear};
-ghost use Rattle.mon_linear.specs.Negation.{can_negate, can_negate_linear};
+ghost use Rattle.logic_linear.specs.Linear.{IsLinear};
+ghost use Rattle.logic_linear.specs.Negation.{can_negate, can_negate_linear};
 ghost use Rattle.tests_of_formulas.specs.Forms.{one_variable};
 
 use super::shapes::{BOUND, Shape, form, made};
-use mon_linear::{Formula, Lin, Put, Term, negate, substitute};
+use logic_linear::{Formula, Lin, Put, Term, negate, substitute};
 use std::alloc::{AllocError, Global};
 use std::test::Fail;
 

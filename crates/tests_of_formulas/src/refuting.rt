@@ -1,10 +1,10 @@
 //! What the prover refutes that no monitor file says: many levels, and rows in many places.
 
 use super::shapes::{Shape, all_of, made};
-use mon_cert::{Cert, accepts};
-use mon_linear::{Formula, MOST_NODES, nodes};
-use mon_list::Seq;
-use mon_solve::refute;
+use base_list::Seq;
+use logic_cert::{Cert, accepts};
+use logic_linear::{Formula, MOST_NODES, nodes};
+use logic_solve::refute;
 use std::alloc::{AllocError, Global};
 use std::test::Fail;
 

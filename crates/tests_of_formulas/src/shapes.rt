@@ -2,11 +2,11 @@
 
 ghost use Rattle.std.specs.Prelude.{pos, ◌^◌, neg_ℤ, ◌≤ℤ◌, ◌<ℤ◌, ◌≢◌, IsTrue, [], ◌∷◌};
 ghost use Rattle.std.specs.List.Sorted.{IsStrictlyIncreasing};
-ghost use Rattle.mon_linear.specs.Linear.{IsLinear};
+ghost use Rattle.logic_linear.specs.Linear.{IsLinear};
 ghost use Rattle.tests_of_formulas.specs.Forms.{pair_of};
 
-use mon_linear::{Formula, Lin, Term};
-use mon_list::Seq;
+use base_list::Seq;
+use logic_linear::{Formula, Lin, Term};
 use std::alloc::{AllocError, Global};
 use std::test::Fail;
 

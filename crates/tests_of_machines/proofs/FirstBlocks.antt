@@ -1,15 +1,15 @@
 -- The first block of a call that fits, at the inputs with which it starts.
 use Rattle.std.proofs.Common.{◌≡◌, ℕ, ◌<◌, ◌+◌, get_or, List, Option, Some, sym, ap, subst, ◌∙◌, arith}
 use Rattle.std.specs.Prelude.{slice_get}
-use Rattle.mon_base.specs.declared.value.Value.{Value}
-use Rattle.mon_monitor.specs.declared.monitor.Method.{Method}
-use Rattle.mon_monitor.specs.MonitorParts.{MonitorParts, IsMonitor, locals_in, count_in}
-use Rattle.mon_implicit.specs.declared.script.Call.{Call}
-use Rattle.mon_implicit.specs.declared.place.Place.{Place}
-use Rattle.mon_implicit.specs.Steps.{given, FitsBlock, FitsLocals}
-use Rattle.mon_implicit.specs.Scripted.{FitsCall}
-use Rattle.mon_implicit.proofs.Fitting.{block_inputs}
-use Rattle.mon_implicit.proofs.Held.{of_their_kinds}
+use Rattle.lang_base.specs.declared.value.Value.{Value}
+use Rattle.lang_monitor.specs.declared.monitor.Method.{Method}
+use Rattle.lang_monitor.specs.MonitorParts.{MonitorParts, IsMonitor, locals_in, count_in}
+use Rattle.machine_implicit.specs.declared.script.Call.{Call}
+use Rattle.machine_implicit.specs.declared.place.Place.{Place}
+use Rattle.machine_implicit.specs.Steps.{given, FitsBlock, FitsLocals}
+use Rattle.machine_implicit.specs.Scripted.{FitsCall}
+use Rattle.machine_implicit.proofs.Fitting.{block_inputs}
+use Rattle.machine_implicit.proofs.Held.{of_their_kinds}
 use Rattle.std.proofs.lemmas.Option.{slice_get-get_or}
 
 abbrev start_of : List Value → Place

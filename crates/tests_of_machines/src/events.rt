@@ -4,10 +4,10 @@
 ghost use Rattle.std.specs.Prelude.{◌≡◌, length};
 
 use super::reading::{clients_of, fitting_plan, monitor_of};
-use mon_base::Value;
-use mon_events::{CondKind, Event, Note, NoteList, Plan, Stage};
-use mon_explicit::Config;
-use mon_implicit::{Commit, Reply};
+use lang_base::Value;
+use machine_events::{CondKind, Event, Note, NoteList, Plan, Stage};
+use machine_explicit::Config;
+use machine_implicit::{Commit, Reply};
 use samples::clients::{TWO_LOCKS, TWO_PAIRS, TWO_TAKE};
 use samples::monitors::{GATE, LOCK, TWICE};
 use samples::plans::signal;

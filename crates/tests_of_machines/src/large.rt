@@ -1,9 +1,9 @@
 //! The large input against the texts that it stands for.
 
 use super::reading::{clients_of, monitor_of};
-use mon_implicit::Client;
-use mon_monitor::Monitor;
-use mon_stress::{LargeInput, large_input};
+use lang_monitor::Monitor;
+use machine_implicit::Client;
+use machine_stress::{LargeInput, large_input};
 use samples::monitors::BUFFER;
 use std::alloc::{AllocError, Global};
 use std::test::Fail;

@@ -1,13 +1,13 @@
 //! A step of the implicit machine on a monitor that is read from a text, and the locals of a call.
 
-ghost use Rattle.mon_implicit.specs.Steps.{FitsState};
+ghost use Rattle.machine_implicit.specs.Steps.{FitsState};
 
-use mon_base::Value;
-use mon_implicit::{
+use base_list::Seq;
+use lang_base::Value;
+use lang_monitor::Monitor;
+use machine_implicit::{
     Call, Locals, Reply, State, call_fits, guard_holds, run_block, start, start_locals,
 };
-use mon_list::Seq;
-use mon_monitor::Monitor;
 use samples::checked;
 use std::alloc::Global;
 use std::test::Fail;

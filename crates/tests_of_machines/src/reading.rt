@@ -2,12 +2,12 @@
 //! here, so that no test has to be proved over it.
 
 ghost use Rattle.std.specs.Prelude.{IfOk};
-ghost use Rattle.mon_implicit.specs.Scripted.{FitsScripts};
-ghost use Rattle.mon_events.specs.Plans.{FitsPlan};
+ghost use Rattle.machine_implicit.specs.Scripted.{FitsScripts};
+ghost use Rattle.machine_events.specs.Plans.{FitsPlan};
 
-use mon_events::{CondKind, Note, Plan, plan_fits};
-use mon_implicit::Scripts;
-use mon_monitor::Monitor;
+use lang_monitor::Monitor;
+use machine_events::{CondKind, Note, Plan, plan_fits};
+use machine_implicit::Scripts;
 use samples::plans::plan_of;
 use samples::{checked, scripts_read};
 use std::alloc::Global;

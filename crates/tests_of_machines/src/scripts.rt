@@ -1,10 +1,10 @@
 //! Scripts that are put together by hand.
 
 use super::reading::monitor_of;
-use mon_base::Name;
-use mon_implicit::{Call, Client, Scripts, are_clients, scripts_fit, turns};
-use mon_list::Seq;
-use mon_monitor::Monitor;
+use base_list::Seq;
+use lang_base::Name;
+use lang_monitor::Monitor;
+use machine_implicit::{Call, Client, Scripts, are_clients, scripts_fit, turns};
 use std::alloc::{AllocError, Global};
 use std::test::Fail;
 

@@ -3,8 +3,8 @@
 ghost use Rattle.std.specs.Prelude.{◌≡◌, length};
 
 use super::reading::{clients_of, monitor_of};
-use mon_events::{Entry, Outcome, Plan};
-use mon_explicit::{FreeMonitor, NotReady, Section, SpuriousFault};
+use machine_events::{Entry, Outcome, Plan};
+use machine_explicit::{FreeMonitor, NotReady, Section, SpuriousFault};
 use samples::monitors::LOCK;
 use std::alloc::Global;
 use std::process::Abort;

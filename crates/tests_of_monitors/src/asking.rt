@@ -1,11 +1,11 @@
 //! The queries of the lock under a plan that keeps nothing, and their negations.
 
 ghost use Rattle.std.specs.Prelude.{◌<◌, ◌≤◌, IsTrue, length};
-ghost use Rattle.mon_linear.specs.Negation.{can_negate};
+ghost use Rattle.logic_linear.specs.Negation.{can_negate};
 
-use mon_linear::{Formula, cubes, nodes};
-use mon_monitor::{Candidate, Monitor, Query};
-use mon_wp::{keeps, negated, no_test, none_needed, one_enough};
+use lang_monitor::{Candidate, Monitor, Query};
+use logic_linear::{Formula, cubes, nodes};
+use logic_wp::{keeps, negated, no_test, none_needed, one_enough};
 use samples::checked;
 use samples::monitors::LOCK;
 use std::alloc::{AllocError, Global};

@@ -1,8 +1,8 @@
 //! The paths of bodies.
 
-use mon_linear::{Formula, Lin, Put, Term};
-use mon_monitor::{Monitor, paths};
-use mon_wp::{Path, Step, paths_of};
+use lang_monitor::{Monitor, paths};
+use logic_linear::{Formula, Lin, Put, Term};
+use logic_wp::{Path, Step, paths_of};
 use samples::checked;
 use samples::monitors::ACCUMULATOR;
 use std::alloc::{AllocError, Global};

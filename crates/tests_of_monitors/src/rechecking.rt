@@ -1,8 +1,8 @@
 //! What a check says of the report of a placed plan.
 
-use mon_monitor::Monitor;
-use mon_place::place;
-use mon_recheck::{Verdict, placed_text_is_report_text, recheck, report_of};
+use lang_monitor::Monitor;
+use plan_place::place;
+use report_recheck::{Verdict, placed_text_is_report_text, recheck, report_of};
 use samples::checked;
 use samples::monitors::LOCK;
 use std::alloc::{AllocError, Global};

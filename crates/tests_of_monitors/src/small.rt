@@ -1,6 +1,6 @@
 //! Which monitors are told to be small, so that their plans are exact.
 
-use mon_small::is_small;
+use plan_small::is_small;
 use samples::checked;
 use samples::monitors::{ACCUMULATOR, BUFFER, GATE, LEVEL, LOCK, READERS_AND_WRITERS, SUM, UP};
 use std::alloc::Global;

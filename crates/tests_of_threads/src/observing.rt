@@ -13,14 +13,14 @@ ghost use Rattle.tests_of_threads.specs.inner.Places.{IsPlace};
 
 use super::meeting::Meeting;
 use super::opening::opened;
-use mon_explicit::FreeMonitor;
-use mon_lock::{Pass, SharedMonitor};
+use machine_explicit::FreeMonitor;
 use std::alloc::{AllocError, Global};
 use std::sync::Wait;
 use std::sync::atomic::{AtomicU64, Ordering};
 use std::test::Fail;
 use std::thread;
 use std::thread::Threads;
+use threads_lock::{Pass, SharedMonitor};
 
 /// The beginning of a monitor, up to the body of its only method.
 const HEAD: &[u8] = b"monitor Slow {
@@ -91,7 +91,7 @@ fn has_one_client(free: &FreeMonitor) -> bool
 }
 
 /// Makes a section, between two counts. The first is the last step ahead of the call.
-#[tactic(auto, using(mon_lock::proofs::Systems::section_system))]
+#[tactic(auto, using(threads_lock::proofs::Systems::section_system))]
 fn make_one<R: Wait>(rt: &R, watch: &Watch, pass: &mut Pass)
     requires own { IsPlace watch.now.shared pass.old }
     ensures own { IsPlace watch.now.shared pass.new }

@@ -1,7 +1,7 @@
 //! A monitor that is about to be shared.
 
-use mon_events::Plan;
-use mon_explicit::FreeMonitor;
+use machine_events::Plan;
+use machine_explicit::FreeMonitor;
 use samples::{checked, scripts_read};
 use std::alloc::Global;
 use std::test::Fail;

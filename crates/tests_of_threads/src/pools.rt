@@ -3,14 +3,14 @@
 //! once, and how often they look for work, no clause of the pool says.
 
 use super::opening::opened;
-use mon_base::Value;
-use mon_pool::{Gate, OpenGate, run_pool};
+use lang_base::Value;
 use samples::monitors::{BUFFER, LEVEL};
 use std::sync::Wait;
 use std::sync::atomic::{AtomicU64, Ordering};
 use std::test::Fail;
 use std::thread::Threads;
 use std::time::Duration;
+use threads_pool::{Gate, OpenGate, run_pool};
 
 /// The workers of the large pool.
 const WORKERS: u32 = 16;

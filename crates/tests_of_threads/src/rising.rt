@@ -8,8 +8,7 @@ ghost use Rattle.tests_of_threads.specs.inner.Places.{IsPlace};
 
 use super::meeting::Meeting;
 use super::opening::opened;
-use mon_explicit::FreeMonitor;
-use mon_lock::{Pass, SharedMonitor};
+use machine_explicit::FreeMonitor;
 use samples::monitors::LEVEL;
 use std::alloc::{AllocError, Global};
 use std::sync::Wait;
@@ -17,6 +16,7 @@ use std::sync::atomic::{AtomicU64, Ordering};
 use std::test::Fail;
 use std::thread;
 use std::thread::Threads;
+use threads_lock::{Pass, SharedMonitor};
 
 /// One client of as many calls as sections are made.
 const CLIENT: &[u8] = b"client A { repeat 1000 { add(); } }";
@@ -50,7 +50,7 @@ fn has_one_client(free: &FreeMonitor) -> bool
 }
 
 /// Makes a section of the client.
-#[tactic(auto, using(mon_lock::proofs::Systems::section_system))]
+#[tactic(auto, using(threads_lock::proofs::Systems::section_system))]
 fn make_one<R: Wait>(rt: &R, hill: &Hill, pass: &mut Pass)
     requires own { IsPlace hill.now.shared pass.old }
     ensures own { IsPlace hill.now.shared pass.new }

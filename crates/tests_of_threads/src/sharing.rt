@@ -3,14 +3,14 @@
 ghost use Rattle.std.specs.Prelude.{◌≡◌, ◌<◌, ◌↔◌, IsTrue, length};
 
 use super::opening::opened;
-use mon_events::{Entry, Outcome};
-use mon_explicit::{FreeMonitor, NotReady, SpuriousFault};
-use mon_implicit::Reply;
-use mon_lock::{Pass, Receipt, SharedMonitor};
+use machine_events::{Entry, Outcome};
+use machine_explicit::{FreeMonitor, NotReady, SpuriousFault};
+use machine_implicit::Reply;
 use samples::monitors::BUFFER;
 use std::alloc::Global;
 use std::sync::Wait;
 use std::test::Fail;
+use threads_lock::{Pass, Receipt, SharedMonitor};
 
 const PUT_GET: &[u8] = b"client A { put(); get(); }";
 

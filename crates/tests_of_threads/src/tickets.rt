@@ -2,12 +2,12 @@
 
 ghost use Rattle.std.specs.Prelude.{◌≡◌};
 
-use mon_queue::{QueuePass, ReadyQueue};
 use std::sync::Wait;
 use std::test::Fail;
+use threads_queue::{QueuePass, ReadyQueue};
 
 /// Takes a ticket and puts it back, and answers its client.
-#[tactic(auto, using(mon_queue::proofs::Sums::contains_first))]
+#[tactic(auto, using(threads_queue::proofs::Sums::contains_first))]
 fn turn<R: Wait>(rt: &R, queue: &ReadyQueue, pass: &mut QueuePass) -> Option<u32>
     requires own { pass.old.queue ≡ queue.now }
     ensures own { pass.new.queue ≡ queue.now }
@@ -51,7 +51,7 @@ struct Handing {
 }
 
 /// A pass takes a ticket and puts it back. The other tries to take one before that, and after.
-#[tactic(auto, using(mon_queue::proofs::Sums::contains_first))]
+#[tactic(auto, using(threads_queue::proofs::Sums::contains_first))]
 fn hand_over<R: Wait>(
     rt: &R,
     queue: &ReadyQueue,

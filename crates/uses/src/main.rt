@@ -5,16 +5,16 @@
 ghost use Rattle.std.specs.Prelude.{◌<◌, ◌↔◌, IsTrue, length};
 
 use anyhow::{Context, Result};
+use base_io::{MemFile, MemFiles, Sink, SinkFailed, StdSink};
+use base_list::Seq;
 use expresso::expresso;
-use mon_base::Name;
-use mon_explicit::FreeMonitor;
-use mon_io::{MemFile, MemFiles, Sink, SinkFailed, StdSink};
-use mon_list::Seq;
-use mon_place::place;
-use mon_pool::OpenGate;
-use mon_text::write_log;
+use lang_base::Name;
+use machine_explicit::FreeMonitor;
+use plan_place::place;
+use report_text::write_log;
 use samples::{checked, scripts_read};
 use std::alloc::{AllocError, Global};
+use threads_pool::OpenGate;
 
 const MONITOR: &[u8] = b"monitor Buffer {
   int count = 0;

@@ -1,13 +1,13 @@
 -- What is said of the bytes of a plan's file.
 use Rattle.std.specs.Prelude.{◌⊎◌, ℕ, Bool, List, Option, Some, None}
-use Rattle.mon_io.specs.Outside.{SinkSeen}
-use Rattle.mon_monitor.specs.MonitorParts.{MonitorParts}
-use Rattle.mon_recheck.specs.Readings.{IsPlanRead}
-use Rattle.mon_audit.specs.declared.finding.Finding.{Finding}
-use Rattle.mon_audit.specs.declared.finding.Finding.TheVariants as findings
-use Rattle.mon_audit.specs.CountedFindings.{IsFindingBy}
-use Rattle.mon_audit.specs.FindingText.{finding_text}
-use Rattle.mon_text.specs.FaultText.{not_plan_text}
+use Rattle.base_io.specs.Outside.{SinkSeen}
+use Rattle.lang_monitor.specs.MonitorParts.{MonitorParts}
+use Rattle.report_recheck.specs.Readings.{IsPlanRead}
+use Rattle.report_audit.specs.declared.finding.Finding.{Finding}
+use Rattle.report_audit.specs.declared.finding.Finding.TheVariants as findings
+use Rattle.report_audit.specs.CountedFindings.{IsFindingBy}
+use Rattle.report_audit.specs.FindingText.{finding_text}
+use Rattle.report_text.specs.FaultText.{not_plan_text}
 use Rattle.expresso.specs.declared.audit.Found.{Found}
 use Rattle.expresso.specs.declared.status.Status.{Status}
 use Rattle.expresso.specs.declared.status.Status.TheVariants as statuses

@@ -1,13 +1,13 @@
 -- How the work of a command ends.
 use Rattle.std.specs.Prelude.{◌≡◌, ◌<◌, ◌≤◌, ◌⊎◌, ℕ, Bool, true, false, List}
 use Rattle.std.specs.Io.KnownBytes.{Appends}
-use Rattle.mon_io.specs.Outside.{FilesSeen, SinkSeen, Rises}
-use Rattle.mon_text.specs.declared.fault.Fault.{Fault}
-use Rattle.mon_text.specs.declared.fault.Fault.TheVariants as faults
-use Rattle.mon_text.specs.FaultText.{unread_text}
+use Rattle.base_io.specs.Outside.{FilesSeen, SinkSeen, Rises}
+use Rattle.report_text.specs.declared.fault.Fault.{Fault}
+use Rattle.report_text.specs.declared.fault.Fault.TheVariants as faults
+use Rattle.report_text.specs.FaultText.{unread_text}
 use Rattle.expresso.specs.declared.status.Status.{Status}
 use Rattle.expresso.specs.declared.status.Status.TheVariants as statuses
-use Rattle.mon_command.specs.CommandLine.{Command}
+use Rattle.front_command.specs.CommandLine.{Command}
 use Rattle.expresso.specs.Answers.{AcceptsFiles, RejectsFiles, IsDoneText, IsStalledText}
 use Rattle.expresso.specs.Answers.{IsRefusedText, IsUnfinished, IsUnreadText, IsWorkedOrMemory}
 use Rattle.expresso.specs.Answers.{IsRefusedOrMemory, IsStoppedOrMemory, IsUnreadOrMemory}

@@ -1,10 +1,10 @@
 -- What `explain` finds of a monitor.
 use Rattle.std.specs.Prelude.{◌≡◌, List, All, map}
-use Rattle.mon_monitor.specs.MonitorParts.{MonitorParts}
-use Rattle.mon_events.specs.declared.plan.Plan.{Plan}
-use Rattle.mon_why.specs.declared.reason.Reason.{Reason}
-use Rattle.mon_why.specs.Reasons.{IsReason}
-use Rattle.mon_why.specs.Things.{things_of}
+use Rattle.lang_monitor.specs.MonitorParts.{MonitorParts}
+use Rattle.machine_events.specs.declared.plan.Plan.{Plan}
+use Rattle.plan_why.specs.declared.reason.Reason.{Reason}
+use Rattle.plan_why.specs.Reasons.{IsReason}
+use Rattle.plan_why.specs.Things.{things_of}
 use Rattle.expresso.specs.Placements.{IsPlacement}
 
 -- a plan that the monitor is compiled to, and why each thing stands in it that costs something

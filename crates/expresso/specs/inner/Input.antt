@@ -1,11 +1,11 @@
 -- What the bytes of the files of commands come to.
 use Rattle.std.specs.Prelude.{◌≡◌, ℕ, List, [], ◌∷◌, Option}
-use Rattle.mon_io.specs.Outside.{FilesSeen, SinkSeen}
+use Rattle.base_io.specs.Outside.{FilesSeen, SinkSeen}
 use Rattle.expresso.specs.declared.status.Status.{Status}
-use Rattle.mon_base.specs.declared.source_fault.SourceFault.{SourceFault}
-use Rattle.mon_base.specs.declared.source_fault.SourceError.{SourceError}
-use Rattle.mon_base.specs.declared.source_fault.SourceError.TheVariants.{Fault, OutOfMemory}
-use Rattle.mon_command.specs.CommandLine.{Command, files_of}
+use Rattle.lang_base.specs.declared.source_fault.SourceFault.{SourceFault}
+use Rattle.lang_base.specs.declared.source_fault.SourceError.{SourceError}
+use Rattle.lang_base.specs.declared.source_fault.SourceError.TheVariants.{Fault, OutOfMemory}
+use Rattle.front_command.specs.CommandLine.{Command, files_of}
 use Rattle.expresso.specs.Answers.{AcceptsFiles, AcceptsMonitor, AcceptsRun, IsMonitorRefusal}
 use Rattle.expresso.specs.Answers.{IsRefusedText, IsRunRefusal}
 use Rattle.expresso.specs.inner.Ending.{CommandEnds}

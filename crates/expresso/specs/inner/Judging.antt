@@ -1,13 +1,13 @@
 -- What is said of the bytes of a report's file.
 use Rattle.std.specs.Prelude.{◌≡◌, ◌⊎◌, ℕ, List, Option, Some, None}
-use Rattle.mon_io.specs.Outside.{SinkSeen}
-use Rattle.mon_monitor.specs.MonitorParts.{MonitorParts}
-use Rattle.mon_recheck.specs.declared.report.Report.{Report}
-use Rattle.mon_recheck.specs.declared.report.Verdict.{Verdict}
-use Rattle.mon_recheck.specs.declared.report.Verdict.TheVariants as verdicts
-use Rattle.mon_recheck.specs.Readings.{IsReportRead}
-use Rattle.mon_recheck.specs.Verdicts.{IsVerdict, verdict_text}
-use Rattle.mon_text.specs.FaultText.{not_report_text}
+use Rattle.base_io.specs.Outside.{SinkSeen}
+use Rattle.lang_monitor.specs.MonitorParts.{MonitorParts}
+use Rattle.report_recheck.specs.declared.report.Report.{Report}
+use Rattle.report_recheck.specs.declared.report.Verdict.{Verdict}
+use Rattle.report_recheck.specs.declared.report.Verdict.TheVariants as verdicts
+use Rattle.report_recheck.specs.Readings.{IsReportRead}
+use Rattle.report_recheck.specs.Verdicts.{IsVerdict, verdict_text}
+use Rattle.report_text.specs.FaultText.{not_report_text}
 use Rattle.expresso.specs.declared.status.Status.{Status}
 use Rattle.expresso.specs.declared.status.Status.TheVariants as statuses
 use Rattle.expresso.specs.ReportFiles.{IsAcceptanceLine, IsReportRefusalLine}

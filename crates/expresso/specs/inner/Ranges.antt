@@ -1,7 +1,7 @@
 -- The ranges of the numbers of commands.
 use Rattle.std.specs.Prelude.{◌≤◌, ℕ}
-use Rattle.mon_base.specs.Limits.{MOST_SPURIOUS, WORKERS}
-use Rattle.mon_command.specs.CommandLine.{Command, simulate, run, stress}
+use Rattle.lang_base.specs.Limits.{MOST_SPURIOUS, WORKERS}
+use Rattle.front_command.specs.CommandLine.{Command, simulate, run, stress}
 use Rattle.expresso.specs.Simulations.{most_spurious}
 
 -- workers of a run: at least one, and no more than there may be

@@ -1,9 +1,9 @@
 -- What is known of a monitor where a schedule has led to its end.
 use Rattle.std.specs.Prelude.{◌≤◌, ◌+◌}
-use Rattle.mon_events.specs.Logs.{IsClosed}
-use Rattle.mon_explicit.specs.Sections.{FreeMachine, HoldsAlways, HasEnded, spurious_in}
-use Rattle.mon_simulate.specs.Schedules.{Extends}
-use Rattle.mon_command.specs.declared.schedule.Schedule.{Schedule}
+use Rattle.machine_events.specs.Logs.{IsClosed}
+use Rattle.machine_explicit.specs.Sections.{FreeMachine, HoldsAlways, HasEnded, spurious_in}
+use Rattle.machine_simulate.specs.Schedules.{Extends}
+use Rattle.front_command.specs.declared.schedule.Schedule.{Schedule}
 use Rattle.expresso.specs.Simulations.{IsScheduled, most_spurious}
 
 pub record IsRunOut (schedule : Schedule) (before next : FreeMachine) : Type 0 where

@@ -1,4 +1,4 @@
-use Rattle.mon_command.specs.CommandLine.{audit}
+use Rattle.front_command.specs.CommandLine.{audit}
 use Rattle.expresso.proofs.Audited.{audit_ended, audit_works}
 use Rattle.expresso.proofs.audit.audit_files.Goals as goal
 

@@ -1,5 +1,5 @@
 use Rattle.std.proofs.Common.{true, false}
-use Rattle.mon_audit.proofs.FoundByCounting.{found_by}
+use Rattle.report_audit.proofs.FoundByCounting.{found_by}
 use Rattle.expresso.proofs.audit.finding_by.Goals as goal
 
 pub returns-then-count : goal.returns-then-count

@@ -1,6 +1,6 @@
-use Rattle.mon_printer.specs.Canonical.{tree_text}
+use Rattle.lang_printer.specs.Canonical.{tree_text}
 use Rattle.expresso.specs.declared.status.Status.TheVariants.{Done}
-use Rattle.mon_command.specs.CommandLine.{check}
+use Rattle.front_command.specs.CommandLine.{check}
 use Rattle.expresso.proofs.OneFile.{check_done, check_works}
 use Rattle.expresso.proofs.Outcomes.{written_since}
 use Rattle.expresso.proofs.check.check_file.Goals as goal

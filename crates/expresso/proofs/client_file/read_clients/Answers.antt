@@ -1,9 +1,9 @@
 use Rattle.std.proofs.Common.{List, subst, sym}
 use Rattle.std.proofs.lemmas.Result.{err_from_is_err_and}
-use Rattle.mon_tokens.specs.declared.token.Token.{Token}
-use Rattle.mon_tokens.specs.Spelling.{Spells}
-use Rattle.mon_syntax.specs.ClientGrammar.{IsClientFile}
-use Rattle.mon_script.specs.Faults.{faults_of}
+use Rattle.lang_tokens.specs.declared.token.Token.{Token}
+use Rattle.lang_tokens.specs.Spelling.{Spells}
+use Rattle.lang_syntax.specs.ClientGrammar.{IsClientFile}
+use Rattle.lang_script.specs.Faults.{faults_of}
 use Rattle.expresso.proofs.FirstFaults.{broken_cause, stuck_cause, unfit_cause}
 use Rattle.expresso.proofs.client_file.read_clients.Goals as goal
 

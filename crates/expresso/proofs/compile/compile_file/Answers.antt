@@ -1,6 +1,6 @@
-use Rattle.mon_events.specs.PlanText.{plan_text}
+use Rattle.machine_events.specs.PlanText.{plan_text}
 use Rattle.expresso.specs.declared.status.Status.TheVariants.{Done}
-use Rattle.mon_command.specs.CommandLine.{compile}
+use Rattle.front_command.specs.CommandLine.{compile}
 use Rattle.expresso.proofs.OneFile.{compile_done, compile_works}
 use Rattle.expresso.proofs.Outcomes.{written_since}
 use Rattle.expresso.proofs.compile.compile_file.Goals as goal

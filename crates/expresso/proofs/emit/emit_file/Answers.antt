@@ -1,6 +1,6 @@
-use Rattle.mon_module.specs.Modules.{rust_text}
+use Rattle.emit_module.specs.Modules.{rust_text}
 use Rattle.expresso.specs.declared.status.Status.TheVariants.{Done}
-use Rattle.mon_command.specs.CommandLine.{emit}
+use Rattle.front_command.specs.CommandLine.{emit}
 use Rattle.expresso.proofs.OneFile.{PrintedLaws, emit_done, emit_works}
 use Rattle.expresso.proofs.Outcomes.{written_since}
 use Rattle.expresso.proofs.emit.emit_file.Goals as goal

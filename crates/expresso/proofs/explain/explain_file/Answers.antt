@@ -1,6 +1,6 @@
 use Rattle.expresso.specs.Texts.{explained_text}
 use Rattle.expresso.specs.declared.status.Status.TheVariants.{Done}
-use Rattle.mon_command.specs.CommandLine.{explain}
+use Rattle.front_command.specs.CommandLine.{explain}
 use Rattle.expresso.proofs.OneFile.{explain_done, explain_works}
 use Rattle.expresso.proofs.Outcomes.{written_since}
 use Rattle.expresso.proofs.explain.explain_file.Goals as goal

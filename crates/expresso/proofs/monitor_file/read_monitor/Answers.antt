@@ -1,6 +1,6 @@
 use Rattle.std.proofs.lemmas.Result.{err_from_is_err_and}
-use Rattle.mon_syntax.specs.Grammar.{IsMonitorFile}
-use Rattle.mon_rules.specs.Rules.{faults_of}
+use Rattle.lang_syntax.specs.Grammar.{IsMonitorFile}
+use Rattle.lang_rules.specs.Rules.{faults_of}
 use Rattle.expresso.proofs.FirstFaults.{broken_cause, stuck_cause, unfit_cause}
 use Rattle.expresso.proofs.monitor_file.read_monitor.Goals as goal
 

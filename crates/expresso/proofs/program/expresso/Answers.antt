@@ -1,9 +1,9 @@
 use Rattle.std.proofs.Common.{◌≡◌, All, map, rules, sym, subst}
 use Rattle.std.specs.Global.{Global}
 use Rattle.std.specs.String.{string_bytes}
-use Rattle.mon_io.specs.Outside.{FilesSeen, SinkSeen}
-use Rattle.mon_command.specs.CommandLine.{files_of}
-use Rattle.mon_command.specs.Commands.{command_meant}
+use Rattle.base_io.specs.Outside.{FilesSeen, SinkSeen}
+use Rattle.front_command.specs.CommandLine.{files_of}
+use Rattle.front_command.specs.Commands.{command_meant}
 use Rattle.expresso.specs.ProgramEnds.{ProgramEnds}
 use Rattle.expresso.specs.inner.Ending.{CommandEnds}
 use Rattle.expresso.proofs.ProgramEnded.{command_ended}

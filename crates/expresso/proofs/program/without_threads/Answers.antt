@@ -1,8 +1,8 @@
 use Rattle.std.proofs.Common.{All, map, rules}
 use Rattle.std.specs.Global.{Global}
 use Rattle.std.specs.String.{string_bytes}
-use Rattle.mon_command.specs.CommandLine.{Takes, TakesNone, files_of}
-use Rattle.mon_command.specs.Commands.{command_meant}
+use Rattle.front_command.specs.CommandLine.{Takes, TakesNone, files_of}
+use Rattle.front_command.specs.Commands.{command_meant}
 use Rattle.expresso.proofs.GivenWords.{none_of, taken_of}
 use Rattle.expresso.proofs.ProgramEnded.{each_ended, left_taken, no_words_ended, usage_ended}
 use Rattle.expresso.proofs.program.without_threads.Goals as goal

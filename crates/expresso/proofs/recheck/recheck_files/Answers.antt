@@ -1,4 +1,4 @@
-use Rattle.mon_command.specs.CommandLine.{recheck}
+use Rattle.front_command.specs.CommandLine.{recheck}
 use Rattle.expresso.proofs.Judged.{judged_ended, recheck_works}
 use Rattle.expresso.proofs.recheck.recheck_files.Goals as goal
 

@@ -1,6 +1,6 @@
-use Rattle.mon_recheck.specs.Reports.{placed_text}
+use Rattle.report_recheck.specs.Reports.{placed_text}
 use Rattle.expresso.specs.declared.status.Status.TheVariants.{Done}
-use Rattle.mon_command.specs.CommandLine.{report}
+use Rattle.front_command.specs.CommandLine.{report}
 use Rattle.expresso.proofs.OneFile.{report_works}
 use Rattle.expresso.proofs.Judged.{report_done}
 use Rattle.expresso.proofs.Outcomes.{written_since}

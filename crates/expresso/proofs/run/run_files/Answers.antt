@@ -1,7 +1,7 @@
-use Rattle.mon_events.specs.Configurations.{situation_of}
-use Rattle.mon_text.specs.LogText.{are_done}
-use Rattle.mon_text.specs.Laws.{plan_and_log_text}
-use Rattle.mon_command.specs.CommandLine.{run}
+use Rattle.machine_events.specs.Configurations.{situation_of}
+use Rattle.report_text.specs.LogText.{are_done}
+use Rattle.report_text.specs.Laws.{plan_and_log_text}
+use Rattle.front_command.specs.CommandLine.{run}
 use Rattle.expresso.specs.inner.Ending.{ended}
 use Rattle.expresso.proofs.Outcomes.{written_since}
 use Rattle.expresso.proofs.RunFiles.{run_runs}

@@ -1,5 +1,5 @@
 use Rattle.std.proofs.Common.{subst}
-use Rattle.mon_text.specs.TurnsText.{turns_text}
+use Rattle.report_text.specs.TurnsText.{turns_text}
 use Rattle.expresso.specs.declared.status.Status.{Status}
 use Rattle.expresso.specs.inner.Ending.{IsWritten}
 use Rattle.expresso.proofs.text.show_turns.Goals as goal

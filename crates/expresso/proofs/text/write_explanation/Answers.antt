@@ -1,9 +1,9 @@
 use Rattle.std.proofs.Common.{List, ◌++◌, subst}
-use Rattle.mon_events.specs.PlanText.{plan_text}
-use Rattle.mon_io.specs.Writing.{Wrote}
-use Rattle.mon_io.proofs.Writing.{wrote_both, wrote_fails, wrote_longer}
-use Rattle.mon_reasons.specs.ReasonText.{reasons_text}
-use Rattle.mon_why.specs.declared.reason.Reason.{Reason}
+use Rattle.machine_events.specs.PlanText.{plan_text}
+use Rattle.base_io.specs.Writing.{Wrote}
+use Rattle.base_io.proofs.Writing.{wrote_both, wrote_fails, wrote_longer}
+use Rattle.report_reasons.specs.ReasonText.{reasons_text}
+use Rattle.plan_why.specs.declared.reason.Reason.{Reason}
 use Rattle.expresso.proofs.text.write_explanation.Goals as goal
 
 pub returns-in_err-write_plan : goal.returns-in_err-write_plan

@@ -1,5 +1,5 @@
-use Rattle.mon_io.proofs.Writing.{wrote_both, wrote_fails, wrote_longer, wrote_same}
-use Rattle.mon_text.specs.LogText.{log_text}
+use Rattle.base_io.proofs.Writing.{wrote_both, wrote_fails, wrote_longer, wrote_same}
+use Rattle.report_text.specs.LogText.{log_text}
 use Rattle.expresso.proofs.Simulating.{simulation_text-parts}
 use Rattle.expresso.proofs.text.write_plan_and_log.Goals as goal
 

@@ -1,5 +1,5 @@
-use Rattle.mon_text.specs.TurnsText.{turns_text}
-use Rattle.mon_command.specs.CommandLine.{turns}
+use Rattle.report_text.specs.TurnsText.{turns_text}
+use Rattle.front_command.specs.CommandLine.{turns}
 use Rattle.expresso.specs.inner.Ending.{ended}
 use Rattle.expresso.proofs.Outcomes.{written_since}
 use Rattle.expresso.proofs.RunFiles.{turns_runs}

@@ -1,7 +1,7 @@
 use Rattle.std.proofs.Common.{◌≡◌, sym, subst}
-use Rattle.mon_command.specs.declared.command.Command.{Command as Words}
-use Rattle.mon_command.specs.declared.command.Command.TheVariants.{Stress}
-use Rattle.mon_command.specs.Commands.{command_meant}
+use Rattle.front_command.specs.declared.command.Command.{Command as Words}
+use Rattle.front_command.specs.declared.command.Command.TheVariants.{Stress}
+use Rattle.front_command.specs.Commands.{command_meant}
 use Rattle.expresso.specs.inner.Ending.{CommandEnds}
 use Rattle.expresso.proofs.work.work_in_threads.Goals as goal
 

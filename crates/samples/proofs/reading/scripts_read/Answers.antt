@@ -1,7 +1,7 @@
 use Rattle.std.proofs.Common.{List, rules, subst, sym}
-use Rattle.mon_syntax.specs.ClientGrammar.{DerivesClients}
-use Rattle.mon_tokens.specs.declared.token.Token.{Token}
-use Rattle.mon_tokens.specs.Spelling.{Spells}
+use Rattle.lang_syntax.specs.ClientGrammar.{DerivesClients}
+use Rattle.lang_tokens.specs.declared.token.Token.{Token}
+use Rattle.lang_tokens.specs.Spelling.{Spells}
 use Rattle.samples.proofs.reading.scripts_read.Goals as goal
 
 pub clients-requires : goal.clients-requires

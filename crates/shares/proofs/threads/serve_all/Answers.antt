@@ -1,6 +1,6 @@
 use denote.Param.Send.{IsSync, sendable}
 use Rattle.std.proofs.Crossing.{crosses}
-use Rattle.mon_lock.proofs.Crossing.{pass_send, shared_sync}
+use Rattle.threads_lock.proofs.Crossing.{pass_send, shared_sync}
 use Rattle.shares.specs.contracts.threads.Shop as shop
 use Rattle.shares.proofs.threads.serve_all.Goals as goal
 

@@ -1,5 +1,5 @@
 use Rattle.std.proofs.Common.{subst}
-use Rattle.mon_tally.specs.CountedReadings.{IsCountedRead}
+use Rattle.report_tally.specs.CountedReadings.{IsCountedRead}
 use Rattle.tests_of_counts.proofs.reports.verdict_of.Goals as goal
 
 pub recheck_counted-requires : goal.recheck_counted-requires

@@ -1,5 +1,5 @@
 use Rattle.std.proofs.Common.{◌≡◌, take}
-use Rattle.mon_elim.specs.Chains.{rows_in}
+use Rattle.logic_elim.specs.Chains.{rows_in}
 use Rattle.tests_of_formulas.proofs.deciding.kept_rows.Given as goal
 
 abbrev pub invariant-loop-i : goal.invariant-loop-i

@@ -1,6 +1,6 @@
 use denote.Param.Send.{IsSync, sendable}
 use Rattle.std.proofs.Crossing.{crosses}
-use Rattle.mon_lock.proofs.Crossing.{pass_send, shared_sync}
+use Rattle.threads_lock.proofs.Crossing.{pass_send, shared_sync}
 use Rattle.tests_of_threads.specs.contracts.rising.Hill as hill
 use Rattle.tests_of_threads.proofs.rising.act_all.Goals as goal
 

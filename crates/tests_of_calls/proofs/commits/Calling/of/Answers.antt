@@ -1,7 +1,7 @@
 use Rattle.std.proofs.Common.{rules, ◌≡◌, ◌++◌, ◌∷◌, [], length, subst, sym}
 use Rattle.std.specs.List.{All}
-use Rattle.mon_lock.specs.declared.view.Knowledge.{Knowledge}
-use Rattle.mon_lock.specs.Passes.{PassView, newly_known}
+use Rattle.threads_lock.specs.declared.view.Knowledge.{Knowledge}
+use Rattle.threads_lock.specs.Passes.{PassView, newly_known}
 use Rattle.tests_of_calls.proofs.Parting.{all_parted}
 use Rattle.tests_of_calls.proofs.commits.Calling.of.Goals as goal
 

@@ -1,6 +1,6 @@
 use Rattle.std.proofs.Common.{rules, ◌≡◌, ◌<◌, ◌++◌, ◌∷◌, [], length, subst, sym}
-use Rattle.mon_lock.specs.declared.view.Knowledge.{Knowledge}
-use Rattle.mon_lock.specs.Passes.{PassView, newly_known}
+use Rattle.threads_lock.specs.declared.view.Knowledge.{Knowledge}
+use Rattle.threads_lock.specs.Passes.{PassView, newly_known}
 use Rattle.tests_of_threads.proofs.Parting.{both_parted}
 use Rattle.tests_of_threads.proofs.sharing.Two.of.Goals as goal
 

@@ -1,0 +1,29 @@
+use Rattle.machine_events.proofs.Counting.{counting_plan}
+use Rattle.emit_code.proofs.Running.{late_runs}
+use Rattle.emit_code.proofs.Holding.{late_holders_act}
+use Rattle.emit_code.proofs.Answering.{late_answers}
+use Rattle.emit_code.proofs.Covering.{late_seen_to}
+use Rattle.emit_code.proofs.Stillness.{still_late, still_ends}
+use Rattle.emit_code.proofs.Order.{late_is_told}
+use Rattle.emit_code.proofs.laws.late_notes_lose_none.Goals as goal
+
+pub returns-clause-mutex : goal.returns-clause-mutex
+returns-clause-mutex c = late_holders_act
+
+pub returns-clause-run : goal.returns-clause-run
+returns-clause-run c = late_runs
+
+pub returns-clause-answers : goal.returns-clause-answers
+returns-clause-answers c = late_answers
+
+pub returns-clause-pending : goal.returns-clause-pending
+returns-clause-pending c system told last set order run = late_seen_to system told last (counting_plan system set) order run
+
+pub returns-clause-ends : goal.returns-clause-ends
+returns-clause-ends c system told last set order run = still_late system told last (counting_plan system set) order run
+
+pub returns-clause-ends_the_run : goal.returns-clause-ends_the_run
+returns-clause-ends_the_run c system told last set order run = still_ends system told last (counting_plan system set) order run
+
+pub returns-clause-order : goal.returns-clause-order
+returns-clause-order c = late_is_told

@@ -1,0 +1,62 @@
+//! What follows from the definitions alone.
+
+ghost use Rattle.emit_code.specs.Laws.{LateHoldersAct, LateExecutionsRun, LateAnswersAreReplies};
+ghost use Rattle.emit_code.specs.Laws.{LateSleepersAreSeenTo, LateStillIsTheEnd};
+ghost use Rattle.emit_code.specs.Laws.{LateStillEndsTheRun, LateOrderIsTold};
+ghost use Rattle.emit_code.specs.Laws.{LateSleepersAreCounted, LateUncountedSleepNot};
+ghost use Rattle.emit_code.specs.Laws.{LateLeftOutIsMade};
+ghost use Rattle.emit_code.specs.Laws.{CountedSleepersAreSeenTo, CountedStillIsTheEnd};
+ghost use Rattle.emit_code.specs.Laws.{CountedStillEndsTheRun, LivePlansCount};
+ghost use Rattle.emit_code.specs.Laws.{CountedCodeLosesNone};
+ghost use Rattle.emit_code.specs.Laws.{LivePlansFit, LivePlansAreLawful, PrintedCodeLosesNone};
+
+/// Whatever the interleaving of any threads that call the methods of a monitor, any number of
+/// times, by code that makes the notes of each block before or after it gives the mutex back, or
+/// leaves out those on conditions on which nobody sleeps by its count: who
+/// reads or changes the state holds the mutex, what ran is a run of the implicit monitor, and what
+/// a call answers is the reply of the last that its thread did. Under a lawful plan no wake-up is
+/// lost: where nobody holds the mutex and a thread sleeps whose guard is true, a thread is notified
+/// on its condition, or has a note on it to make; and where no thread can move but by nothing, each
+/// has no call left, or sleeps and its guard is false, and the run is at its end. The order that is
+/// printed is such an order: the mutex is given back, and the notes come next that the counts and
+/// tests called for then.
+pub fn late_notes_lose_none()
+    ensures mutex { LateHoldersAct }
+    ensures run { LateExecutionsRun }
+    ensures answers { LateAnswersAreReplies }
+    ensures pending { LateSleepersAreSeenTo }
+    ensures ends { LateStillIsTheEnd }
+    ensures ends_the_run { LateStillEndsTheRun }
+    ensures order { LateOrderIsTold }
+{}
+
+/// Whatever the plan and the order, at each moment of each execution: the count of a condition is
+/// how many threads sleep on it or are notified and not yet back; where it is 0 nobody sleeps on the
+/// condition; and a note there would do nothing, so who leaves it out has made it.
+pub fn counts_are_kept()
+    ensures kept { LateSleepersAreCounted }
+    ensures nobody { LateUncountedSleepNot }
+    ensures left_out { LateLeftOutIsMade }
+{}
+
+/// The plan without the notes that nobody hears fits its monitor where the plan does, and is lawful
+/// where the plan is.
+pub fn live_plans_are_lawful()
+    ensures fits { LivePlansFit }
+    ensures lawful { LivePlansAreLawful }
+{}
+
+/// So all this is true of the program that is printed of a monitor and a lawful plan, at each
+/// moment of each execution.
+pub fn printed_code_loses_none()
+    ensures { PrintedCodeLosesNone }
+{}
+
+/// The same under plans that are lawful by counting.
+pub fn counted_code_loses_none()
+    ensures pending { CountedSleepersAreSeenTo }
+    ensures ends { CountedStillIsTheEnd }
+    ensures ends_the_run { CountedStillEndsTheRun }
+    ensures live { LivePlansCount }
+    ensures printed { CountedCodeLosesNone }
+{}

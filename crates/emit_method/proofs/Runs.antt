@@ -1,0 +1,54 @@
+-- The statements of a block, by what stands for their parts.
+use Rattle.std.proofs.Common.{◌≡◌, ℕ, Bool, true, false, cond, List, [], ◌∷◌, ◌++◌, ◌∙◌, codes, ap, sym, append_assoc, append-nil}
+use Rattle.machine_events.specs.Configurations.{block_condition}
+use Rattle.emit_code.specs.Code.{is_waited_on, signal_on}
+use Rattle.emit_code.specs.Code.Op.{WaitUntil, ElseRefuse}
+use Rattle.emit_method.specs.Sources.{answer_of}
+use Rattle.emit_method.specs.Conditions.{condition_name}
+use Rattle.emit_method.specs.Statements.{MethodParts, answer_name, call_text, fails_at, op_text, ops_text, plain_run, run_text}
+use Rattle.emit_method.specs.inner.Parts.{guarded_run, run_op, test_ops}
+
+-- ---- the test of a guard
+
+module _ (it : MethodParts) (block : ℕ) where
+  abbrev waits : Bool
+  waits = is_waited_on it.source.monitor (block_condition it.source.monitor block)
+
+  abbrev test_by : Bool → Bool → List ℕ
+  test_by waiting tries = ops_text it (cond waiting (cond tries (ElseRefuse block ∷ []) (WaitUntil block (block_condition it.source.monitor block) ∷ [])) [])
+
+  pub test_none : (tries answer : Bool) → answer ≡ waits → answer ≡ false → [] ≡ test_ops it tries block
+  test_none tries answer is lacks = ap (λ (b : Bool). test_by b tries) (sym lacks ∙ is)
+
+  pub test_refuses : (tries answer : Bool) → answer ≡ waits → answer ≡ true → tries ≡ true → op_text it (ElseRefuse block) ≡ test_ops it tries block
+  test_refuses tries answer is holds try =
+      sym (append-nil (op_text it (ElseRefuse block))) ∙ ap (λ (b : Bool). test_by true b) (sym try) ∙ ap (λ (b : Bool). test_by b tries) (sym holds ∙ is)
+
+  pub test_waits : (tries answer : Bool) → answer ≡ waits → answer ≡ true → tries ≡ false → op_text it (WaitUntil block (block_condition it.source.monitor block)) ≡ test_ops it tries block
+  test_waits tries answer is holds lacks =
+      sym (append-nil (op_text it (WaitUntil block (block_condition it.source.monitor block)))) ∙ ap (λ (b : Bool). test_by true b) (sym lacks) ∙ ap (λ (b : Bool). test_by b tries) (sym holds ∙ is)
+
+  -- ---- the body
+
+  abbrev run_by : Bool → Bool → List ℕ
+  run_by waiting fails = run_text it block (cond waiting (signal_on (block_condition it.source.monitor block) ∷ []) []) fails
+
+  pub run_sure : (fails : Bool) → fails ≡ fails_at it block → fails ≡ false → plain_run it block (codes ";\n") ≡ run_op it block
+  run_sure fails is lacks = ap (λ (b : Bool). run_by waits b) (sym lacks ∙ is)
+
+  pub run_alone : (fails answer : Bool) → fails ≡ fails_at it block → fails ≡ true → answer ≡ waits → answer ≡ false → plain_run it block (codes "?;\n") ≡ run_op it block
+  run_alone fails answer is holds same lacks = ap (λ (b : Bool). run_by false b) (sym holds ∙ is) ∙ ap (λ (b : Bool). run_by b (fails_at it block)) (sym lacks ∙ same)
+
+  noted : (front name : List ℕ) → front ++ (codes " else {\n            self." ++ name ++ codes ".notify_one();\n            return Err(Overflow);\n        };\n")
+      ≡ front ++ codes " else {\n" ++ ((codes "    " ++ (codes "        self." ++ name ++ codes ".notify_one();\n")) ++ []) ++ codes "            return Err(Overflow);\n        };\n"
+  noted front name =
+      let said = (codes "    " ++ (codes "        self." ++ name ++ codes ".notify_one();\n")) ++ [] in
+      let last = codes "            return Err(Overflow);\n        };\n" in
+      sym (append_assoc (front ++ codes " else {\n") said last ∙ append_assoc front (codes " else {\n") (said ++ last)
+      ∙ ap (λ text. front ++ (codes " else {\n            self." ++ text))
+      (ap (λ text. text ++ last) (append-nil (name ++ codes ".notify_one();\n")) ∙ append_assoc name (codes ".notify_one();\n") last))
+
+  pub run_guarded : (fails answer : Bool) → fails ≡ fails_at it block → fails ≡ true → answer ≡ waits → answer ≡ true → guarded_run it block ≡ run_op it block
+  run_guarded fails answer is holds same waiting =
+      noted (codes "        let Ok(" ++ answer_name (answer_of it.source.monitor block) ++ codes ") = " ++ call_text it block) (condition_name it.source (block_condition it.source.monitor block))
+      ∙ ap (λ (b : Bool). run_by true b) (sym holds ∙ is) ∙ ap (λ (b : Bool). run_by b (fails_at it block)) (sym waiting ∙ same)

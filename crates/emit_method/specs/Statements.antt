@@ -1,0 +1,197 @@
+-- The statements of a method: one for each operation of its code.
+use Rattle.std.specs.Prelude.{ℕ, ◌+◌, ◌-◌, Bool, true, false, ◌||◌, List, [], ◌∷◌, ◌++◌, codes}
+use Rattle.std.specs.Prelude.{Option, Some, None, slice_get, if◌then◌else◌}
+use Rattle.std.specs.List.{flat_map, list_any}
+use Rattle.std.specs.Option.{option_map_or}
+use Rattle.lang_base.specs.declared.kind.Kind.{Kind}
+use Rattle.lang_tree.specs.declared.tree.BlockTree.{BlockTree}
+use Rattle.lang_tree.specs.declared.tree.MethodTree.{MethodTree}
+use Rattle.lang_tree.specs.declared.tree.MonitorTree.{MonitorTree}
+use Rattle.machine_events.specs.declared.plan.Note.{Note}
+use Rattle.machine_events.specs.Configurations.{block_condition}
+use Rattle.emit_code.specs.Code.{Op}
+use Rattle.emit_code.specs.Code.Op.{Lock, WaitUntil, ElseRefuse, Run, Release, Notify, Unlock}
+use Rattle.emit_rust.specs.declared.scope.Reach.{Reach}
+use Rattle.emit_rust.specs.declared.scope.Reach.TheVariants as reaches
+use Rattle.emit_bodies.specs.Blocks.{block_name}
+use Rattle.emit_bodies.specs.Bodies.{body_fails}
+use Rattle.emit_method.specs.declared.source.Calls.{Calls}
+use Rattle.emit_method.specs.Sources.{SourceParts, seen, answer_of, reads_inputs}
+use Rattle.emit_method.specs.Conditions.{arguments_text, around_count, around_name}
+
+-- ---- whether a call may fail
+
+-- the body of the block may
+abbrev pub block_fails : MonitorTree → MethodTree → BlockTree → Bool
+block_fails tree method block = body_fails tree method block.body
+
+-- the body of some block of the method may
+abbrev pub method_fails : MonitorTree → MethodTree → Bool
+method_fails tree method = list_any (block_fails tree method) method.blocks
+
+-- ---- a method, for calls that wait or for those that try
+
+-- what the text of a method hangs on
+pub record MethodParts : Type 0 where
+  pub source : SourceParts
+  pub method : MethodTree
+  -- the number of its first block
+  pub first : ℕ
+  -- what its last block answers
+  pub answer : Option Kind
+  -- some block of it may fail
+  pub fails : Bool
+  pub tries : Bool
+
+-- what the code holds
+abbrev pub method_seen : Calls → MethodParts
+method_seen calls = record {
+  source = seen calls.source.now;
+  method = calls.method.now;
+  first = calls.first;
+  answer = calls.answer;
+  fails = calls.fails;
+  tries = calls.tries;
+}
+
+-- the body of this block may fail
+abbrev pub fails_at : MethodParts → ℕ → Bool
+fails_at it block =
+    option_map_or (block_fails it.source.tree it.method)
+    (slice_get it.method.blocks (block - it.first)) false
+
+-- ---- calls of the functions of the state
+
+-- a call of a block's own function, after a word
+abbrev pub own_call : MethodParts → List ℕ → ℕ → Reach → List ℕ
+own_call it word block reach =
+    block_name it.source.tree it.method word (block + 1 - it.first) ++ codes "("
+    ++ arguments_text it.method reach ++ codes ")"
+
+-- `can_put()`, or `can_withdraw(amount)`: where the guard of its condition reads inputs, each block
+-- has a test of its own
+abbrev pub test_text : MethodParts → ℕ → List ℕ
+test_text it block =
+    let condition = block_condition it.source.monitor block in
+    if reads_inputs it.source.monitor condition then own_call it (codes "can") block reaches.Held
+    else around_name it.source [] condition (codes "()")
+
+-- `inner.state.run_put(amount)`
+abbrev pub call_text : MethodParts → ℕ → List ℕ
+call_text it block = codes "inner.state." ++ own_call it (codes "run") block reaches.Lent
+
+-- a call that tries and is refused answers `None`
+abbrev pub refusal_text : Bool → List ℕ
+refusal_text true = codes " {\n            return Ok(None);\n        }\n"
+refusal_text false = codes " {\n            return None;\n        }\n"
+
+-- ---- the loop of a block
+
+-- where its guard is false: who waits is counted while it does
+abbrev pub sleep_text : SourceParts → ℕ → List ℕ
+sleep_text source condition =
+    around_count source (codes " {\n            inner.") condition (codes " += 1;\n")
+    ++ around_name source (codes "            inner = wait(&self.") condition (codes ", inner);\n")
+    ++ around_count source (codes "            inner.") condition (codes " -= 1;\n        }\n")
+
+-- ---- notes
+
+-- by whether the note is for all
+abbrev pub notify_call : Bool → List ℕ
+notify_call true = codes ".notify_all();\n"
+notify_call false = codes ".notify_one();\n"
+
+-- `self.can_get.notify_one();`
+abbrev pub notify_text : SourceParts → Note → List ℕ
+notify_text source note =
+    around_name source (codes "        self.") note.condition (notify_call note.all)
+
+-- a tested one is made where the guard was true when the mutex was given back
+abbrev pub note_test : SourceParts → Note → List ℕ
+note_test source note =
+    if note.tested then around_name source (codes " && copy.state.") note.condition (codes "()")
+    else []
+
+-- each is made where someone slept on its condition then
+abbrev pub note_text : SourceParts → Note → List ℕ
+note_text source note =
+    around_count source (codes "        if copy.") note.condition (codes " > 0")
+    ++ note_test source note ++ codes " {\n    " ++ notify_text source note
+    ++ codes "        }\n"
+
+-- the mutex is given back, and of what it guarded a copy is kept for the notes that come next
+abbrev pub release_text : SourceParts → List Note → List ℕ
+release_text source [] = codes "        drop(inner);\n"
+release_text source (note ∷ notes) =
+    codes "        let copy = *inner;\n        drop(inner);\n"
+    ++ flat_map (note_text source) (note ∷ notes)
+
+-- ---- the body of a block
+
+-- what it answers, where that is kept for the end of the method
+abbrev pub let_text : Option Kind → List ℕ
+let_text None = codes "        "
+let_text (Some kind) = codes "        let answer = "
+
+-- the name of what it answered
+abbrev pub answer_name : Option Kind → List ℕ
+answer_name None = codes "()"
+answer_name (Some kind) = codes "answer"
+
+-- the call of a body, and what ends it
+abbrev pub plain_run : MethodParts → ℕ → List ℕ → List ℕ
+plain_run it block ending =
+    let_text (answer_of it.source.monitor block) ++ call_text it block ++ ending
+
+-- with the notes that are made where it overflows, and whether it may
+abbrev pub run_text : MethodParts → ℕ → List Note → Bool → List ℕ
+run_text it block notes false = plain_run it block (codes ";\n")
+run_text it block [] true = plain_run it block (codes "?;\n")
+run_text it block (note ∷ notes) true =
+    codes "        let Ok(" ++ answer_name (answer_of it.source.monitor block) ++ codes ") = "
+    ++ call_text it block ++ codes " else {\n"
+    ++ flat_map (λ other. codes "    " ++ notify_text it.source other) (note ∷ notes)
+    ++ codes "            return Err(Overflow);\n        };\n"
+
+-- ---- a statement for each operation
+
+-- an operation of a method
+abbrev pub op_text : MethodParts → Op → List ℕ
+op_text it Lock = codes "        let mut inner = lock(&self.inner);\n"
+op_text it (WaitUntil block condition) =
+    codes "        while !inner.state." ++ test_text it block ++ sleep_text it.source condition
+op_text it (ElseRefuse block) =
+    codes "        if !inner.state." ++ test_text it block ++ refusal_text it.fails
+op_text it (Run block otherwise) = run_text it block otherwise (fails_at it block)
+op_text it (Release notes) = release_text it.source notes
+op_text it (Notify note) = notify_text it.source note
+op_text it Unlock = codes "        drop(inner);\n"
+
+-- the operations of a method, one after the other
+abbrev pub ops_text : MethodParts → List Op → List ℕ
+ops_text it = flat_map (op_text it)
+
+-- ---- what the method answers after them, by whether it may fail, and whether its calls try
+
+-- what stands before what the last body answered
+abbrev pub opening : Bool → Bool → List ℕ
+opening true true = codes "        Ok(Some("
+opening true false = codes "        Ok("
+opening false tries = codes "        Some("
+
+-- what stands after it
+abbrev pub closing : Bool → Bool → List ℕ
+closing true true = codes "))\n"
+closing true false = codes ")\n"
+closing false tries = codes ")\n"
+
+-- it is answered as it is
+abbrev pub plain_end : Option Kind → List ℕ
+plain_end None = []
+plain_end (Some kind) = codes "        answer\n"
+
+-- the last line of a method
+abbrev pub end_text : Bool → Bool → Option Kind → List ℕ
+end_text fails tries answer =
+    if fails || tries then opening fails tries ++ answer_name answer ++ closing fails tries
+    else plain_end answer

@@ -1,0 +1,508 @@
+//! The statements of a method: one for each operation of its code.
+
+ghost use Rattle.std.specs.Prelude.{◌≡◌, ◌++◌, ◌+◌, ◌<◌, ◌^◌, ◌==◌, codes, if◌then◌else◌, not};
+ghost use Rattle.std.specs.Prelude.{◌&&◌};
+ghost use Rattle.std.specs.List.{flat_map, list_any};
+ghost use Rattle.machine_events.specs.Configurations.{block_condition};
+ghost use Rattle.base_io.specs.Writing.{Wrote};
+ghost use Rattle.emit_method.specs.Sources.{answer_of, seen};
+ghost use Rattle.emit_method.specs.Conditions.{around_name};
+ghost use Rattle.emit_method.specs.Statements.{answer_name, block_fails, call_text, closing};
+ghost use Rattle.emit_method.specs.Statements.{end_text};
+ghost use Rattle.emit_method.specs.Statements.{fails_at, let_text, method_fails, method_seen};
+ghost use Rattle.emit_method.specs.Statements.{note_test, note_text, release_text, sleep_text};
+ghost use Rattle.emit_method.specs.Statements.{notify_call, notify_text, opening};
+ghost use Rattle.emit_method.specs.Statements.{op_text, own_call};
+ghost use Rattle.emit_method.specs.Statements.{plain_end, plain_run, refusal_text, test_text};
+ghost use Rattle.emit_method.specs.inner.Parts.{block_ops, blocks_ops, guarded_run, heard_text};
+ghost use Rattle.emit_method.specs.inner.Parts.{heard_texts, run_op, test_ops, told_ops};
+ghost use Rattle.emit_code.specs.Code.{is_waited_on};
+ghost use Rattle.emit_code.specs.LivePlans.{heard_notes};
+ghost use Rattle.emit_code.specs.Code.Op.{ElseRefuse, WaitUntil};
+
+use crate::conditions::{write_arguments, write_around_count, write_around_name};
+use crate::source::{
+    Calls, Source, answer_of, are_heard, condition_of, is_waited_on, notes_of, reads_inputs,
+};
+use base_io::{Sink, SinkFailed, write_piece, write_pieces};
+use emit_bodies::{fails, write_block_name};
+use emit_rust::Reach;
+use lang_base::Kind;
+use lang_tree::{BlockTree, MethodTree, MonitorTree};
+use machine_events::Note;
+
+// ---- whether a call may fail
+
+/// Whether some block of a method may fail.
+pub fn method_fails(tree: &MonitorTree, method: &MethodTree) -> bool
+    ensures { result ≡ method_fails tree.now method.now }
+{
+    any_fails(tree, method, method.blocks.items())
+}
+
+fn any_fails(tree: &MonitorTree, method: &MethodTree, blocks: &[BlockTree]) -> bool
+    ensures { result ≡ list_any (block_fails tree.now method.now) blocks.now }
+{
+    blocks.iter().any(|block| block_fails(tree, method, block))
+}
+
+fn block_fails(tree: &MonitorTree, method: &MethodTree, block: &BlockTree) -> bool
+    ensures { result ≡ block_fails tree.now method.now block.now }
+{
+    fails(tree, method, block.body.items())
+}
+
+// Whether the body of the block of this number may fail.
+fn fails_at(it: &Calls, block: usize) -> bool
+    ensures { result ≡ fails_at (method_seen it.now) block }
+{
+    let place = block.saturating_sub(it.first as usize);
+    match it.method.blocks.items().get(place) {
+        Some(block) => block_fails(it.source.tree, it.method, block),
+        None => false,
+    }
+}
+
+// ---- the blocks
+
+/// Writes the statements of so many blocks of a method, from its first on.
+pub(crate) fn write_blocks<S: Sink>(it: &Calls, count: u32, out: &mut S) -> Result<(), SinkFailed>
+    ensures { Wrote (S.seen out.old) (S.seen out.new) result
+        (blocks_ops (method_seen it.now) count) }
+{
+    for index in 0..count {
+        write_block(it, index, out)?;
+    }
+    Ok(())
+}
+
+// A block, by its number in the method, from 0.
+fn write_block<S: Sink>(it: &Calls, index: u32, out: &mut S) -> Result<(), SinkFailed>
+    ensures { Wrote (S.seen out.old) (S.seen out.new) result
+        (block_ops (method_seen it.now) (it.now.tries && (index == 0)) (it.now.first + index)) }
+{
+    write_statements(
+        it,
+        tries_at(it.tries, index),
+        block_at(it.first, index),
+        out,
+    )
+}
+
+// A call that tries does so at the first block alone.
+fn tries_at(tries: bool, index: u32) -> bool
+    ensures { result ≡ (tries && (index == 0)) }
+{
+    tries && index == 0
+}
+
+fn block_at(first: u32, index: u32) -> usize
+    ensures number { result ≡ first + index }
+    ensures small { result < 2 ^ 63 }
+{
+    first as usize + index as usize
+}
+
+fn write_statements<S: Sink>(
+    it: &Calls,
+    tries: bool,
+    block: usize,
+    out: &mut S,
+) -> Result<(), SinkFailed>
+    requires { block < 2 ^ 63 }
+    ensures { Wrote (S.seen out.old) (S.seen out.new) result
+        (block_ops (method_seen it.now) tries block) }
+{
+    write_piece(b"        let mut inner = lock(&self.inner);\n", out)?;
+    write_test(it, tries, block, out)?;
+    write_run(it, block, out)?;
+    write_told(it, block, out)
+}
+
+// ---- the test of a block's guard
+
+fn write_test<S: Sink>(it: &Calls, tries: bool, block: usize, out: &mut S) -> Result<(), SinkFailed>
+    requires { block < 2 ^ 63 }
+    ensures { Wrote (S.seen out.old) (S.seen out.new) result
+        (test_ops (method_seen it.now) tries block) }
+{
+    if !waits_at(it, block) {
+        return Ok(());
+    }
+    if tries {
+        return write_refusal(it, block, out);
+    }
+    write_loop(it, block, out)
+}
+
+// Whether someone may wait for the guard of the block of this number.
+fn waits_at(it: &Calls, block: usize) -> bool
+    ensures { result ≡ is_waited_on it.now.source.now.monitor.now
+        (block_condition it.now.source.now.monitor.now block) }
+{
+    is_waited_on(it.source.monitor, condition_of(it.source.monitor, block))
+}
+
+fn write_refusal<S: Sink>(it: &Calls, block: usize, out: &mut S) -> Result<(), SinkFailed>
+    requires { block < 2 ^ 63 }
+    ensures { Wrote (S.seen out.old) (S.seen out.new) result
+        (op_text (method_seen it.now) (ElseRefuse block)) }
+{
+    write_piece(b"        if !inner.state.", out)?;
+    write_call_of_test(it, block, out)?;
+    write_piece(refusal_bytes(it.fails), out)
+}
+
+fn refusal_bytes(fails: bool) -> &'static [u8]
+    ensures { result.now ≡ refusal_text fails }
+{
+    if fails {
+        b" {\n            return Ok(None);\n        }\n"
+    } else {
+        b" {\n            return None;\n        }\n"
+    }
+}
+
+fn write_loop<S: Sink>(it: &Calls, block: usize, out: &mut S) -> Result<(), SinkFailed>
+    requires { block < 2 ^ 63 }
+    ensures { Wrote (S.seen out.old) (S.seen out.new) result (op_text (method_seen it.now)
+        (WaitUntil block (block_condition it.now.source.now.monitor.now block))) }
+{
+    write_piece(b"        while !inner.state.", out)?;
+    write_call_of_test(it, block, out)?;
+    write_own_sleep(it, block, out)
+}
+
+// What is done where the guard of a block is false.
+fn write_own_sleep<S: Sink>(it: &Calls, block: usize, out: &mut S) -> Result<(), SinkFailed>
+    ensures { Wrote (S.seen out.old) (S.seen out.new) result (sleep_text (seen it.now.source.now)
+        (block_condition it.now.source.now.monitor.now block)) }
+{
+    let condition = condition_of(it.source.monitor, block);
+    write_sleep(it.source, condition, out)
+}
+
+fn write_sleep<S: Sink>(source: &Source, condition: u32, out: &mut S) -> Result<(), SinkFailed>
+    ensures { Wrote (S.seen out.old) (S.seen out.new) result
+        (sleep_text (seen source.now) condition) }
+{
+    write_around_count(
+        source,
+        b" {\n            inner.",
+        condition,
+        b" += 1;\n",
+        out,
+    )?;
+    write_around_name(
+        source,
+        b"            inner = wait(&self.",
+        condition,
+        b", inner);\n",
+        out,
+    )?;
+    write_around_count(
+        source,
+        b"            inner.",
+        condition,
+        b" -= 1;\n        }\n",
+        out,
+    )
+}
+
+// The name of a block's condition between two pieces.
+fn write_around_own_name<S: Sink>(
+    it: &Calls,
+    before: &[u8],
+    block: usize,
+    after: &[u8],
+    out: &mut S,
+) -> Result<(), SinkFailed>
+    ensures { Wrote (S.seen out.old) (S.seen out.new) result
+        (around_name (seen it.now.source.now) before.now
+        (block_condition it.now.source.now.monitor.now block) after.now) }
+{
+    let condition = condition_of(it.source.monitor, block);
+    write_around_name(it.source, before, condition, after, out)
+}
+
+// `can_put()`
+fn write_call_of_test<S: Sink>(it: &Calls, block: usize, out: &mut S) -> Result<(), SinkFailed>
+    requires { block < 2 ^ 63 }
+    ensures { Wrote (S.seen out.old) (S.seen out.new) result
+        (test_text (method_seen it.now) block) }
+{
+    if reads_inputs(it.source.monitor, condition_of(it.source.monitor, block)) {
+        return write_own_call(it, b"can", block, Reach::Held, out);
+    }
+    write_around_own_name(it, b"", block, b"()", out)
+}
+
+// A call of a block's own function, after a word.
+fn write_own_call<S: Sink>(
+    it: &Calls,
+    word: &[u8],
+    block: usize,
+    reach: Reach,
+    out: &mut S,
+) -> Result<(), SinkFailed>
+    requires { block < 2 ^ 63 }
+    ensures { Wrote (S.seen out.old) (S.seen out.new) result
+        (own_call (method_seen it.now) word.now block reach) }
+{
+    let number = (block + 1).saturating_sub(it.first as usize);
+    write_block_name(it.source.tree, it.method, word, number, out)?;
+    write_piece(b"(", out)?;
+    write_arguments(it.method, reach, out)?;
+    write_piece(b")", out)
+}
+
+// ---- the body of a block
+
+fn write_run<S: Sink>(it: &Calls, block: usize, out: &mut S) -> Result<(), SinkFailed>
+    requires { block < 2 ^ 63 }
+    ensures { Wrote (S.seen out.old) (S.seen out.new) result (run_op (method_seen it.now) block) }
+{
+    if !fails_at(it, block) {
+        return write_plain_run(it, block, b";\n", out);
+    }
+    if !waits_at(it, block) {
+        return write_plain_run(it, block, b"?;\n", out);
+    }
+    write_guarded_run(it, block, out)
+}
+
+fn write_plain_run<S: Sink>(
+    it: &Calls,
+    block: usize,
+    ending: &[u8],
+    out: &mut S,
+) -> Result<(), SinkFailed>
+    requires { block < 2 ^ 63 }
+    ensures { Wrote (S.seen out.old) (S.seen out.new) result
+        (plain_run (method_seen it.now) block ending.now) }
+{
+    write_let(it, block, out)?;
+    write_call(it, block, out)?;
+    write_piece(ending, out)
+}
+
+fn write_let<S: Sink>(it: &Calls, block: usize, out: &mut S) -> Result<(), SinkFailed>
+    ensures { Wrote (S.seen out.old) (S.seen out.new) result
+        (let_text (answer_of it.now.source.now.monitor.now block)) }
+{
+    write_piece(let_bytes(answer_of(it.source.monitor, block)), out)
+}
+
+fn let_bytes(answer: Option<Kind>) -> &'static [u8]
+    ensures { result.now ≡ let_text answer }
+{
+    match answer {
+        None => b"        ",
+        Some(_) => b"        let answer = ",
+    }
+}
+
+// `inner.state.run_put(amount)`
+fn write_call<S: Sink>(it: &Calls, block: usize, out: &mut S) -> Result<(), SinkFailed>
+    requires { block < 2 ^ 63 }
+    ensures { Wrote (S.seen out.old) (S.seen out.new) result
+        (call_text (method_seen it.now) block) }
+{
+    write_piece(b"inner.state.", out)?;
+    write_own_call(it, b"run", block, Reach::Lent, out)
+}
+
+// A body that may fail in a block that waits.
+fn write_guarded_run<S: Sink>(it: &Calls, block: usize, out: &mut S) -> Result<(), SinkFailed>
+    requires { block < 2 ^ 63 }
+    ensures { Wrote (S.seen out.old) (S.seen out.new) result
+        (guarded_run (method_seen it.now) block) }
+{
+    write_let_ok(it, block, out)?;
+    write_call(it, block, out)?;
+    write_around_own_name(
+        it,
+        b" else {\n            self.",
+        block,
+        b".notify_one();\n            return Err(Overflow);\n        };\n",
+        out,
+    )
+}
+
+fn write_let_ok<S: Sink>(it: &Calls, block: usize, out: &mut S) -> Result<(), SinkFailed>
+    ensures { Wrote (S.seen out.old) (S.seen out.new) result
+        (codes "        let Ok(" ++ answer_name (answer_of it.now.source.now.monitor.now block)
+        ++ codes ") = ") }
+{
+    let name = answer_bytes(answer_of(it.source.monitor, block));
+    write_pieces(&[b"        let Ok(", name, b") = "], out)
+}
+
+fn answer_bytes(answer: Option<Kind>) -> &'static [u8]
+    ensures { result.now ≡ answer_name answer }
+{
+    match answer {
+        None => b"()",
+        Some(_) => b"answer",
+    }
+}
+
+// ---- what comes after the body
+
+// The mutex is given back, and the notes come next.
+fn write_told<S: Sink>(it: &Calls, block: usize, out: &mut S) -> Result<(), SinkFailed>
+    ensures { Wrote (S.seen out.old) (S.seen out.new) result (told_ops (method_seen it.now) block) }
+{
+    write_release(it.source, notes_of(it.source.plan, block), out)
+}
+
+fn write_release<S: Sink>(source: &Source, notes: &[Note], out: &mut S) -> Result<(), SinkFailed>
+    ensures { Wrote (S.seen out.old) (S.seen out.new) result
+        (release_text (seen source.now) (heard_notes source.now.monitor.now notes.now)) }
+{
+    if !are_heard(source, notes) {
+        return write_piece(b"        drop(inner);\n", out);
+    }
+    write_copy(source, notes, out)
+}
+
+// With a copy of what the mutex guarded.
+fn write_copy<S: Sink>(source: &Source, notes: &[Note], out: &mut S) -> Result<(), SinkFailed>
+    ensures { Wrote (S.seen out.old) (S.seen out.new) result
+        (codes "        let copy = *inner;\n        drop(inner);\n"
+        ++ heard_texts (seen source.now) notes.now) }
+{
+    write_piece(b"        let copy = *inner;\n        drop(inner);\n", out)?;
+    write_heard_notes(source, notes, out)
+}
+
+// Those notes that someone may hear.
+fn write_heard_notes<S: Sink>(
+    source: &Source,
+    notes: &[Note],
+    out: &mut S,
+) -> Result<(), SinkFailed>
+    ensures { Wrote (S.seen out.old) (S.seen out.new) result
+        (heard_texts (seen source.now) notes.now) }
+{
+    for note in notes {
+        write_heard(source, *note, out)?;
+    }
+    Ok(())
+}
+
+fn write_heard<S: Sink>(source: &Source, note: Note, out: &mut S) -> Result<(), SinkFailed>
+    ensures { Wrote (S.seen out.old) (S.seen out.new) result (heard_text (seen source.now) note) }
+{
+    if !is_waited_on(source.monitor, note.condition) {
+        return Ok(());
+    }
+    write_note(source, note, out)
+}
+
+fn write_note<S: Sink>(source: &Source, note: Note, out: &mut S) -> Result<(), SinkFailed>
+    ensures { Wrote (S.seen out.old) (S.seen out.new) result (note_text (seen source.now) note) }
+{
+    write_around_count(source, b"        if copy.", note.condition, b" > 0", out)?;
+    write_note_test(source, note, out)?;
+    write_piece(b" {\n    ", out)?;
+    write_notify(source, note, out)?;
+    write_piece(b"        }\n", out)
+}
+
+// A tested note reads the copy of the state.
+fn write_note_test<S: Sink>(source: &Source, note: Note, out: &mut S) -> Result<(), SinkFailed>
+    ensures { Wrote (S.seen out.old) (S.seen out.new) result (note_test (seen source.now) note) }
+{
+    if note.tested {
+        return write_around_name(source, b" && copy.state.", note.condition, b"()", out);
+    }
+    Ok(())
+}
+
+// `self.can_get.notify_one();`
+fn write_notify<S: Sink>(source: &Source, note: Note, out: &mut S) -> Result<(), SinkFailed>
+    ensures { Wrote (S.seen out.old) (S.seen out.new) result (notify_text (seen source.now) note) }
+{
+    write_around_name(
+        source,
+        b"        self.",
+        note.condition,
+        notify_bytes(note.all),
+        out,
+    )
+}
+
+fn notify_bytes(all: bool) -> &'static [u8]
+    ensures { result.now ≡ notify_call all }
+{
+    if all {
+        b".notify_all();\n"
+    } else {
+        b".notify_one();\n"
+    }
+}
+
+// ---- the end of a method
+
+/// Writes what a method answers at its end, by whether it may fail, and whether its calls try.
+pub(crate) fn write_end<S: Sink>(
+    fails: bool,
+    tries: bool,
+    answer: Option<Kind>,
+    out: &mut S,
+) -> Result<(), SinkFailed>
+    ensures { Wrote (S.seen out.old) (S.seen out.new) result (end_text fails tries answer) }
+{
+    if !fails && !tries {
+        return write_piece(plain_end(answer), out);
+    }
+    write_wrapped_end(fails, tries, answer, out)
+}
+
+fn write_wrapped_end<S: Sink>(
+    fails: bool,
+    tries: bool,
+    answer: Option<Kind>,
+    out: &mut S,
+) -> Result<(), SinkFailed>
+    ensures { Wrote (S.seen out.old) (S.seen out.new) result
+        (opening fails tries ++ answer_name answer ++ closing fails tries) }
+{
+    write_pieces(
+        &[
+            opening(fails, tries),
+            answer_bytes(answer),
+            closing(fails, tries),
+        ],
+        out,
+    )
+}
+
+fn plain_end(answer: Option<Kind>) -> &'static [u8]
+    ensures { result.now ≡ plain_end answer }
+{
+    match answer {
+        None => b"",
+        Some(_) => b"        answer\n",
+    }
+}
+
+fn opening(fails: bool, tries: bool) -> &'static [u8]
+    ensures { result.now ≡ opening fails tries }
+{
+    match (fails, tries) {
+        (true, true) => b"        Ok(Some(",
+        (true, false) => b"        Ok(",
+        (false, _) => b"        Some(",
+    }
+}
+
+fn closing(fails: bool, tries: bool) -> &'static [u8]
+    ensures { result.now ≡ closing fails tries }
+{
+    match (fails, tries) {
+        (true, true) => b"))\n",
+        (true, false) | (false, _) => b")\n",
+    }
+}

@@ -1,0 +1,11 @@
+use Rattle.std.proofs.Common.{take, Ok}
+use Rattle.base_io.specs.Writing.{Wrote}
+use Rattle.emit_method.proofs.Numbered.{numbered}
+use Rattle.emit_module.specs.Modules.{method_functions}
+use Rattle.emit_method.specs.Sources.{seen}
+use Rattle.std.specs.List.{enumerate_from, flat_map}
+use Rattle.emit_module.proofs.state.write_functions_of_blocks.Given as goal
+
+abbrev pub invariant-loop-number : goal.invariant-loop-number
+invariant-loop-number g l =
+    Wrote (g.S.Sink.seen l.initial.out) (g.S.Sink.seen l.out) (Ok tt) (flat_map (numbered (method_functions (seen l.source))) (take l.number (enumerate_from 0 l.methods)))

@@ -1,0 +1,301 @@
+-- The Rust module of a monitor under a plan.
+use Rattle.std.specs.Prelude.{ℕ, ◌+◌, ◌==◌, Bool, true, false, not, ◌&&◌, ◌||◌, List, [], ◌++◌}
+use Rattle.std.specs.Prelude.{Option, Some, None, codes, length, slice_get, if◌then◌else◌}
+use Rattle.std.specs.List.{flat_map, list_any, enumerate_from}
+use Rattle.lang_tree.specs.declared.tree.BlockTree.{BlockTree}
+use Rattle.lang_tree.specs.declared.tree.Decl.{Decl}
+use Rattle.lang_tree.specs.declared.tree.Decl.TheVariants as decls
+use Rattle.lang_tree.specs.declared.tree.MethodTree.{MethodTree}
+use Rattle.lang_tree.specs.declared.tree.MonitorTree.{MonitorTree}
+use Rattle.lang_tree.specs.Names.{declared_name}
+use Rattle.lang_monitor.specs.declared.monitor.Condition.{Condition}
+use Rattle.lang_monitor.specs.MonitorParts.{MonitorParts, first_in}
+use Rattle.machine_events.specs.declared.plan.Plan.{Plan}
+use Rattle.machine_events.specs.Configurations.{block_condition}
+use Rattle.emit_code.specs.Code.{is_always, is_waited_on}
+use Rattle.emit_rust.specs.declared.style.Style.TheVariants as styles
+use Rattle.emit_rust.specs.Names.{member_name, type_name}
+use Rattle.emit_rust.specs.Lints.{has_odd_name}
+use Rattle.emit_bodies.specs.Blocks.{kind_declared, kind_text}
+use Rattle.emit_bodies.specs.Bodies.{body_text}
+use Rattle.emit_bodies.specs.Guards.{guard_text}
+use Rattle.emit_method.specs.Sources.{SourceParts, source_of, answer_of, reads_inputs}
+use Rattle.emit_method.specs.Conditions.{around_count, around_name, first_block}
+use Rattle.emit_method.specs.Statements.{method_fails}
+use Rattle.emit_method.specs.Methods.{methods_text, start_text, typed_start}
+use Rattle.emit_module.specs.Fixed.{HEAD, NEW, DEFAULT, DEBUG, INNER, STATE, STATE_IMPL, LOCK, WAIT}
+use Rattle.emit_module.specs.Fixed.{OVERFLOW}
+
+-- lints would speak of names that are written as they stand
+abbrev pub lints_text : MonitorTree → List ℕ
+lints_text tree =
+    if has_odd_name tree then codes "#[allow(non_snake_case, non_upper_case_globals)]\n" else []
+
+-- ---- conditions, by their numbers from 0
+
+-- someone may wait on some condition
+abbrev pub waits_somewhere : MonitorParts → Bool
+waits_somewhere monitor = list_any (λ which. not (is_always which.guard)) monitor.conditions
+
+-- the condition variable of a condition
+abbrev pub waited_field : SourceParts → ℕ → Condition → List ℕ
+waited_field source place which =
+    codes "    /// For calls that wait until `" ++ which.shown ++ codes "`.\n"
+    ++ around_name source (codes "    ") (place + 1) (codes ": Condvar,\n")
+
+-- where someone may wait on it
+abbrev pub condition_field : SourceParts → ℕ → Condition → List ℕ
+condition_field source place which =
+    if is_always which.guard then [] else waited_field source place which
+
+-- a condition variable at its start
+abbrev pub condition_start : SourceParts → ℕ → Condition → List ℕ
+condition_start source place which =
+    if is_always which.guard then []
+    else around_name source (codes "            ") (place + 1) (codes ": Condvar::new(),\n")
+
+-- how many sleep on it
+abbrev pub count_field : SourceParts → ℕ → Condition → List ℕ
+count_field source place which =
+    if is_always which.guard then []
+    else around_count source (codes "    ") (place + 1) (codes ": usize,\n")
+
+-- at the start nobody does
+abbrev pub count_start : SourceParts → ℕ → Condition → List ℕ
+count_start source place which =
+    if is_always which.guard then []
+    else around_count source (codes "                ") (place + 1) (codes ": 0,\n")
+
+-- ---- the type
+
+-- what is used of `std`, by whether calls wait, and whether there are calls
+abbrev pub use_by : Bool → Bool → List ℕ
+use_by waits calls =
+    if waits then codes "use std::sync::{Condvar, Mutex, MutexGuard, PoisonError};\n\n"
+    else if calls then codes "use std::sync::{Mutex, MutexGuard, PoisonError};\n\n"
+    else codes "use std::sync::Mutex;\n\n"
+
+-- the monitor has methods
+abbrev pub has_calls : MonitorTree → Bool
+has_calls tree = not (length tree.methods == 0)
+
+-- what this module uses of `std`
+abbrev pub use_text : SourceParts → List ℕ
+use_text source = use_by (waits_somewhere source.monitor) (has_calls source.tree)
+
+-- what is said of the type
+abbrev pub struct_docs : MonitorTree → List ℕ
+struct_docs tree =
+    codes "/// The monitor `" ++ tree.name
+    ++ codes "`. Threads share it by reference. A call waits for its guard, unless it tries.\n"
+
+-- Up to the condition variables. A program may use little of the module, and the name may be one of
+-- which lints would speak.
+abbrev pub struct_head : MonitorTree → List ℕ
+struct_head tree =
+    codes "#[allow(dead_code, non_camel_case_types, clippy::upper_case_acronyms)]\npub struct "
+    ++ type_name tree ++ codes " {\n    inner: Mutex<Inner>,\n"
+
+-- the type that threads share
+abbrev pub struct_text : SourceParts → List ℕ
+struct_text source =
+    struct_docs source.tree ++ lints_text source.tree ++ struct_head source.tree
+    ++ flat_map (λ one. condition_field source one.0 one.1)
+    (enumerate_from 0 source.monitor.conditions)
+    ++ codes "}\n\n"
+
+-- ---- its functions
+
+-- a declaration is that of a field, and not of a constant
+abbrev pub is_field : Decl → Bool
+is_field (decls.Const at name value) = false
+is_field (decls.Int at name value) = true
+is_field (decls.Flag at name value) = true
+
+-- `pub const CAP: i64 = 4;`
+abbrev pub constant_text : MonitorTree → Decl → List ℕ
+constant_text tree declared =
+    codes "    pub const " ++ member_name tree styles.Upper (declared_name declared)
+    ++ typed_start declared ++ codes ";\n"
+
+-- nothing for a field
+abbrev pub constant_line : MonitorTree → Decl → List ℕ
+constant_line tree declared = if is_field declared then [] else constant_text tree declared
+
+-- an empty line comes after the last
+abbrev pub constants_end : Bool → List ℕ
+constants_end true = codes "\n"
+constants_end false = []
+
+-- the constants of a monitor
+abbrev pub constants_text : MonitorTree → List ℕ
+constants_text tree =
+    flat_map (constant_line tree) tree.decls
+    ++ constants_end (list_any (λ one. not (is_field one)) tree.decls)
+
+-- a monitor at its start
+abbrev pub new_text : SourceParts → List ℕ
+new_text source =
+    NEW
+    ++ flat_map (λ one. count_start source one.0 one.1)
+    (enumerate_from 0 source.monitor.conditions)
+    ++ codes "            }),\n"
+    ++ flat_map (λ one. condition_start source one.0 one.1)
+    (enumerate_from 0 source.monitor.conditions)
+    ++ codes "        }\n    }\n"
+
+-- A line may have more than 100 columns, so the layout is kept as it is.
+abbrev pub impl_text : SourceParts → List ℕ
+impl_text source =
+    codes "#[rustfmt::skip]\n#[allow(dead_code, clippy::style)]\n" ++ lints_text source.tree
+    ++ codes "impl " ++ type_name source.tree ++ codes " {\n" ++ constants_text source.tree
+    ++ new_text source
+    ++ flat_map (λ one. methods_text source one.0 one.1) (enumerate_from 0 source.tree.methods)
+    ++ codes "}\n\n"
+
+-- the same by `Default`
+abbrev pub default_text : SourceParts → List ℕ
+default_text source = codes "impl Default for " ++ type_name source.tree ++ DEFAULT
+
+-- It shows a copy of the state, since the caller's own code runs in it, which may call the monitor.
+abbrev pub debug_text : SourceParts → List ℕ
+debug_text source = codes "impl std::fmt::Debug for " ++ type_name source.tree ++ DEBUG
+
+-- what the type is by traits of `std`
+abbrev pub traits_text : SourceParts → List ℕ
+traits_text source = default_text source ++ debug_text source
+
+-- ---- what the mutex guards
+
+-- the state, and how many sleep on each condition on which someone may wait
+abbrev pub inner_text : SourceParts → List ℕ
+inner_text source =
+    INNER ++ lints_text source.tree ++ codes "struct Inner {\n    state: State,\n"
+    ++ flat_map (λ one. count_field source one.0 one.1)
+    (enumerate_from 0 source.monitor.conditions)
+    ++ codes "}\n\n"
+
+-- ---- the state
+
+-- `count: i64,`
+abbrev pub field_text : MonitorTree → Decl → List ℕ
+field_text tree declared =
+    codes "    " ++ member_name tree styles.Snake (declared_name declared) ++ codes ": "
+    ++ kind_text (kind_declared declared) ++ codes ",\n"
+
+-- nothing for a constant
+abbrev pub field_line : MonitorTree → Decl → List ℕ
+field_line tree declared = if is_field declared then field_text tree declared else []
+
+-- a brace, with lines after it where there are fields
+abbrev pub brace_by : Bool → List ℕ
+brace_by true = codes "{\n"
+brace_by false = codes "{"
+
+-- the brace of this monitor
+abbrev pub brace_text : MonitorTree → List ℕ
+brace_text tree = brace_by (list_any is_field tree.decls)
+
+-- the struct of the state
+abbrev pub state_text : MonitorTree → List ℕ
+state_text tree =
+    STATE ++ lints_text tree ++ codes "struct State " ++ brace_text tree
+    ++ flat_map (field_line tree) tree.decls ++ codes "}\n\n"
+
+-- ---- the functions of the state
+
+-- `count: 0,`
+abbrev pub field_start : MonitorTree → Decl → List ℕ
+field_start tree declared =
+    codes "        " ++ member_name tree styles.Snake (declared_name declared) ++ codes ": "
+    ++ start_text declared ++ codes ",\n"
+
+-- nothing for a constant
+abbrev pub start_line : MonitorTree → Decl → List ℕ
+start_line tree declared = if is_field declared then field_start tree declared else []
+
+-- the end of the fields, where there are any
+abbrev pub starts_end_by : Bool → List ℕ
+starts_end_by true = codes "    };\n"
+starts_end_by false = codes "};\n"
+
+-- the end of the fields of this monitor
+abbrev pub starts_end : MonitorTree → List ℕ
+starts_end tree = starts_end_by (list_any is_field tree.decls)
+
+-- the state at the start
+abbrev pub starts_text : MonitorTree → List ℕ
+starts_text tree =
+    codes "    const START: Self = Self " ++ brace_text tree
+    ++ flat_map (start_line tree) tree.decls ++ starts_end tree
+
+-- the block is the one that was found first
+abbrev pub is_first : Option ℕ → ℕ → Bool
+is_first None block = false
+is_first (Some first) block = first == block
+
+-- A block has a test of its guard where its condition is waited on, and either the guard reads
+-- inputs, or the block is the first of the condition.
+abbrev pub tests_guard : MonitorParts → ℕ → ℕ → Bool
+tests_guard monitor condition block =
+    is_waited_on monitor condition
+    && (reads_inputs monitor condition || is_first (first_block monitor condition) block)
+
+-- by the number of a block in its method, from 0, and in the monitor
+abbrev pub test_function : SourceParts → MethodTree → ℕ → ℕ → BlockTree → List ℕ
+test_function source method place block parts =
+    let condition = block_condition source.monitor block in
+    if tests_guard source.monitor condition block
+    then codes "\n" ++ guard_text source.tree method (place + 1)
+    (reads_inputs source.monitor condition) parts.guard
+    else []
+
+-- the function of its body, in the same way
+abbrev pub body_function : SourceParts → MethodTree → ℕ → ℕ → BlockTree → List ℕ
+body_function source method place block parts =
+    codes "\n"
+    ++ body_text source.tree method (place + 1) (answer_of source.monitor block) parts.body
+
+-- by the number of the first block of its method
+abbrev pub block_functions : SourceParts → MethodTree → ℕ → ℕ → BlockTree → List ℕ
+block_functions source method first place parts =
+    test_function source method place (first + place) parts
+    ++ body_function source method place (first + place) parts
+
+-- the functions of the blocks of a method
+abbrev pub method_functions : SourceParts → ℕ → MethodTree → List ℕ
+method_functions source number method =
+    let first = first_in (slice_get source.monitor.methods number) in
+    flat_map (λ one. block_functions source method first one.0 one.1)
+    (enumerate_from 0 method.blocks)
+
+-- the functions of the state
+abbrev pub state_impl_text : SourceParts → List ℕ
+state_impl_text source =
+    STATE_IMPL ++ lints_text source.tree ++ codes "impl State {\n" ++ starts_text source.tree
+    ++ flat_map (λ one. method_functions source one.0 one.1) (enumerate_from 0 source.tree.methods)
+    ++ codes "}\n"
+
+-- ---- the module
+
+-- some method may fail
+abbrev pub fails_somewhere : MonitorTree → Bool
+fails_somewhere tree = list_any (method_fails tree) tree.methods
+
+-- what is free of the monitor: where there are calls, where some wait, and where some may fail
+abbrev pub functions_text : SourceParts → List ℕ
+functions_text source =
+    (if has_calls source.tree then LOCK else [])
+    ++ (if waits_somewhere source.monitor then WAIT else [])
+    ++ (if fails_somewhere source.tree then OVERFLOW else [])
+
+-- the whole module
+abbrev pub module_text : SourceParts → List ℕ
+module_text source =
+    HEAD ++ use_text source ++ struct_text source ++ impl_text source ++ traits_text source
+    ++ inner_text source ++ state_text source.tree ++ state_impl_text source
+    ++ functions_text source
+
+-- the module of a monitor, as it is written and as it was checked, under its plan
+abbrev pub rust_text : MonitorTree → MonitorParts → Plan → List ℕ
+rust_text tree monitor plan = module_text (source_of tree monitor plan)

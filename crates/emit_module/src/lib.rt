@@ -1,0 +1,15 @@
+//! The Rust module of a monitor under a plan.
+//!
+//! [`write_rust`] writes the module: a type that threads share, with a method for each of the
+//! monitor's, and one that tries where the method waits first. `specs/Modules` says what it writes.
+//! Its methods are written by `emit_method`, as statements for the operations of their code, so
+//! what `emit_code` says of that code is said of the module.
+#![tactic(auto)]
+
+mod declared;
+mod fields;
+mod fixed;
+mod module;
+mod state;
+
+pub use module::write_rust;

@@ -1,0 +1,298 @@
+//! The module of a monitor.
+
+ghost use Rattle.std.specs.Prelude.{if◌then◌else◌, ◌≡◌, [], not};
+ghost use Rattle.std.specs.List.{enumerate_from, flat_map, list_any};
+ghost use Rattle.emit_code.specs.Code.{is_always};
+ghost use Rattle.base_io.specs.Writing.{Wrote};
+ghost use Rattle.emit_method.specs.Sources.{seen};
+ghost use Rattle.emit_method.specs.Statements.{method_fails};
+ghost use Rattle.emit_method.specs.Methods.{methods_text};
+ghost use Rattle.emit_module.specs.Modules.{constant_line};
+ghost use Rattle.emit_module.specs.Modules.{constant_text, constants_end, constants_text};
+ghost use Rattle.emit_module.specs.Modules.{debug_text, default_text, fails_somewhere, functions_text};
+ghost use Rattle.emit_module.specs.Modules.{has_calls, impl_text, is_field, module_text, new_text};
+ghost use Rattle.emit_module.specs.Modules.{rust_text, struct_docs, struct_head, struct_text};
+ghost use Rattle.emit_module.specs.Modules.{traits_text, use_by, use_text};
+ghost use Rattle.emit_module.specs.Modules.{waits_somewhere};
+
+use crate::declared::{is_field, write_lints};
+use crate::fields::{ConditionLine, write_conditions};
+use crate::fixed::{
+    debug_bytes, default_bytes, head_bytes, lock_bytes, new_bytes, overflow_bytes, wait_bytes,
+};
+use crate::state::{write_inner, write_state, write_state_impl};
+use base_io::{Sink, SinkFailed, write_piece};
+use emit_method::{Source, is_always, method_fails, write_methods_of, write_typed_start};
+use emit_rust::{Style, write_member, write_type};
+use lang_base::Named;
+use lang_monitor::{Condition, Monitor};
+use lang_tree::{Decl, MethodTree, MonitorTree};
+use machine_events::Plan;
+
+/// Writes the Rust module of a monitor under a plan. It takes no memory.
+///
+/// After `SinkFailed` the first bytes were taken, fewer than all and maybe none.
+pub fn write_rust<S: Sink>(
+    tree: &MonitorTree,
+    monitor: &Monitor,
+    plan: &Plan,
+    out: &mut S,
+) -> Result<(), SinkFailed>
+    ensures { Wrote (S.seen out.old) (S.seen out.new) result
+        (rust_text tree.now monitor.now plan.now) }
+{
+    let source = Source {
+        tree,
+        monitor,
+        plan,
+    };
+    write_module(&source, out)
+}
+
+fn write_module<S: Sink>(source: &Source, out: &mut S) -> Result<(), SinkFailed>
+    ensures { Wrote (S.seen out.old) (S.seen out.new) result (module_text (seen source.now)) }
+{
+    write_piece(head_bytes(), out)?;
+    write_use(source, out)?;
+    write_struct(source, out)?;
+    write_impl(source, out)?;
+    write_traits(source, out)?;
+    write_inner(source, out)?;
+    write_state(source.tree, out)?;
+    write_state_impl(source, out)?;
+    write_functions(source, out)
+}
+
+fn write_use<S: Sink>(source: &Source, out: &mut S) -> Result<(), SinkFailed>
+    ensures { Wrote (S.seen out.old) (S.seen out.new) result (use_text (seen source.now)) }
+{
+    write_piece(
+        use_bytes(waits_somewhere(source.monitor), has_calls(source.tree)),
+        out,
+    )
+}
+
+fn use_bytes(waits: bool, calls: bool) -> &'static [u8]
+    ensures { result.now ≡ use_by waits calls }
+{
+    if waits {
+        return b"use std::sync::{Condvar, Mutex, MutexGuard, PoisonError};\n\n";
+    }
+    if calls {
+        b"use std::sync::{Mutex, MutexGuard, PoisonError};\n\n"
+    } else {
+        b"use std::sync::Mutex;\n\n"
+    }
+}
+
+fn has_calls(tree: &MonitorTree) -> bool
+    ensures { result ≡ has_calls tree.now }
+{
+    tree.methods.items().len() != 0
+}
+
+// Whether someone may wait on some condition.
+fn waits_somewhere(monitor: &Monitor) -> bool
+    ensures { result ≡ waits_somewhere monitor.now }
+{
+    any_waits(monitor.conditions())
+}
+
+fn any_waits(conditions: &[Condition]) -> bool
+    ensures { result ≡ list_any (λ which. not (is_always which.guard)) conditions.now }
+{
+    conditions.iter().any(|which| !is_always(&which.guard))
+}
+
+// ---- the type
+
+fn write_struct<S: Sink>(source: &Source, out: &mut S) -> Result<(), SinkFailed>
+    ensures { Wrote (S.seen out.old) (S.seen out.new) result (struct_text (seen source.now)) }
+{
+    write_struct_docs(source.tree, out)?;
+    write_lints(source.tree, out)?;
+    write_struct_head(source.tree, out)?;
+    let conditions = source.monitor.conditions();
+    write_conditions(ConditionLine::Variable, source, conditions, out)?;
+    write_piece(b"}\n\n", out)
+}
+
+fn write_struct_docs<S: Sink>(tree: &MonitorTree, out: &mut S) -> Result<(), SinkFailed>
+    ensures { Wrote (S.seen out.old) (S.seen out.new) result (struct_docs tree.now) }
+{
+    write_piece(b"/// The monitor `", out)?;
+    write_piece(tree.name.bytes(), out)?;
+    write_piece(
+        b"`. Threads share it by reference. A call waits for its guard, unless it tries.\n",
+        out,
+    )
+}
+
+fn write_struct_head<S: Sink>(tree: &MonitorTree, out: &mut S) -> Result<(), SinkFailed>
+    ensures { Wrote (S.seen out.old) (S.seen out.new) result (struct_head tree.now) }
+{
+    write_piece(
+        b"#[allow(dead_code, non_camel_case_types, clippy::upper_case_acronyms)]\npub struct ",
+        out,
+    )?;
+    write_type(tree, out)?;
+    write_piece(b" {\n    inner: Mutex<Inner>,\n", out)
+}
+
+// ---- its functions
+
+fn write_impl<S: Sink>(source: &Source, out: &mut S) -> Result<(), SinkFailed>
+    ensures { Wrote (S.seen out.old) (S.seen out.new) result (impl_text (seen source.now)) }
+{
+    write_piece(
+        b"#[rustfmt::skip]\n#[allow(dead_code, clippy::style)]\n",
+        out,
+    )?;
+    write_lints(source.tree, out)?;
+    write_piece(b"impl ", out)?;
+    write_type(source.tree, out)?;
+    write_piece(b" {\n", out)?;
+    write_constants(source.tree, out)?;
+    write_new(source, out)?;
+    write_methods(source, source.tree.methods.items(), out)?;
+    write_piece(b"}\n\n", out)
+}
+
+fn write_constants<S: Sink>(tree: &MonitorTree, out: &mut S) -> Result<(), SinkFailed>
+    ensures { Wrote (S.seen out.old) (S.seen out.new) result (constants_text tree.now) }
+{
+    write_constant_lines(tree, tree.decls.items(), out)?;
+    write_piece(constants_end(has_constant(tree.decls.items())), out)
+}
+
+fn write_constant_lines<S: Sink>(
+    tree: &MonitorTree,
+    declared: &[Decl],
+    out: &mut S,
+) -> Result<(), SinkFailed>
+    ensures { Wrote (S.seen out.old) (S.seen out.new) result
+        (flat_map (constant_line tree.now) declared.now) }
+{
+    for one in declared {
+        write_constant_line(tree, one, out)?;
+    }
+    Ok(())
+}
+
+fn write_constant_line<S: Sink>(
+    tree: &MonitorTree,
+    declared: &Decl,
+    out: &mut S,
+) -> Result<(), SinkFailed>
+    ensures { Wrote (S.seen out.old) (S.seen out.new) result (constant_line tree.now declared.now) }
+{
+    if is_field(declared) {
+        return Ok(());
+    }
+    write_constant(tree, declared, out)
+}
+
+// `pub const CAP: i64 = 4;`
+fn write_constant<S: Sink>(
+    tree: &MonitorTree,
+    declared: &Decl,
+    out: &mut S,
+) -> Result<(), SinkFailed>
+    ensures { Wrote (S.seen out.old) (S.seen out.new) result (constant_text tree.now declared.now) }
+{
+    write_piece(b"    pub const ", out)?;
+    write_member(tree, Style::Upper, declared.name(), out)?;
+    write_typed_start(declared, out)?;
+    write_piece(b";\n", out)
+}
+
+fn has_constant(declared: &[Decl]) -> bool
+    ensures { result ≡ list_any (λ one. not (is_field one)) declared.now }
+{
+    declared.iter().any(|one| !is_field(one))
+}
+
+// An empty line, after constants.
+fn constants_end(any: bool) -> &'static [u8]
+    ensures { result.now ≡ constants_end any }
+{
+    if any { b"\n" } else { b"" }
+}
+
+fn write_new<S: Sink>(source: &Source, out: &mut S) -> Result<(), SinkFailed>
+    ensures { Wrote (S.seen out.old) (S.seen out.new) result (new_text (seen source.now)) }
+{
+    write_piece(new_bytes(), out)?;
+    let conditions = source.monitor.conditions();
+    write_conditions(ConditionLine::NewCount, source, conditions, out)?;
+    write_piece(b"            }),\n", out)?;
+    write_conditions(ConditionLine::NewVariable, source, conditions, out)?;
+    write_piece(b"        }\n    }\n", out)
+}
+
+fn write_methods<S: Sink>(
+    source: &Source,
+    methods: &[MethodTree],
+    out: &mut S,
+) -> Result<(), SinkFailed>
+    ensures { Wrote (S.seen out.old) (S.seen out.new) result
+        (flat_map (λ one. methods_text (seen source.now) one.0 one.1)
+        (enumerate_from 0 methods.now)) }
+{
+    for (number, method) in methods.iter().enumerate() {
+        write_methods_of(source, number, method, out)?;
+    }
+    Ok(())
+}
+
+fn write_traits<S: Sink>(source: &Source, out: &mut S) -> Result<(), SinkFailed>
+    ensures { Wrote (S.seen out.old) (S.seen out.new) result (traits_text (seen source.now)) }
+{
+    write_default(source, out)?;
+    write_debug(source, out)
+}
+
+fn write_default<S: Sink>(source: &Source, out: &mut S) -> Result<(), SinkFailed>
+    ensures { Wrote (S.seen out.old) (S.seen out.new) result (default_text (seen source.now)) }
+{
+    write_piece(b"impl Default for ", out)?;
+    write_type(source.tree, out)?;
+    write_piece(default_bytes(), out)
+}
+
+fn write_debug<S: Sink>(source: &Source, out: &mut S) -> Result<(), SinkFailed>
+    ensures { Wrote (S.seen out.old) (S.seen out.new) result (debug_text (seen source.now)) }
+{
+    write_piece(b"impl std::fmt::Debug for ", out)?;
+    write_type(source.tree, out)?;
+    write_piece(debug_bytes(), out)
+}
+
+// ---- what is free of the monitor
+
+fn write_functions<S: Sink>(source: &Source, out: &mut S) -> Result<(), SinkFailed>
+    ensures { Wrote (S.seen out.old) (S.seen out.new) result (functions_text (seen source.now)) }
+{
+    write_piece(if_any(has_calls(source.tree), lock_bytes()), out)?;
+    write_piece(if_any(waits_somewhere(source.monitor), wait_bytes()), out)?;
+    write_piece(if_any(fails_somewhere(source.tree), overflow_bytes()), out)
+}
+
+fn if_any(any: bool, text: &[u8]) -> &[u8]
+    ensures { result.now ≡ if any then text.now else [] }
+{
+    if any { text } else { b"" }
+}
+
+// Whether some method may fail.
+fn fails_somewhere(tree: &MonitorTree) -> bool
+    ensures { result ≡ fails_somewhere tree.now }
+{
+    any_fails(tree, tree.methods.items())
+}
+
+fn any_fails(tree: &MonitorTree, methods: &[MethodTree]) -> bool
+    ensures { result ≡ list_any (method_fails tree.now) methods.now }
+{
+    methods.iter().any(|method| method_fails(tree, method))
+}

@@ -1,0 +1,84 @@
+use Rattle.std.proofs.Common.{◌++◌, ◌∙◌, codes, ap, refl}
+use Rattle.std.proofs.lemmas.List.{take_all}
+use Rattle.std.specs.List.{flat_map}
+use Rattle.lang_printer.specs.Canonical.{op_text}
+use Rattle.emit_rust.specs.Expressions.{plain_text, written}
+use Rattle.emit_rust.specs.inner.Parts.{plain_part}
+use Rattle.base_io.proofs.Rows.{row_went, row_stopped}
+use Rattle.base_io.proofs.Writing.{wrote_both, wrote_fails, wrote_longer, wrote_same}
+use Rattle.emit_rust.proofs.Written.{after_first, joined_parts-cut, plain_part-open, plain_part-closed, comparison_plain, comparison_wide, plain-Named, plain-Minus, plain-Compare, plain-Both, plain-Either}
+use Rattle.emit_rust.specs.Scopes.{seen}
+use Rattle.emit_rust.proofs.expressions.+write_plain.Goals as goal
+
+pub write_plain_at-returns-in_err-write_plain : goal.write_plain_at-returns-in_err-write_plain
+write_plain_at-returns-in_err-write_plain g t c =
+    wrote_same _ (plain_part-open (seen c.args.scope.now) c.args.asked c.level.result c.args.part.now (c.level.ensures (seen c.args.scope.now)) c.if-asked-level.false)
+    (wrote_fails _ c.from_residual-in_err-write_plain.ensures.0 (wrote_both c.in_ok-write_piece.ensures (wrote_longer (codes ")") c.in_err-write_plain.ensures)))
+
+pub write_plain_at-returns : goal.write_plain_at-returns
+write_plain_at-returns g t c =
+    wrote_same _ (plain_part-open (seen c.args.scope.now) c.args.asked c.level.result c.args.part.now (c.level.ensures (seen c.args.scope.now)) c.if-asked-level.false)
+    (wrote_both c.in_ok-write_piece.ensures (wrote_both c.in_ok-write_plain.ensures c.write_piece-2.ensures))
+
+pub write_plain_after-returns : goal.write_plain_after-returns
+write_plain_after-returns g t c = wrote_both c.in_ok-write_piece.ensures c.write_plain_at.ensures
+
+pub write_joined-returns : goal.write_joined-returns
+write_joined-returns g t c =
+    let whole = ap (λ rest. plain_part (seen c.args.scope.now) c.args.asked c.first-item.result ++ flat_map (λ part. c.args.sign.now ++ plain_part (seen c.args.scope.now) c.args.asked part) rest) (take_all c.loop-part.part-index (after_first c.args.parts.now) c.loop-part-test.false) in
+    wrote_same _ (whole ∙ joined_parts-cut (seen c.args.scope.now) c.args.sign.now c.args.asked c.args.parts.now c.first-item.result c.in-len1-up.len_at_least c.first-item.is) (wrote_both c.in_ok-write_plain_at.ensures c.loop-part.invariant)
+
+pub write_joined-returns-in_err-write_plain_after : goal.write_joined-returns-in_err-write_plain_after
+write_joined-returns-in_err-write_plain_after g t c =
+    let stopped = row_stopped (λ part. c.args.sign.now ++ plain_part (seen c.args.scope.now) c.args.asked part) (after_first c.args.parts.now) c.loop-part.part-index c.part-item.result _ _ c.loop-part-test.true c.part-item.is refl c.from_residual-in_err-write_plain_after.ensures.0 c.loop-part.invariant c.in_err-write_plain_after.ensures in
+    wrote_same _ (joined_parts-cut (seen c.args.scope.now) c.args.sign.now c.args.asked c.args.parts.now c.first-item.result c.in-len1-up.len_at_least c.first-item.is) (wrote_both c.in_ok-write_plain_at.ensures stopped)
+
+pub write_joined-returns-in_err-write_plain_at : goal.write_joined-returns-in_err-write_plain_at
+write_joined-returns-in_err-write_plain_at g t c =
+    wrote_same _ (joined_parts-cut (seen c.args.scope.now) c.args.sign.now c.args.asked c.args.parts.now c.first-item.result c.in-len1-up.len_at_least c.first-item.is) (wrote_fails _ c.from_residual.ensures.0 (wrote_longer _ c.in_err-write_plain_at.ensures))
+
+pub write_joined-loop-part-preserved : goal.write_joined-loop-part-preserved
+write_joined-loop-part-preserved g t c =
+    row_went (λ part. c.args.sign.now ++ plain_part (seen c.args.scope.now) c.args.asked part) (after_first c.args.parts.now) c.loop-part.part-index c.part-item.result _ c.loop-part-test.true c.part-item.is refl c.loop-part.invariant c.in_ok-write_plain_after.ensures
+
+pub write_plain-returns-in-Named : goal.write_plain-returns-in-Named
+write_plain-returns-in-Named g t c = wrote_same _ (plain-Named (seen c.args.scope.now) _ _ _ c.in-Named.is) c.write_plain_name.ensures
+
+pub write_plain-returns-in_ok-write_piece-in-Minus : goal.write_plain-returns-in_ok-write_piece-in-Minus
+write_plain-returns-in_ok-write_piece-in-Minus g t c =
+    wrote_same _ (plain-Minus (seen c.args.scope.now) _ _ _ _ c.in-Minus.is c.get.ensures) (wrote_both c.in_ok-write_piece-in-Minus.ensures c.write_plain.ensures)
+
+pub write_plain-returns-then-not-are_plain : goal.write_plain-returns-then-not-are_plain
+write_plain-returns-then-not-are_plain g t c =
+    wrote_same _ (comparison_wide c.in-Compare.op (written (seen c.args.scope.now) c.get-left.result.now) (written (seen c.args.scope.now) c.get-right.result.now) c.are_named-named.result c.are_plain.result _ c.are_named-named.ensures (c.are_plain.ensures (seen c.args.scope.now)) c.if-not-are_plain.true c.number_ending-ending.ensures ∙ plain-Compare (seen c.args.scope.now) _ _ _ _ _ _ c.in-Compare.is c.get-left.ensures c.get-right.ensures)
+    c.write_wide_comparison.ensures
+
+pub write_plain-returns-in_err-write_plain-in-Compare : goal.write_plain-returns-in_err-write_plain-in-Compare
+write_plain-returns-in_err-write_plain-in-Compare g t c =
+    wrote_same _ (comparison_plain c.in-Compare.op (written (seen c.args.scope.now) c.get-left.result.now) (written (seen c.args.scope.now) c.get-right.result.now) c.are_named-named.result c.are_plain.result _ c.are_named-named.ensures (c.are_plain.ensures (seen c.args.scope.now)) c.if-not-are_plain.false refl ∙ plain-Compare (seen c.args.scope.now) _ _ _ _ _ _ c.in-Compare.is c.get-left.ensures c.get-right.ensures)
+    (wrote_fails _ c.from_residual-in_err-write_plain-in-Compare.ensures.0 (wrote_longer (op_text c.in-Compare.op ++ plain_text (seen c.args.scope.now) c.get-right.result.now) c.in_err-write_plain-in-Compare.ensures))
+
+pub write_plain-returns-in_err-write_piece-in-Compare : goal.write_plain-returns-in_err-write_piece-in-Compare
+write_plain-returns-in_err-write_piece-in-Compare g t c =
+    wrote_same _ (comparison_plain c.in-Compare.op (written (seen c.args.scope.now) c.get-left.result.now) (written (seen c.args.scope.now) c.get-right.result.now) c.are_named-named.result c.are_plain.result _ c.are_named-named.ensures (c.are_plain.ensures (seen c.args.scope.now)) c.if-not-are_plain.false c.op_bytes.ensures ∙ plain-Compare (seen c.args.scope.now) _ _ _ _ _ _ c.in-Compare.is c.get-left.ensures c.get-right.ensures)
+    (wrote_both c.in_ok-write_plain-in-Compare.ensures (wrote_fails _ c.from_residual-in_err-write_piece-in-Compare.ensures.0 (wrote_longer (plain_text (seen c.args.scope.now) c.get-right.result.now) c.in_err-write_piece-in-Compare.ensures)))
+
+pub write_plain-returns-in_ok-write_piece-in-Compare : goal.write_plain-returns-in_ok-write_piece-in-Compare
+write_plain-returns-in_ok-write_piece-in-Compare g t c =
+    wrote_same _ (comparison_plain c.in-Compare.op (written (seen c.args.scope.now) c.get-left.result.now) (written (seen c.args.scope.now) c.get-right.result.now) c.are_named-named.result c.are_plain.result _ c.are_named-named.ensures (c.are_plain.ensures (seen c.args.scope.now)) c.if-not-are_plain.false c.op_bytes.ensures ∙ plain-Compare (seen c.args.scope.now) _ _ _ _ _ _ c.in-Compare.is c.get-left.ensures c.get-right.ensures)
+    (wrote_both c.in_ok-write_plain-in-Compare.ensures (wrote_both c.in_ok-write_piece-in-Compare.ensures c.write_plain-in-Compare-2.ensures))
+
+pub write_plain-returns-in-Both : goal.write_plain-returns-in-Both
+write_plain-returns-in-Both g t c = wrote_same _ (plain-Both (seen c.args.scope.now) _ _ _ c.in-Both.is c.items.ensures) c.write_joined.ensures
+
+pub write_plain-returns-in-Either : goal.write_plain-returns-in-Either
+write_plain-returns-in-Either g t c = wrote_same _ (plain-Either (seen c.args.scope.now) _ _ _ c.in-Either.is c.items-in-Either.ensures) c.write_joined-in-Either.ensures
+
+pub write_plain_at-returns-then-asked-level : goal.write_plain_at-returns-then-asked-level
+write_plain_at-returns-then-asked-level g t c =
+    wrote_same _ (plain_part-closed (seen c.args.scope.now) c.args.asked c.level.result c.args.part.now (c.level.ensures (seen c.args.scope.now)) c.if-asked-level.true) c.write_plain.ensures
+
+pub write_plain_at-returns-in_err-write_piece : goal.write_plain_at-returns-in_err-write_piece
+write_plain_at-returns-in_err-write_piece g t c =
+    wrote_same _ (plain_part-open (seen c.args.scope.now) c.args.asked c.level.result c.args.part.now (c.level.ensures (seen c.args.scope.now)) c.if-asked-level.false)
+    (wrote_fails _ c.from_residual.ensures.0 (wrote_longer (codes ")") (wrote_longer (plain_text (seen c.args.scope.now) c.args.part.now) c.in_err-write_piece.ensures)))

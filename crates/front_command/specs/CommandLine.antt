@@ -1,0 +1,256 @@
+-- The command line: what its words give, and the command that they ask for.
+use Rattle.std.specs.Prelude.{◌≡◌, ◌<◌, ◌≤◌, ℕ, Bool, true, false, List, [], ◌∷◌, All, Option, Some}
+use Rattle.std.specs.Prelude.{None, bytes_eq, codes, length, unwrap_or}
+use Rattle.clap.specs.Words.{App, Rule, Text, new_app, new_rule, with_rule, fault_of, matches_of}
+use Rattle.clap.specs.Words.{first_of, all_of}
+use Rattle.clap.specs.Lexer.{usize_max}
+use Rattle.clap.specs.declared.builder.action.ArgAction.TheVariants.{Set, Append, SetTrue}
+use Rattle.lang_base.specs.Identifiers.{is_digit}
+use Rattle.lang_base.specs.Limits.{MOST_SPURIOUS, WORKERS}
+use Rattle.lang_tokens.specs.Words.{decimal_value}
+use Rattle.front_command.specs.declared.plan_choice.PlanChoice.{PlanChoice}
+use Rattle.front_command.specs.declared.plan_choice.PlanChoice.TheVariants.{Placed, Relayed}
+use Rattle.front_command.specs.declared.plan_choice.PlanChoice.TheVariants.{Counted}
+use Rattle.front_command.specs.declared.plan_choice.PlanChoice.TheVariants.{CountedAndRelayed}
+use Rattle.front_command.specs.declared.schedule.Schedule.{Schedule}
+use Rattle.front_command.specs.declared.schedule.Schedule.TheVariants.{Rounds, Drawn}
+
+-- a command, with the words that name its files
+pub data Command : Type 0 where
+  -- checks a monitor file
+  check : List ℕ → Command
+  -- runs the clients of the second file on the monitor of the first
+  turns : List ℕ → List ℕ → Command
+  -- compiles a monitor to a plan, of which the choice says which one
+  compile : List ℕ → PlanChoice → Command
+  -- runs them by sections by this schedule, under such a plan of the monitor
+  simulate : List ℕ → List ℕ → Schedule → PlanChoice → Command
+  -- runs them under such a plan in so many workers
+  run : List ℕ → List ℕ → ℕ → PlanChoice → Command
+  -- runs the large input of this number in so many workers
+  stress : ℕ → ℕ → Command
+  -- compiles a monitor to a plan with its certificates
+  report : List ℕ → Command
+  -- checks such a report, the second file, of the monitor of the first
+  recheck : List ℕ → List ℕ → Command
+  -- runs the clients of the second file on the monitor of the first, under such a plan, by a caller
+  -- for each client
+  block : List ℕ → List ℕ → PlanChoice → Command
+  -- says whether a plan, the second file, is lawful for the monitor of the first, or with `--count`
+  -- whether it is so by counting
+  audit : List ℕ → List ℕ → Bool → Command
+  -- compiles a monitor to a plan, and shows why each thing stands that costs something
+  explain : List ℕ → Command
+  -- compiles a monitor to a plan, and prints it under that plan as a module of Rust
+  emit : List ℕ → Command
+
+-- ---- the arguments
+
+-- the command's name, which must be given
+abbrev pub command_rule : Rule
+command_rule = record (new_rule (codes "command")) { required = true; action = Some Set }
+
+-- any number of values after it
+abbrev pub values_rule : Rule
+values_rule = record (new_rule (codes "values")) {
+  range = Some (record { start_inclusive = 0; end_inclusive = usize_max });
+  action = Some Append;
+}
+
+-- an option with one text, as `--name TEXT`
+abbrev pub option_rule : Text → Rule
+option_rule name = record (new_rule name) { long = Some name; action = Some Set }
+
+-- an option without a text, as `--name`
+abbrev pub flag_rule : Text → Rule
+flag_rule name = record (new_rule name) { long = Some name; action = Some SetTrue }
+
+-- the command line, as `clap` defines it
+abbrev pub program : App
+program = with_rule (with_rule (with_rule (with_rule (with_rule (with_rule (with_rule
+    (new_app (codes "expresso")) command_rule) values_rule)
+    (option_rule (codes "seed"))) (option_rule (codes "spurious")))
+    (option_rule (codes "workers"))) (flag_rule (codes "relay"))) (flag_rule (codes "count"))
+
+-- a flag is used, of which `clap` gives this text: `true` where it is, else `false`
+abbrev pub is_used : Option Text → Bool
+is_used None = false
+is_used (Some text) = bytes_eq text (codes "true")
+
+-- what is given for each argument
+pub record Given : Type 0 where
+  pub command : Text
+  pub values : List Text
+  pub seed : Option Text
+  pub spurious : Option Text
+  pub workers : Option Text
+  -- `--relay` is used
+  pub relay : Bool
+  -- `--count` is used
+  pub count : Bool
+
+-- `clap` takes the words, the program's name first, and its matches are these
+pub record IsGiven (words : List Text) (given : Given) : Type 0 where
+  pub taken : fault_of program words ≡ []
+  pub command_is : first_of (codes "command") (matches_of program words) ≡ Some given.command
+  pub values_are : unwrap_or (all_of (codes "values") (matches_of program words)) [] ≡ given.values
+  pub seed_is : first_of (codes "seed") (matches_of program words) ≡ given.seed
+  pub spurious_is : first_of (codes "spurious") (matches_of program words) ≡ given.spurious
+  pub workers_is : first_of (codes "workers") (matches_of program words) ≡ given.workers
+  pub relay_is : is_used (first_of (codes "relay") (matches_of program words)) ≡ given.relay
+  pub count_is : is_used (first_of (codes "count") (matches_of program words)) ≡ given.count
+
+-- ---- numbers
+
+-- the greatest seed, and the greatest number of a large input: 2^64 - 1
+abbrev pub GREATEST_UNSIGNED : ℕ
+GREATEST_UNSIGNED = 18446744073709551615
+
+-- the workers of a run where the words give no number of them
+abbrev pub DEFAULT_WORKERS : ℕ
+DEFAULT_WORKERS = 4
+
+-- the most decimal digits of a number
+abbrev pub MOST_DIGITS : ℕ
+MOST_DIGITS = 20
+
+-- the word is this number, in 1 to `MOST_DIGITS` decimal digits, and the number is at most so much
+pub record IsNumber (most : ℕ) (word : List ℕ) (number : ℕ) : Type 0 where
+  pub some : 0 < length word
+  pub short : length word ≤ MOST_DIGITS
+  pub digits : All (λ b. is_digit b ≡ true) word
+  pub value : decimal_value word ≡ number
+  pub within : number ≤ most
+
+-- ---- options
+
+-- no spurious wake-ups are made where none are asked for
+abbrev pub IsSpurious : Option Text → ℕ → Type 0
+IsSpurious None number = number ≡ 0
+IsSpurious (Some word) number = IsNumber MOST_SPURIOUS word number
+
+-- the schedule that `--seed` and `--spurious` ask for: rounds where neither is given, and no
+-- spurious wake-ups without a seed
+abbrev pub IsSchedule : Option Text → Option Text → Schedule → Type 0
+IsSchedule seed spurious Rounds = (seed ≡ None) × (spurious ≡ None)
+IsSchedule seed spurious (Drawn number extra) =
+    (word : Text) × (seed ≡ Some word) × IsNumber GREATEST_UNSIGNED word number
+    × IsSpurious spurious extra
+
+-- `--workers` asks for 1 to 16 workers
+abbrev pub IsWorkers : Option Text → ℕ → Type 0
+IsWorkers None number = number ≡ DEFAULT_WORKERS
+IsWorkers (Some word) number = IsNumber WORKERS word number × (1 ≤ number)
+
+-- what `--relay` and `--count` ask for: relayed signals, counted conditions, or both
+abbrev pub choice_of : Bool → Bool → PlanChoice
+choice_of false false = Placed
+choice_of true false = Relayed
+choice_of false true = Counted
+choice_of true true = CountedAndRelayed
+
+-- the choice that is asked for
+abbrev pub choice_in : Given → PlanChoice
+choice_in given = choice_of given.relay given.count
+
+-- ---- commands
+
+-- the word that names a command
+abbrev pub name_of : Command → Text
+name_of (check monitor) = codes "check"
+name_of (turns monitor clients) = codes "turns"
+name_of (compile monitor choice) = codes "compile"
+name_of (simulate monitor clients schedule choice) = codes "simulate"
+name_of (run monitor clients workers choice) = codes "run"
+name_of (stress number workers) = codes "stress"
+name_of (report monitor) = codes "report"
+name_of (recheck monitor report_file) = codes "recheck"
+name_of (block monitor clients choice) = codes "block"
+name_of (audit monitor plan_file count) = codes "audit"
+name_of (explain monitor) = codes "explain"
+name_of (emit monitor) = codes "emit"
+
+-- the values are those of the command, as many as it has
+abbrev pub HasValues : List Text → Command → Type 0
+HasValues values (check monitor) = values ≡ monitor ∷ []
+HasValues values (turns monitor clients) = values ≡ monitor ∷ clients ∷ []
+HasValues values (compile monitor choice) = values ≡ monitor ∷ []
+HasValues values (simulate monitor clients schedule choice) = values ≡ monitor ∷ clients ∷ []
+HasValues values (run monitor clients workers choice) = values ≡ monitor ∷ clients ∷ []
+HasValues values (stress number workers) =
+    (word : Text) × (values ≡ word ∷ []) × IsNumber GREATEST_UNSIGNED word number
+HasValues values (report monitor) = values ≡ monitor ∷ []
+HasValues values (recheck monitor report_file) = values ≡ monitor ∷ report_file ∷ []
+HasValues values (block monitor clients choice) = values ≡ monitor ∷ clients ∷ []
+HasValues values (audit monitor plan_file count) = values ≡ monitor ∷ plan_file ∷ []
+HasValues values (explain monitor) = values ≡ monitor ∷ []
+HasValues values (emit monitor) = values ≡ monitor ∷ []
+
+abbrev pub HasNoSchedule : Given → Type 0
+HasNoSchedule given = (given.seed ≡ None) × (given.spurious ≡ None)
+
+abbrev pub HasNoChoice : Given → Type 0
+HasNoChoice given = (given.relay ≡ false) × (given.count ≡ false)
+
+abbrev pub HasNoOptions : Given → Type 0
+HasNoOptions given = HasNoSchedule given × (given.workers ≡ None) × HasNoChoice given
+
+-- the options are the command's own: a schedule for `simulate`, workers for `run` and `stress`,
+-- `--relay` for `compile`, `simulate` and `run`, and `--count` for these, `block` and `audit`
+abbrev pub HasOptions : Given → Command → Type 0
+HasOptions given (check monitor) = HasNoOptions given
+HasOptions given (turns monitor clients) = HasNoOptions given
+HasOptions given (compile monitor choice) =
+    HasNoSchedule given × (given.workers ≡ None) × (choice_in given ≡ choice)
+HasOptions given (simulate monitor clients schedule choice) =
+    IsSchedule given.seed given.spurious schedule × (given.workers ≡ None)
+    × (choice_in given ≡ choice)
+HasOptions given (run monitor clients workers choice) =
+    HasNoSchedule given × IsWorkers given.workers workers × (choice_in given ≡ choice)
+HasOptions given (stress number workers) =
+    HasNoSchedule given × IsWorkers given.workers workers × HasNoChoice given
+HasOptions given (report monitor) = HasNoOptions given
+HasOptions given (recheck monitor report_file) = HasNoOptions given
+HasOptions given (block monitor clients choice) =
+    HasNoSchedule given × (given.workers ≡ None) × (given.relay ≡ false)
+    × (choice_in given ≡ choice)
+HasOptions given (audit monitor plan_file count) =
+    HasNoSchedule given × (given.workers ≡ None) × (given.relay ≡ false) × (given.count ≡ count)
+HasOptions given (explain monitor) = HasNoOptions given
+HasOptions given (emit monitor) = HasNoOptions given
+
+-- the arguments ask for the command
+pub record Asks (given : Given) (command : Command) : Type 0 where
+  pub name : given.command ≡ name_of command
+  pub has_values : HasValues given.values command
+  pub has_options : HasOptions given command
+
+-- ---- words
+
+-- the words, the program's name first, are those of the command
+abbrev pub Takes : List (List ℕ) → Command → Type 0
+Takes words command = (given : Given) × IsGiven words given × Asks given command
+
+-- the words ask for no command
+abbrev pub TakesNone : List (List ℕ) → Type 0
+TakesNone words = (command : Command) → Takes words command → ⊥
+
+-- the files that a command reads, in order
+abbrev pub files_of : Command → List (List ℕ)
+files_of (check monitor) = monitor ∷ []
+files_of (turns monitor clients) = monitor ∷ clients ∷ []
+files_of (compile monitor choice) = monitor ∷ []
+files_of (simulate monitor clients schedule choice) = monitor ∷ clients ∷ []
+files_of (run monitor clients workers choice) = monitor ∷ clients ∷ []
+files_of (stress number workers) = []
+files_of (report monitor) = monitor ∷ []
+files_of (recheck monitor report_file) = monitor ∷ report_file ∷ []
+files_of (block monitor clients choice) = monitor ∷ clients ∷ []
+files_of (audit monitor plan_file count) = monitor ∷ plan_file ∷ []
+files_of (explain monitor) = monitor ∷ []
+files_of (emit monitor) = monitor ∷ []
+
+-- each file that the words name is one that may be read
+abbrev pub MayReadFiles : (List ℕ → Type 0) → List (List ℕ) → Type 0
+MayReadFiles may_read words =
+    (command : Command) → Takes words command → All may_read (files_of command)

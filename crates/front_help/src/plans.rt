@@ -1,0 +1,331 @@
+//! Where a text stops being that of a plan or a report.
+
+use crate::notes::{from, good_notes};
+use base_io::{GrowingSink, write_piece};
+use lang_base::is_in_line;
+use lang_monitor::Monitor;
+use machine_events::Plan;
+use plan_prune::candidates;
+use report_text::{write_candidate, write_plan};
+use std::alloc::{AllocError, Global};
+
+/// The first place at which a text isn't as a plan or a report prints it, and what may stand there.
+#[derive(Debug, Drop)]
+pub(crate) struct Slip {
+    pub(crate) at: usize,
+    pub(crate) expected: Vec<u8>,
+    pub(crate) said: &'static [u8],
+}
+
+/// The lines of the plan that wakes everyone, and all lines of facts that a plan may keep, in order.
+#[derive(Debug, Drop)]
+pub(crate) struct Model {
+    plan: Vec<u8>,
+    kept: Vec<u8>,
+}
+
+/// Where a text stops being a plan's, or, where a report is asked for, a report's; nothing where its
+/// lines look as they should.
+pub(crate) fn slip_in(
+    alloc: Global,
+    monitor: &Monitor,
+    bytes: &[u8],
+    report: bool,
+) -> Result<Option<Slip>, AllocError> {
+    let model = model_of(alloc, monitor)?;
+    let header = line_from(&model.plan, 0);
+    if let Some(slip) = line_slip(alloc, bytes, 0, header)? {
+        return Ok(Some(slip));
+    }
+    let first = next_line(&model.plan, 0);
+    let (slip, at) = kept_slip(alloc, &model.kept, bytes, next_line(bytes, 0))?;
+    if slip.is_some() {
+        return Ok(slip);
+    }
+    let (slip, at) = parts_slip(alloc, &model.plan, first, bytes, at)?;
+    if slip.is_some() {
+        return Ok(slip);
+    }
+    last_slip(alloc, bytes, at, report)
+}
+
+/// The lines that plans of a monitor have.
+fn model_of(alloc: Global, monitor: &Monitor) -> Result<Model, AllocError> {
+    let plan = Plan::everyone(alloc, monitor)?;
+    let mut text = GrowingSink::new(alloc);
+    if write_plan(monitor, &plan, &mut text).is_err() {
+        return Err(AllocError);
+    }
+    let kept = kept_of(alloc, monitor)?;
+    Ok(Model {
+        plan: text.into_bytes(),
+        kept,
+    })
+}
+
+/// The lines of all facts that a plan may keep, in order.
+fn kept_of(alloc: Global, monitor: &Monitor) -> Result<Vec<u8>, AllocError> {
+    let mut text = GrowingSink::new(alloc);
+    let all = candidates(alloc, monitor)?;
+    for candidate in &all {
+        if write_piece(b"keep ", &mut text).is_err()
+            || write_candidate(monitor.fields(), *candidate, &mut text).is_err()
+            || write_piece(b"\n", &mut text).is_err()
+        {
+            return Err(AllocError);
+        }
+    }
+    Ok(text.into_bytes())
+}
+
+/// The line that begins at a place, without its end.
+fn line_from(bytes: &[u8], start: usize) -> &[u8] {
+    let rest = from(bytes, start);
+    let length = rest.iter().take_while(|byte| is_in_line(**byte)).count();
+    rest.get(..length).unwrap_or(rest)
+}
+
+/// Where the line after the one that begins at a place begins.
+fn next_line(bytes: &[u8], start: usize) -> usize {
+    let end = start.saturating_add(line_from(bytes, start).len());
+    end.saturating_add(1)
+}
+
+/// Whether the line that begins at a place has an end.
+fn is_ended(bytes: &[u8], start: usize) -> bool {
+    next_line(bytes, start) <= bytes.len()
+}
+
+/// How many of the first bytes are the same.
+fn same_front(left: &[u8], right: &[u8]) -> usize {
+    left.iter()
+        .zip(right)
+        .take_while(|(one, other)| one == other)
+        .count()
+}
+
+/// A slip where these bytes are expected.
+fn expecting(alloc: Global, at: usize, expected: &[u8]) -> Result<Slip, AllocError> {
+    Ok(Slip {
+        at,
+        expected: Vec::from_slice(alloc, expected)?,
+        said: b"",
+    })
+}
+
+/// A slip of which this is said.
+fn saying(alloc: Global, at: usize, said: &'static [u8]) -> Slip {
+    Slip {
+        at,
+        expected: Vec::new(alloc),
+        said,
+    }
+}
+
+/// What is wrong of a line that is to be this one.
+fn line_slip(
+    alloc: Global,
+    bytes: &[u8],
+    start: usize,
+    expected: &[u8],
+) -> Result<Option<Slip>, AllocError> {
+    let line = line_from(bytes, start);
+    if line != expected {
+        let same = same_front(line, expected);
+        let at = start.saturating_add(same);
+        if same >= expected.len() {
+            return Ok(Some(saying(alloc, at, b"the line is to end here")));
+        }
+        return Ok(Some(expecting(alloc, at, from(expected, same))?));
+    }
+    if !is_ended(bytes, start) {
+        return Ok(Some(saying(alloc, bytes.len(), b"a line feed is missing at the end")));
+    }
+    Ok(None)
+}
+
+/// What is wrong of the lines of kept facts, and where what follows them begins.
+fn kept_slip(
+    alloc: Global,
+    kept: &[u8],
+    bytes: &[u8],
+    start: usize,
+) -> Result<(Option<Slip>, usize), AllocError> {
+    let mut at = start;
+    let mut next = 0;
+    for _line in 0..bytes.len() {
+        let line = line_from(bytes, at);
+        if !line.starts_with(b"keep ") {
+            return Ok((None, at));
+        }
+        match line_among(kept, next, line) {
+            Some(found) => next = next_line(kept, found),
+            None => return Ok((Some(kept_fault(alloc, kept, at, line)), at)),
+        }
+        at = next_line(bytes, at);
+    }
+    Ok((None, at))
+}
+
+/// What is said of a line of a kept fact that may not stand there.
+fn kept_fault(alloc: Global, kept: &[u8], at: usize, line: &[u8]) -> Slip {
+    if line_among(kept, 0, line).is_some() {
+        saying(
+            alloc,
+            at,
+            b"this `keep` stands too late, or twice: they have the order of `compile`",
+        )
+    } else {
+        saying(
+            alloc,
+            at,
+            b"no plan of this monitor keeps this, or not with these blanks",
+        )
+    }
+}
+
+/// Where a line stands among these, from a place on.
+fn line_among(lines: &[u8], start: usize, line: &[u8]) -> Option<usize> {
+    let mut at = start;
+    for _line in 0..lines.len() {
+        if at >= lines.len() {
+            return None;
+        }
+        if line_from(lines, at) == line {
+            return Some(at);
+        }
+        at = next_line(lines, at);
+    }
+    None
+}
+
+/// What is wrong of the lines of conditions and blocks, and where what follows them begins.
+fn parts_slip(
+    alloc: Global,
+    model: &[u8],
+    first: usize,
+    bytes: &[u8],
+    start: usize,
+) -> Result<(Option<Slip>, usize), AllocError> {
+    let mut at = start;
+    let mut shown = first;
+    for _line in 0..model.len() {
+        if shown >= model.len() {
+            return Ok((None, at));
+        }
+        let slip = part_slip(alloc, line_from(model, shown), bytes, at)?;
+        if slip.is_some() {
+            return Ok((slip, at));
+        }
+        shown = next_line(model, shown);
+        at = next_line(bytes, at);
+    }
+    Ok((None, at))
+}
+
+/// What is wrong of the line of a condition or a block, where the model has this one.
+fn part_slip(
+    alloc: Global,
+    model: &[u8],
+    bytes: &[u8],
+    start: usize,
+) -> Result<Option<Slip>, AllocError> {
+    if model.starts_with(b"condition ") {
+        condition_slip(alloc, model, bytes, start)
+    } else {
+        block_slip(alloc, model, bytes, start)
+    }
+}
+
+/// What is wrong of the line of a condition: of kind broadcast it is the model.
+fn condition_slip(
+    alloc: Global,
+    model: &[u8],
+    bytes: &[u8],
+    start: usize,
+) -> Result<Option<Slip>, AllocError> {
+    let head = same_until(model, b" broadcast: ");
+    let line = line_from(bytes, start);
+    let number = model.get(..head).unwrap_or(model);
+    let shown = from(model, head.saturating_add(b" broadcast".len()));
+    let mut signal = Vec::from_slice(alloc, number)?;
+    signal.extend_from_slice(b" signal")?;
+    signal.extend_from_slice(shown)?;
+    if line.starts_with(number) && from(line, head).starts_with(b" broadcast") {
+        return line_slip(alloc, bytes, start, model);
+    }
+    line_slip(alloc, bytes, start, signal.as_slice())
+}
+
+/// How many bytes stand ahead of these, or all where they don't stand there.
+fn same_until(bytes: &[u8], sign: &[u8]) -> usize {
+    for start in 0..bytes.len() {
+        if from(bytes, start).starts_with(sign) {
+            return start;
+        }
+    }
+    bytes.len()
+}
+
+/// What is wrong of the line of a block, whose name is that of the model.
+fn block_slip(
+    alloc: Global,
+    model: &[u8],
+    bytes: &[u8],
+    start: usize,
+) -> Result<Option<Slip>, AllocError> {
+    let length = same_until(model, b": ").saturating_add(2);
+    let head = model.get(..length).unwrap_or(model);
+    let line = line_from(bytes, start);
+    if !line.starts_with(head) {
+        let same = same_front(line, head);
+        return Ok(Some(expecting(alloc, start.saturating_add(same), from(head, same))?));
+    }
+    let notes = from(line, length);
+    let good = good_notes(notes);
+    if good < notes.len() || notes.is_empty() {
+        let at = start.saturating_add(length).saturating_add(good);
+        return Ok(Some(saying(
+            alloc,
+            at,
+            b"expected notes as `1 signal, 2 broadcast tested`, or `none`",
+        )));
+    }
+    line_slip(alloc, bytes, start, line)
+}
+
+/// What is wrong of what follows the lines of a plan.
+fn last_slip(
+    alloc: Global,
+    bytes: &[u8],
+    start: usize,
+    report: bool,
+) -> Result<Option<Slip>, AllocError> {
+    if report {
+        return proofs_slip(alloc, bytes, start);
+    }
+    if start < bytes.len() {
+        return Ok(Some(saying(alloc, start, b"the plan is to end here")));
+    }
+    Ok(None)
+}
+
+/// What is wrong of the lines of certificates.
+fn proofs_slip(alloc: Global, bytes: &[u8], start: usize) -> Result<Option<Slip>, AllocError> {
+    let mut at = start;
+    for _line in 0..bytes.len() {
+        if at >= bytes.len() {
+            return Ok(None);
+        }
+        let line = line_from(bytes, at);
+        if !line.starts_with(b"proof ") {
+            let same = same_front(line, b"proof ");
+            return Ok(Some(expecting(alloc, at.saturating_add(same), from(b"proof ", same))?));
+        }
+        if !is_ended(bytes, at) {
+            return Ok(Some(saying(alloc, bytes.len(), b"a line feed is missing at the end")));
+        }
+        at = next_line(bytes, at);
+    }
+    Ok(None)
+}

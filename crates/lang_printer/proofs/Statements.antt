@@ -1,0 +1,58 @@
+-- The canonical texts of statements, by their forms.
+use Rattle.std.proofs.Common.{◌≡◌, ℕ, ◌+◌, ◌≤◌, List, [], ◌∷◌, ◌++◌, ◌∙◌, map, codes, length, ap, sym, append_assoc, arith}
+use Rattle.std.proofs.lemmas.List.Folds.{flat_map-map}
+use Rattle.std.specs.List.{flat_map}
+use Rattle.lang_tree.specs.declared.tree.Expr.{Expr}
+use Rattle.lang_tree.specs.declared.tree.StmtTree.{StmtTree}
+use Rattle.lang_tree.specs.declared.tree.StmtTree.TheVariants.{Set, If, Return, rolls-Set, rolls-If, rolls-Return}
+use Rattle.lang_tree.specs.declared.tree.StmtTree.TheOpen as layers
+use Rattle.lang_tree.specs.declared.tree.StmtTree.TheFolds.{fold-roll-StmtTree}
+use Rattle.lang_printer.specs.Canonical.{statement_text, statement_step, expression_text, indent}
+use Rattle.lang_printer.specs.Printing.{statements_text, block_text, else_text}
+
+texts-map : (depth : ℕ) (statements : List StmtTree) → flat_map (λ (lines : ℕ → List ℕ). lines depth) (map statement_text statements) ≡ statements_text depth statements
+texts-map depth statements = flat_map-map (λ (lines : ℕ → List ℕ). lines depth) statement_text statements
+
+set_parts : (i n q e s : List ℕ) → i ++ (n ++ q ++ e ++ s) ≡ i ++ n ++ q ++ e ++ s
+set_parts i n q e s = simp append_assoc
+
+return_parts : (i r e s : List ℕ) → i ++ (r ++ e ++ s) ≡ i ++ r ++ e ++ s
+return_parts i r e s = simp append_assoc
+
+if_parts : (i f w b lines c o n : List ℕ) → i ++ (f ++ w ++ b) ++ (lines ++ i ++ c) ++ o ++ n ≡ i ++ f ++ w ++ b ++ lines ++ i ++ c ++ o ++ n
+if_parts i f w b lines c o n = simp append_assoc
+
+pub text-Set : (statement : StmtTree) (at : ℕ) (name bytes : List ℕ) (value : Expr) (depth : ℕ) → statement ≡ Set at name value → bytes ≡ name
+    → indent depth ++ (bytes ++ codes " = " ++ expression_text value ++ codes ";\n") ≡ statement_text statement depth
+text-Set statement at name bytes value depth is same =
+    ap (λ b. indent depth ++ (b ++ codes " = " ++ expression_text value ++ codes ";\n")) same
+    ∙ set_parts (indent depth) name (codes " = ") (expression_text value) (codes ";\n")
+    ∙ sym (ap (λ s. statement_text s depth) (is ∙ sym (rolls-Set at name value)) ∙ ap (λ (f : ℕ → List ℕ). f depth) (fold-roll-StmtTree (ℕ → List ℕ) statement_step (layers.Set at name value)))
+
+pub text-Return : (statement : StmtTree) (at : ℕ) (value : Expr) (depth : ℕ) → statement ≡ Return at value
+    → indent depth ++ (codes "return " ++ expression_text value ++ codes ";\n") ≡ statement_text statement depth
+text-Return statement at value depth is =
+    return_parts (indent depth) (codes "return ") (expression_text value) (codes ";\n")
+    ∙ sym (ap (λ s. statement_text s depth) (is ∙ sym (rolls-Return at value)) ∙ ap (λ (f : ℕ → List ℕ). f depth) (fold-roll-StmtTree (ℕ → List ℕ) statement_step (layers.Return at value)))
+
+if_text : (at : ℕ) (when : Expr) (body other : List StmtTree) (depth : ℕ)
+    → indent depth ++ (codes "if (" ++ expression_text when ++ codes ") {\n") ++ block_text depth body ++ else_text depth other ++ codes "\n" ≡ statement_text (If at when body other) depth
+if_text at when body other depth =
+    if_parts (indent depth) (codes "if (") (expression_text when) (codes ") {\n") (statements_text (depth + 1) body) (codes "}") (else_text depth other) (codes "\n")
+    ∙ sym (
+    ap (λ s. statement_text s depth) (sym (rolls-If at when body other))
+    ∙ ap (λ (f : ℕ → List ℕ). f depth) (fold-roll-StmtTree (ℕ → List ℕ) statement_step (layers.If at when body other))
+    ∙ ap (λ lines. indent depth ++ codes "if (" ++ expression_text when ++ codes ") {\n" ++ lines ++ indent depth ++ codes "}" ++ else_text depth other ++ codes "\n") (texts-map (depth + 1) body)
+    )
+
+pub text-If : (statement : StmtTree) (at : ℕ) (when : Expr) (body other items others : List StmtTree) (depth : ℕ) → statement ≡ If at when body other → items ≡ body → others ≡ other
+    → indent depth ++ (codes "if (" ++ expression_text when ++ codes ") {\n") ++ block_text depth items ++ else_text depth others ++ codes "\n" ≡ statement_text statement depth
+text-If statement at when body other items others depth is first second =
+    ap (λ l. indent depth ++ (codes "if (" ++ expression_text when ++ codes ") {\n") ++ block_text depth l ++ else_text depth others ++ codes "\n") first
+    ∙ ap (λ l. indent depth ++ (codes "if (" ++ expression_text when ++ codes ") {\n") ++ block_text depth body ++ else_text depth l ++ codes "\n") second
+    ∙ if_text at when body other depth
+    ∙ sym (ap (λ s. statement_text s depth) is)
+
+pub else_text-some : (depth : ℕ) (statements : List StmtTree) → 1 ≤ length statements → codes " else {\n" ++ block_text depth statements ≡ else_text depth statements
+else_text-some depth [] some = absurd (omega arith)
+else_text-some depth (first ∷ rest) some = ap (λ l. codes " else {\n" ++ (l ++ indent depth ++ codes "}")) (sym (texts-map (depth + 1) (first ∷ rest)))

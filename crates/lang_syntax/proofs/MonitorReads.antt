@@ -1,0 +1,517 @@
+-- The readers of a monitor file's parts, and of the whole file.
+use Rattle.std.proofs.Common.{◌≡◌, ℕ, ◌-◌, Bool, true, false, List, [], ◌∷◌, ◌++◌, length, drop, Ok, Err, refl, sym, ap, subst, ◌∙◌, inl, inr}
+use Rattle.std.specs.Prelude.{◌⊎◌}
+use Rattle.lang_base.specs.Limits.{LEVELS}
+use Rattle.lang_tokens.specs.declared.token.TokenKind.{TokenKind}
+use Rattle.lang_tokens.specs.declared.token.TokenKind.TheVariants as kinds
+use Rattle.lang_tokens.specs.declared.token.Token.{Token}
+use Rattle.lang_tree.specs.declared.tree.Lit.{Lit}
+use Rattle.lang_tree.specs.declared.tree.Decl.{Decl}
+use Rattle.lang_tree.specs.declared.tree.Decl.TheVariants as decls
+use Rattle.lang_base.specs.declared.kind.Kind.{Kind}
+use Rattle.lang_base.specs.declared.kind.Kind.TheVariants as inputs
+use Rattle.lang_tree.specs.declared.tree.InputTree.{InputTree}
+use Rattle.lang_tree.specs.declared.tree.Expr.{Expr}
+use Rattle.lang_tree.specs.declared.tree.StmtTree.{StmtTree}
+use Rattle.lang_tree.specs.declared.tree.BlockTree.{BlockTree}
+use Rattle.lang_tree.specs.declared.tree.MethodTree.{MethodTree}
+use Rattle.lang_tree.specs.declared.tree.MonitorTree.{MonitorTree}
+use Rattle.lang_syntax.specs.declared.word.PlacedName.{PlacedName}
+use Rattle.lang_tokens.specs.Words.{Word, numeral, words}
+use Rattle.lang_syntax.specs.Grammar.{Rule, ◌⌢◌, Each, OneOrMore, IsIdent, IsNumeral, IsMarkAt, IsMark, truth_word, kind_word, IsExpression, IsBlock, IsStatement, after_minus, IsLiteral, IsDeclaration, IsInput, AreInputs, IsLocal, IsGuarded, IsMethod, IsMonitorFile}
+use Rattle.lang_syntax.specs.Fault.{IsFaultAt}
+use Rattle.lang_syntax.specs.inner.Reading.{first_offset, Read, ◌⊗◌, made_at, pure_at, each_at, placed_at, mark_at, ident_at, numeral_at, listed_at, truth_of, kind_of, begins, begins_listed, begins_declaration, condition_at, block_at, statement_at, literal_of, negative_of, literal_at, Declared, constant_of, int_of, flag_of, declared_at, constant_at, int_at, flag_at, variable_at, declaration_at, declarations_at, input_of, input_at, later_input_of, later_input_at, later_inputs_at, inputs_of, some_inputs_at, inputs_at, head_of, head_at, local_of, local_at, locals_at, guarded_of, guarded_at, later_blocks_at, blocks_of, blocks_at, method_of, method_at, methods_at, monitor_of, monitor_at, monitor_file}
+use Rattle.lang_syntax.proofs.Readers.{Reads, Anything, Both, pair_reads, made_reads, pure_reads, choice_reads, each_reads, before, whole_found, whole_again, whole_fault}
+use Rattle.lang_syntax.proofs.WordReads.{IsPlacedName, IsPlacedNumber, ident_reads, numeral_reads, truth_reads, kind_reads, begins_heads, listed_heads, declaration_heads}
+use Rattle.lang_syntax.proofs.Openings.{Opens, At, mark_opens, placed_opens, numeral_opens, then_opens, items_open, begins_none, begins_at, begun}
+use Rattle.lang_syntax.proofs.Sequences.{five_right, five_left, three_right, three_left, within_second, Made, same_reads, mark_then, placed_then, ident_then, then_mark, image_reads}
+use Rattle.lang_syntax.proofs.ExpressionReads.{IsParenthesized}
+use Rattle.lang_syntax.proofs.StatementReads.{condition_reads, body_reads}
+use Rattle.lang_syntax.proofs.FileFaults.{file_fault}
+
+-- ---- literals
+
+abbrev IsNegative : Rule Lit
+IsNegative = Made negative_of (Both (λ (unit : Unit {0}). IsMark kinds.Minus) IsPlacedNumber)
+
+abbrev IsPlain : Rule Lit
+IsPlain = Made (literal_of false) IsPlacedNumber
+
+negative_opens : (x : Lit) → Opens (IsNegative x) (λ ws. begins kinds.Minus ws ≡ true)
+negative_opens x ws rest p =
+    then_opens (IsMark kinds.Minus) (IsPlacedNumber p.0.1) (λ ws. begins kinds.Minus ws ≡ true) (mark_opens kinds.Minus (λ ws. begins kinds.Minus ws ≡ true) (begins_at kinds.Minus)) ws rest p.2
+
+number_no_minus : (value at : ℕ) (rest : List Word) → begins kinds.Minus (numeral value at ∷ rest) ≡ false
+unfolding begins
+number_no_minus value at rest = refl
+
+plain_opens : (x : Lit) → Opens (IsPlain x) (λ ws. begins kinds.Minus ws ≡ false)
+plain_opens x ws rest p = numeral_opens p.0.value p.0.at (λ ws. begins kinds.Minus ws ≡ false) (number_no_minus p.0.value p.0.at) ws rest p.2
+
+signed_is : (at digits : ℕ) (minus : Bool) (ws : List Word) → after_minus minus (IsNumeral digits at) ws → (let x : Lit = record { at = at; minus = minus; digits = digits } in IsNegative x ws ⊎ IsPlain x ws)
+signed_is at digits true ws p = inl ((tt, record { at = at; value = digits }), refl, p)
+signed_is at digits false ws p = inr (record { at = at; value = digits }, refl, p)
+
+pub literal_reads : Reads IsLiteral literal_at Anything
+unfolding literal_at
+literal_reads =
+    same_reads (λ x ws. IsNegative x ws ⊎ IsPlain x ws) IsLiteral literal_at Anything
+    (choice_reads (begins kinds.Minus) IsNegative (made_at negative_of (mark_at kinds.Minus ⊗ numeral_at)) Anything IsPlain (made_at (literal_of false) numeral_at) Anything Anything (begins_heads kinds.Minus)
+    (image_reads (Both (λ (unit : Unit {0}). IsMark kinds.Minus) IsPlacedNumber) (mark_at kinds.Minus ⊗ numeral_at) Anything negative_of (mark_then kinds.Minus IsPlacedNumber numeral_at Anything numeral_reads))
+    (image_reads IsPlacedNumber numeral_at Anything (literal_of false) numeral_reads)
+    (λ x taken rest p after. (negative_opens x taken rest p, tt))
+    (λ x taken rest p after. (plain_opens x taken rest p, tt)))
+    to (λ x ws p. signed_is x.at x.digits x.minus ws p)
+  where
+    to : (x : Lit) (ws : List Word) → IsNegative x ws ⊎ IsPlain x ws → IsLiteral x ws
+    to x ws (inl p) = subst (λ (y : Lit). IsLiteral y ws) (sym p.1) p.2
+    to x ws (inr p) = subst (λ (y : Lit). IsLiteral y ws) (sym p.1) p.2
+
+-- ---- declarations
+
+-- a keyword, a name and a value
+abbrev IsDeclared : {Value : Type 0} → TokenKind → Rule Value → Rule (Declared Value)
+IsDeclared kind IsValue d = IsMark kind ⌢ IsPlacedName d.1.0 ⌢ IsMark kinds.Assign ⌢ IsValue d.1.1.1.0 ⌢ IsMark kinds.Semicolon
+
+declared_reads : {Value : Type 0} (kind : TokenKind) (IsValue : Rule Value) (value : List Word → Read Value) → Reads IsValue value Anything → Reads (IsDeclared kind IsValue) (declared_at kind value) Anything
+declared_reads {Value} kind IsValue value r =
+    mark_then kind (Both IsPlacedName IsAssigned) (ident_at ⊗ mark_at kinds.Assign ⊗ value ⊗ mark_at kinds.Semicolon) Anything
+    (ident_then IsAssigned (mark_at kinds.Assign ⊗ value ⊗ mark_at kinds.Semicolon) Anything
+    (mark_then kinds.Assign IsEnded (value ⊗ mark_at kinds.Semicolon) Anything (then_mark kinds.Semicolon IsValue value Anything r (λ at rest. tt))))
+  where
+    IsEnded : Rule (Value × Unit {0})
+    IsEnded = Both IsValue (λ (unit : Unit {0}). IsMark kinds.Semicolon)
+
+    IsAssigned : Rule (Unit {0} × (Value × Unit {0}))
+    IsAssigned = Both (λ (unit : Unit {0}). IsMark kinds.Assign) IsEnded
+
+declared_opens : {Value : Type 0} (make : Declared Value → Decl) (kind : TokenKind) (IsValue : Rule Value) (Fact : List Word → Type 0) → At kind Fact → (x : Decl) → Opens (Made make (IsDeclared kind IsValue) x) Fact
+declared_opens make kind IsValue Fact so x ws rest p =
+    then_opens (IsMark kind) (IsPlacedName p.0.1.0 ⌢ IsMark kinds.Assign ⌢ IsValue p.0.1.1.1.0 ⌢ IsMark kinds.Semicolon) Fact (mark_opens kind Fact so) ws rest p.2
+
+abbrev IsTruth : Rule Bool
+IsTruth value = IsMark (truth_word value)
+
+abbrev IsConst : Rule Decl
+IsConst = Made constant_of (IsDeclared kinds.KeyConst IsLiteral)
+
+abbrev IsInt : Rule Decl
+IsInt = Made int_of (IsDeclared kinds.KeyInt IsLiteral)
+
+abbrev IsFlag : Rule Decl
+IsFlag = Made flag_of (IsDeclared kinds.KeyBool IsTruth)
+
+constant_reads : Reads IsConst constant_at Anything
+unfolding constant_at
+constant_reads = image_reads (IsDeclared kinds.KeyConst IsLiteral) (declared_at kinds.KeyConst literal_at) Anything constant_of (declared_reads kinds.KeyConst IsLiteral literal_at literal_reads)
+
+int_reads : Reads IsInt int_at Anything
+unfolding int_at
+int_reads = image_reads (IsDeclared kinds.KeyInt IsLiteral) (declared_at kinds.KeyInt literal_at) Anything int_of (declared_reads kinds.KeyInt IsLiteral literal_at literal_reads)
+
+flag_reads : Reads IsFlag flag_at Anything
+unfolding flag_at
+flag_reads = image_reads (IsDeclared kinds.KeyBool IsTruth) (declared_at kinds.KeyBool (listed_at truth_of)) Anything flag_of (declared_reads kinds.KeyBool IsTruth (listed_at truth_of) truth_reads)
+
+int_no_const : At kinds.KeyInt (λ ws. begins kinds.KeyConst ws ≡ false)
+unfolding begins
+int_no_const at rest = refl
+
+bool_no_const : At kinds.KeyBool (λ ws. begins kinds.KeyConst ws ≡ false)
+unfolding begins
+bool_no_const at rest = refl
+
+bool_no_int : At kinds.KeyBool (λ ws. begins kinds.KeyInt ws ≡ false)
+unfolding begins
+bool_no_int at rest = refl
+
+abbrev IsVariable : Rule Decl
+IsVariable x ws = IsInt x ws ⊎ IsFlag x ws
+
+variable_reads : Reads IsVariable variable_at Anything
+unfolding variable_at
+variable_reads =
+    choice_reads (begins kinds.KeyInt) IsInt int_at Anything IsFlag flag_at Anything Anything (begins_heads kinds.KeyInt) int_reads flag_reads
+    (λ x taken rest p after. (declared_opens int_of kinds.KeyInt IsLiteral (λ ws. begins kinds.KeyInt ws ≡ true) (begins_at kinds.KeyInt) x taken rest p, tt))
+    (λ x taken rest p after. (declared_opens flag_of kinds.KeyBool IsTruth (λ ws. begins kinds.KeyInt ws ≡ false) bool_no_int x taken rest p, tt))
+
+pub declaration_reads : Reads IsDeclaration declaration_at Anything
+unfolding declaration_at
+declaration_reads =
+    same_reads (λ x ws. IsConst x ws ⊎ IsVariable x ws) IsDeclaration declaration_at Anything
+    (choice_reads (begins kinds.KeyConst) IsConst constant_at Anything IsVariable variable_at Anything Anything (begins_heads kinds.KeyConst) constant_reads variable_reads
+    (λ x taken rest p after. (declared_opens constant_of kinds.KeyConst IsLiteral (λ ws. begins kinds.KeyConst ws ≡ true) (begins_at kinds.KeyConst) x taken rest p, tt))
+    no_const)
+    to from
+  where
+    no_const : (x : Decl) (taken rest : List Word) → IsVariable x taken → Anything rest → (begins kinds.KeyConst (taken ++ rest) ≡ false) × Anything rest
+    no_const x taken rest (inl p) after = (declared_opens int_of kinds.KeyInt IsLiteral (λ ws. begins kinds.KeyConst ws ≡ false) int_no_const x taken rest p, tt)
+    no_const x taken rest (inr p) after = (declared_opens flag_of kinds.KeyBool IsTruth (λ ws. begins kinds.KeyConst ws ≡ false) bool_no_const x taken rest p, tt)
+
+    to : (x : Decl) (ws : List Word) → IsConst x ws ⊎ IsVariable x ws → IsDeclaration x ws
+    to x ws (inl p) = subst (λ (y : Decl). IsDeclaration y ws) (sym p.1) p.2
+    to x ws (inr (inl p)) = subst (λ (y : Decl). IsDeclaration y ws) (sym p.1) p.2
+    to x ws (inr (inr p)) = subst (λ (y : Decl). IsDeclaration y ws) (sym p.1) p.2
+
+    from : (x : Decl) (ws : List Word) → IsDeclaration x ws → IsConst x ws ⊎ IsVariable x ws
+    from (decls.Const at name value) ws p = inl ((tt, (record { at = at; name = name }, (tt, (value, tt)))), refl, p)
+    from (decls.Int at name value) ws p = inr (inl ((tt, (record { at = at; name = name }, (tt, (value, tt)))), refl, p))
+    from (decls.Flag at name value) ws p = inr (inr ((tt, (record { at = at; name = name }, (tt, (value, tt)))), refl, p))
+
+-- the fact holds of a declaration's words, where it holds of each keyword that one begins with
+declaration_opens : (Fact : List Word → Type 0) → At kinds.KeyConst Fact → At kinds.KeyInt Fact → At kinds.KeyBool Fact → (x : Decl) → Opens (IsDeclaration x) Fact
+declaration_opens Fact of_const of_int of_bool (decls.Const at name value) =
+    then_opens (IsMark kinds.KeyConst) (IsIdent name at ⌢ IsMark kinds.Assign ⌢ IsLiteral value ⌢ IsMark kinds.Semicolon) Fact (mark_opens kinds.KeyConst Fact of_const)
+declaration_opens Fact of_const of_int of_bool (decls.Int at name value) =
+    then_opens (IsMark kinds.KeyInt) (IsIdent name at ⌢ IsMark kinds.Assign ⌢ IsLiteral value ⌢ IsMark kinds.Semicolon) Fact (mark_opens kinds.KeyInt Fact of_int)
+declaration_opens Fact of_const of_int of_bool (decls.Flag at name value) =
+    then_opens (IsMark kinds.KeyBool) (IsIdent name at ⌢ IsMark kinds.Assign ⌢ IsMark (truth_word value) ⌢ IsMark kinds.Semicolon) Fact (mark_opens kinds.KeyBool Fact of_bool)
+
+pub declaration_begins : (x : Decl) → Opens (IsDeclaration x) (λ ws. begins_declaration ws ≡ true)
+unfolding begins_declaration begins
+declaration_begins x = declaration_opens (λ ws. begins_declaration ws ≡ true) (λ at rest. refl) (λ at rest. refl) (λ at rest. refl) x
+
+pub no_declaration : begins_declaration [] ≡ false
+unfolding begins_declaration begins
+no_declaration = refl
+
+abbrev NoDeclaration : List Word → Type 0
+NoDeclaration ws = begins_declaration ws ≡ false
+
+declarations_read : Reads (Each IsDeclaration) declarations_at NoDeclaration
+unfolding declarations_at
+declarations_read = before (Each IsDeclaration) declarations_at (λ ws. NoDeclaration ws × Anything ws) NoDeclaration (λ ws none. (none, tt))
+    (each_reads begins_declaration IsDeclaration declaration_at Anything declaration_heads no_declaration declaration_reads declaration_begins (λ ws h. tt))
+
+-- ---- inputs
+
+pub input_reads : Reads IsInput input_at Anything
+unfolding input_at
+input_reads =
+    made_reads (Both (λ (kind : Kind). IsMark (kind_word kind)) IsPlacedName) (listed_at kind_of ⊗ ident_at) Anything input_of IsInput
+    (pair_reads (λ kind. IsMark (kind_word kind)) (listed_at kind_of) Anything IsPlacedName ident_at Anything kind_reads ident_reads (λ y taken rest is after. tt))
+    (λ x ws p. p)
+    (λ y ws p. ((y.kind, record { at = y.at; name = y.name }), refl, p))
+
+abbrev pub IsLaterInput : Rule InputTree
+IsLaterInput input = IsMark kinds.Comma ⌢ IsInput input
+
+pub later_input_reads : Reads IsLaterInput later_input_at Anything
+unfolding later_input_at
+later_input_reads =
+    made_reads (Both (λ (unit : Unit {0}). IsMark kinds.Comma) IsInput) (mark_at kinds.Comma ⊗ input_at) Anything later_input_of IsLaterInput
+    (mark_then kinds.Comma IsInput input_at Anything input_reads)
+    (λ x ws p. p)
+    (λ y ws p. ((tt, y), refl, p))
+
+pub later_input_begins : (x : InputTree) → Opens (IsLaterInput x) (λ ws. begins kinds.Comma ws ≡ true)
+later_input_begins x = then_opens (IsMark kinds.Comma) (IsInput x) (λ ws. begins kinds.Comma ws ≡ true) (mark_opens kinds.Comma (λ ws. begins kinds.Comma ws ≡ true) (begins_at kinds.Comma))
+
+abbrev NoComma : List Word → Type 0
+NoComma ws = begins kinds.Comma ws ≡ false
+
+abbrev NoInput : List Word → Type 0
+NoInput ws = (begins_listed kind_of ws ≡ false) × NoComma ws
+
+abbrev IsSome : Rule (List InputTree)
+IsSome = Made inputs_of (Both IsInput (Each IsLaterInput))
+
+some_inputs_read : Reads IsSome some_inputs_at NoComma
+unfolding some_inputs_at later_inputs_at
+some_inputs_read =
+    image_reads (Both IsInput (Each IsLaterInput)) (input_at ⊗ each_at (begins kinds.Comma) later_input_at) NoComma inputs_of
+    (pair_reads IsInput input_at Anything (Each IsLaterInput) (each_at (begins kinds.Comma) later_input_at) NoComma input_reads
+    (before (Each IsLaterInput) (each_at (begins kinds.Comma) later_input_at) (λ ws. NoComma ws × Anything ws) NoComma (λ ws none. (none, tt))
+    (each_reads (begins kinds.Comma) IsLaterInput later_input_at Anything (begins_heads kinds.Comma) (begins_none kinds.Comma) later_input_reads later_input_begins (λ ws h. tt)))
+    (λ y taken rest is after. tt))
+
+begins_input : (kind : Kind) → At (kind_word kind) (λ ws. begins_listed kind_of ws ≡ true)
+unfolding begins_listed
+begins_input inputs.Int at rest = refl
+begins_input inputs.Bool at rest = refl
+
+some_opens : (x : List InputTree) → Opens (IsSome x) (λ ws. begins_listed kind_of ws ≡ true)
+some_opens x ws rest p =
+    then_opens (IsInput p.0.0) (Each IsLaterInput p.0.1) (λ ws. begins_listed kind_of ws ≡ true)
+    (then_opens (IsMark (kind_word p.0.0.kind)) (IsIdent p.0.0.name p.0.0.at) (λ ws. begins_listed kind_of ws ≡ true) (mark_opens (kind_word p.0.0.kind) (λ ws. begins_listed kind_of ws ≡ true) (begins_input p.0.0.kind)))
+    ws rest p.2
+
+inputs_read : Reads AreInputs inputs_at NoInput
+unfolding inputs_at
+inputs_read =
+    same_reads (λ x ws. IsSome x ws ⊎ IsNothing x ws) AreInputs inputs_at NoInput
+    (choice_reads (begins_listed kind_of) IsSome some_inputs_at NoComma IsNothing (pure_at []) Anything NoInput (listed_heads kind_of) some_inputs_read (pure_reads [])
+    (λ x taken rest p after. (some_opens x taken rest p, after.1))
+    (λ x taken rest p after. (ap (λ (f : List Word). begins_listed kind_of (f ++ rest)) p.1 ∙ after.0, tt)))
+    to from
+  where
+    IsNothing : Rule (List InputTree)
+    IsNothing x ws = (x ≡ []) × (ws ≡ [])
+
+    to : (x : List InputTree) (ws : List Word) → IsSome x ws ⊎ IsNothing x ws → AreInputs x ws
+    to x ws (inl p) = subst (λ (y : List InputTree). AreInputs y ws) (sym p.1) p.2
+    to x ws (inr p) = subst (λ (y : List InputTree). AreInputs y ws) (sym p.0) p.1
+
+    from : (x : List InputTree) (ws : List Word) → AreInputs x ws → IsSome x ws ⊎ IsNothing x ws
+    from [] ws p = inr (refl, p)
+    from (first ∷ rest) ws p = inl ((first, rest), refl, p)
+
+-- ---- methods
+
+right_no_input : At kinds.CloseParen NoInput
+unfolding begins begins_listed
+right_no_input at rest = (refl, refl)
+
+abbrev IsHead : Rule (PlacedName × List InputTree)
+IsHead head = IsMark kinds.KeyMethod ⌢ IsPlacedName head.0 ⌢ IsMark kinds.OpenParen ⌢ AreInputs head.1 ⌢ IsMark kinds.CloseParen
+
+head_reads : Reads IsHead head_at Anything
+unfolding head_at
+head_reads =
+    made_reads (Both (λ (unit : Unit {0}). IsMark kinds.KeyMethod) IsNamed) (mark_at kinds.KeyMethod ⊗ ident_at ⊗ mark_at kinds.OpenParen ⊗ inputs_at ⊗ mark_at kinds.CloseParen) Anything head_of IsHead
+    (mark_then kinds.KeyMethod IsNamed (ident_at ⊗ mark_at kinds.OpenParen ⊗ inputs_at ⊗ mark_at kinds.CloseParen) Anything
+    (ident_then IsOpened (mark_at kinds.OpenParen ⊗ inputs_at ⊗ mark_at kinds.CloseParen) Anything
+    (mark_then kinds.OpenParen IsClosed (inputs_at ⊗ mark_at kinds.CloseParen) Anything (then_mark kinds.CloseParen AreInputs inputs_at NoInput inputs_read right_no_input))))
+    (λ x ws p. p)
+    (λ y ws p. ((tt, (y.0, (tt, (y.1, tt)))), refl, p))
+  where
+    IsClosed : Rule (List InputTree × Unit {0})
+    IsClosed = Both AreInputs (λ (unit : Unit {0}). IsMark kinds.CloseParen)
+
+    IsOpened : Rule (Unit {0} × (List InputTree × Unit {0}))
+    IsOpened = Both (λ (unit : Unit {0}). IsMark kinds.OpenParen) IsClosed
+
+    IsNamed : Rule (PlacedName × (Unit {0} × (List InputTree × Unit {0})))
+    IsNamed = Both IsPlacedName IsOpened
+
+abbrev NoLocal : List Word → Type 0
+NoLocal ws = begins kinds.KeyLocal ws ≡ false
+
+pub local_reads : Reads IsLocal local_at Anything
+unfolding local_at
+local_reads =
+    made_reads (Both (λ (unit : Unit {0}). IsMark kinds.KeyLocal) IsVariable) (mark_at kinds.KeyLocal ⊗ variable_at) Anything local_of IsLocal
+    (mark_then kinds.KeyLocal IsVariable variable_at Anything variable_reads)
+    (λ x ws p. of_kind x.1 ws p.0 p.1 p.2 p.3 p.4)
+    from
+  where
+    of_kind : (x : Decl) (ws front rest : List Word) → IsMark kinds.KeyLocal front → IsVariable x rest → ws ≡ front ++ rest → IsLocal x ws
+    of_kind x ws front rest word (inl p) is = subst (λ (y : Decl). IsLocal y ws) (sym p.1) (front, rest, word, p.2, is)
+    of_kind x ws front rest word (inr p) is = subst (λ (y : Decl). IsLocal y ws) (sym p.1) (front, rest, word, p.2, is)
+
+    from : (y : Decl) (ws : List Word) → IsLocal y ws → (x : Unit {0} × Decl) × (y ≡ local_of x) × Both (λ (unit : Unit {0}). IsMark kinds.KeyLocal) IsVariable x ws
+    from (decls.Const at name value) ws p = absurd p
+    from (decls.Int at name value) ws p = ((tt, decls.Int at name value), refl, (p.0, p.1, p.2, inl ((tt, (record { at = at; name = name }, (tt, (value, tt)))), refl, p.3), p.4))
+    from (decls.Flag at name value) ws p = ((tt, decls.Flag at name value), refl, (p.0, p.1, p.2, inr ((tt, (record { at = at; name = name }, (tt, (value, tt)))), refl, p.3), p.4))
+
+pub local_begins : (x : Decl) → Opens (IsLocal x) (λ ws. begins kinds.KeyLocal ws ≡ true)
+local_begins (decls.Const at name value) ws rest p = absurd p
+local_begins (decls.Int at name value) ws rest p =
+    then_opens (IsMark kinds.KeyLocal) (IsDeclaration (decls.Int at name value)) (λ ws. begins kinds.KeyLocal ws ≡ true) (mark_opens kinds.KeyLocal (λ ws. begins kinds.KeyLocal ws ≡ true) (begins_at kinds.KeyLocal)) ws rest p
+local_begins (decls.Flag at name value) ws rest p =
+    then_opens (IsMark kinds.KeyLocal) (IsDeclaration (decls.Flag at name value)) (λ ws. begins kinds.KeyLocal ws ≡ true) (mark_opens kinds.KeyLocal (λ ws. begins kinds.KeyLocal ws ≡ true) (begins_at kinds.KeyLocal)) ws rest p
+
+locals_read : Reads (Each IsLocal) locals_at NoLocal
+unfolding locals_at
+locals_read = before (Each IsLocal) locals_at (λ ws. NoLocal ws × Anything ws) NoLocal (λ ws none. (none, tt))
+    (each_reads (begins kinds.KeyLocal) IsLocal local_at Anything (begins_heads kinds.KeyLocal) (begins_none kinds.KeyLocal) local_reads local_begins (λ ws h. tt))
+
+-- a block, over the rules of its guard and of its body
+abbrev IsGuardedOf : Rule Expr → Rule (List StmtTree) → Rule BlockTree
+IsGuardedOf IsGuard IsBody block =
+    IsMarkAt kinds.KeyWaituntil block.at ⌢ IsMark kinds.OpenParen ⌢ IsGuard block.guard ⌢ IsMark kinds.CloseParen ⌢ IsBody block.body
+
+guarded_reads_of : (IsGuard : Rule Expr) (guard : List Word → Read Expr) (IsBody : Rule (List StmtTree)) (body : List Word → Read (List StmtTree)) → Reads (IsParenthesized IsGuard) guard Anything → Reads IsBody body Anything
+    → Reads (IsGuardedOf IsGuard IsBody) (made_at guarded_of (placed_at kinds.KeyWaituntil ⊗ guard ⊗ body)) Anything
+guarded_reads_of IsGuard guard IsBody body r s =
+    made_reads (Both (λ (at : ℕ). IsMarkAt kinds.KeyWaituntil at) IsRest) (placed_at kinds.KeyWaituntil ⊗ guard ⊗ body) Anything guarded_of (IsGuardedOf IsGuard IsBody)
+    (placed_then kinds.KeyWaituntil IsRest (guard ⊗ body) Anything (pair_reads (IsParenthesized IsGuard) guard Anything IsBody body Anything r s (λ y taken rest is after. tt)))
+    (λ x ws p. flat x.0 x.1.0 x.1.1 ws p)
+    (λ y ws p. ((y.at, (y.guard, y.body)), refl, grouped y.at y.guard y.body ws p))
+  where
+    IsRest : Rule (Expr × List StmtTree)
+    IsRest = Both (IsParenthesized IsGuard) IsBody
+
+    flat : (at : ℕ) (guard : Expr) (body : List StmtTree) (ws : List Word) → (IsMarkAt kinds.KeyWaituntil at ⌢ IsRest (guard, body)) ws
+        → (IsMarkAt kinds.KeyWaituntil at ⌢ IsMark kinds.OpenParen ⌢ IsGuard guard ⌢ IsMark kinds.CloseParen ⌢ IsBody body) ws
+    flat at guard body = within_second (IsMarkAt kinds.KeyWaituntil at) (IsParenthesized IsGuard guard ⌢ IsBody body) (IsMark kinds.OpenParen ⌢ IsGuard guard ⌢ IsMark kinds.CloseParen ⌢ IsBody body)
+        (three_right (IsMark kinds.OpenParen) (IsGuard guard) (IsMark kinds.CloseParen) (IsBody body))
+
+    grouped : (at : ℕ) (guard : Expr) (body : List StmtTree) (ws : List Word) → (IsMarkAt kinds.KeyWaituntil at ⌢ IsMark kinds.OpenParen ⌢ IsGuard guard ⌢ IsMark kinds.CloseParen ⌢ IsBody body) ws
+        → (IsMarkAt kinds.KeyWaituntil at ⌢ IsRest (guard, body)) ws
+    grouped at guard body = within_second (IsMarkAt kinds.KeyWaituntil at) (IsMark kinds.OpenParen ⌢ IsGuard guard ⌢ IsMark kinds.CloseParen ⌢ IsBody body) (IsParenthesized IsGuard guard ⌢ IsBody body)
+        (three_left (IsMark kinds.OpenParen) (IsGuard guard) (IsMark kinds.CloseParen) (IsBody body))
+
+pub guarded_reads : Reads IsGuarded guarded_at Anything
+unfolding guarded_at
+guarded_reads = guarded_reads_of (IsExpression LEVELS) (condition_at LEVELS) (IsBlock (IsStatement LEVELS)) (block_at (statement_at LEVELS)) (condition_reads LEVELS) (body_reads LEVELS)
+
+guarded_opens_of : (IsGuard : Rule Expr) (IsBody : Rule (List StmtTree)) (Fact : List Word → Type 0) → At kinds.KeyWaituntil Fact → (x : BlockTree) → Opens (IsGuardedOf IsGuard IsBody x) Fact
+guarded_opens_of IsGuard IsBody Fact so x =
+    then_opens (IsMarkAt kinds.KeyWaituntil x.at) (IsMark kinds.OpenParen ⌢ IsGuard x.guard ⌢ IsMark kinds.CloseParen ⌢ IsBody x.body) Fact (placed_opens kinds.KeyWaituntil x.at Fact so)
+
+guarded_opens : (Fact : List Word → Type 0) → At kinds.KeyWaituntil Fact → (x : BlockTree) → Opens (IsGuarded x) Fact
+guarded_opens Fact so x = guarded_opens_of (IsExpression LEVELS) (IsBlock (IsStatement LEVELS)) Fact so x
+
+pub guarded_begins : (x : BlockTree) → Opens (IsGuarded x) (λ ws. begins kinds.KeyWaituntil ws ≡ true)
+guarded_begins x = guarded_opens (λ ws. begins kinds.KeyWaituntil ws ≡ true) (begins_at kinds.KeyWaituntil) x
+
+-- what follows a method: no block of it
+abbrev pub NoBlock : List Word → Type 0
+NoBlock ws = begins kinds.KeyWaituntil ws ≡ false
+
+blocks_read_of : (IsItem : Rule BlockTree) (item : List Word → Read BlockTree) → Reads IsItem item Anything → ((x : BlockTree) → Opens (IsItem x) (λ ws. begins kinds.KeyWaituntil ws ≡ true))
+    → Reads (OneOrMore IsItem) (made_at blocks_of (item ⊗ each_at (begins kinds.KeyWaituntil) item)) NoBlock
+blocks_read_of IsItem item r begin =
+    made_reads (Both IsItem (Each IsItem)) (item ⊗ later) NoBlock blocks_of (OneOrMore IsItem)
+    (pair_reads IsItem item Anything (Each IsItem) later NoBlock r
+    (before (Each IsItem) later (λ ws. NoBlock ws × Anything ws) NoBlock (λ ws none. (none, tt))
+    (each_reads (begins kinds.KeyWaituntil) IsItem item Anything (begins_heads kinds.KeyWaituntil) (begins_none kinds.KeyWaituntil) r begin (λ ws h. tt)))
+    (λ y taken rest is after. tt))
+    (λ x ws p. p)
+    from
+  where
+    later : List Word → Read (List BlockTree)
+    later = each_at (begins kinds.KeyWaituntil) item
+
+    from : (y : List BlockTree) (ws : List Word) → OneOrMore IsItem y ws → (x : BlockTree × List BlockTree) × (y ≡ blocks_of x) × Both IsItem (Each IsItem) x ws
+    from [] ws p = absurd p
+    from (first ∷ rest) ws p = ((first, rest), refl, p)
+
+blocks_read : Reads (OneOrMore IsGuarded) blocks_at NoBlock
+unfolding blocks_at later_blocks_at
+blocks_read = blocks_read_of IsGuarded guarded_at guarded_reads guarded_begins
+
+block_no_local : At kinds.KeyWaituntil NoLocal
+unfolding begins
+block_no_local at rest = refl
+
+-- a method, over the rule of its blocks
+abbrev IsMethodOf : Rule BlockTree → Rule MethodTree
+IsMethodOf IsItem method =
+    IsMark kinds.KeyMethod ⌢ IsIdent method.name method.at ⌢ IsMark kinds.OpenParen ⌢ AreInputs method.inputs ⌢ IsMark kinds.CloseParen
+    ⌢ Each IsLocal method.locals ⌢ OneOrMore IsItem method.blocks
+
+method_reads_of : (IsItem : Rule BlockTree) (blocks : List Word → Read (List BlockTree)) → Reads (OneOrMore IsItem) blocks NoBlock → ((x : BlockTree) → Opens (IsItem x) NoLocal)
+    → Reads (IsMethodOf IsItem) (made_at method_of (head_at ⊗ locals_at ⊗ blocks)) NoBlock
+method_reads_of IsItem blocks r no_local =
+    made_reads (Both IsHead IsRest) (head_at ⊗ locals_at ⊗ blocks) NoBlock method_of (IsMethodOf IsItem)
+    (pair_reads IsHead head_at Anything IsRest (locals_at ⊗ blocks) NoBlock head_reads
+    (pair_reads (Each IsLocal) locals_at NoLocal (OneOrMore IsItem) blocks NoBlock locals_read r meets)
+    (λ y taken rest is after. tt))
+    to from
+  where
+    IsRest : Rule (List Decl × List BlockTree)
+    IsRest = Both (Each IsLocal) (OneOrMore IsItem)
+
+    meets : (y : List BlockTree) (taken rest : List Word) → OneOrMore IsItem y taken → NoBlock rest → NoLocal (taken ++ rest)
+    meets [] taken rest p after = absurd p
+    meets (first ∷ more) taken rest p after = then_opens (IsItem first) (Each IsItem more) NoLocal (no_local first) taken rest p
+
+    to : (x : (PlacedName × List InputTree) × (List Decl × List BlockTree)) (ws : List Word) → Both IsHead IsRest x ws → IsMethodOf IsItem (method_of x) ws
+    to x ws p = five_right (IsMark kinds.KeyMethod) (IsPlacedName x.0.0) (IsMark kinds.OpenParen) (AreInputs x.0.1) (IsMark kinds.CloseParen) (Each IsLocal x.1.0 ⌢ OneOrMore IsItem x.1.1) ws p
+
+    from : (y : MethodTree) (ws : List Word) → IsMethodOf IsItem y ws → (x : (PlacedName × List InputTree) × (List Decl × List BlockTree)) × (y ≡ method_of x) × Both IsHead IsRest x ws
+    from y ws p = (
+      (((record { at = y.at; name = y.name }), y.inputs), (y.locals, y.blocks)),
+      refl,
+      five_left (IsMark kinds.KeyMethod) (IsIdent y.name y.at) (IsMark kinds.OpenParen) (AreInputs y.inputs) (IsMark kinds.CloseParen) (Each IsLocal y.locals ⌢ OneOrMore IsItem y.blocks) ws p,
+    )
+
+pub method_reads : Reads IsMethod method_at NoBlock
+unfolding method_at
+method_reads = method_reads_of IsGuarded blocks_at blocks_read (guarded_opens NoLocal block_no_local)
+
+method_opens_of : (IsItem : Rule BlockTree) (Fact : List Word → Type 0) → At kinds.KeyMethod Fact → (x : MethodTree) → Opens (IsMethodOf IsItem x) Fact
+method_opens_of IsItem Fact so x =
+    then_opens (IsMark kinds.KeyMethod)
+    (IsIdent x.name x.at ⌢ IsMark kinds.OpenParen ⌢ AreInputs x.inputs ⌢ IsMark kinds.CloseParen ⌢ Each IsLocal x.locals ⌢ OneOrMore IsItem x.blocks)
+    Fact (mark_opens kinds.KeyMethod Fact so)
+
+method_opens : (Fact : List Word → Type 0) → At kinds.KeyMethod Fact → (x : MethodTree) → Opens (IsMethod x) Fact
+method_opens Fact so x = method_opens_of IsGuarded Fact so x
+
+pub method_begins : (x : MethodTree) → Opens (IsMethod x) (λ ws. begins kinds.KeyMethod ws ≡ true)
+method_begins x = method_opens (λ ws. begins kinds.KeyMethod ws ≡ true) (begins_at kinds.KeyMethod) x
+
+-- ---- the monitor
+
+method_no_declaration : At kinds.KeyMethod NoDeclaration
+unfolding begins_declaration begins
+method_no_declaration at rest = refl
+
+brace_no_declaration : At kinds.CloseBrace NoDeclaration
+unfolding begins_declaration begins
+brace_no_declaration at rest = refl
+
+brace_no_method : At kinds.CloseBrace (λ ws. begins kinds.KeyMethod ws ≡ false)
+unfolding begins
+brace_no_method at rest = refl
+
+method_no_block : At kinds.KeyMethod NoBlock
+unfolding begins
+method_no_block at rest = refl
+
+brace_no_block : At kinds.CloseBrace NoBlock
+unfolding begins
+brace_no_block at rest = refl
+
+-- a monitor, over the rule of its methods
+abbrev IsFileOf : Rule MethodTree → Rule MonitorTree
+IsFileOf IsItem tree ws =
+    (at : ℕ) × (IsMark kinds.KeyMonitor ⌢ IsIdent tree.name at ⌢ IsMark kinds.OpenBrace
+    ⌢ Each IsDeclaration tree.decls ⌢ Each IsItem tree.methods ⌢ IsMark kinds.CloseBrace) ws
+
+file_reads_of : (IsItem : Rule MethodTree) (item : List Word → Read MethodTree) → Reads IsItem item NoBlock
+    → ((x : MethodTree) → Opens (IsItem x) (λ ws. begins kinds.KeyMethod ws ≡ true)) → ((x : MethodTree) → Opens (IsItem x) NoDeclaration)
+    → Reads (IsFileOf IsItem) (made_at monitor_of (mark_at kinds.KeyMonitor ⊗ ident_at ⊗ mark_at kinds.OpenBrace ⊗ declarations_at ⊗ each_at (begins kinds.KeyMethod) item ⊗ mark_at kinds.CloseBrace)) Anything
+file_reads_of IsItem item r begin no_declaration =
+    made_reads (Both (λ (unit : Unit {0}). IsMark kinds.KeyMonitor) IsNamed) (mark_at kinds.KeyMonitor ⊗ ident_at ⊗ mark_at kinds.OpenBrace ⊗ declarations_at ⊗ methods ⊗ mark_at kinds.CloseBrace) Anything monitor_of (IsFileOf IsItem)
+    (mark_then kinds.KeyMonitor IsNamed (ident_at ⊗ mark_at kinds.OpenBrace ⊗ declarations_at ⊗ methods ⊗ mark_at kinds.CloseBrace) Anything
+    (ident_then IsOpened (mark_at kinds.OpenBrace ⊗ declarations_at ⊗ methods ⊗ mark_at kinds.CloseBrace) Anything
+    (mark_then kinds.OpenBrace IsInside (declarations_at ⊗ methods ⊗ mark_at kinds.CloseBrace) Anything
+    (pair_reads (Each IsDeclaration) declarations_at NoDeclaration AreMethods (methods ⊗ mark_at kinds.CloseBrace) Anything declarations_read
+    (then_mark kinds.CloseBrace (Each IsItem) methods (λ ws. (begins kinds.KeyMethod ws ≡ false) × NoBlock ws) methods_read (λ at rest. (brace_no_method at rest, brace_no_block at rest)))
+    meets))))
+    (λ x ws p. (x.1.0.at, p))
+    (λ y ws p. ((tt, (record { at = p.0; name = y.name }, (tt, (y.decls, (y.methods, tt))))), refl, p.1))
+  where
+    methods : List Word → Read (List MethodTree)
+    methods = each_at (begins kinds.KeyMethod) item
+
+    methods_read : Reads (Each IsItem) methods (λ ws. (begins kinds.KeyMethod ws ≡ false) × NoBlock ws)
+    methods_read = each_reads (begins kinds.KeyMethod) IsItem item NoBlock (begins_heads kinds.KeyMethod) (begins_none kinds.KeyMethod) r begin (begun kinds.KeyMethod NoBlock method_no_block)
+
+    AreMethods : Rule (List MethodTree × Unit {0})
+    AreMethods = Both (Each IsItem) (λ (unit : Unit {0}). IsMark kinds.CloseBrace)
+
+    IsInside : Rule (List Decl × (List MethodTree × Unit {0}))
+    IsInside = Both (Each IsDeclaration) AreMethods
+
+    IsOpened : Rule (Unit {0} × (List Decl × (List MethodTree × Unit {0})))
+    IsOpened = Both (λ (unit : Unit {0}). IsMark kinds.OpenBrace) IsInside
+
+    IsNamed : Rule (PlacedName × (Unit {0} × (List Decl × (List MethodTree × Unit {0}))))
+    IsNamed = Both IsPlacedName IsOpened
+
+    meets : (y : List MethodTree × Unit {0}) (taken rest : List Word) → AreMethods y taken → Anything rest → NoDeclaration (taken ++ rest)
+    meets y taken rest p after = items_open IsItem (IsMark kinds.CloseBrace) NoDeclaration no_declaration (mark_opens kinds.CloseBrace NoDeclaration brace_no_declaration) y.0 taken rest p
+
+pub monitor_reads : Reads IsMonitorFile monitor_at Anything
+unfolding monitor_at methods_at
+monitor_reads = file_reads_of IsMethod method_at method_reads method_begins (method_opens NoDeclaration method_no_declaration)
+
+-- ---- the file
+
+pub monitor_file_found : (ws : List Word) (tree : MonitorTree) → monitor_file ws ≡ Ok tree → IsMonitorFile tree ws
+unfolding monitor_file
+monitor_file_found ws tree e = whole_found IsMonitorFile monitor_at Anything monitor_reads ws tree e
+
+pub monitor_file_again : (ws : List Word) (tree : MonitorTree) → IsMonitorFile tree ws → monitor_file ws ≡ Ok tree
+unfolding monitor_file
+monitor_file_again ws tree is = whole_again IsMonitorFile monitor_at Anything monitor_reads tt ws tree is
+
+pub monitor_file_fault : (bytes : List ℕ) (tokens : List Token) (left : ℕ) → monitor_file (words bytes tokens) ≡ Err left
+    → IsFaultAt IsMonitorFile bytes tokens (first_offset bytes (drop (length tokens - left) tokens))
+unfolding monitor_file
+monitor_file_fault bytes tokens left e = file_fault IsMonitorFile bytes tokens left (whole_fault IsMonitorFile monitor_at Anything monitor_reads tt (words bytes tokens) left e)

@@ -1,0 +1,337 @@
+//! The parser of monitor files: one function for each production.
+
+ghost use Rattle.std.specs.Prelude.{◌≡◌, ℕ, ◌≤◌, List, IfOk, IfErr, length};
+ghost use Rattle.lang_base.specs.Limits.{FILE_BYTES};
+ghost use Rattle.lang_tokens.specs.Spelling.{Spells};
+ghost use Rattle.lang_tokens.specs.Words.{words};
+ghost use Rattle.lang_syntax.specs.Grammar.{IsMonitorFile, Derives};
+ghost use Rattle.lang_syntax.specs.Fault.{AnswersEach, IsFault};
+ghost use Rattle.lang_syntax.specs.inner.Reading.{AreTokens, Gives, begins_declaration, blocks_at, constant_at, declaration_at, declarations_at, flag_at, guarded_at, head_at, input_at, inputs_at, int_at, later_blocks_at, later_input_at, later_inputs_at, literal_at, local_at, locals_at, method_at, methods_at, monitor_at, monitor_file, some_inputs_at, variable_at};
+ghost use Rattle.lang_syntax.specs.inner.Takes.{Takes};
+
+use super::cursor::Cursor;
+use super::fault::{Stop, fault_of};
+use super::many::{many, with_first};
+use super::statement_parser::{block, condition};
+use super::word::{PlacedName, PlacedNumber};
+use base_list::Seq;
+use lang_base::SourceError;
+use lang_base::limits::LEVELS;
+use lang_tokens::{Token, TokenKind};
+use lang_tree::{BlockTree, Decl, InputTree, Lit, MethodTree, MonitorTree};
+use std::alloc::Global;
+
+// ---- declarations
+
+/// literal = ["-"] NUM
+#[tactic(auto, unfolding(crate::specs::inner::Reading::literal_at))]
+fn literal(input: &mut Cursor<'_>) -> Result<Lit, Stop>
+    ensures { Takes result input.new (literal_at input.old) }
+{
+    if input.begins(TokenKind::Minus) {
+        input.mark(TokenKind::Minus)?;
+        let PlacedNumber { at, value } = input.numeral()?;
+        return Ok(Lit {
+            at,
+            minus: true,
+            digits: value,
+        });
+    }
+    let PlacedNumber { at, value } = input.numeral()?;
+    Ok(Lit {
+        at,
+        minus: false,
+        digits: value,
+    })
+}
+
+/// "const" ID "=" literal ";"
+#[tactic(auto, unfolding(crate::specs::inner::Reading::constant_at))]
+fn constant(alloc: Global, input: &mut Cursor<'_>) -> Result<Decl, Stop>
+    ensures { Takes result input.new (constant_at input.old) }
+{
+    input.mark(TokenKind::KeyConst)?;
+    let PlacedName { at, name } = input.ident(alloc)?;
+    input.mark(TokenKind::Assign)?;
+    let value = literal(input)?;
+    input.mark(TokenKind::Semicolon)?;
+    Ok(Decl::Const { at, name, value })
+}
+
+/// "int" ID "=" literal ";"
+#[tactic(auto, unfolding(crate::specs::inner::Reading::int_at))]
+fn int(alloc: Global, input: &mut Cursor<'_>) -> Result<Decl, Stop>
+    ensures { Takes result input.new (int_at input.old) }
+{
+    input.mark(TokenKind::KeyInt)?;
+    let PlacedName { at, name } = input.ident(alloc)?;
+    input.mark(TokenKind::Assign)?;
+    let value = literal(input)?;
+    input.mark(TokenKind::Semicolon)?;
+    Ok(Decl::Int { at, name, value })
+}
+
+/// "bool" ID "=" ("true" | "false") ";"
+#[tactic(auto, unfolding(crate::specs::inner::Reading::flag_at))]
+fn flag(alloc: Global, input: &mut Cursor<'_>) -> Result<Decl, Stop>
+    ensures { Takes result input.new (flag_at input.old) }
+{
+    input.mark(TokenKind::KeyBool)?;
+    let PlacedName { at, name } = input.ident(alloc)?;
+    input.mark(TokenKind::Assign)?;
+    let value = input.truth()?;
+    input.mark(TokenKind::Semicolon)?;
+    Ok(Decl::Flag { at, name, value })
+}
+
+#[tactic(auto, unfolding(crate::specs::inner::Reading::begins_declaration))]
+fn begins_declaration(input: &Cursor<'_>) -> bool
+    ensures { result ≡ begins_declaration input.now }
+{
+    input.begins(TokenKind::KeyConst)
+        || input.begins(TokenKind::KeyInt)
+        || input.begins(TokenKind::KeyBool)
+}
+
+/// variable = int | flag
+#[tactic(auto, unfolding(crate::specs::inner::Reading::variable_at))]
+fn variable(alloc: Global, input: &mut Cursor<'_>) -> Result<Decl, Stop>
+    ensures { Takes result input.new (variable_at input.old) }
+{
+    if input.begins(TokenKind::KeyInt) {
+        return int(alloc, input);
+    }
+    flag(alloc, input)
+}
+
+/// declaration = constant | variable
+#[tactic(auto, unfolding(crate::specs::inner::Reading::declaration_at))]
+fn declaration(alloc: Global, input: &mut Cursor<'_>) -> Result<Decl, Stop>
+    ensures { Takes result input.new (declaration_at input.old) }
+{
+    if input.begins(TokenKind::KeyConst) {
+        return constant(alloc, input);
+    }
+    variable(alloc, input)
+}
+
+/// declaration*
+fn declarations(alloc: Global, input: &mut Cursor<'_>) -> Result<Seq<Decl>, Stop>
+    ensures { Takes result input.new (declarations_at input.old) }
+{
+    many(alloc, input, begins_declaration, |input| {
+        declaration(alloc, input)
+    })
+}
+
+// ---- methods
+
+/// input = ("int" | "bool") ID
+#[tactic(auto, unfolding(crate::specs::inner::Reading::input_at))]
+fn method_input(alloc: Global, input: &mut Cursor<'_>) -> Result<InputTree, Stop>
+    ensures { Takes result input.new (input_at input.old) }
+{
+    let kind = input.input_kind()?;
+    let PlacedName { at, name } = input.ident(alloc)?;
+    Ok(InputTree { at, kind, name })
+}
+
+/// "," input
+#[tactic(auto, unfolding(crate::specs::inner::Reading::later_input_at))]
+fn later_input(alloc: Global, input: &mut Cursor<'_>) -> Result<InputTree, Stop>
+    ensures { Takes result input.new (later_input_at input.old) }
+{
+    input.mark(TokenKind::Comma)?;
+    method_input(alloc, input)
+}
+
+/// ("," input)*
+fn later_inputs(alloc: Global, input: &mut Cursor<'_>) -> Result<Seq<InputTree>, Stop>
+    ensures { Takes result input.new (later_inputs_at input.old) }
+{
+    many(
+        alloc,
+        input,
+        |input| input.begins(TokenKind::Comma),
+        |input| later_input(alloc, input),
+    )
+}
+
+/// input ("," input)*
+#[tactic(auto, unfolding(crate::specs::inner::Reading::some_inputs_at))]
+fn some_inputs(alloc: Global, input: &mut Cursor<'_>) -> Result<Seq<InputTree>, Stop>
+    ensures { Takes result input.new (some_inputs_at input.old) }
+{
+    let first = method_input(alloc, input)?;
+    let later = later_inputs(alloc, input)?;
+    Ok(with_first(first, later)?)
+}
+
+/// [input ("," input)*]
+#[tactic(auto, unfolding(crate::specs::inner::Reading::inputs_at))]
+fn inputs(alloc: Global, input: &mut Cursor<'_>) -> Result<Seq<InputTree>, Stop>
+    ensures { Takes result input.new (inputs_at input.old) }
+{
+    if !input.begins_input() {
+        return Ok(Seq::of(Vec::new(alloc)));
+    }
+    some_inputs(alloc, input)
+}
+
+/// "method" ID "(" inputs ")"
+#[tactic(auto, unfolding(crate::specs::inner::Reading::head_at))]
+fn head(alloc: Global, input: &mut Cursor<'_>) -> Result<(PlacedName, Seq<InputTree>), Stop>
+    ensures { Takes result input.new (head_at input.old) }
+{
+    input.mark(TokenKind::KeyMethod)?;
+    let name = input.ident(alloc)?;
+    input.mark(TokenKind::OpenParen)?;
+    let inputs = inputs(alloc, input)?;
+    input.mark(TokenKind::CloseParen)?;
+    Ok((name, inputs))
+}
+
+/// local = "local" variable
+#[tactic(auto, unfolding(crate::specs::inner::Reading::local_at))]
+fn local(alloc: Global, input: &mut Cursor<'_>) -> Result<Decl, Stop>
+    ensures { Takes result input.new (local_at input.old) }
+{
+    input.mark(TokenKind::KeyLocal)?;
+    variable(alloc, input)
+}
+
+/// local*
+fn locals(alloc: Global, input: &mut Cursor<'_>) -> Result<Seq<Decl>, Stop>
+    ensures { Takes result input.new (locals_at input.old) }
+{
+    many(
+        alloc,
+        input,
+        |input| input.begins(TokenKind::KeyLocal),
+        |input| local(alloc, input),
+    )
+}
+
+/// guarded = "waituntil" condition block
+#[tactic(auto, unfolding(crate::specs::inner::Reading::guarded_at))]
+fn guarded(alloc: Global, input: &mut Cursor<'_>) -> Result<BlockTree, Stop>
+    ensures { Takes result input.new (guarded_at input.old) }
+{
+    let at = input.placed(TokenKind::KeyWaituntil)?;
+    let guard = condition(alloc, LEVELS, input)?;
+    let body = block(alloc, LEVELS, input)?;
+    Ok(BlockTree { at, guard, body })
+}
+
+/// guarded*
+fn later_blocks(alloc: Global, input: &mut Cursor<'_>) -> Result<Seq<BlockTree>, Stop>
+    ensures { Takes result input.new (later_blocks_at input.old) }
+{
+    many(
+        alloc,
+        input,
+        |input| input.begins(TokenKind::KeyWaituntil),
+        |input| guarded(alloc, input),
+    )
+}
+
+/// guarded guarded*
+#[tactic(auto, unfolding(crate::specs::inner::Reading::blocks_at))]
+fn blocks(alloc: Global, input: &mut Cursor<'_>) -> Result<Seq<BlockTree>, Stop>
+    ensures { Takes result input.new (blocks_at input.old) }
+{
+    let first = guarded(alloc, input)?;
+    let later = later_blocks(alloc, input)?;
+    Ok(with_first(first, later)?)
+}
+
+/// method = head local* guarded guarded*
+#[tactic(auto, unfolding(crate::specs::inner::Reading::method_at))]
+fn method(alloc: Global, input: &mut Cursor<'_>) -> Result<MethodTree, Stop>
+    ensures { Takes result input.new (method_at input.old) }
+{
+    let (PlacedName { at, name }, inputs) = head(alloc, input)?;
+    let locals = locals(alloc, input)?;
+    let blocks = blocks(alloc, input)?;
+    Ok(MethodTree {
+        at,
+        name,
+        inputs,
+        locals,
+        blocks,
+    })
+}
+
+/// method*
+fn methods(alloc: Global, input: &mut Cursor<'_>) -> Result<Seq<MethodTree>, Stop>
+    ensures { Takes result input.new (methods_at input.old) }
+{
+    many(
+        alloc,
+        input,
+        |input| input.begins(TokenKind::KeyMethod),
+        |input| method(alloc, input),
+    )
+}
+
+// ---- files
+
+/// monitor_file = "monitor" ID "{" declaration* method* "}"
+#[tactic(auto, unfolding(crate::specs::inner::Reading::monitor_at))]
+fn monitor(alloc: Global, input: &mut Cursor<'_>) -> Result<MonitorTree, Stop>
+    ensures { Takes result input.new (monitor_at input.old) }
+{
+    input.mark(TokenKind::KeyMonitor)?;
+    let PlacedName { name, .. } = input.ident(alloc)?;
+    input.mark(TokenKind::OpenBrace)?;
+    let decls = declarations(alloc, input)?;
+    let methods = methods(alloc, input)?;
+    input.mark(TokenKind::CloseBrace)?;
+    Ok(MonitorTree {
+        name,
+        decls,
+        methods,
+    })
+}
+
+#[tactic(auto, unfolding(crate::specs::inner::Reading::monitor_file))]
+fn whole(alloc: Global, bytes: &[u8], tokens: &[Token]) -> Result<MonitorTree, Stop>
+    requires { AreTokens bytes.now tokens.now }
+    ensures { Gives result (monitor_file (words bytes.now tokens.now)) }
+{
+    let mut input = Cursor::new(bytes, tokens);
+    let tree = monitor(alloc, &mut input)?;
+    if !input.is_empty() {
+        return Err(input.stop());
+    }
+    Ok(tree)
+}
+
+/// The tree of a monitor file, from its bytes and the tokens that spell them.
+///
+/// A parenthesis, a unary operator, and the braces of `if` and `else` open a level each, and no
+/// more than 64 may be open; the recursion is bounded by them.
+///
+/// # Errors
+///
+/// Where the grammar derives no tree a fault by `Refusal::Syntax`, at the first token that doesn't
+/// fit, or at the file's end; or out of memory.
+pub fn parse_monitor(
+    alloc: Global,
+    bytes: &[u8],
+    tokens: &[Token],
+) -> Result<MonitorTree, SourceError>
+    requires small { length bytes.now ≤ FILE_BYTES }
+    requires spelled { Spells bytes.now tokens.now }
+    // The tree is the one that the grammar derives.
+    ensures derived { IfOk result (λ tree. Derives bytes.now tokens.now tree) }
+    // Where the grammar derives a tree, it is answered, unless memory runs out.
+    ensures complete { AnswersEach result (Derives bytes.now tokens.now) }
+    // A fault stands at the first token that doesn't fit, or at the end where more is wanted.
+    ensures place { IfErr result (IsFault IsMonitorFile bytes.now tokens.now) }
+{
+    match whole(alloc, bytes, tokens) {
+        Ok(tree) => Ok(tree),
+        Err(stop) => Err(fault_of(bytes, tokens, stop)),
+    }
+}

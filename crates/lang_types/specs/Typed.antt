@@ -1,0 +1,178 @@
+-- The monitor that a tree stands for.
+use Rattle.std.specs.Prelude.{◌≡◌, ℕ, ◌+◌, ◌-◌, ◌⊎◌, ℤ, pos, List, [], ◌∷◌, ◌++◌, length, map, All}
+use Rattle.std.specs.Prelude.{Option, Some, None, slice_get, IsSomeAnd}
+use Rattle.std.specs.List.{flat_map}
+use Rattle.lang_tree.specs.declared.tree.Lit.{Lit}
+use Rattle.lang_tree.specs.declared.tree.Decl.{Decl}
+use Rattle.lang_tree.specs.declared.tree.Decl.TheVariants as decls
+use Rattle.lang_tree.specs.declared.tree.StmtTree.{StmtTree, out-StmtTree}
+use Rattle.lang_tree.specs.declared.tree.StmtTree.TheOpen.{StmtTree-F, Set, If, Return}
+use Rattle.lang_tree.specs.declared.tree.StmtTree.TheFolds.{fold-StmtTree}
+use Rattle.lang_tree.specs.declared.tree.BlockTree.{BlockTree}
+use Rattle.lang_tree.specs.declared.tree.MethodTree.{MethodTree}
+use Rattle.lang_tree.specs.declared.tree.MonitorTree.{MonitorTree}
+use Rattle.lang_printer.specs.Canonical.{expression_text}
+use Rattle.lang_base.specs.declared.kind.Kind.{Kind}
+use Rattle.lang_base.specs.declared.kind.Kind.TheVariants as kinds
+use Rattle.lang_forms.specs.declared.scope.Meaning.{Meaning}
+use Rattle.lang_forms.specs.declared.scope.Meaning.TheVariants as meanings
+use Rattle.lang_forms.specs.declared.scope.Entry.{Entry}
+use Rattle.lang_forms.specs.Scope.{signed, scope_of, entry_named}
+use Rattle.lang_forms.specs.Forms.{linear_of}
+use Rattle.lang_forms.specs.Sense.{Sense, sense}
+use Rattle.lang_base.specs.declared.value.Value.{Value}
+use Rattle.lang_base.specs.declared.value.Value.TheVariants as values
+use Rattle.lang_monitor.specs.declared.monitor.Field.{Field}
+use Rattle.lang_monitor.specs.declared.monitor.Method.{Method}
+use Rattle.lang_monitor.specs.declared.monitor.Stmt.{Stmt}
+use Rattle.lang_monitor.specs.declared.monitor.Stmt.TheVariants as statements
+use Rattle.lang_monitor.specs.declared.monitor.Ret.{Ret}
+use Rattle.lang_monitor.specs.declared.monitor.Ret.TheVariants as rets
+use Rattle.lang_monitor.specs.declared.monitor.Block.{Block}
+use Rattle.lang_monitor.specs.declared.monitor.Condition.{Condition}
+use Rattle.lang_monitor.specs.MonitorParts.{MonitorParts}
+use Rattle.lang_monitor.specs.Inputs.{reads_inputs}
+
+-- ---- fields and methods
+
+abbrev pub literal_value : Lit → ℤ
+literal_value literal = signed literal.minus (pos literal.digits)
+
+-- a declaration's field, or a local's name, kind and value at the start; a constant is neither
+abbrev pub field_of : Decl → List Field
+field_of (decls.Const at name value) = []
+field_of (decls.Int at name value) =
+    record { name = name; kind = kinds.Int; start = values.Int (literal_value value) } ∷ []
+field_of (decls.Flag at name value) =
+    record { name = name; kind = kinds.Bool; start = values.Bool value } ∷ []
+
+-- the values that variables have at the start: fields once, and the locals of a method in each call
+abbrev pub starts_of : List Decl → List Value
+starts_of declared = map (λ field. field.start) (flat_map field_of declared)
+
+-- the method of a tree, whose first block has this number
+abbrev pub method_of : ℕ → MethodTree → Method
+method_of number method = record {
+  name = method.name;
+  inputs = map (λ input. input.kind) method.inputs;
+  locals = starts_of method.locals;
+  first = number;
+  count = length method.blocks;
+}
+
+-- the blocks of the methods follow one another, in the order of the file
+abbrev pub methods_from : ℕ → List MethodTree → List Method
+methods_from number [] = []
+methods_from number (method ∷ methods) =
+    method_of number method ∷ methods_from (number + length method.blocks) methods
+
+-- ---- statements and results
+
+abbrev pub assignment : List Entry → Meaning → Sense → List Stmt
+assignment scope (meanings.Number number) value = []
+assignment scope (meanings.Int place) value =
+    statements.SetInt place (linear_of scope value.form) ∷ []
+assignment scope (meanings.Flag place) value = statements.SetBool place value.formula ∷ []
+
+abbrev pub set_of : List Entry → Option Entry → Sense → List Stmt
+set_of scope None value = []
+set_of scope (Some target) value = assignment scope target.meaning value
+
+-- a `return` is no statement of the body: it is the block's result
+abbrev pub statement_of_step : List Entry → StmtTree-F (List Stmt) → List Stmt
+statement_of_step scope (Set at name value) =
+    set_of scope (entry_named scope name) (sense scope value)
+statement_of_step scope (If at when body other) =
+    statements.If (sense scope when).formula (flat_map (λ inner. inner) body)
+    (flat_map (λ inner. inner) other) ∷ []
+statement_of_step scope (Return at value) = []
+
+abbrev pub statement_of : List Entry → StmtTree → List Stmt
+statement_of scope = fold-StmtTree (List Stmt) (statement_of_step scope)
+
+abbrev pub result_of_kind : List Entry → Option Kind → Sense → Ret
+result_of_kind scope (Some kinds.Int) value = rets.Int (linear_of scope value.form)
+result_of_kind scope (Some kinds.Bool) value = rets.Bool value.formula
+result_of_kind scope None value = rets.Nothing
+
+abbrev pub result_layer : List Entry → StmtTree-F StmtTree → Ret
+result_layer scope (Return at value) =
+    result_of_kind scope (sense scope value).kind (sense scope value)
+result_layer scope statement = rets.Nothing
+
+-- the result of the last statement, where it is a `return`
+abbrev pub result_of : List Entry → List StmtTree → Ret
+result_of scope [] = rets.Nothing
+result_of scope (last ∷ []) = result_layer scope (out-StmtTree last)
+result_of scope (first ∷ next ∷ more) = result_of scope (next ∷ more)
+
+-- ---- blocks
+
+-- a block with its method, and the method's number
+pub record PlacedBlock : Type 0 where
+  pub number : ℕ
+  pub method : MethodTree
+  pub block : BlockTree
+
+-- some blocks of a method
+abbrev pub placed_in : ℕ → MethodTree → List BlockTree → List PlacedBlock
+placed_in number method blocks =
+    map (λ block. record { number = number; method = method; block = block }) blocks
+
+-- the blocks of all methods, in the order of the file; the first method has this number
+abbrev pub blocks_from : ℕ → List MethodTree → List PlacedBlock
+blocks_from number [] = []
+blocks_from number (method ∷ methods) =
+    placed_in number method method.blocks ++ blocks_from (number + 1) methods
+
+-- The block is the tree's, in the scope of its method, which has this number. By the rules only the
+-- last block of a method has a result.
+pub record IsBlockOf (scope : List Entry) (number : ℕ) (tree : BlockTree) (block : Block) : Type 0
+  where
+    pub method_number : block.method ≡ number
+    pub guard : block.guard ≡ (sense scope tree.guard).formula
+    pub body : block.body ≡ flat_map (statement_of scope) tree.body
+    pub result : block.result ≡ result_of scope tree.body
+
+-- the block is that of its place in the row of all blocks
+abbrev pub IsPlaced : List Decl → PlacedBlock → Block → Type 0
+IsPlaced declared placed block =
+    IsBlockOf (scope_of declared placed.method) placed.number placed.block block
+
+-- one block for each place, in order
+abbrev pub AreBlocksOf : List Decl → List PlacedBlock → List Block → Type 0
+AreBlocksOf declared [] [] = Unit {0}
+AreBlocksOf declared (placed ∷ more) (block ∷ blocks) =
+    IsPlaced declared placed block × AreBlocksOf declared more blocks
+AreBlocksOf declared some blocks = ⊥
+
+-- ---- conditions: classes of equal guards, numbered from 1 by their first block
+
+abbrev pub condition_of : Block → BlockTree → Condition
+condition_of block tree =
+    record {
+      guard = block.guard;
+      reads_inputs = reads_inputs block.guard;
+      shown = expression_text tree.guard;
+    }
+
+-- The block has a condition that was there, or the new one after them, where none of them has its
+-- guard.
+abbrev pub AreConditions : List Condition → List PlacedBlock → List Block → List Condition → Type 0
+AreConditions before [] [] all = all ≡ before
+AreConditions before (placed ∷ more) (block ∷ blocks) all =
+    (IsSomeAnd (slice_get before (block.condition - 1)) (λ condition. condition.guard ≡ block.guard)
+    × (block.condition ≡ (block.condition - 1) + 1) × AreConditions before more blocks all)
+    ⊎ (All (λ condition. condition.guard ≡ block.guard → ⊥) before
+    × (block.condition ≡ length before + 1)
+    × AreConditions (before ++ condition_of block placed.block ∷ []) more blocks all)
+AreConditions before some blocks all = ⊥
+
+-- the monitor has the tree's name, fields, methods, blocks and conditions
+pub record IsTyped (tree : MonitorTree) (monitor : MonitorParts) : Type 0 where
+  pub name : monitor.name ≡ tree.name
+  pub fields : monitor.fields ≡ flat_map field_of tree.decls
+  pub methods : monitor.methods ≡ methods_from 0 tree.methods
+  pub blocks : AreBlocksOf tree.decls (blocks_from 0 tree.methods) monitor.blocks
+  pub conditions :
+      AreConditions [] (blocks_from 0 tree.methods) monitor.blocks monitor.conditions

@@ -1,7 +1,0 @@
-use Rattle.std.proofs.Common.{take}
-use Rattle.std.specs.Prelude.{All}
-use Rattle.mon_place.specs.Backing.{HasCertificate}
-use Rattle.mon_audit.proofs.asking.first_unproved.Given as goal
-
-abbrev pub invariant-loop-place : goal.invariant-loop-place
-invariant-loop-place l = All (HasCertificate l.monitor l.kept) (take l.place l.claims)

@@ -1,7 +1,0 @@
-use Rattle.std.proofs.Common.{take}
-use Rattle.mon_monitor.specs.Candidates.{AllHold}
-use Rattle.mon_monitor.specs.MonitorParts.{start_of}
-use Rattle.mon_audit.proofs.sight.first_false.Given as goal
-
-abbrev pub invariant-loop-place : goal.invariant-loop-place
-invariant-loop-place l = AllHold (start_of l.monitor) (take l.place l.kept)

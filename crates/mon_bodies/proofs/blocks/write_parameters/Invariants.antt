@@ -1,9 +1,0 @@
-use Rattle.std.proofs.Common.{Ok, take}
-use Rattle.std.specs.List.{flat_map}
-use Rattle.mon_bodies.specs.Blocks.{parameter_text}
-use Rattle.mon_io.specs.Writing.{Wrote}
-use Rattle.mon_bodies.proofs.blocks.write_parameters.Given as goal
-
-abbrev pub invariant-loop-input : goal.invariant-loop-input
-invariant-loop-input g l =
-    Wrote (g.S.Sink.seen l.initial.out) (g.S.Sink.seen l.out) (Ok tt) (flat_map (parameter_text l.method) (take l.input-index l.inputs))

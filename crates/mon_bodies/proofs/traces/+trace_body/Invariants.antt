@@ -1,8 +1,0 @@
-use Rattle.std.proofs.Common.{◌≡◌, map, take}
-use Rattle.mon_rust.specs.Scopes.{seen}
-use Rattle.mon_bodies.specs.Traces.{in_turn, nothing, statement_trace}
-use Rattle.mon_bodies.proofs.traces.+trace_body.Given as goal
-
-abbrev pub invariant-trace_body-loop-statement : goal.invariant-trace_body-loop-statement
-invariant-trace_body-loop-statement l =
-    l.so_far ≡ in_turn nothing (map (statement_trace (seen l.scope)) (take l.statement-index l.statements))

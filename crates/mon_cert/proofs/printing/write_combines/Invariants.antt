@@ -1,8 +1,0 @@
-use Rattle.std.proofs.Common.{Ok, take}
-use Rattle.std.specs.List.{flat_map}
-use Rattle.mon_io.specs.Writing.{Wrote}
-use Rattle.mon_cert.specs.CertText.{combine_text}
-use Rattle.mon_cert.proofs.printing.write_combines.Given as goal
-
-abbrev pub invariant-loop-combine : goal.invariant-loop-combine
-invariant-loop-combine g l = Wrote (g.S.Sink.seen l.initial.out) (g.S.Sink.seen l.out) (Ok tt) (flat_map combine_text (take l.combine-index l.combines))

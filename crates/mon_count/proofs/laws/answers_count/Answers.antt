@@ -1,5 +1,0 @@
-use Rattle.mon_count.proofs.Answering.{counted}
-use Rattle.mon_count.proofs.laws.answers_count.Goals as goal
-
-pub returns : goal.returns
-returns c = counted c.guard_without_inputs_stays.ensures

@@ -1,5 +1,0 @@
-use Rattle.mon_counted.proofs.ExactCounts.{counted_exact}
-use Rattle.mon_counted.proofs.laws.counted_plans_are_exact.Goals as goal
-
-pub returns : goal.returns
-returns c = counted_exact

@@ -1,5 +1,0 @@
-use Rattle.mon_counted.proofs.RelayedRest.{counted_omits}
-use Rattle.mon_counted.proofs.laws.counted_plans_omit_no_more.Goals as goal
-
-pub returns : goal.returns
-returns c = counted_omits

@@ -1,5 +1,0 @@
-use Rattle.mon_counted.proofs.Mixing.{mixed_lawful}
-use Rattle.mon_counted.proofs.laws.mixed_plans_are_lawful.Goals as goal
-
-pub returns : goal.returns
-returns c = mixed_lawful

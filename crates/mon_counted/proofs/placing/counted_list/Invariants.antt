@@ -1,7 +1,0 @@
-use Rattle.std.proofs.Common.{◌≡◌}
-use Rattle.mon_place.proofs.NotesOn.{made}
-use Rattle.mon_counted.proofs.Table.{made_on}
-use Rattle.mon_counted.proofs.placing.counted_list.Given as goal
-
-abbrev pub invariant-loop-index : goal.invariant-loop-index
-invariant-loop-index l = l.made.items ≡ made (made_on l.columns l.block l.notes) 1 l.index

@@ -1,6 +1,0 @@
-use Rattle.std.proofs.Common.{◌≡◌, replicate}
-use Rattle.mon_explicit.proofs.Rounds.{empty_ring}
-use Rattle.mon_explicit.proofs.rings.Rings.open.Given as goal
-
-abbrev pub invariant-loop-ring : goal.invariant-loop-ring
-invariant-loop-ring l = l.rings.items ≡ replicate l._ring empty_ring

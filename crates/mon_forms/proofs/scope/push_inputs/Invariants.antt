@@ -1,6 +1,0 @@
-use Rattle.std.proofs.Common.{◌≡◌, ◌++◌, take}
-use Rattle.mon_forms.specs.Scope.{inputs_from}
-use Rattle.mon_forms.proofs.scope.push_inputs.Given as goal
-
-abbrev pub invariant-loop-index : goal.invariant-loop-index
-invariant-loop-index l = l.scope.items ≡ l.initial.scope.items ++ inputs_from 16 (take l.index l.inputs)

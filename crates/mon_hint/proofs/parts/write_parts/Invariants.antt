@@ -1,8 +1,0 @@
-use Rattle.std.proofs.Common.{Ok, take}
-use Rattle.mon_io.specs.Writing.{Wrote}
-use Rattle.mon_hint.specs.inner.Ways.{parts_text}
-use Rattle.mon_hint.proofs.parts.write_parts.Given as goal
-
-abbrev pub invariant-loop-part : goal.invariant-loop-part
-invariant-loop-part g l =
-    Wrote (g.S.Sink.seen l.initial.out) (g.S.Sink.seen l.out) (Ok tt) (parts_text (take l.part-index l.parts))

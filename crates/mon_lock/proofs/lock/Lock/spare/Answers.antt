@@ -1,6 +1,0 @@
-use Rattle.std.proofs.Common.{rules}
-use Rattle.mon_lock.proofs.Seating.{spares}
-use Rattle.mon_lock.proofs.lock.Lock.spare.Goals as goal
-
-pub load_new_seat-served-requires : goal.load_new_seat-served-requires
-load_new_seat-served-requires c = (search rules, spares _ _)

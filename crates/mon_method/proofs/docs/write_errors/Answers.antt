@@ -1,8 +1,0 @@
-use Rattle.std.proofs.Common.{◌∙◌, ap, length}
-use Rattle.mon_io.proofs.Writing.{wrote_same}
-use Rattle.mon_method.specs.Docs.{errors_text}
-use Rattle.mon_method.proofs.docs.write_errors.Goals as goal
-
-pub returns : goal.returns
-returns g c =
-    wrote_same _ (c.errors_bytes.ensures ∙ ap (errors_text c.args.it.now.fails) (ap length c.items.ensures)) c.write_piece.ensures

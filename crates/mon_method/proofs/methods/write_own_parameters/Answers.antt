@@ -1,9 +1,0 @@
-use Rattle.std.proofs.Common.{ap}
-use Rattle.mon_bodies.specs.Blocks.{parameter_text}
-use Rattle.mon_io.proofs.Writing.{wrote_same}
-use Rattle.std.specs.List.{flat_map}
-use Rattle.mon_method.proofs.methods.write_own_parameters.Goals as goal
-
-pub returns : goal.returns
-returns g c =
-    wrote_same _ (ap (flat_map (parameter_text c.args.it.now.method.now)) c.items.ensures) c.write_parameters.ensures

@@ -1,7 +1,0 @@
-use Rattle.mon_io.proofs.Writing.{wrote_same}
-use Rattle.mon_method.proofs.Choices.{three}
-use Rattle.mon_method.proofs.methods.write_try_arrow.Goals as goal
-
-pub returns : goal.returns
-returns g c =
-    wrote_same _ (three _ _ _ _ _ _ c.before_option.ensures c.option_bytes.ensures c.after_option.ensures) c.write_pieces.ensures

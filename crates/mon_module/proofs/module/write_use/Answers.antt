@@ -1,8 +1,0 @@
-use Rattle.std.proofs.Common.{◌∙◌, ap, Bool}
-use Rattle.mon_io.proofs.Writing.{wrote_same}
-use Rattle.mon_module.specs.Modules.{use_by, waits_somewhere}
-use Rattle.mon_module.proofs.module.write_use.Goals as goal
-
-pub returns : goal.returns
-returns g c =
-    wrote_same _ (c.use_bytes.ensures ∙ ap (λ (w : Bool). use_by w c.has_calls.result) c.waits_somewhere.ensures ∙ ap (use_by (waits_somewhere c.args.source.now.monitor.now)) c.has_calls.ensures) c.write_piece.ensures

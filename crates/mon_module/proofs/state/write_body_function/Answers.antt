@@ -1,8 +1,0 @@
-use Rattle.mon_io.proofs.Writing.{wrote_same}
-use Rattle.mon_module.proofs.Functions.{body_says}
-use Rattle.mon_method.specs.Sources.{seen}
-use Rattle.mon_module.proofs.state.write_body_function.Goals as goal
-
-pub returns : goal.returns
-returns g c =
-    wrote_same _ (body_says (seen c.args.source.now) c.args.method.now c.args.place c.args.block c.args.parts.now _ _ c.answer_of-answer.ensures c.items.ensures) c.write_own_body.ensures

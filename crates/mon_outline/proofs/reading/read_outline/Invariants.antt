@@ -1,9 +1,0 @@
-use Rattle.std.proofs.Common.{length}
-use Rattle.mon_outline.proofs.ByNodes.{Reads}
-use Rattle.mon_outline.proofs.reading.read_outline.Given as goal
-
-abbrev pub invariant-loop-due : goal.invariant-loop-due
-invariant-loop-due l = Reads l.bytes l.nodes.items l.left l.due
-
-abbrev pub decreases-loop-due : goal.decreases-loop-due
-decreases-loop-due l = length l.left

@@ -1,5 +1,0 @@
-use Rattle.mon_place.proofs.OnePlan.{one_plan}
-use Rattle.mon_place.proofs.laws.one_exact_plan.Goals as goal
-
-pub returns : goal.returns
-returns c = one_plan

@@ -1,7 +1,0 @@
-use Rattle.std.proofs.Common.{◌≡◌}
-use Rattle.mon_place.proofs.NotesOn.{made}
-use Rattle.mon_place.proofs.RelayedPlans.{made_on}
-use Rattle.mon_place.proofs.relaying.relayed_list.Given as goal
-
-abbrev pub invariant-loop-index : goal.invariant-loop-index
-invariant-loop-index l = l.made.items ≡ made (made_on l.monitor l.kinds l.block l.notes) 1 l.index

@@ -1,5 +1,0 @@
-use Rattle.mon_pool.specs.inner.Workers.{IsWorker}
-use Rattle.mon_pool.proofs.worker.work.Given as goal
-
-abbrev pub invariant-loop : goal.invariant-loop
-invariant-loop g l = IsWorker l.shop l.worker

@@ -1,5 +1,0 @@
-use Rattle.mon_prune.proofs.HardClaims.{none_open}
-use Rattle.mon_prune.proofs.laws.easy_monitors_have_no_open_claim.Goals as goal
-
-pub returns : goal.returns
-returns c = none_open

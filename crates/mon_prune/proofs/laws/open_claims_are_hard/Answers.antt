@@ -1,5 +1,0 @@
-use Rattle.mon_prune.proofs.HardClaims.{open_hard}
-use Rattle.mon_prune.proofs.laws.open_claims_are_hard.Goals as goal
-
-pub returns : goal.returns
-returns c = open_hard

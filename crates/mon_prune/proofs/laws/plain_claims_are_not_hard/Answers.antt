@@ -1,5 +1,0 @@
-use Rattle.mon_prune.proofs.HardClaims.{plain_not_hard}
-use Rattle.mon_prune.proofs.laws.plain_claims_are_not_hard.Goals as goal
-
-pub returns : goal.returns
-returns c = plain_not_hard

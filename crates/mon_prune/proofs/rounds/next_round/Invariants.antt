@@ -1,6 +1,0 @@
-use Rattle.std.proofs.Common.{take}
-use Rattle.mon_prune.specs.inner.Pruning.{IsRound}
-use Rattle.mon_prune.proofs.rounds.next_round.Given as goal
-
-abbrev pub invariant-loop-candidate : goal.invariant-loop-candidate
-invariant-loop-candidate l = IsRound l.monitor l.kept (take l.candidate-index l.kept) l.round

@@ -1,5 +1,0 @@
-use Rattle.mon_prune.specs.inner.Asking.{AreProofsBelow}
-use Rattle.mon_prune.proofs.rounds.proofs_of.Given as goal
-
-abbrev pub invariant-loop-block : goal.invariant-loop-block
-invariant-loop-block l = AreProofsBelow l.monitor l.hyps l.candidate l.block l.proofs.items

@@ -1,5 +1,0 @@
-use Rattle.mon_queue.proofs.Steps.{learns}
-use Rattle.mon_queue.proofs.line.learn.Goals as goal
-
-pub learn_as-requires-clause-rule : goal.learn_as-requires-clause-rule
-learn_as-requires-clause-rule c = learns _ _ c.requires.live c.requires.all

@@ -1,7 +1,0 @@
-use Rattle.std.proofs.Common.{ap, sym}
-use Rattle.mon_io.proofs.Writing.{wrote_same}
-use Rattle.mon_reasons.specs.ReasonText.{after_text}
-use Rattle.mon_reasons.proofs.lines.write_after.Goals as goal
-
-pub returns-in-None : goal.returns-in-None
-returns-in-None g c = wrote_same _ (ap (after_text c.args.monitor.now) (sym c.in-None.is)) c.write_piece.ensures

@@ -1,7 +1,0 @@
-use Rattle.std.proofs.Common.{take}
-use Rattle.std.specs.Prelude.{All}
-use Rattle.mon_outline.specs.Outlines.{HasTypedNumbers}
-use Rattle.mon_recheck.proofs.ranges.of_proofs.Given as goal
-
-abbrev pub invariant-loop-proof : goal.invariant-loop-proof
-invariant-loop-proof l = All (λ proof. HasTypedNumbers proof.cert) (take l.proof-index l.proofs)

@@ -1,5 +1,0 @@
-use Rattle.mon_rules.proofs.TreeRules.{exactly_broken}
-use Rattle.mon_rules.proofs.laws.faults_are_broken_rules.Goals as goal
-
-pub returns : goal.returns
-returns c = exactly_broken

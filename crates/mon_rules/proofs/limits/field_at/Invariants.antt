@@ -1,7 +1,0 @@
-use Rattle.std.proofs.Common.{◌≡◌, drop}
-use Rattle.std.specs.List.{flat_map, slice_get}
-use Rattle.mon_rules.specs.Rules.{field_place}
-use Rattle.mon_rules.proofs.limits.field_at.Given as goal
-
-abbrev pub invariant-loop-decl : goal.invariant-loop-decl
-invariant-loop-decl l = slice_get (flat_map field_place (drop l.decl-index l.decls)) l.left ≡ slice_get (flat_map field_place l.decls) l.number

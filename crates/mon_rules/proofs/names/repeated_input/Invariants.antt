@@ -1,7 +1,0 @@
-use Rattle.std.proofs.Common.{◌≡◌, map, take}
-use Rattle.mon_base.specs.SourceFaults.{least}
-use Rattle.mon_rules.specs.Rules.{declared_name, input_name, repeated}
-use Rattle.mon_rules.proofs.names.repeated_input.Given as goal
-
-abbrev pub invariant-loop-i : goal.invariant-loop-i
-invariant-loop-i l = l.fault ≡ least (repeated (map declared_name l.decls) (map input_name (take l.i l.inputs)))

@@ -1,8 +1,0 @@
-use Rattle.std.proofs.Common.{◌≡◌, take}
-use Rattle.std.specs.List.{flat_map}
-use Rattle.mon_base.specs.SourceFaults.{least}
-use Rattle.mon_script.specs.Faults.{item_faults}
-use Rattle.mon_script.proofs.calls.+fault_in_item.Given as goal
-
-abbrev pub invariant-fault_in_items-loop-item : goal.invariant-fault_in_items-loop-item
-invariant-fault_in_items-loop-item l = l.fault ≡ least (flat_map (item_faults l.monitor) (take l.item-index l.items))

@@ -1,5 +1,0 @@
-use Rattle.mon_simulate.specs.inner.Turns.{NoneReady}
-use Rattle.mon_simulate.proofs.by_rounds.first_ready.Given as goal
-
-abbrev pub invariant-loop-client : goal.invariant-loop-client
-invariant-loop-client l = NoneReady l.free l.from l.client

@@ -1,5 +1,0 @@
-use Rattle.mon_simulate.proofs.OneLog.{one_drawn}
-use Rattle.mon_simulate.proofs.laws.one_drawn_log.Goals as goal
-
-pub returns : goal.returns
-returns c = one_drawn

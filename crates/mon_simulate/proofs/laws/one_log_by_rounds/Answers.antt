@@ -1,5 +1,0 @@
-use Rattle.mon_simulate.proofs.OneLog.{one_by_rounds}
-use Rattle.mon_simulate.proofs.laws.one_log_by_rounds.Goals as goal
-
-pub returns : goal.returns
-returns c = one_by_rounds

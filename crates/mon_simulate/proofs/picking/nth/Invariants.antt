@@ -1,7 +1,0 @@
-use Rattle.std.proofs.Common.{◌≡◌, length, slice_get}
-use Rattle.mon_simulate.specs.inner.Turns.{is_one, those}
-use Rattle.mon_simulate.proofs.Choosing.{from_on}
-use Rattle.mon_simulate.proofs.picking.nth.Given as goal
-
-abbrev pub invariant-loop-client : goal.invariant-loop-client
-invariant-loop-client l = slice_get (from_on (is_one l.who l.free) l.client (length l.free.system.clients)) l.before ≡ slice_get (those l.who l.free) l.position

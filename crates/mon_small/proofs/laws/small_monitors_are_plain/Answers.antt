@@ -1,5 +1,0 @@
-use Rattle.mon_small.proofs.SimpleQueries.{small_plain}
-use Rattle.mon_small.proofs.laws.small_monitors_are_plain.Goals as goal
-
-pub returns : goal.returns
-returns c = small_plain

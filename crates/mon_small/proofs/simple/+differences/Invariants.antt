@@ -1,7 +1,0 @@
-use Rattle.std.proofs.Common.{◌≡◌, take, true}
-use Rattle.std.specs.List.{list_all}
-use Rattle.mon_linear.specs.Differences.{has_difference_rows}
-use Rattle.mon_small.proofs.simple.+differences.Given as goal
-
-abbrev pub invariant-have_difference_rows-loop-part : goal.invariant-have_difference_rows-loop-part
-invariant-have_difference_rows-loop-part l = list_all has_difference_rows (take l.part-index l.parts) ≡ true

@@ -1,5 +1,0 @@
-use Rattle.mon_small.specs.inner.Smallness.{ArePlainBelow}
-use Rattle.mon_small.proofs.small.are_plain_blocks.Given as goal
-
-abbrev pub invariant-loop-block : goal.invariant-loop-block
-invariant-loop-block l = ArePlainBelow l.monitor l.block

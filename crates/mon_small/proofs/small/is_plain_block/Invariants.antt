@@ -1,5 +1,0 @@
-use Rattle.mon_small.specs.inner.Smallness.{ArePlainUpTo}
-use Rattle.mon_small.proofs.small.is_plain_block.Given as goal
-
-abbrev pub invariant-loop-index : goal.invariant-loop-index
-invariant-loop-index l = ArePlainUpTo l.monitor l.block l.index

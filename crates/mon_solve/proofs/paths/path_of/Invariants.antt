@@ -1,6 +1,0 @@
-use Rattle.std.proofs.Common.{◌≡◌, drop}
-use Rattle.mon_solve.specs.inner.Paths.{path_at}
-use Rattle.mon_solve.proofs.paths.path_of.Given as goal
-
-abbrev pub invariant-loop-one : goal.invariant-loop-one
-invariant-loop-one l = path_at (drop l.one-index l.reached) l.vertex ≡ path_at l.reached l.vertex

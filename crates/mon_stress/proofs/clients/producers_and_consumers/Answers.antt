@@ -1,7 +1,0 @@
-use Rattle.std.proofs.Common.{sym, subst}
-use Rattle.mon_implicit.specs.Scripted.{AreClients}
-use Rattle.mon_stress.proofs.ClientRules.{are_clients}
-use Rattle.mon_stress.proofs.clients.producers_and_consumers.Goals as goal
-
-pub of-requires : goal.of-requires
-of-requires c = subst AreClients (sym c.in_ok-clients.ensures) are_clients

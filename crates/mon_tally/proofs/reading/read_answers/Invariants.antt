@@ -1,7 +1,0 @@
-use Rattle.mon_recheck.specs.Readings.{IsReadable}
-use Rattle.mon_recheck.proofs.Fronts.{AreGoing}
-use Rattle.mon_tally.specs.CountedReports.{answer_text}
-use Rattle.mon_tally.proofs.reading.read_answers.Given as goal
-
-abbrev pub invariant-loop-index : goal.invariant-loop-index
-invariant-loop-index l = AreGoing (answer_text l.monitor) IsReadable l.questions l.bytes l.index l.answers.items l.rest

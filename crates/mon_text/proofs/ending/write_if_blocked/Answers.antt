@@ -1,6 +1,0 @@
-use Rattle.std.proofs.Common.{sym}
-use Rattle.mon_io.proofs.Writing.{wrote_both}
-use Rattle.mon_text.proofs.ending.write_if_blocked.Goals as goal
-
-pub returns : goal.returns
-returns g c = rw (sym c.if-has_done.ensures) (wrote_both c.in_ok-write_call.ensures c.write_piece.ensures)

@@ -1,5 +1,0 @@
-use Rattle.mon_tokens.proofs.Numerals.{tokens_are}
-use Rattle.mon_tokens.proofs.laws.each_is_token.Goals as goal
-
-pub returns : goal.returns
-returns c = tokens_are

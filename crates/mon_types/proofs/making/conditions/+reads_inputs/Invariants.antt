@@ -1,7 +1,0 @@
-use Rattle.std.proofs.Common.{◌≡◌, false, map, take}
-use Rattle.std.specs.List.{list_any}
-use Rattle.mon_monitor.specs.Inputs.{reads_inputs}
-use Rattle.mon_types.proofs.making.conditions.+reads_inputs.Given as goal
-
-abbrev pub invariant-any_reads_inputs-loop-part : goal.invariant-any_reads_inputs-loop-part
-invariant-any_reads_inputs-loop-part l = list_any (λ part. part) (map reads_inputs (take l.part-index l.parts)) ≡ false

@@ -1,7 +1,0 @@
-use Rattle.std.proofs.Common.{◌≡◌, take}
-use Rattle.std.specs.List.{flat_map}
-use Rattle.mon_types.specs.Typed.{field_of}
-use Rattle.mon_types.proofs.making.fields.fields_of.Given as goal
-
-abbrev pub invariant-loop-decl : goal.invariant-loop-decl
-invariant-loop-decl l = l.fields.items ≡ flat_map field_of (take l.decl-index l.decls)

@@ -1,6 +1,0 @@
-use Rattle.std.proofs.Common.{◌≡◌, take}
-use Rattle.mon_types.specs.Typed.{starts_of}
-use Rattle.mon_types.proofs.making.fields.starts_of.Given as goal
-
-abbrev pub invariant-loop-decl : goal.invariant-loop-decl
-invariant-loop-decl l = l.starts.items ≡ starts_of (take l.decl-index l.decls)

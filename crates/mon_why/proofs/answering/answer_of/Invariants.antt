@@ -1,5 +1,0 @@
-use Rattle.mon_why.specs.inner.Answering.{AreSpared}
-use Rattle.mon_why.proofs.answering.answer_of.Given as goal
-
-abbrev pub invariant-loop-index : goal.invariant-loop-index
-invariant-loop-index l = AreSpared l.monitor l.plan l.thing l.index

@@ -1,6 +1,0 @@
-use Rattle.std.proofs.Common.{◌≡◌, ◌++◌, take}
-use Rattle.mon_why.specs.Things.{notes_of_block}
-use Rattle.mon_why.proofs.listing.push_notes.Given as goal
-
-abbrev pub invariant-loop-note : goal.invariant-loop-note
-invariant-loop-note l = l.things.items ≡ l.fn.things.items ++ notes_of_block l.block (take l.note-index l.notes)

@@ -1,7 +1,0 @@
-use Rattle.std.proofs.Common.{◌≡◌, take}
-use Rattle.std.specs.List.{filter}
-use Rattle.mon_why.specs.inner.Running.{is_other}
-use Rattle.mon_why.proofs.running.others_of.Given as goal
-
-abbrev pub invariant-loop-other : goal.invariant-loop-other
-invariant-loop-other l = l.others.items ≡ filter (is_other l.place) (take l.other-index l.flags)

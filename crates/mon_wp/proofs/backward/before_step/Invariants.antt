@@ -1,5 +1,0 @@
-use Rattle.mon_wp.proofs.StepParts.{StepSoFar}
-use Rattle.mon_wp.proofs.backward.before_step.Given as goal
-
-abbrev pub invariant-loop-part : goal.invariant-loop-part
-invariant-loop-part l = StepSoFar l.step l.parts l.part-index l.made.items l.room

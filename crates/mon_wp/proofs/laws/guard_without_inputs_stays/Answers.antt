@@ -1,5 +1,0 @@
-use Rattle.mon_wp.proofs.UnreadGuards.{guard_stays}
-use Rattle.mon_wp.proofs.laws.guard_without_inputs_stays.Goals as goal
-
-pub returns : goal.returns
-returns c = guard_stays

@@ -1,5 +1,0 @@
-use Rattle.mon_wp.proofs.PathNumbers.{paths_counted}
-use Rattle.mon_wp.proofs.laws.paths_are_counted.Goals as goal
-
-pub returns : goal.returns
-returns c = paths_counted

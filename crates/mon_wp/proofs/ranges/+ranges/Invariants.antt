@@ -1,8 +1,0 @@
-use Rattle.std.proofs.Common.{◌≡◌, take, map, true}
-use Rattle.std.specs.List.{list_all}
-use Rattle.mon_linear.specs.Substitution.{is_formula_in_range}
-use Rattle.mon_wp.proofs.ranges.+ranges.Given as goal
-
-abbrev pub invariant-read_parts-loop-part : goal.invariant-read_parts-loop-part
-invariant-read_parts-loop-part l =
-    list_all (λ part. part) (map is_formula_in_range (take l.part-index l.parts)) ≡ true

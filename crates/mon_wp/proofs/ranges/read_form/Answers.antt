@@ -1,5 +1,0 @@
-use Rattle.mon_wp.proofs.FormRanges.{form_in_range}
-use Rattle.mon_wp.proofs.ranges.read_form.Goals as goal
-
-pub returns : goal.returns
-returns c = form_in_range c.args.form.now c.terms.ensures.rule

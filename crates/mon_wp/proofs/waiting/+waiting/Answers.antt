@@ -1,9 +1,0 @@
-use Rattle.std.proofs.Common.{rules}
-use Rattle.mon_linear.specs.declared.formula.Formula.TheViews.{the_lemmas}
-use Rattle.mon_linear.proofs.LinearLemmas.{mapped_at}
-use Rattle.mon_wp.specs.inner.Movable.{is_movable}
-use Rattle.mon_wp.proofs.waiting.+waiting.Goals as goal
-
-pub waiting_parts-for_waiting-requires : goal.waiting_parts-for_waiting-requires
-waiting_parts-for_waiting-requires t c =
-    (search (rules, the_lemmas), rw c.part-item.is (mapped_at is_movable c.args.parts.now _ c.part-item.result c.loop-part-test.true c.requires))

@@ -1,0 +1,126 @@
+-- What is known of the table of a counted plan once the prover has answered.
+use Rattle.std.specs.Prelude.{◌≡◌, ◌⊎◌, ℕ, Bool, true, false, List, Option, Some, None}
+use Rattle.std.specs.Prelude.{length, All}
+use Rattle.std.specs.List.{enumerate_from}
+use Rattle.logic_cert.specs.declared.cert.Cert.{Cert}
+use Rattle.lang_monitor.specs.declared.candidate.Candidate.{Candidate}
+use Rattle.lang_monitor.specs.MonitorParts.{MonitorParts, IsMonitor}
+use Rattle.machine_events.specs.declared.plan.CondKind.TheVariants as kinds
+use Rattle.machine_events.specs.declared.plan.Plan.{Plan}
+use Rattle.machine_events.specs.Plans.{FitsPlan, IsLawful, condition_kind, has_note, notes_at}
+use Rattle.machine_events.specs.Counts.{IsLawfulByCounting}
+use Rattle.logic_wp.specs.PlainClaims.{ReadsNone}
+use Rattle.plan_place.specs.Backing.{waits_at}
+use Rattle.plan_count.specs.declared.question.Question.{Question}
+use Rattle.plan_count.specs.declared.question.Question.TheVariants as questions
+use Rattle.plan_count.specs.Questions.{IsSo}
+use Rattle.plan_counted.specs.declared.counted.Told.{Told}
+use Rattle.plan_counted.specs.declared.counted.Told.TheVariants as telling
+use Rattle.plan_counted.specs.Counted.{IsOpen, MayCount, HasOpenBlock, IsCountedFrom, Certifies}
+use Rattle.plan_counted.specs.Counted.{counted_of}
+
+-- ---- one question
+
+abbrev pub IsUnanswered : MonitorParts → List Candidate → Question → Type 0
+IsUnanswered monitor kept question = IsSo monitor kept question → IsOpen monitor kept question
+
+-- what a question asks is so, as this certificate shows
+pub record IsProved (monitor : MonitorParts) (kept : List Candidate) (question : Question)
+    (cert : Cert) : Type 0 where
+  pub certified : Certifies monitor kept question cert
+  pub so : IsSo monitor kept question
+
+abbrev pub IsAnswerTo : MonitorParts → List Candidate → Question → Option Cert → Type 0
+IsAnswerTo monitor kept question (Some cert) = IsProved monitor kept question cert
+IsAnswerTo monitor kept question None = IsUnanswered monitor kept question
+
+-- ---- one block
+
+-- a signal is proved to be enough, and a broadcast stands where some question is unanswered
+abbrev pub IsOneAnswer : MonitorParts → List Candidate → ℕ → ℕ → Told → Type 0
+IsOneAnswer monitor kept condition block (telling.Nothing counts) = ⊥
+IsOneAnswer monitor kept condition block (telling.Signal gives first) =
+    IsProved monitor kept (questions.Gives condition block) gives
+    × IsProved monitor kept (questions.First condition block) first
+IsOneAnswer monitor kept condition block telling.Broadcast =
+    IsUnanswered monitor kept (questions.Gives condition block)
+    ⊎ IsUnanswered monitor kept (questions.First condition block)
+
+-- a note is placed, or it is unanswered whether none is needed
+abbrev pub NeedsNote : MonitorParts → List Candidate → ℕ → ℕ → Bool → Type 0
+NeedsNote monitor kept condition block is_noted =
+    is_noted ≡ false → IsUnanswered monitor kept (questions.Counts condition block)
+
+-- a note that the block needs, which waits elsewhere
+pub record IsNoteAnswer (monitor : MonitorParts) (kept : List Candidate) (condition block : ℕ)
+    (is_noted : Bool) (told : Told) : Type 0 where
+  pub other : waits_at monitor condition block ≡ false
+  pub needed : NeedsNote monitor kept condition block is_noted
+  pub one : IsOneAnswer monitor kept condition block told
+
+abbrev pub IsToldOf : MonitorParts → List Candidate → ℕ → ℕ → Bool → Told → Type 0
+IsToldOf monitor kept condition block is_noted (telling.Nothing counts) =
+    (is_noted ≡ false) × IsProved monitor kept (questions.Counts condition block) counts
+IsToldOf monitor kept condition block is_noted (telling.Signal gives first) =
+    IsNoteAnswer monitor kept condition block is_noted (telling.Signal gives first)
+IsToldOf monitor kept condition block is_noted telling.Broadcast =
+    IsNoteAnswer monitor kept condition block is_noted telling.Broadcast
+
+-- the block waits at the condition, and needs a note
+pub record IsChained (monitor : MonitorParts) (kept : List Candidate) (condition block : ℕ)
+    (is_noted : Bool) : Type 0 where
+  pub waits : waits_at monitor condition block ≡ true
+  pub needed : NeedsNote monitor kept condition block is_noted
+
+abbrev pub IsToldAnswer : MonitorParts → List Candidate → ℕ → ℕ → Bool → Option Told → Type 0
+IsToldAnswer monitor kept condition block is_noted None =
+    IsChained monitor kept condition block is_noted
+IsToldAnswer monitor kept condition block is_noted (Some told) =
+    IsToldOf monitor kept condition block is_noted told
+
+-- ---- one condition
+
+abbrev pub IsToldAt : MonitorParts → Plan → ℕ → ℕ × Told → Type 0
+IsToldAt monitor plan condition one =
+    IsToldOf monitor plan.kept condition one.0 (has_note (notes_at plan one.0) condition) one.1
+
+-- a condition that was of kind broadcast and is counted, and what each block has on it
+pub record IsColumnOf (monitor : MonitorParts) (plan : Plan) (condition : ℕ) (column : List Told) :
+    Type 0 where
+  pub was : condition_kind plan condition ≡ Some kinds.Broadcast
+  pub reads_none : ReadsNone monitor condition
+  pub many : length column ≡ length monitor.blocks
+  pub told : All (IsToldAt monitor plan condition) (enumerate_from 0 column)
+
+abbrev pub IsColumn : MonitorParts → Plan → ℕ → Option (List Told) → Type 0
+IsColumn monitor plan condition (Some column) = IsColumnOf monitor plan condition column
+IsColumn monitor plan condition None =
+    condition_kind plan condition ≡ Some kinds.Broadcast → MayCount monitor plan condition
+    → HasOpenBlock monitor plan condition
+
+-- ---- all conditions
+
+pub record AreColumns (monitor : MonitorParts) (plan : Plan) (columns : List (Option (List Told))) :
+    Type 0 where
+  pub many : length columns ≡ length monitor.conditions
+  pub each : All (λ one. IsColumn monitor plan one.0 one.1) (enumerate_from 1 columns)
+
+-- ---- what the laws say
+
+abbrev pub AnsweredColumnsFit : Type 0
+AnsweredColumnsFit =
+    (monitor : MonitorParts) (plan : Plan) (columns : List (Option (List Told)))
+    → IsMonitor monitor → FitsPlan monitor plan → AreColumns monitor plan columns
+    → FitsPlan monitor (counted_of plan columns)
+
+abbrev pub AnsweredColumnsCount : Type 0
+AnsweredColumnsCount =
+    (monitor : MonitorParts) (plan : Plan) (columns : List (Option (List Told)))
+    → IsMonitor monitor → FitsPlan monitor plan → IsLawful monitor plan
+    → AreColumns monitor plan columns → IsLawfulByCounting monitor (counted_of plan columns)
+
+abbrev pub AnsweredColumnsLicense : Type 0
+AnsweredColumnsLicense =
+    (monitor : MonitorParts) (plan : Plan) (columns : List (Option (List Told)))
+    → IsMonitor monitor → FitsPlan monitor plan → AreColumns monitor plan columns
+    → IsCountedFrom monitor plan (counted_of plan columns)

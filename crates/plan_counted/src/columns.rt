@@ -1,0 +1,141 @@
+//! What the blocks have on a condition that is counted.
+
+ghost use Rattle.std.specs.Prelude.{◌≡◌, ◌-◌, ◌≤◌, IfOk, true, slice_get};
+ghost use Rattle.std.specs.List.{list_all};
+ghost use Rattle.machine_events.specs.Plans.{FitsPlan, has_note};
+ghost use Rattle.plan_place.specs.Backing.{reads_none};
+ghost use Rattle.plan_place.specs.Relayed.{is_broadcast};
+ghost use Rattle.logic_wp.specs.Expressible.{is_expressible};
+ghost use Rattle.plan_count.specs.Questions.{MayBeAsked};
+ghost use Rattle.plan_counted.specs.inner.Answers.{AreColumns, IsColumn, IsOneAnswer, IsToldAnswer};
+
+use super::asking::answer;
+use super::counted::Told;
+use base_list::Seq;
+use lang_monitor::{Candidate, Monitor};
+use machine_events::{Note, Plan};
+use plan_count::Question;
+use plan_place::{is_broadcast_at, reads_none, waits_at};
+use std::alloc::{AllocError, Global};
+
+/// A signal or a broadcast, as the prover answers whether one signal leaves the condition counted.
+fn signal_or_broadcast(
+    alloc: Global,
+    monitor: &Monitor,
+    kept: &[Candidate],
+    condition: u32,
+    block: u32,
+) -> Result<Told, AllocError>
+    requires kept { list_all is_expressible kept.now ≡ true }
+    requires may { MayBeAsked monitor.now condition block }
+    ensures { IfOk result (IsOneAnswer monitor.now kept.now condition block) }
+{
+    let question = Question::Gives { condition, block };
+    let Some(gives) = answer(alloc, monitor, kept, question)? else {
+        return Ok(Told::Broadcast);
+    };
+    let question = Question::First { condition, block };
+    match answer(alloc, monitor, kept, question)? {
+        Some(first) => Ok(Told::Signal { gives, first }),
+        None => Ok(Told::Broadcast),
+    }
+}
+
+/// What the block, on which a note is placed or not, has to have. It is none where the block waits
+/// at the condition and would need a note of its own.
+fn told(
+    alloc: Global,
+    monitor: &Monitor,
+    kept: &[Candidate],
+    condition: u32,
+    block: u32,
+    is_noted: bool,
+) -> Result<Option<Told>, AllocError>
+    requires kept { list_all is_expressible kept.now ≡ true }
+    requires may { MayBeAsked monitor.now condition block }
+    ensures { IfOk result (IsToldAnswer monitor.now kept.now condition block is_noted) }
+{
+    if !is_noted {
+        let question = Question::Counts { condition, block };
+        match answer(alloc, monitor, kept, question)? {
+            Some(counts) => return Ok(Some(Told::Nothing { counts })),
+            None => {}
+        }
+    }
+    if waits_at(monitor, condition, block) {
+        return Ok(None);
+    }
+    let told = signal_or_broadcast(alloc, monitor, kept, condition, block)?;
+    Ok(Some(told))
+}
+
+/// Whether a note is on the condition.
+fn has_note(notes: &[Note], condition: u32) -> bool
+    ensures { result ≡ has_note notes.now condition }
+{
+    notes.iter().any(|note| note.condition == condition)
+}
+
+/// What each block has on the condition, which was of kind broadcast and reads no inputs, or none
+/// where it can't be counted.
+fn column(
+    alloc: Global,
+    monitor: &Monitor,
+    plan: &Plan,
+    condition: u32,
+) -> Result<Option<Seq<Told>>, AllocError>
+    requires fits { FitsPlan monitor.now plan.now }
+    requires kept { list_all is_expressible plan.now.kept ≡ true }
+    requires first { 1 ≤ condition }
+    requires reads { reads_none monitor.now condition ≡ true }
+    requires kind { is_broadcast (slice_get plan.now.kinds (condition - 1)) ≡ true }
+    ensures { IfOk result (IsColumn monitor.now plan.now condition) }
+{
+    let kept = plan.kept.items();
+    let lists = plan.notes.items();
+    let mut column = Vec::new(alloc);
+    for index in 0..monitor.blocks().len() {
+        let is_noted = has_note(lists[index].notes(), condition);
+        match told(alloc, monitor, kept, condition, index as u32, is_noted)? {
+            Some(told) => column.push(told)?,
+            None => return Ok(None),
+        }
+    }
+    Ok(Some(Seq::of(column)))
+}
+
+/// What each block has on the condition where it is counted.
+fn column_of(
+    alloc: Global,
+    monitor: &Monitor,
+    plan: &Plan,
+    condition: u32,
+) -> Result<Option<Seq<Told>>, AllocError>
+    requires fits { FitsPlan monitor.now plan.now }
+    requires kept { list_all is_expressible plan.now.kept ≡ true }
+    requires first { 1 ≤ condition }
+    ensures { IfOk result (IsColumn monitor.now plan.now condition) }
+{
+    if reads_none(monitor, condition) && is_broadcast_at(plan.kinds.items(), condition) {
+        column(alloc, monitor, plan, condition)
+    } else {
+        Ok(None)
+    }
+}
+
+/// What each block has on each condition that is counted.
+pub(crate) fn columns_of(
+    alloc: Global,
+    monitor: &Monitor,
+    plan: &Plan,
+) -> Result<Vec<Option<Seq<Told>>>, AllocError>
+    requires fits { FitsPlan monitor.now plan.now }
+    requires kept { list_all is_expressible plan.now.kept ≡ true }
+    ensures { IfOk result (λ all. AreColumns monitor.now plan.now all.items) }
+{
+    let mut all = Vec::new(alloc);
+    for index in 0..monitor.conditions().len() {
+        all.push(column_of(alloc, monitor, plan, index as u32 + 1)?)?;
+    }
+    Ok(all)
+}

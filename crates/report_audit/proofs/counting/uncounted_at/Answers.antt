@@ -1,0 +1,38 @@
+use Rattle.std.proofs.Common.{ap, sym, subst, ◌∙◌}
+use Rattle.std.specs.Prelude.{All}
+use Rattle.std.specs.List.{filter}
+use Rattle.logic_wp.specs.PlainClaims.{MayAsk}
+use Rattle.plan_count.specs.Questions.{MayAskQuestion}
+use Rattle.report_audit.specs.CountedFindings.{is_passing}
+use Rattle.report_audit.proofs.CountAsked.{questions_askable}
+use Rattle.report_audit.proofs.Uncounted.{passed_at, passing_askable, signal_at, signal_reads, uncounted_of}
+use Rattle.report_audit.proofs.counting.uncounted_at.Goals as goal
+
+pub first_unproved-requires-clause-claims : goal.first_unproved-requires-clause-claims
+first_unproved-requires-clause-claims c =
+    let monitor = c.args.monitor.now in
+    subst (All (MayAsk monitor)) (sym (c.deref.ensures.value ∙ c.in_ok-passing.ensures ∙ ap (filter (is_passing c.args.plan.now c.args.condition)) c.requires.claims))
+    (passing_askable monitor c.args.plan.now c.args.condition c.requires.plan c.requires.kept)
+
+pub returns-in-None : goal.returns-in-None
+returns-in-None c =
+    passed_at c.args.monitor.now c.args.plan.now c.args.condition c.items-kept.result.now c.deref.result.now c.in_ok-first_unproved.field-0 c.items-kept.ensures
+    (c.deref.ensures.value ∙ c.in_ok-passing.ensures ∙ ap (filter (is_passing c.args.plan.now c.args.condition)) c.requires.claims) c.in-None.is c.in_ok-first_unproved.ensures
+
+pub first_unanswered-requires-clause-questions : goal.first_unanswered-requires-clause-questions
+first_unanswered-requires-clause-questions c =
+    let monitor = c.args.monitor.now in
+    let plan = c.args.plan.now in
+    let kind = signal_at monitor plan c.args.condition c.items.result.now c.is_broadcast_at.result c.requires.plan c.requires.condition c.items.ensures c.is_broadcast_at.ensures c.if-is_broadcast_at.false in
+    subst (All (MayAskQuestion monitor)) (sym (c.deref-in-Some.ensures.value ∙ c.in_ok-questions-in-Some.ensures))
+    (questions_askable monitor plan c.args.condition (signal_reads monitor plan c.args.condition c.blocks-blocks.ensures.rule c.requires.plan c.requires.sight c.requires.condition kind))
+
+pub returns : goal.returns
+returns c =
+    let monitor = c.args.monitor.now in
+    let plan = c.args.plan.now in
+    uncounted_of monitor plan c.args.condition c.items-kept.result.now c.deref.result.now c.deref-in-Some.result.now c.in_ok-first_unproved.field-0 c.in-Some.field-0 c.first_unanswered.result
+    c.items-kept.ensures (c.deref.ensures.value ∙ c.in_ok-passing.ensures ∙ ap (filter (is_passing plan c.args.condition)) c.requires.claims)
+    (c.deref-in-Some.ensures.value ∙ c.in_ok-questions-in-Some.ensures)
+    (signal_at monitor plan c.args.condition c.items.result.now c.is_broadcast_at.result c.requires.plan c.requires.condition c.items.ensures c.is_broadcast_at.ensures c.if-is_broadcast_at.false)
+    c.in-Some.is c.in_ok-first_unproved.ensures c.first_unanswered.ensures

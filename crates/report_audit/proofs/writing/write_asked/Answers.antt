@@ -1,0 +1,10 @@
+use Rattle.base_io.proofs.Writing.{wrote_both, wrote_fails, wrote_longer}
+use Rattle.report_audit.specs.FindingText.{pair_text}
+use Rattle.report_audit.proofs.writing.write_asked.Goals as goal
+
+pub returns-in_err-write_piece : goal.returns-in_err-write_piece
+returns-in_err-write_piece g c =
+    wrote_fails _ c.from_residual.ensures.0 (wrote_longer (pair_text c.args.monitor.now c.args.condition c.args.block) c.in_err-write_piece.ensures)
+
+pub returns : goal.returns
+returns g c = wrote_both c.in_ok-write_piece.ensures c.write_pair.ensures

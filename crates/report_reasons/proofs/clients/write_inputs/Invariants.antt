@@ -1,0 +1,10 @@
+use Rattle.std.proofs.Common.{Ok, take}
+use Rattle.std.specs.List.{flat_map, enumerate_from}
+use Rattle.base_io.specs.Writing.{Wrote}
+use Rattle.logic_solve.specs.Solutions.{valuation_of}
+use Rattle.report_reasons.specs.ReasonText.{input_text}
+use Rattle.report_reasons.proofs.clients.write_inputs.Given as goal
+
+abbrev pub invariant-loop-number : goal.invariant-loop-number
+invariant-loop-number g l =
+    Wrote (g.S.Sink.seen l.initial.out) (g.S.Sink.seen l.out) (Ok tt) (flat_map (λ one. input_text (valuation_of l.at) l.first l.inputs one.0 one.1) (take l.number (enumerate_from 0 l.kinds)))

@@ -1,0 +1,22 @@
+use Rattle.std.proofs.Common.{◌++◌, codes, subst}
+use Rattle.report_recheck.specs.Fronts.{Anything, IsAfter}
+use Rattle.report_recheck.specs.Readings.{IsReadable}
+use Rattle.report_recheck.proofs.Fronts.{either_after, none_there}
+use Rattle.report_recheck.proofs.ReportParts.{cert_line}
+use Rattle.report_tally.specs.CountedReports.{answer_text, question_text}
+use Rattle.report_tally.proofs.OwedLines.{answer_line}
+use Rattle.report_tally.proofs.reading.read_answer.Goals as goal
+
+pub returns-in-Some : goal.returns-in-Some
+returns-in-Some c =
+    let monitor = c.args.monitor.now in
+    let head = codes "proof " ++ question_text monitor c.args.question ++ codes ": " in
+    either_after IsReadable Anything head cert_line (answer_text monitor c.args.question) c.args.bytes.now c.in-Some.rest.now c.read_cert_line.result (answer_line monitor c.args.question)
+    (subst (IsAfter c.args.bytes.now head) c.in-Some.is c.in_ok-rest.ensures) c.read_cert_line.ensures
+
+pub returns-in-None : goal.returns-in-None
+returns-in-None c =
+    let monitor = c.args.monitor.now in
+    let head = codes "proof " ++ question_text monitor c.args.question ++ codes ": " in
+    none_there IsReadable Anything head cert_line (answer_text monitor c.args.question) c.args.bytes.now (answer_line monitor c.args.question)
+    (subst (IsAfter c.args.bytes.now head) c.in-None.is c.in_ok-rest.ensures)

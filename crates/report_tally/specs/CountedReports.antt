@@ -1,0 +1,121 @@
+-- Reports of counted plans: a plan, which of its conditions are counted, and one certificate for
+-- each claim and each question that it rests on.
+use Rattle.std.specs.Prelude.{◌≡◌, ℕ, ◌-◌, Bool, true, false, not, List, [], ◌∷◌, ◌++◌, length}
+use Rattle.std.specs.Prelude.{Option, Some, None, slice_get, unwrap_or, codes, decimal}
+use Rattle.std.specs.Prelude.{if◌then◌else◌}
+use Rattle.std.specs.List.{filter, flat_map, zip, enumerate_from}
+use Rattle.logic_cert.specs.declared.cert.Cert.{Cert}
+use Rattle.logic_cert.specs.CertText.{cert_text}
+use Rattle.lang_monitor.specs.declared.claim.Claim.{Claim}
+use Rattle.lang_monitor.specs.declared.claim.Claim.TheVariants as claims
+use Rattle.lang_monitor.specs.MonitorParts.{MonitorParts}
+use Rattle.machine_events.specs.declared.plan.CondKind.TheVariants as kinds
+use Rattle.machine_events.specs.declared.plan.Note.{Note}
+use Rattle.machine_events.specs.declared.plan.Plan.{Plan}
+use Rattle.machine_events.specs.Plans.{notes_at}
+use Rattle.machine_events.specs.PlanText.{block_name, plan_text}
+use Rattle.plan_place.specs.Backing.{backed_claims, block_numbers}
+use Rattle.plan_place.specs.Relayed.{note_on}
+use Rattle.plan_count.specs.declared.question.Question.{Question}
+use Rattle.plan_count.specs.declared.question.Question.TheVariants as questions
+use Rattle.report_recheck.specs.Reports.{IsPlanOf, proofs_text}
+use Rattle.report_tally.specs.declared.report.CountedReport.{CountedReport}
+
+-- ---- what a counted plan rests on
+
+-- of each condition, the first of which has number 1, whether it is counted
+abbrev pub is_counted : List Bool → ℕ → Bool
+is_counted counted condition = unwrap_or (slice_get counted (condition - 1)) false
+
+-- a condition that is counted is of kind signal
+pub record AreCounted (plan : Plan) (counted : List Bool) : Type 0 where
+  pub many : length counted ≡ length plan.kinds
+  pub signals : (place : ℕ) → slice_get counted place ≡ Some true
+      → slice_get plan.kinds place ≡ Some kinds.Signal
+
+-- the claim isn't that one waiter is enough at a condition that is counted
+abbrev pub is_owed : List Bool → Claim → Bool
+is_owed counted (claims.One condition block) = not (is_counted counted condition)
+is_owed counted claim = true
+
+-- the claims that any plan rests on, but for those
+abbrev pub owed_claims : MonitorParts → Plan → List Bool → List Claim
+owed_claims monitor plan counted = filter (is_owed counted) (backed_claims monitor plan)
+
+-- the questions on a block that has a broadcast, or a signal, on a counted condition
+abbrev pub given_questions : ℕ → ℕ → Bool → List Question
+given_questions condition block true = []
+given_questions condition block false =
+    questions.Gives condition block ∷ questions.First condition block ∷ []
+
+-- those on a block that has this note, or none
+abbrev pub note_questions : ℕ → ℕ → Option Note → List Question
+note_questions condition block None = questions.Counts condition block ∷ []
+note_questions condition block (Some note) = given_questions condition block note.all
+
+-- those on each block
+abbrev pub block_questions : MonitorParts → Plan → ℕ → List Question
+block_questions monitor plan condition =
+    flat_map (λ block. note_questions condition block (note_on (notes_at plan block) condition))
+    (block_numbers monitor)
+
+-- those on each condition that is counted
+abbrev pub owed_questions : MonitorParts → Plan → List Bool → List Question
+owed_questions monitor plan counted =
+    flat_map (λ one. if one.1 then block_questions monitor plan one.0 else [])
+    (enumerate_from 1 counted)
+
+-- ---- reports
+
+-- the plan is one of the monitor, and each claim and each question that it rests on has one
+-- certificate
+pub record IsCountedReport (monitor : MonitorParts) (report : CountedReport) : Type 0 where
+  pub plan : IsPlanOf monitor report.plan
+  pub counted : AreCounted report.plan report.counted
+  pub proofs : length report.proofs ≡ length (owed_claims monitor report.plan report.counted)
+  pub answers : length report.answers ≡ length (owed_questions monitor report.plan report.counted)
+
+-- each question with its certificate, in the order of the questions
+abbrev pub answers_of : MonitorParts → CountedReport → List (Question × Cert)
+answers_of monitor report =
+    zip (owed_questions monitor report.plan report.counted) report.answers
+
+-- each claim with its certificate, in the order of the claims
+abbrev pub owed_proofs : MonitorParts → CountedReport → List (Claim × Cert)
+owed_proofs monitor report = zip (owed_claims monitor report.plan report.counted) report.proofs
+
+-- ---- the text of a report
+
+-- a word, and then `2 put`
+abbrev pub asked_text : MonitorParts → List ℕ → ℕ → ℕ → List ℕ
+asked_text monitor word condition block =
+    word ++ decimal condition ++ codes " " ++ block_name monitor block
+
+-- `counts 2 put`, `gives 2 put`, `first 2 put`
+abbrev pub question_text : MonitorParts → Question → List ℕ
+question_text monitor (questions.Counts condition block) =
+    asked_text monitor (codes "counts ") condition block
+question_text monitor (questions.Gives condition block) =
+    asked_text monitor (codes "gives ") condition block
+question_text monitor (questions.First condition block) =
+    asked_text monitor (codes "first ") condition block
+
+-- `proof counts 2 put: clash 0 1` and a line feed
+abbrev pub answer_text : MonitorParts → Question → Cert → List ℕ
+answer_text monitor question cert =
+    codes "proof " ++ question_text monitor question ++ codes ": " ++ cert_text cert ++ codes "\n"
+
+-- a line for each question with its certificate
+abbrev pub answers_text : MonitorParts → List Question → List Cert → List ℕ
+answers_text monitor asked certs =
+    flat_map (λ one. answer_text monitor one.0 one.1) (zip asked certs)
+
+-- the lines of the claims, then those of the questions
+abbrev pub owed_text : MonitorParts → CountedReport → List ℕ
+owed_text monitor report =
+    proofs_text monitor (owed_claims monitor report.plan report.counted) report.proofs
+    ++ answers_text monitor (owed_questions monitor report.plan report.counted) report.answers
+
+-- the text of the plan, then the lines of what it rests on
+abbrev pub counted_report_text : MonitorParts → CountedReport → List ℕ
+counted_report_text monitor report = plan_text monitor report.plan ++ owed_text monitor report

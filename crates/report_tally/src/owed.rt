@@ -1,0 +1,180 @@
+//! What a counted plan rests on.
+
+ghost use Rattle.std.specs.Prelude.{◌≡◌, ◌≤◌, ◌++◌, [], IfOk, OnOk, if◌then◌else◌, length};
+ghost use Rattle.std.specs.List.{filter};
+ghost use Rattle.std.specs.Option.{option_copied};
+ghost use Rattle.lang_base.specs.Limits.{CONDITIONS};
+ghost use Rattle.machine_events.specs.Plans.{notes_at};
+ghost use Rattle.plan_place.specs.Relayed.{note_on};
+ghost use Rattle.report_tally.specs.CountedReports.{block_questions, is_counted, is_owed};
+ghost use Rattle.report_recheck.specs.Reports.{IsPlanOf};
+ghost use Rattle.report_tally.specs.CountedReports.{given_questions, note_questions, owed_claims};
+ghost use Rattle.report_tally.specs.CountedReports.{owed_questions};
+
+use lang_monitor::{Claim, Monitor};
+use machine_events::{Note, Plan};
+use plan_count::Question;
+use report_recheck::claims_of;
+use std::alloc::{AllocError, Global};
+
+// ---- claims
+
+/// Whether the condition is counted.
+fn is_counted(counted: &[bool], condition: u32) -> bool
+    ensures { result ≡ is_counted counted.now condition }
+{
+    match counted.get(condition.saturating_sub(1) as usize) {
+        Some(is) => *is,
+        None => false,
+    }
+}
+
+/// Whether a counted plan rests on the claim, if a plan does.
+fn is_owed(counted: &[bool], claim: Claim) -> bool
+    ensures { result ≡ is_owed counted.now claim }
+{
+    match claim {
+        Claim::Keeps { .. } => true,
+        Claim::NoNote { .. } => true,
+        Claim::One { condition, .. } => !is_counted(counted, condition),
+        Claim::NoTest { .. } => true,
+    }
+}
+
+/// The claims on which a counted plan rests.
+pub(crate) fn owed_claims(
+    alloc: Global,
+    monitor: &Monitor,
+    plan: &Plan,
+    counted: &[bool],
+) -> Result<Vec<Claim>, AllocError>
+    requires { IsPlanOf monitor.now plan.now }
+    ensures { IfOk result (λ owed. owed.items ≡ owed_claims monitor.now plan.now counted.now) }
+{
+    let all = claims_of(alloc, monitor, plan)?;
+    let owed = owed_of(alloc, &all, counted)?;
+    Ok(owed)
+}
+
+/// Those of the claims on which a counted plan rests.
+fn owed_of(alloc: Global, claims: &[Claim], counted: &[bool]) -> Result<Vec<Claim>, AllocError>
+    ensures { IfOk result (λ owed. owed.items ≡ filter (is_owed counted.now) claims.now) }
+{
+    let mut owed = Vec::new(alloc);
+    for claim in claims {
+        if is_owed(counted, *claim) {
+            owed.push(*claim)?;
+        }
+    }
+    Ok(owed)
+}
+
+// ---- questions
+
+/// The questions on which a counted plan rests.
+pub(crate) fn owed_questions(
+    alloc: Global,
+    monitor: &Monitor,
+    plan: &Plan,
+    counted: &[bool],
+) -> Result<Vec<Question>, AllocError>
+    requires { length counted.now ≤ CONDITIONS }
+    ensures { IfOk result (λ owed. owed.items
+        ≡ owed_questions monitor.now plan.now counted.now) }
+{
+    let mut owed = Vec::new(alloc);
+    for index in 0..counted.len() {
+        push_counted(&mut owed, monitor, plan, index as u32 + 1, counted[index])?;
+    }
+    Ok(owed)
+}
+
+/// Appends the questions on the condition, where it is counted.
+fn push_counted(
+    owed: &mut Vec<Question>,
+    monitor: &Monitor,
+    plan: &Plan,
+    condition: u32,
+    counted: bool,
+) -> Result<(), AllocError>
+    ensures { OnOk result (owed.new.items ≡ owed.old.items
+        ++ (if counted then block_questions monitor.now plan.now condition else [])) }
+{
+    if counted {
+        push_blocks(owed, monitor, plan, condition)?;
+    }
+    Ok(())
+}
+
+/// Appends the questions on the condition and each block.
+fn push_blocks(
+    owed: &mut Vec<Question>,
+    monitor: &Monitor,
+    plan: &Plan,
+    condition: u32,
+) -> Result<(), AllocError>
+    ensures { OnOk result
+        (owed.new.items ≡ owed.old.items ++ block_questions monitor.now plan.now condition) }
+{
+    for index in 0..monitor.blocks().len() {
+        let block = index as u32;
+        push_noted(owed, condition, block, placed_note(plan, index, condition))?;
+    }
+    Ok(())
+}
+
+/// Appends the questions on a block that has this note, or none.
+fn push_noted(
+    owed: &mut Vec<Question>,
+    condition: u32,
+    block: u32,
+    note: Option<Note>,
+) -> Result<(), AllocError>
+    ensures { OnOk result
+        (owed.new.items ≡ owed.old.items ++ note_questions condition block note) }
+{
+    match note {
+        None => owed.push(Question::Counts { condition, block })?,
+        Some(note) => push_given(owed, condition, block, note.all)?,
+    }
+    Ok(())
+}
+
+/// Appends the questions on a block that has a note, a broadcast or a signal.
+fn push_given(
+    owed: &mut Vec<Question>,
+    condition: u32,
+    block: u32,
+    all: bool,
+) -> Result<(), AllocError>
+    ensures { OnOk result (owed.new.items ≡ owed.old.items
+        ++ given_questions condition block all) }
+{
+    if !all {
+        owed.push(Question::Gives { condition, block })?;
+        owed.push(Question::First { condition, block })?;
+    }
+    Ok(())
+}
+
+/// The block's note on the condition.
+fn placed_note(plan: &Plan, block: usize, condition: u32) -> Option<Note>
+    ensures { result ≡ note_on (notes_at plan.now block) condition }
+{
+    match plan.notes.items().get(block) {
+        Some(list) => note_on(list.notes(), condition),
+        None => None,
+    }
+}
+
+fn note_on(notes: &[Note], condition: u32) -> Option<Note>
+    ensures { result ≡ note_on notes.now condition }
+{
+    found_on(notes, condition).copied()
+}
+
+fn found_on(notes: &[Note], condition: u32) -> Option<&Note>
+    ensures { option_copied result ≡ note_on notes.now condition }
+{
+    notes.iter().find(|note| note.condition == condition)
+}

@@ -1,0 +1,173 @@
+//! The text of a log.
+
+ghost use Rattle.std.specs.Prelude.{◌≡◌, ◌<◌, ◌≤◌, length};
+ghost use Rattle.std.specs.List.{flat_map};
+ghost use Rattle.lang_base.specs.Limits.{CLIENTS};
+ghost use Rattle.base_io.specs.Writing.{Wrote};
+ghost use Rattle.machine_events.specs.Configurations.{situation_of};
+ghost use Rattle.report_text.specs.LogText.{are_done, closing_text, entry_text, is_woken, log_text};
+ghost use Rattle.report_text.specs.LogText.{replied_text, wakes_text, woken_name, woken_names};
+
+use crate::ending::{Left, has_done, write_end};
+use crate::turns::{name_of, write_call, write_state};
+use crate::values::reply_bytes;
+use base_io::{Sink, SinkFailed, write_piece, write_pieces};
+use itoa::Buffer;
+use lang_monitor::Monitor;
+use machine_events::{Entry, Outcome};
+use machine_explicit::FreeMonitor;
+use machine_implicit::{Client, Reply};
+
+/// Writes the log of a monitor that ran by sections: a line for each entry, then how the log ended,
+/// then the state. It takes no memory.
+///
+/// After `SinkFailed` the first bytes of the text were taken, fewer than all and maybe none.
+pub fn write_log<S: Sink>(free: &FreeMonitor, out: &mut S) -> Result<(), SinkFailed>
+    ensures { Wrote (S.seen out.old) (S.seen out.new) result
+        (log_text free.now.system free.now.log free.now.now) }
+{
+    write_entries(free.monitor(), free.scripts().clients(), free.log(), out)?;
+    write_closing(free, out)
+}
+
+/// How a log ended, then the state.
+pub(crate) fn write_closing<S: Sink>(free: &FreeMonitor, out: &mut S) -> Result<(), SinkFailed>
+    ensures { Wrote (S.seen out.old) (S.seen out.new) result
+        (closing_text free.now.system.monitor free.now.system.clients (situation_of free.now.now)) }
+{
+    let clients = free.scripts().clients();
+    write_end(
+        free.monitor(),
+        clients,
+        &Left::Free(free),
+        are_done(free),
+        out,
+    )?;
+    write_state(free.monitor(), free.state(), out)
+}
+
+/// Whether no client has a call left: whether the log ends by `done`.
+pub fn are_done(free: &FreeMonitor) -> bool
+    ensures { result ≡ are_done free.now.system.clients (situation_of free.now.now).places }
+{
+    let clients = free.scripts().clients();
+    let left = Left::Free(free);
+    for client in 0..left.count() {
+        if !has_done(clients, client, left.place(client)) {
+            return false;
+        }
+    }
+    true
+}
+
+// ---- entries
+
+// A line for each entry.
+fn write_entries<S: Sink>(
+    monitor: &Monitor,
+    clients: &[Client],
+    log: &[Entry],
+    out: &mut S,
+) -> Result<(), SinkFailed>
+    requires { length clients.now ≤ CLIENTS }
+    ensures { Wrote (S.seen out.old) (S.seen out.new) result
+        (flat_map (entry_text monitor.now clients.now) log.now) }
+{
+    for entry in log {
+        write_entry(monitor, clients, *entry, out)?;
+    }
+    Ok(())
+}
+
+// `A.1 put(3) waits`, `A.1 put(3) = - wakes B` or `spurious A`, and a line feed.
+fn write_entry<S: Sink>(
+    monitor: &Monitor,
+    clients: &[Client],
+    entry: Entry,
+    out: &mut S,
+) -> Result<(), SinkFailed>
+    requires { length clients.now ≤ CLIENTS }
+    ensures { Wrote (S.seen out.old) (S.seen out.new) result
+        (entry_text monitor.now clients.now entry) }
+{
+    let (client, call) = (entry.client as usize, entry.call as usize);
+    let block = entry.block as usize;
+    match entry.outcome {
+        Outcome::Waits => {
+            write_call(monitor, clients, client, call, block, out)?;
+            write_piece(b" waits\n", out)
+        }
+        Outcome::Replies { reply, woken } => {
+            write_call(monitor, clients, client, call, block, out)?;
+            write_reply(clients, reply, woken, out)
+        }
+        Outcome::Spurious => write_pieces(&[b"spurious ", name_of(clients, client), b"\n"], out),
+    }
+}
+
+// ` = - wakes B` and a line feed.
+fn write_reply<S: Sink>(
+    clients: &[Client],
+    reply: Reply,
+    woken: u32,
+    out: &mut S,
+) -> Result<(), SinkFailed>
+    requires { length clients.now ≤ CLIENTS }
+    ensures { Wrote (S.seen out.old) (S.seen out.new) result
+        (replied_text clients.now reply woken) }
+{
+    let mut digits = Buffer::new();
+    write_pieces(&[b" = ", reply_bytes(reply, &mut digits)], out)?;
+    write_wakes(clients, woken, out)?;
+    write_piece(b"\n", out)
+}
+
+// ---- who was woken
+
+// ` wakes B C`, or nothing where no client was woken.
+fn write_wakes<S: Sink>(clients: &[Client], woken: u32, out: &mut S) -> Result<(), SinkFailed>
+    requires { length clients.now ≤ CLIENTS }
+    ensures { Wrote (S.seen out.old) (S.seen out.new) result (wakes_text clients.now woken) }
+{
+    if woken == 0 {
+        return Ok(());
+    }
+    write_piece(b" wakes", out)?;
+    write_woken(clients, woken, out)
+}
+
+// A blank and a name for each client that was woken, in file order.
+fn write_woken<S: Sink>(clients: &[Client], woken: u32, out: &mut S) -> Result<(), SinkFailed>
+    requires { length clients.now ≤ CLIENTS }
+    ensures { Wrote (S.seen out.old) (S.seen out.new) result (woken_names woken clients.now) }
+{
+    for (number, client) in clients.iter().enumerate() {
+        write_if_woken(woken, number as u32, client, out)?;
+    }
+    Ok(())
+}
+
+// A blank and the client's name, where it was woken.
+fn write_if_woken<S: Sink>(
+    woken: u32,
+    number: u32,
+    client: &Client,
+    out: &mut S,
+) -> Result<(), SinkFailed>
+    requires { number < CLIENTS }
+    ensures { Wrote (S.seen out.old) (S.seen out.new) result
+        (woken_name woken number client.now) }
+{
+    if !is_woken(woken, number) {
+        return Ok(());
+    }
+    write_pieces(&[b" ", client.name.bytes()], out)
+}
+
+// Whether the client's bit is set.
+fn is_woken(woken: u32, client: u32) -> bool
+    requires { client < CLIENTS }
+    ensures { result ≡ is_woken woken client }
+{
+    woken & (1 << client) != 0
+}

@@ -1,0 +1,24 @@
+//! Blocking calls: each client of a monitor has a caller, whose call blocks until the client's next
+//! block replies.
+//!
+//! A program with threads of its own opens a [`BlockingMonitor`] and gives each thread a
+//! [`Caller`]. A thread whose client waits is parked until another thread's section wakes the
+//! client. [`run_callers`] makes the calls of all clients, each in a thread of its own.
+//! Definitions: `specs/Commits` (what a call that blocks tells its caller), those of `threads_lock`
+//! (what a caller knows, and what stands in the log at the end) and of `machine_explicit`.
+#![tactic(auto)]
+
+mod attempt;
+mod blocking;
+mod callers;
+mod commit_end;
+mod crew;
+mod door;
+mod hall;
+mod parkers;
+mod start;
+
+pub use blocking::{BlockingMonitor, Caller};
+pub use callers::run_callers;
+pub use commit_end::CommitEnd;
+pub use threads_lock::{Gate, OpenGate};
