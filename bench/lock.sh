@@ -23,13 +23,14 @@ openings=3
 
 # The crates of the repository on which these stand, and these.
 stands_on() {
-  local known more
+  local ours known more
+  ours=$(cut -d: -f1 "$root/crates.txt" | sort)
   more=$(printf '%s\n' "$@" | sort -u)
   while [ "$more" != "${known:-}" ]; do
     known=$more
     more=$(for name in $known; do
       echo "$name"
-      sed -n "s/^$name://p" "$root/crates.txt" | tr ' ' '\n' | sed -n '/^mon_/p'
+      sed -n "s/^$name://p" "$root/crates.txt" | tr ' ' '\n' | sort | comm -12 - <(echo "$ours")
     done | sort -u)
   done
   echo "$known"
