@@ -1,7 +1,7 @@
 #!/usr/bin/env bash
-# Runs `expresso block` again and again on a barrier, at which 32 callers wait for the last of them, and says how many
-# runs ended well: with status 0, 64 replies, and the state in which all have come. A caller that is left parked shows as a
-# run that is cut off.
+# Runs `expresso block` again and again on a barrier, at which 32 callers wait for the last of them,
+# and says how many runs ended well: with status 0, 64 replies, and the state in which all have
+# come. A caller that is left parked shows as a run that is cut off.
 #
 #   bench/barrier.sh          builds the program, and runs it
 #   EXPRESSO=PROGRAM RUNS=N   take this program and build none; so many runs in place of 1,000

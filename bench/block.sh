@@ -1,8 +1,9 @@
 #!/usr/bin/env bash
-# Compares `expresso block` on a buffer, by a thread for each of 32 clients with 16,384 calls in all, with peer.rs, which
-# does the same work by hand, and with `run` by 4 workers: median wall times, and the ratio of the first two (block / peer).
-# Unlike the peer, `block` and `run` also read the files, compile the monitor, and keep and print a log: the column `text`
-# is `simulate`, which does all that on one thread. All runs of a row are interleaved.
+# Compares `expresso block` on a buffer, by a thread for each of 32 clients with 16,384 calls in
+# all, with peer.rs, which does the same work by hand, and with `run` by 4 workers: median wall
+# times, and the ratio of the first two (block / peer). Unlike the peer, `block` and `run` also read
+# the files, compile the monitor, and keep and print a log: the column `text` is `simulate`, which
+# does all that on one thread. All runs of a row are interleaved.
 #
 #   bench/block.sh             builds the program and the peer, and measures
 #   EXPRESSO=PROGRAM ROUNDS=N  take this program and build none; so many rounds in place of eleven

@@ -1,7 +1,9 @@
 #!/usr/bin/env bash
-# Measures the program's commands on generated files of 4,096, 16,384 and 65,536 bytes, `compile` and `explain` on monitors
-# that are hard to compile, `run` on a buffer with 32 clients and 16,384 calls, and a monitor of 64 blocks: median wall time, instructions as callgrind
-# counts them, and peak memory. With more than one worker the instructions vary with the schedule, and are not counted.
+# Measures the program's commands on generated files of 4,096, 16,384 and 65,536 bytes, `compile`
+# and `explain` on monitors that are hard to compile, `run` on a buffer with 32 clients and 16,384
+# calls, and a monitor of 64 blocks: median wall time, instructions as callgrind counts them, and
+# peak memory. With more than one worker the instructions vary with the schedule, and are not
+# counted.
 #
 #   bench/commands.sh          builds the program, and measures
 #   EXPRESSO=PROGRAM ROUNDS=N  take this program and build none; so many rounds in place of eleven
@@ -17,7 +19,8 @@ if [ -z "${EXPRESSO:-}" ]; then
   EXPRESSO=$here/../crates/expresso_cli/out/expresso_cli
 fi
 
-# measure COMMAND FILES WORKERS ARGUMENTS: a row of the table. WORKERS is - where the command takes none.
+# measure COMMAND FILES WORKERS ARGUMENTS: a row of the table. WORKERS is - where the command takes
+# none.
 measure() {
   local flags=() call="$EXPRESSO $1 $4" figures
   case $3 in

@@ -1,7 +1,8 @@
 #!/usr/bin/env bash
-# Compares desk.rs, a trial of a ticket lock whose waiting callers lend their seat, with lock.rs, the same machine behind
-# a std::sync::Mutex: sections a second from 1, 2, 4 and 16 threads with ten times the calls of lock.sh, as parts of the
-# mutex's. A column is a manner of the desk (the words are those of desk.rs). All runs of a row are interleaved.
+# Compares desk.rs, a trial of a ticket lock whose waiting callers lend their seat, with lock.rs,
+# the same machine behind a std::sync::Mutex: sections a second from 1, 2, 4 and 16 threads with ten
+# times the calls of lock.sh, as parts of the mutex's. A column is a manner of the desk (the words
+# are those of desk.rs). All runs of a row are interleaved.
 #
 #   bench/desk.sh     builds both programs, and measures
 #   ROUNDS=N          so many rounds in place of five
@@ -13,8 +14,9 @@ trap 'rm -rf "$work"' EXIT
 
 calls=5120
 
-# The manners: nobody makes another's section; the holder serves each ticket of those whose sections it makes, or only the
-# one after them; who waits yields, or sleeps and is woken late, at once or not where some of its calls had no reply.
+# The manners: nobody makes another's section; the holder serves each ticket of those whose sections
+# it makes, or only the one after them; who waits yields, or sleeps and is woken late, at once or
+# not where some of its calls had no reply.
 names=(ticket each once yield late mixed)
 manners=(
   "lend=0"

@@ -1,7 +1,7 @@
 #!/usr/bin/env bash
-# Compares the module that `expresso emit` prints of a buffer, called by a thread for each of 32 clients with 16,384 calls
-# in all, with peer.rs, which does the same by hand: median wall times, and their ratio. The runs of a row are
-# interleaved.
+# Compares the module that `expresso emit` prints of a buffer, called by a thread for each of 32
+# clients with 16,384 calls in all, with peer.rs, which does the same by hand: median wall times,
+# and their ratio. The runs of a row are interleaved.
 #
 #   bench/emitted.sh           builds the program, the peer and the modules, and measures
 #   EXPRESSO=PROGRAM ROUNDS=N  take this program and build none; so many rounds in place of eleven

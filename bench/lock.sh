@@ -1,11 +1,13 @@
 #!/usr/bin/env bash
-# Compares the running lock (SharedMonitor::section) with lock.rs, the same machine in plain Rust behind a std::sync::Mutex: sections a
-# second from 1, 2, 4 and 16 threads, and the ratio (ours / mutex). `level`: no client waits. `buffer`: they wait for each
-# other, and a thread also tries clients that are not ready. All runs of a row are interleaved. Then it prints how much later
-# than its entry a call returns: the median, and what 99 of a hundred don't exceed.
+# Compares the running lock (SharedMonitor::section) with lock.rs, the same machine in plain Rust
+# behind a std::sync::Mutex: sections a second from 1, 2, 4 and 16 threads, and the ratio (ours /
+# mutex). `level`: no client waits. `buffer`: they wait for each other, and a thread also tries
+# clients that are not ready. All runs of a row are interleaved. Then it prints how much later than
+# its entry a call returns: the median, and what 99 of a hundred don't exceed.
 #
-# It copies the crates that it needs, with what was kept of their proofs, into a workspace of its own, and adds the
-# program below; so it wants some gigabytes of temporary space, and takes minutes, or hours where nothing was kept.
+# It copies the crates that it needs, with what was kept of their proofs, into a workspace of its
+# own, and adds the program below; so it wants some gigabytes of temporary space, and takes minutes,
+# or hours where nothing was kept.
 #
 #   bench/lock.sh             builds both programs, and measures
 #   LOCK_BENCH=PROGRAM        take this program, an earlier out/lock_bench, and build none

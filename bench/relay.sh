@@ -1,6 +1,7 @@
 #!/usr/bin/env bash
-# Counts wake-ups under the placed plan and the relayed one: a buffer with room for 4, with clients that only put or only
-# get, and readers and writers. EXPRESSO=PROGRAM takes a program that is built.
+# Counts wake-ups under the placed plan and the relayed one: a buffer with room for 4, with clients
+# that only put or only get, and readers and writers. EXPRESSO=PROGRAM takes a program that is
+# built.
 set -eu
 here=$(cd "$(dirname "$0")" && pwd)
 program=${EXPRESSO:-$here/../crates/expresso_cli/out/expresso_cli}

@@ -1,6 +1,7 @@
 #!/usr/bin/env bash
-# Compares `expresso stress N --workers W` with peer.rs, which does the same work by hand: median wall time and peak
-# memory of both, and the ratio of the times (ours / peer). All runs of a row are interleaved.
+# Compares `expresso stress N --workers W` with peer.rs, which does the same work by hand: median
+# wall time and peak memory of both, and the ratio of the times (ours / peer). All runs of a row are
+# interleaved.
 #
 #   bench/stress.sh            builds the program and the peer, and measures
 #   EXPRESSO=PROGRAM ROUNDS=N  take this program and build none; so many rounds in place of eleven

@@ -4,15 +4,16 @@
 # tools/install.sh [PREFIX] --program FILE   puts this program there, which was built before
 # tools/install.sh [PREFIX] --remove         takes away what stands there
 #
-# It builds in a folder of its own. Nothing below PREFIX changes before the program is there and has printed its usage,
-# and a second call does nothing where nothing has changed. After a failure the proofs made so far are kept, in
-# ~/.cache/expresso, and the next call goes on from there.
+# It builds in a folder of its own. Nothing below PREFIX changes before the program is there and has
+# printed its usage, and a second call does nothing where nothing has changed. After a failure the
+# proofs made so far are kept, in ~/.cache/expresso, and the next call goes on from there.
 here=$PWD
 cd "$(dirname "$0")/.." || exit 1
 rt=${RT:-rt}
 record=share/expresso/installed
-# What the proofs of the program take, in minutes of one processor, and the longest chain of crates that wait for one
-# another, in minutes (bench/README.md); and the most room that they take meanwhile, in GB.
+# What the proofs of the program take, in minutes of one processor, and the longest chain of crates
+# that wait for one another, in minutes (bench/README.md); and the most room that they take
+# meanwhile, in GB.
 work=110
 chain=30
 room=10
@@ -84,7 +85,8 @@ sum() {
     } | sha256sum | cut -d ' ' -f 1
 }
 
-# is_installed SUM: the files that the record names are there as it says, and were made of what has this sum
+# is_installed SUM: the files that the record names are there as it says, and were made of what has
+# this sum
 is_installed() {
     [ -f "$prefix/$record" ] && [ "$(head -n 1 "$prefix/$record")" = "sum $1" ] &&
         (cd "$prefix" && tail -n +2 "$record" | sha256sum --check --status)

@@ -1,10 +1,11 @@
 #!/usr/bin/env bash
-# Checks the manual, and tools/install.sh on a copy of the checkout: with an `rt` that proves nothing, since `rt ci`
-# does, and leaves a program that only prints its usage. Fails where an installed file is missing or wrong, where a
-# second call does something, or where a call that fails leaves anything below its prefix.
+# Checks the manual, and tools/install.sh on a copy of the checkout: with an `rt` that proves
+# nothing, since `rt ci` does, and leaves a program that only prints its usage. Fails where an
+# installed file is missing or wrong, where a second call does something, or where a call that fails
+# leaves anything below its prefix.
 #
-# Then the manual page is rendered where groff, man or mandoc is installed, and the completions are tried in bash, zsh
-# and fish, where they are installed.
+# Then the manual page is rendered where groff, man or mandoc is installed, and the completions are
+# tried in bash, zsh and fish, where they are installed.
 cd "$(dirname "$0")/.." || exit 1
 program=$PWD/crates/expresso_cli/out/expresso_cli
 made=$(mktemp -d) || exit 1
@@ -47,7 +48,8 @@ same() {
 [ -x "$program" ] || program=''
 holds "the manual" tools/manual.py check ${program:+"$program"}
 
-# An `rt` that proves nothing. $MADE/fails names what it fails in, and $MADE/calls counts the crates that it was given.
+# An `rt` that proves nothing. $MADE/fails names what it fails in, and $MADE/calls counts the crates
+# that it was given.
 cat >"$RT" <<'STUB'
 #!/usr/bin/env bash
 fails=$(cat "$MADE/fails" 2>/dev/null)
@@ -170,7 +172,8 @@ if has man; then
 fi
 echo "the manual page renders without a warning, by:${tried:- nothing, as none of its programs is installed}"
 
-# Each row is a line that is typed, `|`, and the words that its last one may become, in the folder below.
+# Each row is a line that is typed, `|`, and the words that its last one may become, in the folder
+# below.
 mkdir -p "$made/files/below" && cd "$made/files" || exit 1
 touch lock.mon locks.cl lock.plan lock.report below/deep.mon below/deep.cl
 cat >"$made/rows" <<'ROWS'
