@@ -1,5 +1,7 @@
 mod Valuations
 mod Bodies
 mod Wide
-mod Things
+pub mod Things
+mod Solved
+pub mod Blocks
 mod Shown

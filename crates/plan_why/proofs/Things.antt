@@ -1,8 +1,8 @@
 -- What costs something, one after the other, and that it is about conditions that there are.
-use Rattle.std.proofs.Common.{◌≡◌, inl, inr, ℕ, zero, suc, ◌+◌, ◌-◌, ◌<◌, ◌≤◌, Bool, true, false, cond, ◌&&◌, List, [], ◌∷◌, ◌++◌, length, map, take, get_or, Option, Some, None, sym, subst, arith, ap, refl, ◌∙◌, append_assoc, append-nil}
+use Rattle.std.proofs.Common.{◌≡◌, inl, inr, ℕ, zero, suc, ◌+◌, ◌-◌, ◌<◌, ◌≤◌, Bool, true, false, cond, not, ◌&&◌, List, [], ◌∷◌, ◌++◌, length, map, take, get_or, Option, Some, None, sym, subst, arith, ap, refl, ◌∙◌, append_assoc, append-nil}
 use Rattle.std.specs.Prelude.{All, slice_get}
 use Rattle.std.specs.List.{filter, flat_map, enumerate_from, list_all}
-use Rattle.std.specs.Option.{IsSomeAnd}
+use Rattle.std.specs.Option.{IsSomeAnd, option_map_or}
 use Rattle.std.proofs.lemmas.Bool.{and_parts}
 use Rattle.std.proofs.lemmas.List.{map-append, take_all, take_more, length-take}
 use Rattle.std.proofs.lemmas.List.Concat.{flat_map-append}
@@ -18,11 +18,10 @@ use Rattle.machine_events.specs.declared.plan.Note.{Note}
 use Rattle.machine_events.specs.declared.plan.Plan.{Plan}
 use Rattle.machine_events.specs.Plans.{FitsNote, FitsNotes, FitsPlan}
 use Rattle.logic_wp.specs.Expressible.{is_expressible}
-use Rattle.logic_wp.specs.PlainClaims.{IsConditionNumber}
+use Rattle.logic_wp.specs.PlainClaims.{IsConditionNumber, ReadsNone}
 use Rattle.plan_why.specs.declared.reason.Thing.{Thing}
 use Rattle.plan_why.specs.declared.reason.Thing.TheVariants as things
-use Rattle.plan_why.specs.Things.{broadcast_of_condition, condition_of, notes_of_block, reads_none, tests_of_block, things_of}
-use Rattle.plan_why.specs.inner.Answering.{AreAskable}
+use Rattle.plan_why.specs.Things.{broadcast_of_condition, notes_of_block, reads_none, tests_of_block, things_of, IsThingOf}
 
 -- ---- kept candidates
 
@@ -69,14 +68,19 @@ pub listed_none : {X Y : Type 0} (f : ℕ → X → List Y) (first : ℕ) (xs : 
 listed_none f first [] old = sym (append-nil old)
 listed_none f first (x ∷ xs) old = sym (append-nil old)
 
+-- one more note that may pass a test
+pub picked_more : {X : Type 0} (test : Note → Bool) (make : Note → X) (i : ℕ) (notes : List Note) (note : Note) (old before after : List X) → i < length notes → note ≡ get_or notes i note
+    → before ≡ old ++ map make (filter test (take i notes)) → after ≡ before ++ map make (filter test (note ∷ [])) → after ≡ old ++ map make (filter test (take (i + 1) notes))
+picked_more {X} test make i notes note old before after h is had made =
+    let some = take i notes in
+    made ∙ ap (λ (one : List X). one ++ map make (filter test (note ∷ []))) had ∙ append_assoc old (map make (filter test some)) (map make (filter test (note ∷ [])))
+    ∙ ap (λ (one : List X). old ++ one) (sym (map-append make (filter test some) (filter test (note ∷ []))))
+    ∙ ap (λ (one : List Note). old ++ map make one) (sym (filter-append test some (note ∷ [])))
+    ∙ ap (λ (one : List Note). old ++ map make (filter test one)) (sym (taken_one notes i note h is))
+
 -- one more tested note
 pub tests_more : (block i : ℕ) (notes : List Note) (note : Note) (old before after : List Thing) → i < length notes → note ≡ get_or notes i note → before ≡ old ++ tests_of_block block (take i notes) → after ≡ before ++ tests_of_block block (note ∷ []) → after ≡ old ++ tests_of_block block (take (i + 1) notes)
-tests_more block i notes note old before after h is had made =
-    let some = take i notes in
-    made ∙ ap (λ one. one ++ tests_of_block block (note ∷ [])) had ∙ append_assoc old (tests_of_block block some) (tests_of_block block (note ∷ []))
-    ∙ ap (λ one. old ++ one) (sym (map-append (λ (one : Note). things.Test block one.condition) (filter (λ (one : Note). one.tested) some) (filter (λ (one : Note). one.tested) (note ∷ []))))
-    ∙ ap (λ one. old ++ map (λ (one : Note). things.Test block one.condition) one) (sym (filter-append (λ (one : Note). one.tested) some (note ∷ [])))
-    ∙ ap (λ one. old ++ tests_of_block block one) (sym (taken_one notes i note h is))
+tests_more block i notes note old before after = picked_more (λ (one : Note). one.tested) (λ (one : Note). things.Test block one.condition) i notes note old before after
 
 pub tests_none : (block : ℕ) (notes : List Note) (old : List Thing) → old ≡ old ++ tests_of_block block (take 0 notes)
 tests_none block [] old = sym (append-nil old)
@@ -98,9 +102,9 @@ gathered monitor plan notes tests kinds none first second last is_notes is_kinds
 -- ---- conditions that there are
 
 abbrev There : MonitorParts → Thing → Type 0
-There monitor thing = IsConditionNumber monitor (condition_of thing)
+There monitor thing = IsThingOf monitor thing
 
-all_append : {X : Type 0} (P : X → Type 0) (xs ys : List X) → All P xs → All P ys → All P (xs ++ ys)
+pub all_append : {X : Type 0} (P : X → Type 0) (xs ys : List X) → All P xs → All P ys → All P (xs ++ ys)
 all_append P [] ys all more = more
 all_append P (x ∷ xs) ys all more = All-cons P x (xs ++ ys) (All-head P x xs all) (all_append P xs ys (All-tail P x xs all) more)
 
@@ -109,7 +113,7 @@ get_within [] n x e = absurd cc
 get_within (first ∷ xs) zero x e = omega arith
 get_within (first ∷ xs) (suc n) x e = let less = get_within xs n x e in omega arith
 
-note_there : (monitor : MonitorParts) (note : Note) → FitsNote monitor note → IsConditionNumber monitor note.condition
+pub note_there : (monitor : MonitorParts) (note : Note) → FitsNote monitor note → IsConditionNumber monitor note.condition
 note_there monitor note fits = by (slice_get monitor.conditions (note.condition - 1)) refl fits.1
   where
     by : (found : Option Condition) → slice_get monitor.conditions (note.condition - 1) ≡ found → IsSomeAnd found (λ which. note.tested ≡ true → reads_inputs which.guard ≡ false) → IsConditionNumber monitor note.condition
@@ -136,28 +140,45 @@ lists_there monitor f first (notes ∷ lists) each fits =
     all_append (There monitor) (f first notes) (flat_map (λ one. f one.0 one.1) (enumerate_from (first + 1) lists)) (each first notes (All-head (FitsNotes monitor) notes lists fits).each)
     (lists_there monitor f (first + 1) lists each (All-tail (FitsNotes monitor) notes lists fits))
 
-broadcast_there : (monitor : MonitorParts) (condition : ℕ) (kind : CondKind) → IsConditionNumber monitor condition → All (There monitor) (broadcast_of_condition monitor condition kind)
-broadcast_there monitor condition kinds.Signal there = All-nil (There monitor)
-broadcast_there monitor condition kinds.Broadcast there = by (reads_none monitor condition)
+-- such a condition is there
+reads_none_there : (monitor : MonitorParts) (condition : ℕ) → 1 ≤ condition → reads_none monitor condition ≡ true → ReadsNone monitor condition
+reads_none_there monitor condition low e = (low, by (slice_get monitor.conditions (condition - 1)) e)
   where
-    by : (reads : Bool) → All (There monitor) (cond reads (things.Broadcast condition ∷ []) [])
-    by true = All-cons (There monitor) (things.Broadcast condition) [] there (All-nil (There monitor))
-    by false = All-nil (There monitor)
+    other : (reads : Bool) → not reads ≡ true → reads ≡ false
+    other true e = absurd cc
+    other false e = refl
 
-kinds_there : (monitor : MonitorParts) (first : ℕ) (some : List CondKind) → 1 ≤ first → first + length some ≤ 1 + length monitor.conditions → All (There monitor) (flat_map (λ one. broadcast_of_condition monitor one.0 one.1) (enumerate_from first some))
-kinds_there monitor first [] low high = All-nil (There monitor)
-kinds_there monitor first (kind ∷ some) low high =
-    let here : IsConditionNumber monitor first = (low, omega arith) in
-    all_append (There monitor) (broadcast_of_condition monitor first kind) (flat_map (λ one. broadcast_of_condition monitor one.0 one.1) (enumerate_from (first + 1) some)) (broadcast_there monitor first kind here)
-    (kinds_there monitor (first + 1) some (omega arith) (omega arith))
+    by : (found : Option Condition) → option_map_or (λ held. not held.reads_inputs) found false ≡ true → IsSomeAnd found (λ held. held.reads_inputs ≡ false)
+    by None e = absurd cc
+    by (Some held) e = other held.reads_inputs e
 
-pub things_there : (monitor : MonitorParts) (plan : Plan) → FitsPlan monitor plan → AreAskable monitor (things_of monitor plan)
+pub condition_there : (monitor : MonitorParts) (condition : ℕ) → ReadsNone monitor condition → IsConditionNumber monitor condition
+condition_there monitor condition (low, there) = by (slice_get monitor.conditions (condition - 1)) refl there
+  where
+    by : (found : Option Condition) → slice_get monitor.conditions (condition - 1) ≡ found → IsSomeAnd found (λ held. held.reads_inputs ≡ false) → IsConditionNumber monitor condition
+    by None is there = absurd there
+    by (Some held) is there = let less = get_within monitor.conditions (condition - 1) held is in (low, omega arith)
+
+broadcast_there : (monitor : MonitorParts) (condition : ℕ) (kind : CondKind) → 1 ≤ condition → All (There monitor) (broadcast_of_condition monitor condition kind)
+broadcast_there monitor condition kinds.Signal low = All-nil (There monitor)
+broadcast_there monitor condition kinds.Broadcast low = by (reads_none monitor condition) refl
+  where
+    by : (reads : Bool) → reads_none monitor condition ≡ reads → All (There monitor) (cond reads (things.Broadcast condition ∷ []) [])
+    by true is = All-cons (There monitor) (things.Broadcast condition) [] (reads_none_there monitor condition low is) (All-nil (There monitor))
+    by false is = All-nil (There monitor)
+
+kinds_there : (monitor : MonitorParts) (first : ℕ) (some : List CondKind) → 1 ≤ first → All (There monitor) (flat_map (λ one. broadcast_of_condition monitor one.0 one.1) (enumerate_from first some))
+kinds_there monitor first [] low = All-nil (There monitor)
+kinds_there monitor first (kind ∷ some) low =
+    all_append (There monitor) (broadcast_of_condition monitor first kind) (flat_map (λ one. broadcast_of_condition monitor one.0 one.1) (enumerate_from (first + 1) some)) (broadcast_there monitor first kind low)
+    (kinds_there monitor (first + 1) some (omega arith))
+
+pub things_there : (monitor : MonitorParts) (plan : Plan) → FitsPlan monitor plan → All (IsThingOf monitor) (things_of monitor plan)
 things_there monitor plan fits =
-    let many = fits.kinds in
     all_append (There monitor) (flat_map (λ one. notes_of_block one.0 one.1) (enumerate_from 0 plan.notes)) (flat_map (λ one. broadcast_of_condition monitor one.0 one.1) (enumerate_from 1 plan.kinds) ++ flat_map (λ one. tests_of_block one.0 one.1) (enumerate_from 0 plan.notes))
     (lists_there monitor notes_of_block 0 plan.notes (notes_there monitor) fits.each)
     (all_append (There monitor) (flat_map (λ one. broadcast_of_condition monitor one.0 one.1) (enumerate_from 1 plan.kinds)) (flat_map (λ one. tests_of_block one.0 one.1) (enumerate_from 0 plan.notes))
-    (kinds_there monitor 1 plan.kinds (omega arith) (omega arith)) (lists_there monitor tests_of_block 0 plan.notes (tests_there monitor) fits.each))
+    (kinds_there monitor 1 plan.kinds (omega arith)) (lists_there monitor tests_of_block 0 plan.notes (tests_there monitor) fits.each))
 
 -- at an element
 all_at : {X : Type 0} (P : X → Type 0) (xs : List X) (i : ℕ) (x : X) → i < length xs → x ≡ get_or xs i x → All P xs → P x
@@ -165,5 +186,5 @@ all_at P [] i x h is all = absurd (omega arith)
 all_at P (first ∷ xs) zero x h is all = subst P (sym is) (All-head P first xs all)
 all_at P (first ∷ xs) (suc i) x h is all = all_at P xs i x (omega arith) is (All-tail P first xs all)
 
-pub thing_there : (monitor : MonitorParts) (all : List Thing) (i : ℕ) (thing : Thing) → i < length all → thing ≡ get_or all i thing → AreAskable monitor all → IsConditionNumber monitor (condition_of thing)
-thing_there monitor all i thing h is askable = all_at (There monitor) all i thing h is askable
+pub thing_there : (monitor : MonitorParts) (all : List Thing) (i : ℕ) (thing : Thing) → i < length all → thing ≡ get_or all i thing → All (IsThingOf monitor) all → IsThingOf monitor thing
+thing_there monitor all i thing h is each = all_at (IsThingOf monitor) all i thing h is each

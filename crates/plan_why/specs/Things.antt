@@ -12,6 +12,7 @@ use Rattle.machine_events.specs.declared.plan.CondKind.{CondKind}
 use Rattle.machine_events.specs.declared.plan.CondKind.TheVariants as kinds
 use Rattle.machine_events.specs.declared.plan.Note.{Note}
 use Rattle.machine_events.specs.declared.plan.Plan.{Plan}
+use Rattle.logic_wp.specs.PlainClaims.{IsConditionNumber, ReadsNone}
 use Rattle.plan_why.specs.declared.reason.Thing.{Thing}
 use Rattle.plan_why.specs.declared.reason.Thing.TheVariants as things
 
@@ -46,13 +47,14 @@ things_of monitor plan =
     ++ (flat_map (λ one. broadcast_of_condition monitor one.0 one.1) (enumerate_from 1 plan.kinds)
     ++ flat_map (λ one. tests_of_block one.0 one.1) (enumerate_from 0 plan.notes))
 
--- ---- the claims that would spare it
+-- the monitor has the condition that the thing is about, and the guard of one of kind broadcast
+-- reads no inputs
+abbrev pub IsThingOf : MonitorParts → Thing → Type 0
+IsThingOf monitor (things.Note block condition) = IsConditionNumber monitor condition
+IsThingOf monitor (things.Broadcast condition) = ReadsNone monitor condition
+IsThingOf monitor (things.Test block condition) = IsConditionNumber monitor condition
 
--- the condition that a thing is about
-abbrev pub condition_of : Thing → ℕ
-condition_of (things.Note block condition) = condition
-condition_of (things.Broadcast condition) = condition
-condition_of (things.Test block condition) = condition
+-- ---- the claims that would spare it
 
 -- a thing is about the block of this number, which waits at this condition: of a broadcast, where
 -- that is its condition

@@ -1,62 +1,23 @@
 //! Whether the things of a plan are needed.
 
-ghost use Rattle.std.specs.Prelude.{◌≡◌, ◌<◌, ◌≤◌, All, IfOk, length, map, true};
+ghost use Rattle.std.specs.Prelude.{◌≡◌, ◌<◌, All, IfOk, length, map, true};
 ghost use Rattle.std.specs.List.{list_all};
 ghost use Rattle.machine_events.specs.Plans.{FitsPlan};
-ghost use Rattle.logic_linear.specs.Measures.{nodes_of, MOST_NODES};
-ghost use Rattle.logic_wp.specs.NegatedQueries.{negated_query};
 ghost use Rattle.logic_wp.specs.Expressible.{is_expressible};
-ghost use Rattle.logic_wp.specs.PlainClaims.{IsConditionNumber};
 ghost use Rattle.plan_why.specs.Reasons.{IsAnswered, IsReason};
-ghost use Rattle.plan_why.specs.Things.{condition_of, sparing_query, things_of, IsBlockOf};
+ghost use Rattle.plan_why.specs.Things.{things_of, IsBlockOf, IsThingOf};
 ghost use Rattle.plan_why.specs.inner.Answering.{IsAsked, IsBroken};
 
+use super::failing::{Failure, failure_of};
 use super::listing::things_of;
 use super::reason::{Answer, Reason, Thing, claim_of, is_block_of};
-use super::running::after_body;
 use super::starts::kept_have_formulas;
 use lang_monitor::Monitor;
-use logic_linear::Formula;
-use logic_solve::solution;
-use logic_wp::{claim_query, negated, negated_query_is_exact, refuted_query_is_valid};
+use logic_wp::claim_query;
 use machine_events::Plan;
 use std::alloc::{AllocError, Global};
 
-/// That the thing is needed after the block, where that is found: the formula, which is the negated
-/// query of the claim that would spare it, has a solution.
-fn shown(
-    alloc: Global,
-    monitor: &Monitor,
-    plan: &Plan,
-    thing: Thing,
-    block: u32,
-    formula: &Formula,
-) -> Result<Option<Answer>, AllocError>
-    requires block { block < length monitor.now.blocks }
-    requires about { IsBlockOf monitor.now thing block }
-    requires nodes { nodes_of formula.now ≤ MOST_NODES }
-    requires formula { formula.now
-        ≡ negated_query monitor.now (sparing_query monitor.now plan.now thing block) }
-    ensures { IfOk result (IsBroken monitor.now plan.now thing block) }
-{
-    negated_query_is_exact();
-    refuted_query_is_valid();
-    let held = &monitor.blocks()[block as usize];
-    match solution(alloc, formula)? {
-        None => Ok(None),
-        Some(before) => {
-            let after = after_body(alloc, &before, held.body.items())?;
-            Ok(Some(Answer::Shown {
-                block,
-                before,
-                after,
-            }))
-        }
-    }
-}
-
-/// That the thing is needed after the block, where that is found and its query is negated within
-/// the limits.
+/// That the thing is needed after the block, where that is found.
 fn broken(
     alloc: Global,
     monitor: &Monitor,
@@ -65,15 +26,19 @@ fn broken(
     block: u32,
 ) -> Result<Option<Answer>, AllocError>
     requires kept { list_all is_expressible plan.now.kept ≡ true }
-    requires condition { IsConditionNumber monitor.now (condition_of thing) }
+    requires thing { IsThingOf monitor.now thing }
     requires block { block < length monitor.now.blocks }
     requires about { IsBlockOf monitor.now thing block }
     ensures { IfOk result (IsBroken monitor.now plan.now thing block) }
 {
     let query = claim_query(alloc, monitor, plan.kept.items(), claim_of(thing, block))?;
-    match negated(alloc, monitor, &query)? {
+    match failure_of(alloc, monitor, &query)? {
         None => Ok(None),
-        Some(formula) => Ok(shown(alloc, monitor, plan, thing, block, &formula)?),
+        Some(Failure { before, after }) => Ok(Some(Answer::Shown {
+            block,
+            before,
+            after,
+        })),
     }
 }
 
@@ -86,7 +51,7 @@ fn answer_at(
     block: u32,
 ) -> Result<Option<Answer>, AllocError>
     requires kept { list_all is_expressible plan.now.kept ≡ true }
-    requires condition { IsConditionNumber monitor.now (condition_of thing) }
+    requires thing { IsThingOf monitor.now thing }
     requires block { block < length monitor.now.blocks }
     ensures { IfOk result (IsAsked monitor.now plan.now thing block) }
 {
@@ -105,7 +70,7 @@ fn answer_of(
     thing: Thing,
 ) -> Result<Answer, AllocError>
     requires kept { list_all is_expressible plan.now.kept ≡ true }
-    requires condition { IsConditionNumber monitor.now (condition_of thing) }
+    requires thing { IsThingOf monitor.now thing }
     ensures { IfOk result (IsAnswered monitor.now plan.now thing) }
 {
     for index in 0..monitor.blocks().len() {

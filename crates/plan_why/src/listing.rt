@@ -1,11 +1,11 @@
 //! What costs something in a plan, listed.
 
-ghost use Rattle.std.specs.Prelude.{◌≡◌, ◌++◌, ◌∷◌, [], ◌≤◌, IfOk, length};
+ghost use Rattle.std.specs.Prelude.{◌≡◌, ◌++◌, ◌∷◌, [], ◌≤◌, All, IfOk, length};
 ghost use Rattle.std.specs.List.{enumerate_from, flat_map};
 ghost use Rattle.lang_base.specs.Limits.{BLOCKS, CONDITIONS};
 ghost use Rattle.machine_events.specs.Plans.{FitsPlan};
-ghost use Rattle.plan_why.specs.Things.{broadcast_of_condition, notes_of_block, reads_none, tests_of_block, things_of};
-ghost use Rattle.plan_why.specs.inner.Answering.{AreAskable};
+ghost use Rattle.plan_why.specs.Things.{broadcast_of_condition, notes_of_block, reads_none};
+ghost use Rattle.plan_why.specs.Things.{tests_of_block, things_of, IsThingOf};
 
 use super::reason::Thing;
 use lang_monitor::Monitor;
@@ -133,15 +133,12 @@ fn push_all_tests(things: &mut Vec<Thing>, lists: &[NoteList]) -> Result<(), All
 
 // ---- the whole
 
-/// What costs something in a plan.
-pub(crate) fn things_of(
-    alloc: Global,
-    monitor: &Monitor,
-    plan: &Plan,
-) -> Result<Vec<Thing>, AllocError>
+/// What costs something in a plan, in the plan's order (`specs/Things`). It fails only for want of
+/// memory.
+pub fn things_of(alloc: Global, monitor: &Monitor, plan: &Plan) -> Result<Vec<Thing>, AllocError>
     requires { FitsPlan monitor.now plan.now }
     ensures things { IfOk result (λ things. things.items ≡ things_of monitor.now plan.now) }
-    ensures askable { IfOk result (λ things. AreAskable monitor.now things.items) }
+    ensures each { IfOk result (λ things. All (IsThingOf monitor.now) things.items) }
 {
     let _blocks = monitor.blocks();
     let mut things = Vec::new(alloc);

@@ -1,7 +1,7 @@
 //! What costs something in a plan, and why it is there.
 
 ghost use Rattle.std.specs.Prelude.{◌≡◌};
-ghost use Rattle.plan_why.specs.Things.{claim_of, condition_of, is_block_of};
+ghost use Rattle.plan_why.specs.Things.{claim_of, is_block_of};
 
 use lang_monitor::Claim;
 use logic_solve::Solution;
@@ -39,7 +39,7 @@ pub struct Reason {
 }
 
 /// Whether the block of this number, which waits at this condition, is one that the thing is about.
-pub(crate) fn is_block_of(thing: Thing, block: u32, waits: u32) -> bool
+pub fn is_block_of(thing: Thing, block: u32, waits: u32) -> bool
     ensures { result ≡ is_block_of thing block waits }
 {
     match thing {

@@ -1,1 +1,2 @@
 pub mod ReasonText
+pub mod BroadcastText

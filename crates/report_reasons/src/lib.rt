@@ -1,11 +1,15 @@
 //! The lines of reasons, written piece by piece to a sink.
 //!
 //! [`write_reasons`] writes, for each thing of a plan that costs something, a state in which it is
-//! needed (`specs/ReasonText`). It takes no memory.
+//! needed (`specs/ReasonText`), and [`write_broadcast_reasons`], for each broadcast of a block on a
+//! counted condition, one in which a signal is not enough (`specs/BroadcastText`). They take no
+//! memory.
 #![tactic(auto)]
 
+mod broadcasts;
 mod clients;
 mod lines;
 mod values;
 
+pub use broadcasts::write_broadcast_reasons;
 pub use lines::write_reasons;

@@ -97,7 +97,7 @@ fn write_shown<S: Sink>(
 }
 
 /// The fields before and after the body.
-fn write_change<S: Sink>(
+pub(crate) fn write_change<S: Sink>(
     monitor: &Monitor,
     before: &Solution,
     after: &Option<Solution>,
@@ -147,7 +147,7 @@ fn write_heading<S: Sink>(
 }
 
 /// `put(n=3) 2(k=4)`: a block and a condition.
-fn write_noted<S: Sink>(
+pub(crate) fn write_noted<S: Sink>(
     tree: &MonitorTree,
     monitor: &Monitor,
     at: &Solution,
@@ -221,7 +221,7 @@ fn write_thing<S: Sink>(monitor: &Monitor, thing: Thing, out: &mut S) -> Result<
 }
 
 /// `put 2`: a block and a condition.
-fn write_pair<S: Sink>(
+pub(crate) fn write_pair<S: Sink>(
     monitor: &Monitor,
     block: u32,
     condition: u32,

@@ -1,17 +1,13 @@
 -- For private contracts: what is asked of a block, and what was asked of those before.
-use Rattle.std.specs.Prelude.{◌≡◌, ℕ, ◌<◌, true, List, All, Option, Some, None}
+use Rattle.std.specs.Prelude.{◌≡◌, ℕ, ◌<◌, true, Option, Some, None}
 use Rattle.lang_monitor.specs.MonitorParts.{MonitorParts}
 use Rattle.lang_monitor.specs.Triples.{IsValidQuery}
 use Rattle.machine_events.specs.declared.plan.Plan.{Plan}
-use Rattle.logic_wp.specs.PlainClaims.{is_plain, IsConditionNumber}
+use Rattle.logic_wp.specs.PlainClaims.{is_plain}
 use Rattle.plan_why.specs.declared.reason.Answer.{Answer}
 use Rattle.plan_why.specs.declared.reason.Thing.{Thing}
 use Rattle.plan_why.specs.Reasons.{IsAnswered}
-use Rattle.plan_why.specs.Things.{condition_of, sparing_query, IsBlockOf}
-
--- things about conditions that there are
-abbrev pub AreAskable : MonitorParts → List Thing → Type 0
-AreAskable monitor things = All (λ thing. IsConditionNumber monitor (condition_of thing)) things
+use Rattle.plan_why.specs.Things.{sparing_query, IsBlockOf}
 
 -- the claim that would spare the thing after the block is valid, if its query is plain
 abbrev pub IsSpared : MonitorParts → Plan → Thing → ℕ → Type 0

@@ -1,0 +1,6 @@
+mod Among
+mod Counted
+mod Sparing
+mod Needed
+mod Listed
+mod Pushed
