@@ -1,0 +1,3 @@
+mod BodiesIn64
+mod MomentsIn64
+mod FittingMoves

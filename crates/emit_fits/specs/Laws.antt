@@ -1,0 +1,51 @@
+-- What the laws say.
+use Rattle.std.specs.Prelude.{◌≡◌, ℕ, List, All, slice_get}
+use Rattle.lang_monitor.specs.MonitorParts.{MonitorParts, IsMonitor, locals_in, start_of}
+use Rattle.machine_implicit.specs.declared.commit.Reply.TheVariants as replies
+use Rattle.machine_implicit.specs.declared.script.Client.{Client}
+use Rattle.machine_implicit.specs.Scripted.{FitsScripts}
+use Rattle.machine_events.specs.declared.plan.Plan.{Plan}
+use Rattle.machine_events.specs.Plans.{FitsPlan}
+use Rattle.machine_events.specs.Counts.{IsLawfulByCounting}
+use Rattle.emit_code.specs.Executions.{Frame, IsThread, Moment, Position, Program, RunsBody}
+use Rattle.emit_code.specs.Laws.{Leads}
+use Rattle.emit_code.specs.LivePlans.{printed_program}
+use Rattle.plan_fits.specs.Fits.{AreIn64, Fits64}
+
+-- ---- executions within 64 bits
+
+-- the fields at the start, and the locals with which a call begins, are within 64 bits
+pub record StartsIn64 (monitor : MonitorParts) : Type 0 where
+  pub state : AreIn64 (start_of monitor)
+  pub locals : (method : ℕ) → AreIn64 (locals_in (slice_get monitor.methods method))
+
+-- the arguments of all calls are
+abbrev pub PassIn64 : List Client → Type 0
+PassIn64 clients = All (λ client. All (λ call. AreIn64 call.inputs) client.calls) clients
+
+-- the fields, and what each thread has for locals
+pub record IsIn64 (now : Moment) : Type 0 where
+  pub state : AreIn64 now.state
+  pub locals : (thread : ℕ) (frame : Frame) (position : Position)
+      → IsThread now.threads thread frame position → AreIn64 frame.locals
+
+-- so is each moment of each execution
+abbrev pub MomentsStayIn64 : Type 0
+MomentsStayIn64 =
+    (program : Program) (last : Moment) → StartsIn64 program.monitor → PassIn64 program.clients
+    → Leads program last → IsIn64 last
+
+-- ---- blocks that fit
+
+-- Under a plan that is lawful by counting, no move of an execution of the printed program overflows
+-- that runs the body of a block which fits under what the plan keeps.
+abbrev pub FittingBlocksNeverOverflow : Type 0
+FittingBlocksNeverOverflow =
+    (monitor : MonitorParts) (plan : Plan) (clients : List Client) (before next : Moment)
+    (thread : ℕ) (frame : Frame)
+    → IsMonitor monitor → FitsScripts monitor clients
+    → FitsPlan monitor plan → IsLawfulByCounting monitor plan
+    → StartsIn64 monitor → PassIn64 clients
+    → Leads (printed_program monitor plan clients) before
+    → (move : RunsBody (printed_program monitor plan clients) thread frame before next)
+    → Fits64 monitor plan.kept move.block → move.reply ≡ replies.Overflow → ⊥

@@ -1,0 +1,198 @@
+-- A block fits exactly where its question is true nowhere, and what the prover's answers say.
+use Rattle.std.proofs.Common.{◌≡◌, ℕ, ◌<◌, Bool, true, false, not, ◌&&◌, cond, List, [], ◌∷◌, map, Option, Some, None, refl, sym, ap, subst, ◌∙◌, arith, inl, inr}
+use Rattle.std.specs.Prelude.{slice_get}
+use Rattle.std.specs.List.{list_any}
+use Rattle.std.proofs.lemmas.Bool.{and_left, and_right, and_parts, or_from, or_parts}
+use Rattle.logic_linear.specs.declared.formula.Formula.{Formula}
+use Rattle.logic_linear.specs.declared.formula.Formula.TheVariants as formulas
+use Rattle.logic_linear.specs.Measures.{MOST_CUBES, cubes_of}
+use Rattle.logic_linear.specs.Truth.{Valuation, truth_of}
+use Rattle.lang_base.specs.declared.value.Value.{Value}
+use Rattle.lang_monitor.specs.declared.candidate.Candidate.{Candidate}
+use Rattle.lang_monitor.specs.declared.monitor.Block.{Block}
+use Rattle.lang_monitor.specs.declared.monitor.Ret.{Ret}
+use Rattle.lang_monitor.specs.declared.monitor.Ret.TheVariants as rets
+use Rattle.lang_monitor.specs.declared.monitor.Stmt.{Stmt}
+use Rattle.lang_monitor.specs.declared.monitor.Stmt.TheOpen.{Stmt-F, SetInt, SetBool, If}
+use Rattle.lang_monitor.specs.declared.monitor.Stmt.TheViews.{roll-Stmt}
+use Rattle.lang_monitor.specs.declared.monitor.Stmt.TheFolds.{ind-Stmt, map-Stmt, fold-roll-Stmt}
+use Rattle.lang_monitor.specs.MonitorParts.{MonitorParts, IsMonitor}
+use Rattle.lang_monitor.specs.Bodies.{Effect, Inputs, Memory, body_effect, effect_of, effect_step, fits_result_64, in_turn, memory_of, no_inputs, overflows_in, result_value, after, values_from}
+use Rattle.lang_monitor.specs.Candidates.{candidates_of}
+use Rattle.lang_monitor.specs.Triples.{places_of}
+use Rattle.logic_cert.specs.declared.cert.Cert.{Cert}
+use Rattle.logic_cert.specs.Refutes.{Refutes}
+use Rattle.logic_solve.specs.Refutation.{IsAnswer, IsLeftOpen}
+use Rattle.logic_wp.specs.PlainClaims.{has_few_cubes}
+use Rattle.machine_implicit.proofs.Held.{kinds_held}
+use Rattle.machine_implicit.proofs.Placed.{placed}
+use Rattle.machine_events.specs.Plans.{AreSomeOf}
+use Rattle.machine_events.specs.Running.{MayRun}
+use Rattle.machine_events.proofs.Valuations.{arguments_back, few_held, fields_back, joint, locals_back}
+use Rattle.plan_fits.specs.Answers.{IsFit, MayStayUnknown, limits, undecided}
+use Rattle.plan_fits.specs.Fits.{Fits64, MayRunIn64, OverflowsAt}
+use Rattle.plan_fits.specs.Outside.{answers_number, assigns_number, assigns_step, block_question, has_numbers, outside_question, question_in}
+use Rattle.plan_fits.specs.Within.{is_asked_within, is_made_within}
+use Rattle.plan_fits.proofs.OutsideTruth.{any_truth}
+use Rattle.plan_fits.proofs.Questions.{full_truth, inputs_at, own_state, runs_there, runs_truth, there_runs}
+
+-- ---- blocks without numbers
+
+abbrev Stays : Stmt → Type 0
+Stays statement = assigns_number statement ≡ false → (arguments : List Value) (memory : Memory) → (effect_of arguments statement).overflows memory ≡ false
+
+parts_stay : (body : List ((statement : Stmt) × Stays statement)) → list_any (λ inner. inner) (map assigns_number (map (λ part. part.0) body)) ≡ false
+    → (arguments : List Value) (memory : Memory) → (in_turn (map (effect_of arguments) (map (λ part. part.0) body))).overflows memory ≡ false
+parts_stay [] none arguments memory = refl
+parts_stay (part ∷ body) none arguments memory =
+    let both = or_parts (assigns_number part.0) (list_any (λ inner. inner) (map assigns_number (map (λ part. part.0) body))) none in
+    or_from ((effect_of arguments part.0).overflows memory) ((in_turn (map (effect_of arguments) (map (λ part. part.0) body))).overflows ((effect_of arguments part.0).next memory))
+    (part.1 both.0 arguments memory) (parts_stay body both.1 arguments ((effect_of arguments part.0).next memory))
+
+abbrev LayerStays : Stmt-F Stmt → Type 0
+LayerStays layer = assigns_step (map-Stmt _ Bool assigns_number layer) ≡ false
+    → (arguments : List Value) (memory : Memory) → (effect_step arguments (map-Stmt _ Effect (effect_of arguments) layer)).overflows memory ≡ false
+
+chosen_false : (when a b : Bool) → a ≡ false → b ≡ false → cond when a b ≡ false
+chosen_false true a b e f = e
+chosen_false false a b e f = f
+
+layer_stays : (layer : Stmt-F ((statement : Stmt) × Stays statement)) → LayerStays (map-Stmt _ Stmt (λ part. part.0) layer)
+layer_stays (SetInt place form) none arguments memory = absurd cc
+layer_stays (SetBool place is) none arguments memory = refl
+layer_stays (If when body other) none arguments memory =
+    let both = or_parts (list_any (λ inner. inner) (map assigns_number (map (λ part. part.0) body))) (list_any (λ inner. inner) (map assigns_number (map (λ part. part.0) other))) none in
+    chosen_false _ _ _ (parts_stay body both.0 arguments memory) (parts_stay other both.1 arguments memory)
+
+rolled_stays : (layer : Stmt-F Stmt) → LayerStays layer → Stays (roll-Stmt layer)
+rolled_stays layer stays none arguments memory =
+    ap (λ (effect : Effect). effect.overflows memory) (fold-roll-Stmt Effect (effect_step arguments) layer)
+    ∙ stays (sym (fold-roll-Stmt Bool assigns_step layer) ∙ none) arguments memory
+
+statement_stays : (statement : Stmt) → Stays statement
+statement_stays = ind-Stmt Stays (λ layer parts is. rolled_stays layer (subst LayerStays is (layer_stays parts)))
+
+body_stays : (body : List Stmt) → list_any assigns_number body ≡ false → (arguments : List Value) (memory : Memory) → (body_effect arguments body).overflows memory ≡ false
+body_stays [] none arguments memory = refl
+body_stays (statement ∷ body) none arguments memory =
+    let both = or_parts (assigns_number statement) (list_any assigns_number body) none in
+    or_from ((effect_of arguments statement).overflows memory) ((body_effect arguments body).overflows ((effect_of arguments statement).next memory))
+    (statement_stays statement both.0 arguments memory) (body_stays body both.1 arguments ((effect_of arguments statement).next memory))
+
+answer_stays : (memory : Memory) (arguments : List Value) (result : Ret) → answers_number result ≡ false → not (fits_result_64 (result_value memory arguments result)) ≡ false
+answer_stays memory arguments rets.Nothing none = refl
+answer_stays memory arguments (rets.Int form) none = absurd cc
+answer_stays memory arguments (rets.Bool formula) none = refl
+
+pub narrow_stays : (block : Block) → has_numbers block ≡ false → (inputs : Inputs) (state : List Value) → overflows_in inputs block state ≡ false
+narrow_stays block none inputs state =
+    let both = or_parts (list_any assigns_number block.body) (answers_number block.result) none in
+    or_from ((body_effect inputs.arguments block.body).overflows (memory_of state inputs)) (not (fits_result_64 (result_value (after inputs block.body state) inputs.arguments block.result)))
+    (body_stays block.body both.0 inputs.arguments (memory_of state inputs)) (answer_stays (after inputs block.body state) inputs.arguments block.result both.1)
+
+-- ---- a state and inputs as a valuation's
+
+abbrev valuation_of_both : List Value → Inputs → Valuation
+valuation_of_both state inputs = joint state inputs no_inputs
+
+record Are (monitor : MonitorParts) (block : Block) (inputs : Inputs) (state : List Value) : Type 0 where
+  state_is : own_state monitor block (valuation_of_both state inputs) ≡ state
+  inputs_are : inputs_at monitor block (valuation_of_both state inputs) ≡ inputs
+
+are : (monitor : MonitorParts) (kept : List Candidate) (number : ℕ) (block : Block) (inputs : Inputs) (state : List Value) → MayRun monitor kept number block inputs state → Are monitor block inputs state
+are monitor kept number block inputs state run =
+    let places = places_of monitor block in
+    let few = (placed monitor number block run.rule run.is).few in
+    let v = valuation_of_both state inputs in
+    let fields : values_from v 0 places.fields ≡ state =
+    ap (values_from v 0) (sym (kinds_held places.fields state run.fits)) ∙ fields_back state inputs no_inputs (omega (arith, few_held places.fields state run.fits, few.fields)) in
+    let arguments : values_from v 16 places.inputs ≡ inputs.arguments =
+    ap (values_from v 16) (sym (kinds_held places.inputs inputs.arguments run.inputs_fit.arguments))
+    ∙ arguments_back state inputs no_inputs (omega (arith, few_held places.inputs inputs.arguments run.inputs_fit.arguments, few.inputs)) in
+    let locals : values_from v 22 places.locals ≡ inputs.locals =
+    ap (values_from v 22) (sym (kinds_held places.locals inputs.locals run.inputs_fit.locals))
+    ∙ locals_back state inputs no_inputs (omega (arith, few_held places.locals inputs.locals run.inputs_fit.locals, few.locals)) in
+    record { state_is = fields; inputs_are = λ i. record { arguments = arguments i; locals = locals i } }
+
+-- ---- where no valuation makes the question true the block fits
+
+true_and_true : (a b c : Bool) → a ≡ (b && c) → b ≡ true → c ≡ true → a ≡ false → ⊥
+true_and_true a true true e f g h = cc
+true_and_true a true false e f g h = cc
+true_and_true a false c e f g h = cc
+
+pub never_fits : (monitor : MonitorParts) (kept : List Candidate) (number : ℕ) → ((v : Valuation) → truth_of v (outside_question monitor kept number) ≡ false) → Fits64 monitor kept number
+never_fits monitor kept number never block inputs state run over = by (has_numbers block) refl
+  where
+    by : (has : Bool) → has_numbers block ≡ has → ⊥
+    by false has = let stays = narrow_stays block has inputs state in cc
+    by true has =
+        let v = valuation_of_both state inputs in
+        let same = are monitor kept number block inputs state run.runs in
+        let here : MayRunIn64 monitor kept number block (inputs_at monitor block v) (own_state monitor block v) =
+        subst (λ (one : List Value). MayRunIn64 monitor kept number block (inputs_at monitor block v) one) (sym same.state_is)
+        (subst (λ (one : Inputs). MayRunIn64 monitor kept number block one state) (sym same.inputs_are) run) in
+        let leaves : overflows_in (inputs_at monitor block v) block (own_state monitor block v) ≡ true =
+        (λ i. overflows_in (same.inputs_are i) block (same.state_is i)) ∙ over in
+        true_and_true (truth_of v (block_question monitor kept block)) (runs_truth monitor kept block v) (overflows_in (inputs_at monitor block v) block (own_state monitor block v))
+        (full_truth monitor kept number block v run.runs.rule run.runs.is has) (there_runs monitor kept number block v here) leaves
+        (sym (ap (λ (one : Option Block). truth_of v (question_in monitor kept one)) run.runs.is) ∙ never v)
+
+-- ---- where one does it does not
+
+nowhere : (v : Valuation) → truth_of v (formulas.Any []) ≡ true → ⊥
+nowhere v holds = let none = any_truth v [] in cc
+
+pub somewhere_overflows : (monitor : MonitorParts) (kept : List Candidate) (number : ℕ) (v : Valuation) → IsMonitor monitor → AreSomeOf kept (candidates_of monitor)
+    → truth_of v (outside_question monitor kept number) ≡ true → OverflowsAt monitor kept number
+somewhere_overflows monitor kept number v rule some holds = by (slice_get monitor.blocks number) refl holds
+  where
+    by_numbers : (block : Block) → slice_get monitor.blocks number ≡ Some block → (has : Bool) → has_numbers block ≡ has → truth_of v (block_question monitor kept block) ≡ true → OverflowsAt monitor kept number
+    by_numbers block is true has holds =
+        let both = and_parts (runs_truth monitor kept block v) (overflows_in (inputs_at monitor block v) block (own_state monitor block v)) (sym (full_truth monitor kept number block v rule is has) ∙ holds) in
+        record {
+          block = block;
+          inputs = inputs_at monitor block v;
+          state = own_state monitor block v;
+          runs = runs_there monitor kept number block v rule some is both.0;
+          overflows = both.1;
+        }
+    by_numbers block is false has holds = absurd (nowhere v (sym (ap (truth_of v) (unchosen _ (formulas.Any []) (has_numbers block) has)) ∙ holds))
+      where
+        unchosen : (one other : Formula) (test : Bool) → test ≡ false → cond test one other ≡ other
+        unchosen one other false is = refl
+        unchosen one other true is = absurd cc
+
+    by : (held : Option Block) → slice_get monitor.blocks number ≡ held → truth_of v (question_in monitor kept held) ≡ true → OverflowsAt monitor kept number
+    by None is holds = absurd (nowhere v holds)
+    by (Some block) is holds = by_numbers block is (has_numbers block) refl holds
+
+pub fits_never : (monitor : MonitorParts) (kept : List Candidate) (number : ℕ) → IsMonitor monitor → AreSomeOf kept (candidates_of monitor) → Fits64 monitor kept number
+    → (v : Valuation) → truth_of v (outside_question monitor kept number) ≡ false
+fits_never monitor kept number rule some fits v = by (truth_of v (outside_question monitor kept number)) refl
+  where
+    by : (held : Bool) → truth_of v (outside_question monitor kept number) ≡ held → held ≡ false
+    by false is = refl
+    by true is = let at = somewhere_overflows monitor kept number v rule some is in absurd (fits at.block at.inputs at.state at.runs at.overflows)
+
+-- ---- what the prover answers
+
+many_cubes : (monitor : MonitorParts) (kept : List Candidate) (number : ℕ) → MOST_CUBES < cubes_of (outside_question monitor kept number) → is_asked_within monitor kept number ≡ false
+many_cubes monitor kept number many = and_right (is_made_within monitor kept number) (has_few_cubes (outside_question monitor kept number)) (grind arith)
+
+pub answer_fits : (monitor : MonitorParts) (kept : List Candidate) (number : ℕ) (answer : Option Cert) → IsMonitor monitor → AreSomeOf kept (candidates_of monitor)
+    → ((formula : Formula) (cert : Cert) (v : Valuation) → Refutes formula cert → truth_of v formula ≡ false)
+    → IsAnswer (outside_question monitor kept number) answer → IsFit monitor kept number answer
+answer_fits monitor kept number (Some cert) rule some refuted is = record { refutes = is; fits = never_fits monitor kept number (λ v. refuted (outside_question monitor kept number) cert v is) }
+answer_fits monitor kept number None rule some refuted is = λ fits. by fits is
+  where
+    by : Fits64 monitor kept number → IsLeftOpen (outside_question monitor kept number) → MayStayUnknown monitor kept number
+    by fits (inl many) = limits (many_cubes monitor kept number many)
+    by fits (inr (inl held)) = let never = fits_never monitor kept number rule some fits held.0 in absurd (both _ never held.1)
+      where
+        both : (b : Bool) → b ≡ false → b ≡ true → ⊥
+        both b never held = cc
+    by fits (inr (inr cube)) = undecided cube
+
+pub beyond_fits : (monitor : MonitorParts) (kept : List Candidate) (number : ℕ) → is_made_within monitor kept number ≡ false → IsFit monitor kept number None
+beyond_fits monitor kept number beyond = λ fits. limits (and_left (is_made_within monitor kept number) (has_few_cubes (outside_question monitor kept number)) beyond)

@@ -1,0 +1,9 @@
+mod ReadValues
+mod StatementMoves
+mod WayTruth
+mod OutsideTruth
+mod CandidateKinds
+mod Questions
+mod Exactness
+mod MadeQuestions
+mod NarrowQuestions
