@@ -5,3 +5,9 @@ pub mod Answered
 pub mod AskedQuestions
 pub mod Accepted
 pub mod Verdicts
+pub mod AnswerLines
+pub mod KeptClaims
+pub mod CountingReports
+pub mod WrittenColumns
+pub mod PrintedCounts
+pub mod UncountedLines

@@ -1,14 +1,253 @@
-//! The words of a question's line.
+//! The text of a counted report.
 
-ghost use Rattle.std.specs.Prelude.{◌≡◌, ◌++◌, codes, decimal};
+ghost use Rattle.std.specs.Prelude.{◌≡◌, ◌≤◌, ◌++◌, All, codes, decimal, length};
+ghost use Rattle.std.specs.List.{enumerate_from, flat_map};
+ghost use Rattle.lang_base.specs.Limits.{BLOCKS, CONDITIONS};
 ghost use Rattle.base_io.specs.Writing.{Wrote};
-ghost use Rattle.report_tally.specs.CountedReports.{asked_text, question_text};
+ghost use Rattle.plan_count.specs.declared.question.Question.TheVariants.{First, Gives};
+ghost use Rattle.plan_counted.specs.Counted.{AreBacked, column_at};
+ghost use Rattle.report_tally.specs.CountedReports.{answer_text, asked_text, question_text};
+ghost use Rattle.report_tally.specs.CountedTexts.{column_text, columns_text, counted_text};
+ghost use Rattle.report_tally.specs.CountedTexts.{has_column, is_kept, is_note, is_noted};
+ghost use Rattle.report_tally.specs.CountedTexts.{kept_text, told_text};
+ghost use Rattle.report_tally.specs.inner.Lines.{IsShortColumn};
 
 use base_io::{Sink, SinkFailed, write_piece, write_pieces};
+use base_list::Seq;
 use itoa::Buffer;
-use lang_monitor::Monitor;
+use lang_monitor::{Claim, Monitor};
+use logic_cert::{Cert, print_cert};
 use plan_count::Question;
-use report_text::write_block_name;
+use plan_counted::{CountedPlan, Told};
+use plan_place::{PlacedPlan, Proof};
+use report_recheck::write_proof;
+use report_text::{write_block_name, write_plan};
+
+/// Writes the report of a plan that was placed and then counted: the text of the counted plan, then
+/// a line for each proof of the placed one on whose claim the counted one rests too, and then one
+/// for each certificate of what blocks have on counted conditions. It takes no memory.
+///
+/// After `SinkFailed` the first bytes of the text were taken, fewer than all and maybe none.
+pub fn write_counted_report<S: Sink>(
+    monitor: &Monitor,
+    placed: &PlacedPlan,
+    counted: &CountedPlan,
+    out: &mut S,
+) -> Result<(), SinkFailed>
+    requires { AreBacked monitor.now placed.now.plan counted.now.columns }
+    ensures { Wrote (S.seen out.old) (S.seen out.new) result
+        (counted_text monitor.now placed.now counted.now) }
+{
+    let _blocks = monitor.blocks();
+    let columns = counted.columns.items();
+    write_plan(monitor, &counted.plan, out)?;
+    write_kept(monitor, columns, placed.proofs.items(), out)?;
+    write_columns(monitor, columns, out)
+}
+
+/// A line for each proof on whose claim the counted plan rests.
+fn write_kept<S: Sink>(
+    monitor: &Monitor,
+    columns: &[Option<Seq<Told>>],
+    proofs: &[Proof],
+    out: &mut S,
+) -> Result<(), SinkFailed>
+    ensures { Wrote (S.seen out.old) (S.seen out.new) result
+        (flat_map (kept_text monitor.now columns.now) proofs.now) }
+{
+    for proof in proofs {
+        write_if_kept(monitor, columns, proof, out)?;
+    }
+    Ok(())
+}
+
+/// The line of a proof, where the counted plan rests on its claim.
+fn write_if_kept<S: Sink>(
+    monitor: &Monitor,
+    columns: &[Option<Seq<Told>>],
+    proof: &Proof,
+    out: &mut S,
+) -> Result<(), SinkFailed>
+    ensures { Wrote (S.seen out.old) (S.seen out.new) result
+        (kept_text monitor.now columns.now proof.now) }
+{
+    if is_kept(columns, proof.claim) {
+        write_proof(monitor, proof.claim, &proof.cert, out)
+    } else {
+        Ok(())
+    }
+}
+
+/// Whether the counted plan rests on the claim, where the placed one does.
+fn is_kept(columns: &[Option<Seq<Told>>], claim: Claim) -> bool
+    ensures { result ≡ is_kept columns.now claim }
+{
+    match claim {
+        Claim::Keeps { .. } => true,
+        Claim::NoNote { block, condition } => !is_noted_at(columns, condition, block),
+        Claim::One { condition, .. } => !has_column_at(columns, condition),
+        Claim::NoTest { .. } => true,
+    }
+}
+
+/// Whether the condition is counted, and the block has a note on it.
+fn is_noted_at(columns: &[Option<Seq<Told>>], condition: u32, block: u32) -> bool
+    ensures { result ≡ is_noted (column_at columns.now condition) block }
+{
+    match columns.get(condition.saturating_sub(1) as usize) {
+        Some(column) => is_noted(column, block),
+        None => false,
+    }
+}
+
+fn is_noted(column: &Option<Seq<Told>>, block: u32) -> bool
+    ensures { result ≡ is_noted column.now block }
+{
+    match column {
+        None => false,
+        Some(column) => match column.items().get(block as usize) {
+            None => false,
+            Some(told) => is_note(told),
+        },
+    }
+}
+
+fn is_note(told: &Told) -> bool
+    ensures { result ≡ is_note told.now }
+{
+    match told {
+        Told::Nothing { .. } => false,
+        Told::Signal { .. } => true,
+        Told::Broadcast => true,
+    }
+}
+
+/// Whether the condition is counted.
+fn has_column_at(columns: &[Option<Seq<Told>>], condition: u32) -> bool
+    ensures { result ≡ has_column (column_at columns.now condition) }
+{
+    match columns.get(condition.saturating_sub(1) as usize) {
+        Some(column) => has_column(column),
+        None => false,
+    }
+}
+
+fn has_column(column: &Option<Seq<Told>>) -> bool
+    ensures { result ≡ has_column column.now }
+{
+    match column {
+        None => false,
+        Some(_) => true,
+    }
+}
+
+// ---- the lines of questions
+
+/// A line for each certificate of what blocks have on counted conditions.
+fn write_columns<S: Sink>(
+    monitor: &Monitor,
+    columns: &[Option<Seq<Told>>],
+    out: &mut S,
+) -> Result<(), SinkFailed>
+    requires few { length columns.now ≤ CONDITIONS }
+    requires short { All IsShortColumn columns.now }
+    ensures { Wrote (S.seen out.old) (S.seen out.new) result
+        (columns_text monitor.now columns.now) }
+{
+    for index in 0..columns.len() {
+        write_column(monitor, index as u32 + 1, &columns[index], out)?;
+    }
+    Ok(())
+}
+
+/// Those on a condition.
+fn write_column<S: Sink>(
+    monitor: &Monitor,
+    condition: u32,
+    column: &Option<Seq<Told>>,
+    out: &mut S,
+) -> Result<(), SinkFailed>
+    requires { IsShortColumn column.now }
+    ensures { Wrote (S.seen out.old) (S.seen out.new) result
+        (column_text monitor.now condition column.now) }
+{
+    match column {
+        None => Ok(()),
+        Some(column) => write_each(monitor, condition, column.items(), out),
+    }
+}
+
+/// Those of what each block has on a condition.
+fn write_each<S: Sink>(
+    monitor: &Monitor,
+    condition: u32,
+    column: &[Told],
+    out: &mut S,
+) -> Result<(), SinkFailed>
+    requires { length column.now ≤ BLOCKS }
+    ensures { Wrote (S.seen out.old) (S.seen out.new) result
+        (flat_map (λ one. told_text monitor.now condition one.0 one.1)
+        (enumerate_from 0 column.now)) }
+{
+    for index in 0..column.len() {
+        write_told(monitor, condition, index as u32, &column[index], out)?;
+    }
+    Ok(())
+}
+
+/// Those of what a block has on a condition.
+fn write_told<S: Sink>(
+    monitor: &Monitor,
+    condition: u32,
+    block: u32,
+    told: &Told,
+    out: &mut S,
+) -> Result<(), SinkFailed>
+    ensures { Wrote (S.seen out.old) (S.seen out.new) result
+        (told_text monitor.now condition block told.now) }
+{
+    match told {
+        Told::Nothing { counts } => {
+            write_answer(monitor, Question::Counts { condition, block }, counts, out)
+        }
+        Told::Signal { gives, first } => {
+            write_signal(monitor, condition, block, gives, first, out)
+        }
+        Told::Broadcast => Ok(()),
+    }
+}
+
+/// Both lines of a signal.
+fn write_signal<S: Sink>(
+    monitor: &Monitor,
+    condition: u32,
+    block: u32,
+    gives: &Cert,
+    first: &Cert,
+    out: &mut S,
+) -> Result<(), SinkFailed>
+    ensures { Wrote (S.seen out.old) (S.seen out.new) result
+        (answer_text monitor.now (Gives condition block) gives.now
+        ++ answer_text monitor.now (First condition block) first.now) }
+{
+    write_answer(monitor, Question::Gives { condition, block }, gives, out)?;
+    write_answer(monitor, Question::First { condition, block }, first, out)
+}
+
+/// `proof counts 2 put: clash 0 1` and a line feed.
+fn write_answer<S: Sink>(
+    monitor: &Monitor,
+    question: Question,
+    cert: &Cert,
+    out: &mut S,
+) -> Result<(), SinkFailed>
+    ensures { Wrote (S.seen out.old) (S.seen out.new) result
+        (answer_text monitor.now question cert.now) }
+{
+    write_answer_head(monitor, question, out)?;
+    print_cert(cert, out)?;
+    write_piece(b"\n", out)
+}
 
 /// `proof counts 2 put: `
 pub(crate) fn write_answer_head<S: Sink>(

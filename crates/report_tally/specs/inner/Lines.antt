@@ -1,7 +1,8 @@
 -- For private contracts: what is known of the lines of what a plan rests on while they are read.
 use Rattle.std.specs.Prelude.{◌≡◌, ◌==◌, ◌⊎◌, ℕ, Bool, true, false, not, ◌&&◌, List, [], ◌∷◌}
-use Rattle.std.specs.Prelude.{◌++◌, map, Option, Some, None, codes}
+use Rattle.std.specs.Prelude.{◌≤◌, ◌++◌, map, length, Option, Some, None, codes}
 use Rattle.std.specs.List.{filter, enumerate_from, list_any}
+use Rattle.lang_base.specs.Limits.{BLOCKS}
 use Rattle.logic_cert.specs.declared.cert.Cert.{Cert}
 use Rattle.lang_monitor.specs.declared.claim.Claim.{Claim}
 use Rattle.lang_monitor.specs.declared.claim.Claim.TheVariants as claims
@@ -9,6 +10,7 @@ use Rattle.lang_monitor.specs.MonitorParts.{MonitorParts}
 use Rattle.machine_events.specs.declared.plan.CondKind.{CondKind}
 use Rattle.machine_events.specs.declared.plan.CondKind.TheVariants as kinds
 use Rattle.machine_events.specs.declared.plan.Plan.{Plan}
+use Rattle.plan_counted.specs.declared.counted.Told.{Told}
 use Rattle.report_recheck.specs.Fronts.{Anything, AreFor, IsFront, IsNoFront}
 use Rattle.report_recheck.specs.Readings.{IsReadable}
 use Rattle.report_recheck.specs.Reports.{proof_text, proofs_text}
@@ -98,3 +100,10 @@ IsWithLines monitor plan bytes (Some report) =
 IsWithLines monitor plan bytes None =
     (report : CountedReport) → IsReportWith monitor plan report
     → owed_text monitor report ≡ bytes → ⊥
+
+-- ---- columns
+
+-- a column has no more blocks than a monitor may have
+abbrev pub IsShortColumn : Option (List Told) → Type 0
+IsShortColumn None = Unit {0}
+IsShortColumn (Some column) = length column ≤ BLOCKS
