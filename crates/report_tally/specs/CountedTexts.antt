@@ -110,6 +110,7 @@ counted_report_of placed counted = record {
 abbrev pub IsTypedTold : Told → Type 0
 IsTypedTold told = All HasTypedNumbers (told_certs told)
 
+-- the column of a condition that is counted, if it is, has such answers alone
 abbrev pub HasTypedColumn : Option (List Told) → Type 0
 HasTypedColumn None = Unit {0}
 HasTypedColumn (Some column) = All IsTypedTold column

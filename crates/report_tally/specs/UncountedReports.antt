@@ -8,6 +8,7 @@ use Rattle.report_tally.specs.declared.report.CountedReport.{CountedReport}
 abbrev pub none_counted : List CondKind → List Bool
 none_counted all_kinds = map (λ kind. false) all_kinds
 
+-- a report of today's form as one in which no condition is counted
 abbrev pub uncounted : Report → CountedReport
 uncounted report = record {
   plan = report.plan;
