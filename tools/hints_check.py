@@ -26,6 +26,25 @@ block put: 1 broadcast, 2 broadcast
 block get: 1 broadcast, 2 broadcast
 """
 
+LOCK = """monitor Lock {
+  bool held = false;
+  method acquire() waituntil (!held) { held = true; }
+  method release() waituntil (held) { held = false; }
+}
+"""
+REPORT = """plan Lock
+condition 1 signal: !held
+condition 2 signal: held
+block acquire: 2 signal
+block release: 1 signal
+proof none acquire 1: clash 0 1
+proof none release 2: clash 0 1
+proof one 1 acquire: split 1 split 0
+proof one 2 release: split 1 split 0
+proof untested acquire 2: split 1 split 0
+proof untested release 1: split 1 split 0
+"""
+
 # of monitors: what stands in place of a piece of BUFFER, what the caret's place begins with, the words of the hint
 MONITORS = [
     ("count = 0;\n", "count = 0\n", "bool", "expected `;` after `0`"),
@@ -74,6 +93,16 @@ MONITORS = [
     ("count - 1; }", "count - 1; };", ";", "no `;` stands behind `}`"),
     ("Buffer {", "Buffer:", ":", "expected `{` after `Buffer`"),
     ("method get() waituntil", "method get() waitUntil", "waitUntil", "a guard is written `waituntil (..)`"),
+    ("count < 4", "open == true", "open ==", "only numbers are compared: write `open`"),
+    ("count < 4", "open != true", "open !=", "only numbers are compared: write `!open`"),
+    ("count < 4", "false == open", "false ==", "only numbers are compared: write `!open`"),
+    ("count < 4", "open == open", "open ==", "truth values are joined by `&&`, `||` and `!`"),
+    ("count < 4", "open < 4", "open < 4", "only numbers are compared, and `open` is a truth value"),
+    ("count < 4", "count", "count) {", "compare `count`, as by `count > 0`"),
+    ("count < 4", "open && 1", "1) {", "a condition is true or false, and `1` is a number"),
+    ("count + n", "count + open", "open;", "a sum is of numbers, and `open` is a truth value"),
+    ("count = count + n", "open = n", "n;", "`open` is a truth value, and `n` a number"),
+    ("count = count + n", "count = open", "open;", "`count` is a number, and `open` a truth value"),
 ]
 
 # of clients: the text, what the caret's place begins with, the words of the hint
@@ -92,6 +121,7 @@ CLIENTS = [
     ("client A: get();", ": get()", "expected `{` after `A`"),
     ("client A { try { get(); } }", "{ get()", "a call that tries is written `try get();`"),
     ("client A { while (true) { get(); } }", "{ get()", "a client only calls and repeats"),
+    ("client A { put(true); }", "true);", "this input is a number, and not `true`"),
 ]
 
 # of plans: what stands in place of a piece of PLAN, the place, the words of the hint
@@ -105,6 +135,23 @@ PLANS = [
     ("block put: 1 broadcast, 2", "block put: 1 broadcast,2", "line 5, column 23: expected notes"),
     ("block put", "block get", "line 5, column 7: expected `put: `"),
     ("condition 1", "condition 2", "line 3, column 11: expected `1 signal: count < 4`"),
+    ("block put: 1 broadcast, 2", "block put: 1 broadcast, 7", "line 5, column 25: no condition has this number"),
+    ("block put: 1 broadcast, 2", "block put: 2 broadcast, 2", "line 5, column 25: notes stand by rising numbers"),
+]
+
+# of reports: what stands in place of a piece of REPORT, the place, the words of the hint
+REPORTS = [
+    ("acquire 1: clash 0 1", "acquire 1: clash 0  1", "line 6, column 31: expected the number of a row"),
+    ("acquire 1: clash 0 1", "acquire 1: clash 00 1", "line 6, column 29: expected the number of a row"),
+    ("acquire 1: clash 0 1", "acquire 1: clash 0", "line 6, column 30: expected the number of a row"),
+    ("acquire 1: clash 0 1", "acquire 1: clash 0 1 ", "line 6, column 32: the line is to end here"),
+    ("none acquire 1", "none acquire 2", "line 6, column 20: expected `1: `"),
+    ("proof none release 2: clash 0 1\n", "", "line 7, column 7: expected `none release 2: `"),
+    ("one 1 acquire: split 1 split 0", "one 1 acquire: split 2 split 0", "line 8, column 37: expected `split`"),
+    ("one 1 acquire: split 1 split 0", "one 1 acquire: spilt 1 split 0", "line 8, column 22: expected `split`"),
+    ("one 1 acquire: split 1 split 0", "one 1 acquire: chain 1 0 1 4", "line 8, column 35: expected a number: a row"),
+    ("untested release 1: split 1 split 0\n", "untested release 1: split 1 split 0", "a line feed is missing at the end"),
+    ("split 1 split 0\n", "split 1 split 0\nproof none release 2: clash 0 1\n", "line 12, column 1: the report is to end"),
 ]
 
 # words, and the words of the hint
@@ -188,6 +235,16 @@ for piece, instead, wanted in PLANS:
     assert PLAN.count(piece) >= 1, piece
     write("bad.plan", PLAN.replace(piece, instead, 1))
     check_file(instead, ["audit", "m.mon", "bad.plan"], None, wanted)
+write("lock.mon", LOCK)
+write("good.report", REPORT)
+status, out, hints = run(["recheck", "lock.mon", "good.report"])
+if status != 0 or hints:
+    tell("a good report", out + hints)
+for piece, instead, wanted in REPORTS:
+    assert REPORT.count(piece) >= 1, piece
+    front, _, back = REPORT.rpartition(piece)
+    write("bad.report", front + instead + back)
+    check_file(instead, ["recheck", "lock.mon", "bad.report"], None, wanted)
 os.mkdir(os.path.join(folder, "folder"))
 for name, wanted in NAMES:
     status, out, hints = run(["check", name])
@@ -200,6 +257,6 @@ for words, wanted in WORDS:
         tell(words, out + hints)
 if run(["--help"])[2]:
     tell("--help", run(["--help"])[2])
-rows = len(MONITORS) + len(CLIENTS) + len(PLANS) + len(NAMES) + len(WORDS)
+rows = len(MONITORS) + len(CLIENTS) + len(PLANS) + len(REPORTS) + len(NAMES) + len(WORDS)
 print(f"hints: {rows} inputs, {faults} without the hint that they want")
 sys.exit(1 if faults else 0)

@@ -1,31 +1,27 @@
 //! Where a text stops being that of a plan or a report.
 
-use crate::notes::{from, good_notes};
+use crate::claims::claims_slip;
+use crate::lines::{from, is_ended, line_from, next_line, same_front, same_until};
+use crate::notes::notes_slip;
+use crate::slip::{Slip, expecting, saying};
 use base_io::{GrowingSink, write_piece};
-use lang_base::is_in_line;
 use lang_monitor::Monitor;
 use machine_events::Plan;
 use plan_prune::candidates;
 use report_text::{write_candidate, write_plan};
 use std::alloc::{AllocError, Global};
 
-/// The first place at which a text isn't as a plan or a report prints it, and what may stand there.
-#[derive(Debug, Drop)]
-pub(crate) struct Slip {
-    pub(crate) at: usize,
-    pub(crate) expected: Vec<u8>,
-    pub(crate) said: &'static [u8],
-}
-
-/// The lines of the plan that wakes everyone, and all lines of facts that a plan may keep, in order.
+/// The lines of the plan that wakes everyone, all lines of facts that a plan may keep, in order, and
+/// how many conditions there are.
 #[derive(Debug, Drop)]
 pub(crate) struct Model {
     plan: Vec<u8>,
     kept: Vec<u8>,
+    conditions: usize,
 }
 
-/// Where a text stops being a plan's, or, where a report is asked for, a report's; nothing where its
-/// lines look as they should.
+/// Where a text stops being a plan's, or, where a report is asked for, a report's; nothing where
+/// its lines look as they should.
 pub(crate) fn slip_in(
     alloc: Global,
     monitor: &Monitor,
@@ -42,11 +38,14 @@ pub(crate) fn slip_in(
     if slip.is_some() {
         return Ok(slip);
     }
-    let (slip, at) = parts_slip(alloc, &model.plan, first, bytes, at)?;
+    let (slip, at) = parts_slip(alloc, &model, first, bytes, at)?;
     if slip.is_some() {
         return Ok(slip);
     }
-    last_slip(alloc, bytes, at, report)
+    if report {
+        return claims_slip(alloc, monitor, bytes, at);
+    }
+    Ok(last_slip(alloc, bytes, at))
 }
 
 /// The lines that plans of a monitor have.
@@ -60,6 +59,7 @@ fn model_of(alloc: Global, monitor: &Monitor) -> Result<Model, AllocError> {
     Ok(Model {
         plan: text.into_bytes(),
         kept,
+        conditions: monitor.conditions().len(),
     })
 }
 
@@ -76,50 +76,6 @@ fn kept_of(alloc: Global, monitor: &Monitor) -> Result<Vec<u8>, AllocError> {
         }
     }
     Ok(text.into_bytes())
-}
-
-/// The line that begins at a place, without its end.
-fn line_from(bytes: &[u8], start: usize) -> &[u8] {
-    let rest = from(bytes, start);
-    let length = rest.iter().take_while(|byte| is_in_line(**byte)).count();
-    rest.get(..length).unwrap_or(rest)
-}
-
-/// Where the line after the one that begins at a place begins.
-fn next_line(bytes: &[u8], start: usize) -> usize {
-    let end = start.saturating_add(line_from(bytes, start).len());
-    end.saturating_add(1)
-}
-
-/// Whether the line that begins at a place has an end.
-fn is_ended(bytes: &[u8], start: usize) -> bool {
-    next_line(bytes, start) <= bytes.len()
-}
-
-/// How many of the first bytes are the same.
-fn same_front(left: &[u8], right: &[u8]) -> usize {
-    left.iter()
-        .zip(right)
-        .take_while(|(one, other)| one == other)
-        .count()
-}
-
-/// A slip where these bytes are expected.
-fn expecting(alloc: Global, at: usize, expected: &[u8]) -> Result<Slip, AllocError> {
-    Ok(Slip {
-        at,
-        expected: Vec::from_slice(alloc, expected)?,
-        said: b"",
-    })
-}
-
-/// A slip of which this is said.
-fn saying(alloc: Global, at: usize, said: &'static [u8]) -> Slip {
-    Slip {
-        at,
-        expected: Vec::new(alloc),
-        said,
-    }
 }
 
 /// What is wrong of a line that is to be this one.
@@ -202,22 +158,23 @@ fn line_among(lines: &[u8], start: usize, line: &[u8]) -> Option<usize> {
 /// What is wrong of the lines of conditions and blocks, and where what follows them begins.
 fn parts_slip(
     alloc: Global,
-    model: &[u8],
+    model: &Model,
     first: usize,
     bytes: &[u8],
     start: usize,
 ) -> Result<(Option<Slip>, usize), AllocError> {
+    let lines = model.plan.as_slice();
     let mut at = start;
     let mut shown = first;
-    for _line in 0..model.len() {
-        if shown >= model.len() {
+    for _line in 0..lines.len() {
+        if shown >= lines.len() {
             return Ok((None, at));
         }
-        let slip = part_slip(alloc, line_from(model, shown), bytes, at)?;
+        let slip = part_slip(alloc, line_from(lines, shown), model.conditions, bytes, at)?;
         if slip.is_some() {
             return Ok((slip, at));
         }
-        shown = next_line(model, shown);
+        shown = next_line(lines, shown);
         at = next_line(bytes, at);
     }
     Ok((None, at))
@@ -227,13 +184,14 @@ fn parts_slip(
 fn part_slip(
     alloc: Global,
     model: &[u8],
+    conditions: usize,
     bytes: &[u8],
     start: usize,
 ) -> Result<Option<Slip>, AllocError> {
     if model.starts_with(b"condition ") {
         condition_slip(alloc, model, bytes, start)
     } else {
-        block_slip(alloc, model, bytes, start)
+        block_slip(alloc, model, conditions, bytes, start)
     }
 }
 
@@ -257,20 +215,11 @@ fn condition_slip(
     line_slip(alloc, bytes, start, signal.as_slice())
 }
 
-/// How many bytes stand ahead of these, or all where they don't stand there.
-fn same_until(bytes: &[u8], sign: &[u8]) -> usize {
-    for start in 0..bytes.len() {
-        if from(bytes, start).starts_with(sign) {
-            return start;
-        }
-    }
-    bytes.len()
-}
-
 /// What is wrong of the line of a block, whose name is that of the model.
 fn block_slip(
     alloc: Global,
     model: &[u8],
+    conditions: usize,
     bytes: &[u8],
     start: usize,
 ) -> Result<Option<Slip>, AllocError> {
@@ -281,51 +230,18 @@ fn block_slip(
         let same = same_front(line, head);
         return Ok(Some(expecting(alloc, start.saturating_add(same), from(head, same))?));
     }
-    let notes = from(line, length);
-    let good = good_notes(notes);
-    if good < notes.len() || notes.is_empty() {
-        let at = start.saturating_add(length).saturating_add(good);
-        return Ok(Some(saying(
-            alloc,
-            at,
-            b"expected notes as `1 signal, 2 broadcast tested`, or `none`",
-        )));
+    if let Some((place, said)) = notes_slip(from(line, length), conditions) {
+        let at = start.saturating_add(length).saturating_add(place);
+        return Ok(Some(saying(alloc, at, said)));
     }
     line_slip(alloc, bytes, start, line)
 }
 
 /// What is wrong of what follows the lines of a plan.
-fn last_slip(
-    alloc: Global,
-    bytes: &[u8],
-    start: usize,
-    report: bool,
-) -> Result<Option<Slip>, AllocError> {
-    if report {
-        return proofs_slip(alloc, bytes, start);
-    }
+fn last_slip(alloc: Global, bytes: &[u8], start: usize) -> Option<Slip> {
     if start < bytes.len() {
-        return Ok(Some(saying(alloc, start, b"the plan is to end here")));
+        Some(saying(alloc, start, b"the plan is to end here"))
+    } else {
+        None
     }
-    Ok(None)
-}
-
-/// What is wrong of the lines of certificates.
-fn proofs_slip(alloc: Global, bytes: &[u8], start: usize) -> Result<Option<Slip>, AllocError> {
-    let mut at = start;
-    for _line in 0..bytes.len() {
-        if at >= bytes.len() {
-            return Ok(None);
-        }
-        let line = line_from(bytes, at);
-        if !line.starts_with(b"proof ") {
-            let same = same_front(line, b"proof ");
-            return Ok(Some(expecting(alloc, at.saturating_add(same), from(b"proof ", same))?));
-        }
-        if !is_ended(bytes, at) {
-            return Ok(Some(saying(alloc, bytes.len(), b"a line feed is missing at the end")));
-        }
-        at = next_line(bytes, at);
-    }
-    Ok(None)
 }

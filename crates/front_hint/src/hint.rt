@@ -100,8 +100,10 @@ fn write_said<'a, S: Sink>(hint: Hint<'a>, out: &mut S) -> Result<(), SinkFailed
     )
 }
 
-/// Writes a hint, where there is one.
-pub(crate) fn write_hint_if<S: Sink>(hint: Option<Hint>, out: &mut S) -> Result<(), SinkFailed>
+/// Writes a hint, where there is one. It takes no memory.
+///
+/// After `SinkFailed` the first bytes of the line were taken, fewer than all and maybe none.
+pub fn write_hint_if<S: Sink>(hint: Option<Hint>, out: &mut S) -> Result<(), SinkFailed>
     ensures { Wrote (S.seen out.old) (S.seen out.new) result (hint_if hint.entry) }
 {
     match hint {

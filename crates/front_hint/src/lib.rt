@@ -1,25 +1,19 @@
-//! Hints: what is likely wrong where a file or words are refused.
+//! Hints: what is likely wrong of words, and how any hint is written.
 //!
-//! [`write_monitor_hint`] and [`write_clients_hint`] show the line of a fault of a file with a caret
-//! under its place, and a
-//! [`Hint`] beside it, which [`write_hint`] writes in a line (`specs/Shown`). [`words_hint`] says
-//! what is wrong of words that are no command. Which hint is chosen is promised nowhere: tables go
-//! by the tokens before and at the place, and help whoever typed them.
+//! A [`Hint`] is written in a line by [`write_hint`], and [`write_caret`] shows the line of a place
+//! with a caret under it (`specs/Shown`). [`words_hint`] says what is wrong of words that are no
+//! command. Which hint is chosen is promised nowhere: it helps whoever typed the words. Those of
+//! files are chosen in the crates above.
 #![tactic(auto)]
 
-mod around;
 mod commands;
-mod grammar;
 mod hint;
-mod lexing;
 mod near;
 mod parts;
-mod rules;
 mod shown;
-mod source;
 mod words;
 
-pub use hint::{Hint, write_hint};
+pub use hint::{Hint, write_hint, write_hint_if};
+pub use near::{is, is_near};
 pub use shown::write_caret;
-pub use source::{write_clients_hint, write_monitor_hint};
 pub use words::words_hint;

@@ -1,13 +1,14 @@
 //! Words, and those that differ in one letter.
 
 /// Whether a word is this text.
-pub(crate) fn is(word: &[u8], text: &str) -> bool {
+pub fn is(word: &[u8], text: &str) -> bool {
     word == text.as_bytes()
 }
 
 /// Whether two words differ in one letter that is another, lacking, added, or in the other place,
-/// and are three letters long at least; or whether they differ in capitals alone.
-pub(crate) fn is_near(left: &[u8], right: &[u8]) -> bool {
+/// and are three letters long at least; or whether they differ in capitals alone. Hints go by it, so
+/// nothing is promised of it.
+pub fn is_near(left: &[u8], right: &[u8]) -> bool {
     if left == right {
         return false;
     }
@@ -51,22 +52,4 @@ fn same_back(left: &[u8], right: &[u8]) -> usize {
         .zip(right.iter().rev())
         .take_while(|(one, other)| one == other)
         .count()
-}
-
-/// The text of the row that this word is in.
-pub(crate) fn said_of(
-    rows: &[(&'static [u8], &'static [u8])],
-    word: &[u8],
-) -> Option<&'static [u8]> {
-    let (_, said) = rows.iter().find(|(row, _)| *row == word)?;
-    Some(*said)
-}
-
-/// The text of the first row whose sign stands at the front of the bytes.
-pub(crate) fn said_at_front(
-    rows: &[(&'static [u8], &'static [u8])],
-    bytes: &[u8],
-) -> Option<&'static [u8]> {
-    let (_, said) = rows.iter().find(|(sign, _)| bytes.starts_with(sign))?;
-    Some(*said)
 }

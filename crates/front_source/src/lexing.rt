@@ -1,8 +1,8 @@
 //! Hints of places where no token starts.
 
 use crate::around::Around;
-use crate::hint::Hint;
-use crate::near::{is, said_at_front};
+use crate::said::said_at_front;
+use front_hint::{Hint, is};
 use lang_base::is_word_byte;
 
 /// What is said of signs that no token begins with.

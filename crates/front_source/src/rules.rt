@@ -1,8 +1,9 @@
 //! Hints of rules that are broken.
 
 use crate::around::Around;
-use crate::hint::Hint;
-use crate::near::{is, is_near, said_of};
+use crate::kinds::kind_hint;
+use crate::said::said_of;
+use front_hint::{Hint, is_near};
 use lang_base::{Counted, Refusal};
 use lang_tokens::TokenKind;
 
@@ -30,6 +31,7 @@ pub(crate) fn rule_hint<'a>(
         Refusal::Unknown => unknown(place),
         Refusal::UnknownMethod => unknown_method(place, methods),
         Refusal::WrongCount => inputs(place, methods),
+        Refusal::WrongType => Some(kind_hint(place)),
         Refusal::Duplicate => Some(twice(place.here())),
         Refusal::DuplicateClient => Some(twice(place.here())),
         Refusal::TooMany(counted) => Some(Hint::of(most(counted))),
@@ -40,9 +42,6 @@ pub(crate) fn rule_hint<'a>(
 /// What is said of a rule, whatever stands there.
 fn said_of_rule(what: Refusal) -> Option<&'static [u8]> {
     match what {
-        Refusal::WrongType => Some(
-            b"a sum and a comparison are of numbers, a guard and a condition are true or false",
-        ),
         Refusal::NotLinear => Some(b"one side of a `*` is made of numbers and constants alone"),
         Refusal::TooLarge => Some(b"a number is at most 9223372036854775807"),
         Refusal::ReadOnly => Some(b"only fields and locals are assigned, no constants and inputs"),
@@ -99,7 +98,7 @@ fn near_name<'a>(place: &Around<'a>, word: &[u8]) -> Option<&'a [u8]> {
 }
 
 /// Whether the name of a value stands behind such a token.
-fn is_declared(kind: Option<TokenKind>) -> bool {
+pub(crate) fn is_declared(kind: Option<TokenKind>) -> bool {
     kind == Some(TokenKind::KeyConst)
         || kind == Some(TokenKind::KeyInt)
         || kind == Some(TokenKind::KeyBool)

@@ -1,6 +1,6 @@
 use Rattle.base_io.proofs.Writing.{wrote_both, wrote_fails, wrote_longer}
 use Rattle.front_hint.specs.Shown.{hint_if}
-use Rattle.front_hint.proofs.source.write_chosen.Goals as goal
+use Rattle.front_source.proofs.source.write_chosen.Goals as goal
 
 pub returns-in_err-write_caret : goal.returns-in_err-write_caret
 returns-in_err-write_caret g c =

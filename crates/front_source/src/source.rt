@@ -7,11 +7,10 @@ ghost use Rattle.front_hint.specs.Shown.{caret_text, hint_if};
 
 use crate::around::{Around, tokens_of};
 use crate::grammar::{clients_hint, monitor_hint};
-use crate::hint::{Hint, write_hint_if};
 use crate::lexing::lexing_hint;
 use crate::rules::rule_hint;
-use crate::shown::write_caret;
 use base_io::{Sink, SinkFailed};
+use front_hint::{Hint, write_caret, write_hint_if};
 use lang_base::{Refusal, SourceFault};
 use lang_tokens::Token;
 use std::alloc::Global;

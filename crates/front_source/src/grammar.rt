@@ -1,8 +1,8 @@
 //! Hints of places where the grammar stops.
 
 use crate::around::Around;
-use crate::hint::Hint;
-use crate::near::{is, said_at_front, said_of};
+use crate::said::{said_at_front, said_of};
+use front_hint::{Hint, is};
 use lang_base::KEYWORDS;
 use lang_tokens::TokenKind;
 
