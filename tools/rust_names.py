@@ -8,7 +8,7 @@ KEYWORDS = set(
     "abstract become box do final gen macro override priv try typeof unsized virtual yield".split())
 TYPE_WORDS = set("Inner State Overflow Mutex MutexGuard Condvar PoisonError Default Result Option".split())
 MEMBER_WORDS = {"new"}
-OWN_WORDS = set("inner copy next answer lock wait narrow drop Ok Err Some None Overflow".split())
+OWN_WORDS = set("inner copy next answer lock wait narrow whole drop Ok Err Some None Overflow".split())
 
 
 def snake(name):

@@ -12,11 +12,12 @@ use Rattle.lang_tree.specs.declared.tree.StmtTree.TheVariants.{Set, If, Return, 
 use Rattle.lang_tree.specs.declared.tree.StmtTree.TheOpen as layers
 use Rattle.lang_tree.specs.declared.tree.StmtTree.TheViews.{out-roll-StmtTree}
 use Rattle.emit_rust.specs.Scopes.{ScopeParts}
-use Rattle.emit_rust.specs.Expressions.{written, value_text}
+use Rattle.emit_rust.specs.Expressions.{written}
+use Rattle.emit_rust.specs.Values.{value_text}
 use Rattle.emit_bodies.specs.declared.traces.Trace.{Trace}
 use Rattle.emit_bodies.specs.Blocks.{kind_text}
 use Rattle.emit_bodies.specs.Traces.{body_trace}
-use Rattle.emit_bodies.specs.Bodies.{answer_line, answer_text, arrow_plain, arrow_text, body_scope, body_text, braced, copied_lines, done_text, end_by, end_text, kept_answer, kept_end_by, kept_end_text, lines_by, own_lines, result_by, traced_text}
+use Rattle.emit_bodies.specs.Bodies.{answer_line, answer_text, arrow_plain, arrow_text, body_scope, body_text, braced, copied_lines, done_text, end_by, end_text, kept_answer, kept_end_by, kept_end_text, lines_by, own_lines, own_trace, result_by, traced_text}
 
 wrapped : (a b c : List ℕ) → a ++ (b ++ (c ++ [])) ≡ a ++ b ++ c
 wrapped a b c = ap (λ l. a ++ (b ++ l)) (append-nil c) ∙ sym (append_assoc a b c)
@@ -43,14 +44,14 @@ pub braced_some : (body : List StmtTree) (lines : List ℕ) → 1 ≤ length bod
 braced_some [] lines some = absurd (omega arith)
 braced_some (first ∷ rest) lines some = refl
 
-pub lines_own : (tree : MonitorTree) (method : MethodTree) (trace : Trace) (body : List StmtTree) (scope : ScopeParts) → trace.copies ≡ false → scope ≡ body_scope tree method (codes "self")
-    → own_lines scope trace.fails body ≡ lines_by tree method trace body
-lines_own tree method trace body scope none is = ap (λ (s : ScopeParts). own_lines s trace.fails body) is ∙ (rw none refl)
+pub lines_own : (tree : MonitorTree) (method : MethodTree) (trace : Trace) (body : List StmtTree) (whole : Bool) (scope : ScopeParts) → trace.copies ≡ false → scope ≡ body_scope tree method (codes "self") whole
+    → own_lines scope trace.fails body ≡ lines_by tree method trace body whole
+lines_own tree method trace body whole scope none is = ap (λ (s : ScopeParts). own_lines s trace.fails body) is ∙ (rw none refl)
 
-pub lines_copied : (tree : MonitorTree) (method : MethodTree) (trace : Trace) (body : List StmtTree) (next kept : ScopeParts) → trace.copies ≡ true → next ≡ body_scope tree method (codes "next") → kept ≡ body_scope tree method (codes "self")
-    → copied_lines next kept body ≡ lines_by tree method trace body
-lines_copied tree method trace body next kept some is stays =
-    ap (λ (s : ScopeParts). copied_lines s kept body) is ∙ ap (λ (s : ScopeParts). copied_lines (body_scope tree method (codes "next")) s body) stays ∙ (rw some refl)
+pub lines_copied : (tree : MonitorTree) (method : MethodTree) (trace : Trace) (body : List StmtTree) (whole : Bool) (next kept : ScopeParts) → trace.copies ≡ true → next ≡ body_scope tree method (codes "next") whole → kept ≡ body_scope tree method (codes "self") whole
+    → copied_lines next kept body ≡ lines_by tree method trace body whole
+lines_copied tree method trace body whole next kept some is stays =
+    ap (λ (s : ScopeParts). copied_lines s kept body) is ∙ ap (λ (s : ScopeParts). copied_lines (body_scope tree method (codes "next") whole) s body) stays ∙ (rw some refl)
 
 pub result_narrow : (fails narrows : Bool) (value plain : List ℕ) → narrows ≡ true → value ≡ result_by fails narrows value plain
 result_narrow fails false value plain is = absurd (false≢true is)
@@ -75,10 +76,14 @@ pub kept_plain : (narrows : Bool) (next kept : ScopeParts) (value : Expr) → na
 kept_plain true next kept value is = absurd (false≢true (sym is))
 kept_plain false next kept value is = refl
 
-pub body_says : (tree : MonitorTree) (method : MethodTree) (number : ℕ) (answer : Option Kind) (body : List StmtTree) (scope : ScopeParts) (traced : Trace) → scope ≡ body_scope tree method (codes "self") → traced ≡ body_trace scope body
-    → traced_text tree method number answer traced body ≡ body_text tree method number answer body
-body_says tree method number answer body scope traced is says =
-    ap (λ (t : Trace). traced_text tree method number answer t body) (says ∙ ap (λ (s : ScopeParts). body_trace s body) is)
+pub body_says : (tree : MonitorTree) (method : MethodTree) (number : ℕ) (answer : Option Kind) (body : List StmtTree) (whole : Bool) (traced : Trace) → traced ≡ own_trace tree method body whole
+    → traced_text tree method number answer traced body whole ≡ body_text tree method number answer body whole
+body_says tree method number answer body whole traced says =
+    ap (λ (t : Trace). traced_text tree method number answer t body whole) says
+
+pub own_says : (tree : MonitorTree) (method : MethodTree) (body : List StmtTree) (whole : Bool) (scope : ScopeParts) (traced : Trace) → scope ≡ body_scope tree method (codes "self") whole → traced ≡ body_trace scope body
+    → traced ≡ own_trace tree method body whole
+own_says tree method body whole scope traced is says = says ∙ ap (λ (s : ScopeParts). body_trace s body) is
 
 -- the last statement, where there is one
 pub last_none : (f : StmtTree → List ℕ) (otherwise : List ℕ) (last : Option (Bor StmtTree)) (found : Option StmtTree) → option_copied last ≡ found → last ≡ None → otherwise ≡ option_map_or f found otherwise

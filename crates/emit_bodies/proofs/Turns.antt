@@ -8,7 +8,6 @@ use Rattle.lang_tree.specs.declared.tree.StmtTree.TheVariants.{Set, If, Return, 
 use Rattle.lang_tree.specs.declared.tree.StmtTree.TheOpen as layers
 use Rattle.lang_tree.specs.declared.tree.StmtTree.TheFolds.{fold-roll-StmtTree}
 use Rattle.emit_rust.specs.Scopes.{ScopeParts, declares}
-use Rattle.emit_rust.specs.Expressions.{written}
 use Rattle.emit_bodies.specs.declared.traces.Trace.{Trace}
 use Rattle.emit_bodies.specs.Traces.{and_then, body_trace, in_turn, nothing, or_else, statement_trace, trace_step, value_trace}
 
@@ -33,18 +32,15 @@ turn_ends f xs i so_far within before = before ∙ ap (λ l. in_turn nothing (ma
 -- ---- the forms
 
 module _ (scope : ScopeParts) where
-  pub trace-Set : (statement : StmtTree) (at : ℕ) (name bytes : List ℕ) (value : Expr) (writes fails : Bool) → statement ≡ Set at name value → bytes ≡ name → writes ≡ list_any (declares bytes) scope.tree.decls → fails ≡ (written scope value).narrows
-      → value_trace writes fails ≡ statement_trace scope statement
-  trace-Set statement at name bytes value writes fails is same found needs =
-      ap (λ (t : Bool). value_trace t fails) (found ∙ ap (λ n. list_any (declares n) scope.tree.decls) same)
-      ∙ ap (value_trace (list_any (declares name) scope.tree.decls)) needs
+  pub trace-Set : (statement : StmtTree) (at : ℕ) (name bytes : List ℕ) (value : Expr) (writes : Bool) → statement ≡ Set at name value → bytes ≡ name → writes ≡ list_any (declares bytes) scope.tree.decls
+      → value_trace scope writes value ≡ statement_trace scope statement
+  trace-Set statement at name bytes value writes is same found =
+      ap (λ (t : Bool). value_trace scope t value) (found ∙ ap (λ n. list_any (declares n) scope.tree.decls) same)
       ∙ sym (ap (statement_trace scope) (is ∙ sym (rolls-Set at name value)) ∙ fold-roll-StmtTree Trace (trace_step scope) (layers.Set at name value))
 
-  pub trace-Return : (statement : StmtTree) (at : ℕ) (value : Expr) (fails : Bool) → statement ≡ Return at value → fails ≡ (written scope value).narrows
-      → value_trace false fails ≡ statement_trace scope statement
-  trace-Return statement at value fails is needs =
-      ap (value_trace false) needs
-      ∙ sym (ap (statement_trace scope) (is ∙ sym (rolls-Return at value)) ∙ fold-roll-StmtTree Trace (trace_step scope) (layers.Return at value))
+  pub trace-Return : (statement : StmtTree) (at : ℕ) (value : Expr) → statement ≡ Return at value → value_trace scope false value ≡ statement_trace scope statement
+  trace-Return statement at value is =
+      sym (ap (statement_trace scope) (is ∙ sym (rolls-Return at value)) ∙ fold-roll-StmtTree Trace (trace_step scope) (layers.Return at value))
 
   pub trace-If : (statement : StmtTree) (at : ℕ) (when : Expr) (body other items others : List StmtTree) (one next : Trace) → statement ≡ If at when body other → items ≡ body → others ≡ other → one ≡ body_trace scope items → next ≡ body_trace scope others
       → or_else one next ≡ statement_trace scope statement

@@ -10,7 +10,8 @@ use Rattle.lang_tree.specs.declared.tree.StmtTree.{StmtTree, out-StmtTree}
 use Rattle.lang_tree.specs.declared.tree.StmtTree.TheOpen.{StmtTree-F, Set, If, Return}
 use Rattle.emit_rust.specs.declared.scope.Reach.TheVariants as reaches
 use Rattle.emit_rust.specs.Scopes.{ScopeParts}
-use Rattle.emit_rust.specs.Expressions.{written, plain_text, value_text}
+use Rattle.emit_rust.specs.Expressions.{written, plain_text}
+use Rattle.emit_rust.specs.Values.{value_text}
 use Rattle.emit_bodies.specs.declared.traces.Trace.{Trace}
 use Rattle.emit_bodies.specs.Blocks.{all_inputs_text, block_name, kind_text}
 use Rattle.emit_bodies.specs.Statements.{statements_text}
@@ -35,7 +36,7 @@ arrow_text answer false = arrow_plain answer
 -- ---- the end of a body
 
 -- Its value, by whether the body may fail, and whether the value itself may need more than 64 bits.
--- One that may is answered with its own test.
+-- One that may is answered with its own test, where it has one.
 abbrev pub result_by : Bool → Bool → List ℕ → List ℕ → List ℕ
 result_by fails true value plain = value
 result_by true false value plain = codes "Ok(" ++ plain ++ codes ")"
@@ -87,18 +88,26 @@ last_of body = slice_get body (length body - 1)
 
 -- ---- the function that runs the body of a block
 
--- where a body stands
-abbrev pub body_scope : MonitorTree → MethodTree → List ℕ → ScopeParts
-body_scope tree method receiver = record {
+-- where a body stands, and whether no value of it leaves 64 bits
+abbrev pub body_scope : MonitorTree → MethodTree → List ℕ → Bool → ScopeParts
+body_scope tree method receiver whole = record {
   tree = tree;
   method = method;
   receiver = receiver;
   reach = reaches.Lent;
+  whole = whole;
 }
 
--- some value in a body may need more than 64 bits
-abbrev pub body_fails : MonitorTree → MethodTree → List StmtTree → Bool
-body_fails tree method body = (body_trace (body_scope tree method (codes "self")) body).fails
+abbrev pub own_trace : MonitorTree → MethodTree → List StmtTree → Bool → Trace
+own_trace tree method body whole = body_trace (body_scope tree method (codes "self") whole) body
+
+-- some value in a body is tested
+abbrev pub body_fails : MonitorTree → MethodTree → List StmtTree → Bool → Bool
+body_fails tree method body whole = (own_trace tree method body whole).fails
+
+-- some value in a body is worked out in 128 bits and known to have 64
+abbrev pub body_shortens : MonitorTree → MethodTree → List StmtTree → Bool → Bool
+body_shortens tree method body whole = (own_trace tree method body whole).shortens
 
 -- a body that works on the state itself
 abbrev pub own_lines : ScopeParts → Bool → List StmtTree → List ℕ
@@ -112,13 +121,13 @@ copied_lines next kept body =
     codes "        let mut next = *self;\n" ++ statements_text next 2 body
     ++ option_map_or (kept_end_text next kept) (last_of body) []
 
--- A body works on a copy where a field may be assigned and a later value may need more than 64
--- bits: so nothing is changed where one does.
-abbrev pub lines_by : MonitorTree → MethodTree → Trace → List StmtTree → List ℕ
-lines_by tree method trace body =
-    if trace.copies then copied_lines (body_scope tree method (codes "next"))
-    (body_scope tree method (codes "self")) body
-    else own_lines (body_scope tree method (codes "self")) trace.fails body
+-- A body works on a copy where a field may be assigned and a later value is tested: so nothing is
+-- changed where one leaves 64 bits.
+abbrev pub lines_by : MonitorTree → MethodTree → Trace → List StmtTree → Bool → List ℕ
+lines_by tree method trace body whole =
+    if trace.copies then copied_lines (body_scope tree method (codes "next") whole)
+    (body_scope tree method (codes "self") whole) body
+    else own_lines (body_scope tree method (codes "self") whole) trace.fails body
 
 -- `fn run_put(&mut self, amount: i64) -> Result<(), Overflow>`
 abbrev pub body_head : MonitorTree → MethodTree → ℕ → Option Kind → Bool → List ℕ
@@ -131,13 +140,14 @@ abbrev pub braced : List StmtTree → List ℕ → List ℕ
 braced [] lines = codes " {}\n"
 braced (first ∷ rest) lines = codes " {\n" ++ lines ++ codes "    }\n"
 
-abbrev pub traced_text : MonitorTree → MethodTree → ℕ → Option Kind → Trace → List StmtTree → List ℕ
-traced_text tree method number answer trace body =
+abbrev pub traced_text : MonitorTree → MethodTree → ℕ → Option Kind → Trace → List StmtTree → Bool
+    → List ℕ
+traced_text tree method number answer trace body whole =
     body_head tree method number answer trace.fails
-    ++ braced body (lines_by tree method trace body)
+    ++ braced body (lines_by tree method trace body whole)
 
--- by the number, from 1, of a block among those of its method, and what it answers
-abbrev pub body_text : MonitorTree → MethodTree → ℕ → Option Kind → List StmtTree → List ℕ
-body_text tree method number answer body =
-    traced_text tree method number answer
-    (body_trace (body_scope tree method (codes "self")) body) body
+-- by the number, from 1, of a block among those of its method, what it answers, and whether no
+-- value of it leaves 64 bits
+abbrev pub body_text : MonitorTree → MethodTree → ℕ → Option Kind → List StmtTree → Bool → List ℕ
+body_text tree method number answer body whole =
+    traced_text tree method number answer (own_trace tree method body whole) body whole

@@ -21,6 +21,7 @@ guard_scope tree method reads = record {
   method = method;
   receiver = codes "self";
   reach = guard_reach reads;
+  whole = false;
 }
 
 -- up to the test

@@ -5,7 +5,8 @@ use Rattle.lang_tree.specs.declared.tree.StmtTree.{StmtTree}
 use Rattle.lang_tree.specs.declared.tree.StmtTree.TheOpen.{StmtTree-F, Set, If, Return}
 use Rattle.lang_tree.specs.declared.tree.StmtTree.TheFolds.{fold-StmtTree}
 use Rattle.emit_rust.specs.Scopes.{ScopeParts, name_text}
-use Rattle.emit_rust.specs.Expressions.{plain_text, value_text}
+use Rattle.emit_rust.specs.Expressions.{plain_text}
+use Rattle.emit_rust.specs.Values.{value_text}
 
 -- four blanks for each level
 abbrev pub indent : ℕ → List ℕ

@@ -1,15 +1,17 @@
--- What may happen on the paths of a body: where it may fail, and where it works on a copy.
+-- What may happen on the paths of a body: where it may fail, where it works on a copy, and where it
+-- shortens a number.
 use Rattle.std.specs.Prelude.{Bool, false, ◌&&◌, ◌||◌, List, [], ◌∷◌, map}
 use Rattle.std.specs.List.{list_any}
 use Rattle.lang_tree.specs.declared.tree.StmtTree.{StmtTree}
 use Rattle.lang_tree.specs.declared.tree.StmtTree.TheOpen.{StmtTree-F, Set, If, Return}
 use Rattle.lang_tree.specs.declared.tree.StmtTree.TheFolds.{fold-StmtTree}
 use Rattle.emit_rust.specs.Scopes.{ScopeParts, declares}
-use Rattle.emit_rust.specs.Expressions.{written}
+use Rattle.lang_tree.specs.declared.tree.Expr.{Expr}
+use Rattle.emit_rust.specs.Values.{is_shortened, is_tested}
 use Rattle.emit_bodies.specs.declared.traces.Trace.{Trace}
 
 abbrev pub nothing : Trace
-nothing = record { writes = false; fails = false; copies = false }
+nothing = record { writes = false; fails = false; copies = false; shortens = false }
 
 -- the one, and then the other
 abbrev pub and_then : Trace → Trace → Trace
@@ -17,6 +19,7 @@ and_then one next = record {
   writes = one.writes || next.writes;
   fails = one.fails || next.fails;
   copies = one.copies || (next.copies || (one.writes && next.fails));
+  shortens = one.shortens || next.shortens;
 }
 
 -- the one or the other
@@ -25,6 +28,7 @@ or_else one other = record {
   writes = one.writes || other.writes;
   fails = one.fails || other.fails;
   copies = one.copies || other.copies;
+  shortens = one.shortens || other.shortens;
 }
 
 -- one after the other, after what happened before
@@ -33,16 +37,21 @@ in_turn before [] = before
 in_turn before (next ∷ rest) = in_turn (and_then before next) rest
 
 -- of a statement with a value
-abbrev pub value_trace : Bool → Bool → Trace
-value_trace writes fails = record { writes = writes; fails = fails; copies = false }
+abbrev pub value_trace : ScopeParts → Bool → Expr → Trace
+value_trace scope writes value = record {
+  writes = writes;
+  fails = is_tested scope value;
+  copies = false;
+  shortens = is_shortened scope value;
+}
 
 -- A field is assigned where the monitor declares the name. Any other name is that of a local, which
 -- is the call's own.
 abbrev pub trace_step : ScopeParts → StmtTree-F Trace → Trace
 trace_step scope (Set at name value) =
-    value_trace (list_any (declares name) scope.tree.decls) (written scope value).narrows
+    value_trace scope (list_any (declares name) scope.tree.decls) value
 trace_step scope (If at when body other) = or_else (in_turn nothing body) (in_turn nothing other)
-trace_step scope (Return at value) = value_trace false (written scope value).narrows
+trace_step scope (Return at value) = value_trace scope false value
 
 abbrev pub statement_trace : ScopeParts → StmtTree → Trace
 statement_trace scope = fold-StmtTree Trace (trace_step scope)

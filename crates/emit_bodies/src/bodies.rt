@@ -3,12 +3,13 @@
 ghost use Rattle.std.specs.Prelude.{◌≡◌, ◌++◌, [], codes};
 ghost use Rattle.std.specs.Option.{option_map_or};
 ghost use Rattle.emit_rust.specs.Scopes.{seen};
-ghost use Rattle.emit_rust.specs.Expressions.{plain_text, value_text};
+ghost use Rattle.emit_rust.specs.Expressions.{plain_text};
+ghost use Rattle.emit_rust.specs.Values.{value_text};
 ghost use Rattle.emit_bodies.specs.Bodies.{answer_line, answer_text, arrow_plain, arrow_text};
-ghost use Rattle.emit_bodies.specs.Bodies.{body_fails, body_head, body_scope, body_text, braced};
-ghost use Rattle.emit_bodies.specs.Bodies.{copied_lines, done_text, end_text, kept_answer};
-ghost use Rattle.emit_bodies.specs.Bodies.{kept_end_text, last_of, lines_by, own_lines};
-ghost use Rattle.emit_bodies.specs.Bodies.{result_text};
+ghost use Rattle.emit_bodies.specs.Bodies.{body_fails, body_head, body_scope, body_shortens};
+ghost use Rattle.emit_bodies.specs.Bodies.{body_text, braced, copied_lines, done_text, end_text};
+ghost use Rattle.emit_bodies.specs.Bodies.{kept_answer, kept_end_text, last_of, lines_by};
+ghost use Rattle.emit_bodies.specs.Bodies.{own_lines, own_trace, result_text};
 ghost use Rattle.emit_bodies.specs.Statements.{statements_text};
 ghost use Rattle.base_io.specs.Writing.{Wrote};
 
@@ -21,15 +22,30 @@ use emit_rust::{Reach, Scope, narrows, write_plain, write_value};
 use lang_base::Kind;
 use lang_tree::{Expr, MethodTree, MonitorTree, StmtTree};
 
-/// Whether a body may fail: some value in it may need more than 64 bits.
-pub fn fails(tree: &MonitorTree, method: &MethodTree, body: &[StmtTree]) -> bool
-    ensures { result ≡ body_fails tree.now method.now body.now }
+/// Whether a body may fail, by whether it is whole, that is, no value of it leaves 64 bits: some
+/// value in it is tested.
+pub fn fails(tree: &MonitorTree, method: &MethodTree, body: &[StmtTree], whole: bool) -> bool
+    ensures { result ≡ body_fails tree.now method.now body.now whole }
 {
-    trace_body(&body_scope(tree, method, b"self"), body).fails
+    own_trace(tree, method, body, whole).fails
+}
+
+/// Whether some value in a body is worked out in 128 bits and known to have 64.
+pub fn shortens(tree: &MonitorTree, method: &MethodTree, body: &[StmtTree], whole: bool) -> bool
+    ensures { result ≡ body_shortens tree.now method.now body.now whole }
+{
+    own_trace(tree, method, body, whole).shortens
+}
+
+fn own_trace(tree: &MonitorTree, method: &MethodTree, body: &[StmtTree], whole: bool) -> Trace
+    ensures { result ≡ own_trace tree.now method.now body.now whole }
+{
+    trace_body(&body_scope(tree, method, b"self", whole), body)
 }
 
 /// Writes the function that runs the body of a block, by the number of the block in its method,
-/// from 1, and by the kind of what it answers. It takes no memory.
+/// from 1, by the kind of what it answers, and by whether no value of it leaves 64 bits. It takes no
+/// memory.
 ///
 /// After `SinkFailed` the first bytes were taken, fewer than all and maybe none.
 pub fn write_body<S: Sink>(
@@ -38,24 +54,31 @@ pub fn write_body<S: Sink>(
     number: usize,
     answer: Option<Kind>,
     body: &[StmtTree],
+    whole: bool,
     out: &mut S,
 ) -> Result<(), SinkFailed>
     ensures { Wrote (S.seen out.old) (S.seen out.new) result
-        (body_text tree.now method.now number answer body.now) }
+        (body_text tree.now method.now number answer body.now whole) }
 {
-    let traced = trace_body(&body_scope(tree, method, b"self"), body);
+    let traced = own_trace(tree, method, body, whole);
     write_head(tree, method, number, answer, traced.fails, out)?;
-    write_braced(tree, method, traced, body, out)
+    write_braced(tree, method, traced, body, whole, out)
 }
 
-fn body_scope<'a>(tree: &'a MonitorTree, method: &'a MethodTree, receiver: &'a [u8]) -> Scope<'a>
-    ensures { seen result ≡ body_scope tree.now method.now receiver.now }
+fn body_scope<'a>(
+    tree: &'a MonitorTree,
+    method: &'a MethodTree,
+    receiver: &'a [u8],
+    whole: bool,
+) -> Scope<'a>
+    ensures { seen result ≡ body_scope tree.now method.now receiver.now whole }
 {
     Scope {
         tree,
         method,
         receiver,
         reach: Reach::Lent,
+        whole,
     }
 }
 
@@ -121,15 +144,16 @@ fn write_braced<S: Sink>(
     method: &MethodTree,
     trace: Trace,
     body: &[StmtTree],
+    whole: bool,
     out: &mut S,
 ) -> Result<(), SinkFailed>
     ensures { Wrote (S.seen out.old) (S.seen out.new) result
-        (braced body.now (lines_by tree.now method.now trace body.now)) }
+        (braced body.now (lines_by tree.now method.now trace body.now whole)) }
 {
     if body.is_empty() {
         return write_piece(b" {}\n", out);
     }
-    write_between(tree, method, trace, body, out)
+    write_between(tree, method, trace, body, whole, out)
 }
 
 // The braces of a function, and what stands in them.
@@ -138,13 +162,14 @@ fn write_between<S: Sink>(
     method: &MethodTree,
     trace: Trace,
     body: &[StmtTree],
+    whole: bool,
     out: &mut S,
 ) -> Result<(), SinkFailed>
     ensures { Wrote (S.seen out.old) (S.seen out.new) result
-        (codes " {\n" ++ lines_by tree.now method.now trace body.now ++ codes "    }\n") }
+        (codes " {\n" ++ lines_by tree.now method.now trace body.now whole ++ codes "    }\n") }
 {
     write_piece(b" {\n", out)?;
-    write_lines(tree, method, trace, body, out)?;
+    write_lines(tree, method, trace, body, whole, out)?;
     write_piece(b"    }\n", out)
 }
 
@@ -153,14 +178,15 @@ fn write_lines<S: Sink>(
     method: &MethodTree,
     trace: Trace,
     body: &[StmtTree],
+    whole: bool,
     out: &mut S,
 ) -> Result<(), SinkFailed>
     ensures { Wrote (S.seen out.old) (S.seen out.new) result
-        (lines_by tree.now method.now trace body.now) }
+        (lines_by tree.now method.now trace body.now whole) }
 {
-    let kept = body_scope(tree, method, b"self");
+    let kept = body_scope(tree, method, b"self", whole);
     if trace.copies {
-        let next = body_scope(tree, method, b"next");
+        let next = body_scope(tree, method, b"next", whole);
         return write_copied_lines(&next, &kept, body, out);
     }
     write_own_lines(&kept, trace.fails, body, out)

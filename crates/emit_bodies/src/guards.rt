@@ -32,6 +32,7 @@ pub fn write_guard<S: Sink>(
         method,
         receiver: b"self",
         reach,
+        whole: false,
     };
     write_plain(&scope, guard, out)?;
     write_piece(b"\n    }\n", out)

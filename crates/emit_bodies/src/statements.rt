@@ -2,7 +2,8 @@
 
 ghost use Rattle.std.specs.Prelude.{◌++◌, codes};
 ghost use Rattle.emit_rust.specs.Scopes.{name_text, seen};
-ghost use Rattle.emit_rust.specs.Expressions.{plain_text, value_text};
+ghost use Rattle.emit_rust.specs.Expressions.{plain_text};
+ghost use Rattle.emit_rust.specs.Values.{value_text};
 ghost use Rattle.emit_bodies.specs.Statements.{indent, statement_text, statements_text};
 ghost use Rattle.emit_bodies.specs.inner.Depths.{levels};
 ghost use Rattle.emit_bodies.specs.inner.Printing.{block_text, else_text};

@@ -6,19 +6,21 @@ ghost use Rattle.emit_rust.specs.Scopes.{declares, seen};
 ghost use Rattle.emit_bodies.specs.Traces.{and_then, body_trace, nothing, or_else};
 ghost use Rattle.emit_bodies.specs.Traces.{statement_trace, value_trace};
 
-use emit_rust::{Scope, narrows};
+use emit_rust::{Scope, is_shortened, is_tested};
 use lang_base::Named;
-use lang_tree::{Decl, StmtTree};
+use lang_tree::{Decl, Expr, StmtTree};
 
 /// What may happen on the paths of a body.
 #[derive(Clone, Copy)]
 pub(crate) struct Trace {
     /// A field is assigned.
     pub(crate) writes: bool,
-    /// A value may need more than 64 bits.
+    /// A value is tested.
     pub(crate) fails: bool,
-    /// A field is assigned, and later a value may need more than 64 bits.
+    /// A field is assigned, and later a value is tested.
     pub(crate) copies: bool,
+    /// A value is worked out in 128 bits and known to have 64.
+    pub(crate) shortens: bool,
 }
 
 /// What may happen on the paths of these statements, one after the other.
@@ -39,14 +41,15 @@ fn trace_statement(scope: &Scope, statement: &StmtTree) -> Trace
 {
     match statement {
         StmtTree::Set { name, value, .. } => {
-            of_value(is_declared(scope, name.bytes()), narrows(value))
+            let writes = is_declared(scope, name.bytes());
+            of_value(scope, writes, value)
         }
         StmtTree::If { then, other, .. } => {
             let one = trace_body(scope, then.items());
             let next = trace_body(scope, other.items());
             or_else(one, next)
         }
-        StmtTree::Return { value, .. } => of_value(false, narrows(value)),
+        StmtTree::Return { value, .. } => of_value(scope, false, value),
     }
 }
 
@@ -63,13 +66,17 @@ fn any_declares(declared: &[Decl], name: &[u8]) -> bool
     declared.iter().any(|one| one.name().bytes() == name)
 }
 
-fn of_value(writes: bool, fails: bool) -> Trace
-    ensures { result ≡ value_trace writes fails }
+// A statement with a value.
+fn of_value(scope: &Scope, writes: bool, value: &Expr) -> Trace
+    ensures { result ≡ value_trace (seen scope.now) writes value.now }
 {
+    let fails = is_tested(scope, value);
+    let shortens = is_shortened(scope, value);
     Trace {
         writes,
         fails,
         copies: false,
+        shortens,
     }
 }
 
@@ -80,6 +87,7 @@ fn nothing() -> Trace
         writes: false,
         fails: false,
         copies: false,
+        shortens: false,
     }
 }
 
@@ -94,6 +102,7 @@ fn and_then(one: Trace, next: Trace) -> Trace
             one.copies,
             either(next.copies, both(one.writes, next.fails)),
         ),
+        shortens: either(one.shortens, next.shortens),
     }
 }
 
@@ -105,6 +114,7 @@ fn or_else(one: Trace, other: Trace) -> Trace
         writes: either(one.writes, other.writes),
         fails: either(one.fails, other.fails),
         copies: either(one.copies, other.copies),
+        shortens: either(one.shortens, other.shortens),
     }
 }
 

@@ -23,7 +23,7 @@ use Rattle.emit_method.specs.Conditions.{arguments_text, around_count, around_na
 
 -- the body of the block may
 abbrev pub block_fails : MonitorTree → MethodTree → BlockTree → Bool
-block_fails tree method block = body_fails tree method block.body
+block_fails tree method block = body_fails tree method block.body false
 
 -- the body of some block of the method may
 abbrev pub method_fails : MonitorTree → MethodTree → Bool

@@ -49,7 +49,7 @@ fn any_fails(tree: &MonitorTree, method: &MethodTree, blocks: &[BlockTree]) -> b
 fn block_fails(tree: &MonitorTree, method: &MethodTree, block: &BlockTree) -> bool
     ensures { result ≡ block_fails tree.now method.now block.now }
 {
-    fails(tree, method, block.body.items())
+    fails(tree, method, block.body.items(), false)
 }
 
 // Whether the body of the block of this number may fail.

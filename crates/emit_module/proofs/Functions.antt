@@ -28,7 +28,7 @@ module _ (source : SourceParts) (method : MethodTree) (place block : ℕ) (parts
       ∙ ap (λ (b : Bool). test_by b (reads_inputs source.monitor own)) (sym holds ∙ says ∙ ap (λ (q : ℕ). tests_guard source.monitor q block) is)
 
   pub body_says : (answer : Option Kind) (body : List StmtTree) → answer ≡ answer_of source.monitor block → body ≡ parts.body
-      → codes "\n" ++ body_text source.tree method (place + 1) answer body ≡ body_function source method place block parts
+      → codes "\n" ++ body_text source.tree method (place + 1) answer body false ≡ body_function source method place block parts
   body_says answer body is same =
-      ap (λ (a : Option Kind). codes "\n" ++ body_text source.tree method (place + 1) a body) is
-      ∙ ap (λ (some : List StmtTree). codes "\n" ++ body_text source.tree method (place + 1) (answer_of source.monitor block) some) same
+      ap (λ (a : Option Kind). codes "\n" ++ body_text source.tree method (place + 1) a body false) is
+      ∙ ap (λ (some : List StmtTree). codes "\n" ++ body_text source.tree method (place + 1) (answer_of source.monitor block) some false) same

@@ -254,7 +254,7 @@ test_function source method place block parts =
 abbrev pub body_function : SourceParts → MethodTree → ℕ → ℕ → BlockTree → List ℕ
 body_function source method place block parts =
     codes "\n"
-    ++ body_text source.tree method (place + 1) (answer_of source.monitor block) parts.body
+    ++ body_text source.tree method (place + 1) (answer_of source.monitor block) parts.body false
 
 -- by the number of the first block of its method
 abbrev pub block_functions : SourceParts → MethodTree → ℕ → ℕ → BlockTree → List ℕ

@@ -1,7 +1,7 @@
 //! What the mutex guards: the state of a monitor, its fields and a function for each guard and body,
 //! and how many sleep on each condition.
 
-ghost use Rattle.std.specs.Prelude.{◌≡◌, ◌<◌, ◌^◌, ◌++◌, codes};
+ghost use Rattle.std.specs.Prelude.{◌≡◌, ◌<◌, ◌^◌, ◌++◌, codes, false};
 ghost use Rattle.std.specs.List.{enumerate_from, flat_map, list_any};
 ghost use Rattle.emit_bodies.specs.Bodies.{body_text};
 ghost use Rattle.emit_bodies.specs.Guards.{guard_text};
@@ -246,8 +246,8 @@ fn write_own_body<S: Sink>(
     out: &mut S,
 ) -> Result<(), SinkFailed>
     ensures { Wrote (S.seen out.old) (S.seen out.new) result
-        (codes "\n" ++ body_text source.now.tree.now method.now number answer body.now) }
+        (codes "\n" ++ body_text source.now.tree.now method.now number answer body.now false) }
 {
     write_piece(b"\n", out)?;
-    write_body(source.tree, method, number, answer, body, out)
+    write_body(source.tree, method, number, answer, body, false, out)
 }

@@ -75,7 +75,7 @@ plain_rolled here layer = fold-roll-Expr Plain ℤ ℤ (plain_step (entries here
 -- ---- numbers
 
 -- a number without a sign that is within its limit
-abbrev IsNatural : Plain → Type 0
+abbrev pub IsNatural : Plain → Type 0
 IsNatural plain = (number : ℕ) × (plain ≡ plains.number (pos number)) × (nat_lt GREATEST_NUMBER number ≡ false)
 
 layer_natural : (here : Reading) (layer : Bare) → (sense_layer (entries here.scope) layer).faults ≡ [] → (written_layer here.scope layer).is_number ≡ true → IsNatural (plain_layer here layer)
@@ -96,13 +96,13 @@ rolled_natural here layer none is =
     subst IsNatural (sym (plain_rolled here layer))
     (layer_natural here layer (ap (λ (x : Sense). x.faults) (sym (sense_rolled (entries here.scope) layer)) ∙ none) (ap (λ (x : Written). x.is_number) (sym (written_rolled here.scope layer)) ∙ is))
 
-is_natural : (here : Reading) (expression : Expr) → (sense (entries here.scope) expression).faults ≡ [] → (written here.scope expression).is_number ≡ true
+pub is_natural : (here : Reading) (expression : Expr) → (sense (entries here.scope) expression).faults ≡ [] → (written here.scope expression).is_number ≡ true
     → IsNatural (plain_now here.scope here.arguments here.memory expression)
 is_natural here expression =
     subst (λ (x : Expr). (sense (entries here.scope) x).faults ≡ [] → (written here.scope x).is_number ≡ true → IsNatural (plain_now here.scope here.arguments here.memory x))
     (roll-out-Expr expression) (rolled_natural here (out-Expr expression))
 
-negated_short : (plain : Plain) → IsNatural plain → IsShort (values.Int (neg_ℤ (number_in plain)))
+pub negated_short : (plain : Plain) → IsNatural plain → IsShort (values.Int (neg_ℤ (number_in plain)))
 negated_short plain (number, is, small) = subst (λ (x : Plain). IsShort (values.Int (neg_ℤ (number_in x)))) (sym is) (negative_short number small)
 
 -- ---- names
@@ -113,7 +113,7 @@ meaning_short here variable (meanings.Number constant) plain = plain.1
 meaning_short here variable (meanings.Int place) plain = read_short here.memory here.arguments place here.short here.given
 meaning_short here variable (meanings.Flag place) plain = refl
 
-entry_short : (here : Reading) (entry : Option Entry) → FoundPlain entry → IsShort (as_value (entry_value (reading here.arguments here.memory) entry))
+pub entry_short : (here : Reading) (entry : Option Entry) → FoundPlain entry → IsShort (as_value (entry_value (reading here.arguments here.memory) entry))
 entry_short here None plain = zero_is_short
 entry_short here (Some entry) plain = meaning_short here entry.is_variable entry.meaning plain
 

@@ -19,11 +19,11 @@ use Rattle.lang_types.specs.Typed.{result_layer, result_of, result_of_kind, stat
 use Rattle.lang_types.proofs.FineTrees.{append_none, no_places}
 use Rattle.lang_types.proofs.PlainExpressions.{has_kind}
 use Rattle.emit_rust.specs.Expressions.{written}
-use Rattle.emit_numbers.specs.Calls.{Outcome, and_then, answer_by, answer_of, body_call, call_step, entries, in_order, statement_call, value_now}
+use Rattle.emit_numbers.specs.Calls.{Outcome, and_then, answer_by, answer_of, body_call, call_step, entries, in_order, keeps_64, statement_call, value_now}
 use Rattle.emit_numbers.specs.Calls.Outcome.{goes_on, stops}
 use Rattle.emit_numbers.proofs.Short.{HasShort}
 use Rattle.emit_numbers.proofs.Atoms.{value_short}
-use Rattle.emit_numbers.proofs.Running.{AreBoth, DoesAs, Follows, Setting, bool_made, both_overflow, both_reach, int_made, read_in, sensed, statement_follows}
+use Rattle.emit_numbers.proofs.Running.{AreBoth, DoesAs, Follows, Setting, bool_made, both_overflow, both_reach, int_made, kept_here, read_in, sensed, statement_follows}
 
 -- ---- an outcome, an effect, and a result after it
 
@@ -108,7 +108,8 @@ layer_ends it (Return at value) none memory short =
     (sym (fold-roll-StmtTree (List Stmt) (statement_of_step scope) layer))
     (subst (λ (x : Memory → Outcome). Ends (body_effect it.arguments []) result answer memory (and_then (x memory) (in_order [])))
     (sym (fold-roll-StmtTree (Memory → Outcome) (call_step it.scope it.arguments) layer))
-    (tested_ends it.arguments result answer memory made (written it.scope value).narrows (fits_64 made) refl (value_short (read_in it memory short) value fine) short
+    (tested_ends it.arguments result answer memory made (written it.scope value).narrows (keeps_64 it.scope it.arguments memory value) (kept_here it memory short value fine)
+    (λ atom. sym (kept_here it memory short value fine) ∙ value_short (read_in it memory short) value fine atom) short
     (kind_answers it memory value (sensed it value).kind refl fine) refl))
 
 last_ends : (it : Setting) (statement : StmtTree) → LastEnds it statement (out-StmtTree statement)

@@ -10,7 +10,7 @@ use Rattle.lang_tree.specs.declared.tree.MonitorTree.{MonitorTree}
 use Rattle.lang_base.specs.declared.kind.Kind.TheVariants as kinds
 use Rattle.lang_base.specs.declared.value.Value.{Value}
 use Rattle.lang_base.specs.declared.source_fault.SourceFault.{SourceFault}
-use Rattle.std.specs.Prelude.{Option, None}
+use Rattle.std.specs.Prelude.{Bool, Option, None}
 use Rattle.lang_base.specs.declared.kind.Kind.{Kind}
 use Rattle.lang_forms.specs.declared.scope.Entry.{Entry}
 use Rattle.lang_forms.specs.Scope.{entry_named}
@@ -97,10 +97,10 @@ body_fine scope (statement ∷ body) none =
 
 -- ---- a block
 
-block_wide : (tree : MonitorTree) (placed : PlacedBlock) (arguments : List Value) (memory : Memory) → IsFine tree → IsFinePlaced tree.decls placed → HasShortSums placed.block → AreShort arguments → HasShort memory
-    → All (StaysWide (scope_in tree placed) arguments memory) (placed.block.guard ∷ expressions_in placed.block.body)
-block_wide tree placed arguments memory sound fine brief given short =
-    let scope = scope_in tree placed in
+block_wide : (tree : MonitorTree) (placed : PlacedBlock) (whole : Bool) (arguments : List Value) (memory : Memory) → IsFine tree → IsFinePlaced tree.decls placed → HasShortSums placed.block → AreShort arguments → HasShort memory
+    → All (StaysWide (scope_in tree placed whole) arguments memory) (placed.block.guard ∷ expressions_in placed.block.body)
+block_wide tree placed whole arguments memory sound fine brief given short =
+    let scope = scope_in tree placed whole in
     let names = entries scope in
     let valuation = reading arguments memory in
     let bounded : IsBounded names valuation = record {
@@ -114,6 +114,6 @@ block_wide tree placed arguments memory sound fine brief given short =
     λ k d lt. expression_wide names valuation bounded (get_or list k d) (each k d lt) (brief k d lt)
 
 pub numbers_wide : PrintedNumbersAreWide
-numbers_wide = λ tree index placed arguments memory parsed none here given short locals.
-    block_wide tree placed arguments memory (fine_tree tree none) (fine_at tree.decls (blocks_from 0 tree.methods) (tree_blocks_fine tree none) index placed here) (parsed_sums_short tree index placed parsed here) given
+numbers_wide = λ tree index placed whole arguments memory parsed none here given short locals.
+    block_wide tree placed whole arguments memory (fine_tree tree none) (fine_at tree.decls (blocks_from 0 tree.methods) (tree_blocks_fine tree none) index placed here) (parsed_sums_short tree index placed parsed here) given
     (record { fields = short; locals = locals })

@@ -1,5 +1,6 @@
 pub mod Short
 pub mod Atoms
+pub mod Singles
 pub mod Running
 pub mod Fields
 pub mod Traced

@@ -35,11 +35,12 @@ use Rattle.lang_types.proofs.NamedPlaces.{named_is_found}
 use Rattle.lang_types.proofs.PlainExpressions.{bool_value, has_kind, int_value}
 use Rattle.emit_rust.specs.Scopes.{ScopeParts}
 use Rattle.emit_rust.specs.Expressions.{written}
-use Rattle.emit_numbers.specs.Calls.{Outcome, and_then, assigned, as_value, call_step, entries, in_order, plain_now, statement_call, tested, value_now, with_meaning}
+use Rattle.emit_numbers.specs.Calls.{Outcome, and_then, assigned, as_value, call_step, entries, in_order, keeps_64, plain_now, statement_call, tested, value_now, with_meaning}
 use Rattle.emit_numbers.specs.Calls.Outcome.{goes_on, stops}
 use Rattle.emit_numbers.specs.Laws.{AreShort}
 use Rattle.emit_numbers.proofs.Short.{HasShort, ArePlain, FoundPlain, assigned_short, found_plain}
 use Rattle.emit_numbers.proofs.Atoms.{Reading, value_short}
+use Rattle.emit_numbers.proofs.Singles.{keeps_short}
 
 -- ---- effects of statements
 
@@ -207,32 +208,45 @@ bool_made it memory value none fine =
     ap (λ b. values.Bool b) (bools_keep_meaning scope here value none fine)
     ∙ ap as_value (sym (bool_value scope here value (known_bool (sensed it value).kind fine (has_kind scope value none))))
 
+-- what is written for a value keeps to 64 bits just where the value does
+pub kept_here : (it : Setting) (memory : Memory) (short : HasShort memory) (value : Expr) → (sensed it value).faults ≡ []
+    → fits_64 (value_now it.scope it.arguments memory value) ≡ keeps_64 it.scope it.arguments memory value
+kept_here it memory short value none = sym (keeps_short (read_in it memory short) value none)
+
+kept_follows : (it : Setting) (memory : Memory) (short : HasShort memory) (value : Expr) → (sensed it value).faults ≡ [] → (effect : Effect) (next : Memory)
+    → Follows effect memory (tested (written it.scope value).narrows (fits_64 (made_in it memory value)) memory next)
+    → Follows effect memory (tested (written it.scope value).narrows (keeps_64 it.scope it.arguments memory value) memory next)
+kept_follows it memory short value none effect next =
+    subst (λ (fits : Bool). Follows effect memory (tested (written it.scope value).narrows fits memory next)) (kept_here it memory short value none)
+
 -- ---- assignments
 
 abbrev SetFollows : Setting → Memory → Expr → Option Entry → Type 0
 SetFollows it memory value entry =
     Follows (body_effect it.arguments (set_of (entries it.scope) entry (sensed it value))) memory
-    (tested (written it.scope value).narrows (made_in it memory value) memory (assigned entry (made_in it memory value) memory))
+    (tested (written it.scope value).narrows (keeps_64 it.scope it.arguments memory value) memory (assigned entry (made_in it memory value) memory))
 
 meaning_follows : (it : Setting) (memory : Memory) (short : HasShort memory) (value : Expr) (variable : Bool) (meaning : Meaning) → variable ≡ true
     → FoundPlain (Some (record { name = []; meaning = meaning; is_variable = variable })) → (sensed it value).faults ≡ [] → wrong_type (meaning_kind meaning) (sensed it value) ≡ []
     → Follows (body_effect it.arguments (assignment (entries it.scope) meaning (sensed it value))) memory
-    (tested (written it.scope value).narrows (made_in it memory value) memory (with_meaning meaning (made_in it memory value) memory))
+    (tested (written it.scope value).narrows (keeps_64 it.scope it.arguments memory value) memory (with_meaning meaning (made_in it memory value) memory))
 meaning_follows it memory short value variable (meanings.Number constant) is plain none right = absurd (true≢false (sym is ∙ plain.0))
 meaning_follows it memory short value variable (meanings.Int place) is plain none right =
     let made = made_in it memory value in
     let form = linear_of (entries it.scope) (sensed it value).form in
     let fine = no_fault (is_other kinds.Int (sensed it value).kind) _ right in
     let target = Some (record { name = []; meaning = meanings.Int place; is_variable = true }) in
-    tested_follows (body_effect it.arguments (statements.SetInt place form ∷ [])) memory (with_value memory place made) (written it.scope value).narrows (fits_64 made)
-    (value_short (read_in it memory short) value none) (int_effect it.arguments memory place form made (int_made it memory value none fine)) short (assigned_short target made memory short)
+    kept_follows it memory short value none (body_effect it.arguments (statements.SetInt place form ∷ [])) (with_value memory place made)
+    (tested_follows (body_effect it.arguments (statements.SetInt place form ∷ [])) memory (with_value memory place made) (written it.scope value).narrows (fits_64 made)
+    (value_short (read_in it memory short) value none) (int_effect it.arguments memory place form made (int_made it memory value none fine)) short (assigned_short target made memory short))
 meaning_follows it memory short value variable (meanings.Flag place) is plain none right =
     let made = made_in it memory value in
     let formula = (sensed it value).formula in
     let fine = no_fault (is_other kinds.Bool (sensed it value).kind) _ right in
     let target = Some (record { name = []; meaning = meanings.Flag place; is_variable = true }) in
-    tested_follows (body_effect it.arguments (statements.SetBool place formula ∷ [])) memory (with_value memory place made) (written it.scope value).narrows (fits_64 made)
-    (value_short (read_in it memory short) value none) (bool_effect it.arguments memory place formula made (bool_made it memory value none fine)) short (assigned_short target made memory short)
+    kept_follows it memory short value none (body_effect it.arguments (statements.SetBool place formula ∷ [])) (with_value memory place made)
+    (tested_follows (body_effect it.arguments (statements.SetBool place formula ∷ [])) memory (with_value memory place made) (written it.scope value).narrows (fits_64 made)
+    (value_short (read_in it memory short) value none) (bool_effect it.arguments memory place formula made (bool_made it memory value none fine)) short (assigned_short target made memory short))
 
 is_a_variable : (test : Bool) (fault : SourceFault) → (if test then [] else fault ∷ []) ≡ [] → test ≡ true
 is_a_variable true fault none = refl

@@ -36,7 +36,7 @@ module _ (tree : MonitorTree) (monitor : MonitorParts) (index : ℕ) (placed : P
   -- with these inputs, read or not
   taking : (inputs : Inputs) → printed_test tree placed true state inputs ≡ truth_of (valuation state inputs) block.guard
   taking inputs =
-      ap truth_in (worked_worth (entries (scope_in tree placed)) (valuation state inputs) placed.block.guard)
+      ap truth_in (worked_worth (entries (scope_in tree placed false)) (valuation state inputs) placed.block.guard)
       ∙ sym (guards_keep tree monitor index placed block (valuation state inputs) it.none it.typed it.here it.there)
 
   -- without any, where none is read

@@ -12,13 +12,14 @@ use Rattle.lang_forms.specs.declared.scope.Meaning.TheVariants as meanings
 use Rattle.lang_forms.specs.declared.scope.Entry.{Entry}
 use Rattle.lang_forms.specs.Scope.{entry_named}
 use Rattle.lang_forms.specs.Plain.{truth_in}
-use Rattle.lang_monitor.specs.Bodies.{Memory, fits_64, with_value}
+use Rattle.lang_monitor.specs.Bodies.{Memory, with_value}
 use Rattle.lang_types.proofs.NamedPlaces.{named_is_found}
 use Rattle.emit_rust.specs.Scopes.{ScopeParts, declares}
-use Rattle.emit_rust.specs.Expressions.{written}
+use Rattle.emit_rust.specs.Values.{is_tested}
+use Rattle.lang_tree.specs.declared.tree.Expr.{Expr}
 use Rattle.emit_bodies.specs.Traces.{nothing, trace_step, statement_trace, body_trace}
 use Rattle.emit_bodies.specs.Traces.{and_then as trace_then, in_turn as traces_in_turn}
-use Rattle.emit_numbers.specs.Calls.{Outcome, and_then, assigned, body_call, call_step, entries, in_order, plain_now, statement_call, value_now, with_meaning}
+use Rattle.emit_numbers.specs.Calls.{Outcome, and_then, assigned, body_call, call_step, entries, in_order, is_long, keeps_64, plain_now, statement_call, value_now, with_meaning}
 use Rattle.emit_numbers.specs.Calls.Outcome.{goes_on, stops}
 use Rattle.emit_numbers.proofs.Fields.{FoundNoField, IsNoField, undeclared_no_field}
 
@@ -189,7 +190,24 @@ chosen_traced one other memory false this that traced others = part_traced other
 body_traces : AreTraces trace_then traces_in_turn (λ trace. may trace.writes trace.fails trace.copies)
 body_traces = record { both = λ one next. refl; none = λ one. refl; more = λ one next rest. refl }
 
-module _ (scope : ScopeParts) (arguments : List Value) where
+-- what may happen in a body
+abbrev pub may_of : ScopeParts → List StmtTree → May
+may_of scope body =
+    let trace = body_trace scope body in
+    may trace.writes trace.fails trace.copies
+
+and_plain : (long whole : Bool) → whole ≡ false → long ≡ (long && not whole)
+and_plain true whole plain = rw (plain) refl
+and_plain false whole plain = refl
+
+module _ (scope : ScopeParts) (tests : scope.whole ≡ false) (arguments : List Value) where
+  -- a value of a body that is not whole is tested where it may need more than 64 bits
+  value_traced : (writes : Bool) (value : Expr) (memory next : Memory) → (writes ≡ false → next.state ≡ memory.state)
+      → IsTraced (may writes (is_tested scope value) false) memory (if is_long scope value && not (keeps_64 scope arguments memory value) then stops memory else goes_on next)
+  value_traced writes value memory next same =
+      subst (λ (x : Bool). IsTraced (may writes x false) memory (if is_long scope value && not (keeps_64 scope arguments memory value) then stops memory else goes_on next))
+      (and_plain (is_long scope value) scope.whole tests) (tested_traced writes (is_long scope value) (keeps_64 scope arguments memory value) memory next same)
+
   abbrev call : StmtTree → Memory → Outcome
   call = statement_call scope arguments
 
@@ -231,12 +249,12 @@ module _ (scope : ScopeParts) (arguments : List Value) where
   layer_traced (Set at name value) memory =
       let target = entry_named (entries scope) name in
       let made = value_now scope arguments memory value in
-      tested_traced (list_any (declares name) scope.tree.decls) (written scope value).narrows (fits_64 made) memory (assigned target made memory)
+      value_traced (list_any (declares name) scope.tree.decls) value memory (assigned target made memory)
       (λ quiet. assigned_state target made memory (subst FoundNoField (sym (named_is_found (entries scope) name)) (undeclared_no_field scope name quiet)))
   layer_traced (If at when body other) memory =
       chosen_traced (may_in_turn (trees_of body)) (may_in_turn (trees_of other)) memory (truth_in (plain_now scope arguments memory when)) (in_order (map call (trees_of body)) memory)
       (in_order (map call (trees_of other)) memory) (pieces_traced body memory) (pieces_traced other memory)
-  layer_traced (Return at value) memory = tested_traced false (written scope value).narrows (fits_64 (value_now scope arguments memory value)) memory memory (λ quiet. refl)
+  layer_traced (Return at value) memory = value_traced false value memory memory (λ quiet. refl)
 
   roll_traced : (layer : StmtTree-F StmtTree) → LayerTraced layer → IsTracedAlways call may_in (roll-StmtTree layer)
   roll_traced layer traced memory =
@@ -256,12 +274,6 @@ module _ (scope : ScopeParts) (arguments : List Value) where
   known_are [] = refl
   known_are (statement ∷ body) = ap (λ (rest : List StmtTree). statement ∷ rest) (known_are body)
 
-  -- what may happen in a body
-  abbrev pub may_in_body : List StmtTree → May
-  may_in_body body =
-      let trace = body_trace scope body in
-      may trace.writes trace.fails trace.copies
-
-  pub body_traced : (body : List StmtTree) (memory : Memory) → IsTraced (may_in_body body) memory (body_call scope arguments body memory)
+  pub body_traced : (body : List StmtTree) (memory : Memory) → IsTraced (may_of scope body) memory (body_call scope arguments body memory)
   body_traced body memory =
-      subst (λ (x : List StmtTree). IsTraced (may_in_body x) memory (body_call scope arguments x memory)) (known_are body) (pieces_traced (known body) memory)
+      subst (λ (x : List StmtTree). IsTraced (may_of scope x) memory (body_call scope arguments x memory)) (known_are body) (pieces_traced (known body) memory)

@@ -1,6 +1,7 @@
 -- What a call does of the function that is printed of a block's body.
 use Rattle.std.specs.Prelude.{Bool, true, false, not, ◌&&◌, List, [], ◌∷◌, map, Option, Some, None}
-use Rattle.std.specs.Prelude.{if◌then◌else◌}
+use Rattle.std.specs.Prelude.{ℤ, if◌then◌else◌}
+use Rattle.std.specs.List.{list_all}
 use Rattle.lang_tree.specs.declared.tree.Expr.{Expr}
 use Rattle.lang_tree.specs.declared.tree.StmtTree.{StmtTree, out-StmtTree}
 use Rattle.lang_tree.specs.declared.tree.StmtTree.TheOpen.{StmtTree-F, Set, If, Return}
@@ -18,7 +19,9 @@ use Rattle.machine_implicit.specs.declared.commit.Reply.{Reply}
 use Rattle.machine_implicit.specs.declared.commit.Reply.TheVariants as replies
 use Rattle.emit_rust.specs.Scopes.{ScopeParts}
 use Rattle.emit_rust.specs.Expressions.{written}
+use Rattle.emit_rust.specs.Values.{is_single}
 use Rattle.emit_bodies.specs.Traces.{body_trace}
+use Rattle.emit_numbers.specs.Widths.{worked}
 
 -- ---- expressions
 
@@ -39,14 +42,27 @@ as_value (truth b) = values.Bool b
 abbrev pub value_now : ScopeParts → List Value → Memory → Expr → Value
 value_now scope arguments memory expression = as_value (plain_now scope arguments memory expression)
 
--- whether it is written with `narrow`
-abbrev pub is_narrowed : ScopeParts → Expr → Bool
-is_narrowed scope expression = (written scope expression).narrows
+-- whether it may need more than 64 bits
+abbrev pub is_long : ScopeParts → Expr → Bool
+is_long scope expression = (written scope expression).narrows
+
+-- each has 64 bits
+abbrev pub all_fit : List ℤ → Bool
+all_fit = list_all (λ n. fits_64 (values.Int n))
+
+-- Whether what is written for a value keeps to 64 bits now. Where it is one operation in 64 bits,
+-- so must each number that is made on the way to it; else it is made in 128 bits.
+abbrev pub keeps_64 : ScopeParts → List Value → Memory → Expr → Bool
+keeps_64 scope arguments memory expression =
+    if scope.whole && is_single scope expression
+    then all_fit (worked (entries scope) (reading arguments memory) expression).made
+    else fits_64 (value_now scope arguments memory expression)
 
 -- ---- statements
 
 -- A body goes on with these fields and locals, or it has stopped with these at a value outside 64
--- bits. The fields are those of the copy, where the body works on one.
+-- bits. The fields are those of the copy, where the body works on one. Where the body is whole no
+-- test stops it there: what Rust does then is not said, and the laws speak of no such call.
 pub data Outcome : Type 0 where
   goes_on : Memory → Outcome
   stops : Memory → Outcome
@@ -61,10 +77,9 @@ abbrev pub in_order : List (Memory → Outcome) → Memory → Outcome
 in_order [] memory = goes_on memory
 in_order (first ∷ rest) memory = and_then (first memory) (in_order rest)
 
--- `narrow(..)?` stops where the value is outside 64 bits; what is written without it never does
-abbrev pub tested : Bool → Value → Memory → Memory → Outcome
-tested narrows value memory next =
-    if narrows && not (fits_64 value) then stops memory else goes_on next
+-- one that may need more than 64 bits stops where it doesn't keep to 64; another one never does
+abbrev pub tested : Bool → Bool → Memory → Memory → Outcome
+tested long keeps memory next = if long && not keeps then stops memory else goes_on next
 
 -- a field or a local has the value; a constant is none
 abbrev pub with_meaning : Meaning → Value → Memory → Memory
@@ -80,13 +95,13 @@ assigned (Some target) value memory = with_meaning target.meaning value memory
 -- One layer. A `return` comes last in a checked body: its value is tested where the body ends.
 abbrev pub call_step : ScopeParts → List Value → StmtTree-F (Memory → Outcome) → Memory → Outcome
 call_step scope arguments (Set at name value) memory =
-    tested (is_narrowed scope value) (value_now scope arguments memory value) memory
+    tested (is_long scope value) (keeps_64 scope arguments memory value) memory
     (assigned (entry_named (entries scope) name) (value_now scope arguments memory value) memory)
 call_step scope arguments (If at when body other) memory =
     if truth_in (plain_now scope arguments memory when) then in_order body memory
     else in_order other memory
 call_step scope arguments (Return at value) memory =
-    tested (is_narrowed scope value) (value_now scope arguments memory value) memory memory
+    tested (is_long scope value) (keeps_64 scope arguments memory value) memory memory
 
 -- what a statement does at these arguments
 abbrev pub statement_call : ScopeParts → List Value → StmtTree → Memory → Outcome

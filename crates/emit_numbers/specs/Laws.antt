@@ -1,5 +1,5 @@
 -- What the laws say.
-use Rattle.std.specs.Prelude.{◌≡◌, ℕ, true, false, List, [], ◌∷◌, All, Some, slice_get, codes}
+use Rattle.std.specs.Prelude.{◌≡◌, ℕ, Bool, true, false, List, [], ◌∷◌, All, Some, slice_get, codes}
 use Rattle.lang_tree.specs.declared.tree.Expr.{Expr}
 use Rattle.lang_tree.specs.declared.tree.MonitorTree.{MonitorTree}
 use Rattle.lang_base.specs.declared.value.Value.{Value}
@@ -10,7 +10,7 @@ use Rattle.lang_forms.specs.Plain.{plain_value}
 use Rattle.lang_rules.specs.Rules.{faults_of}
 use Rattle.lang_monitor.specs.declared.monitor.Block.{Block}
 use Rattle.lang_monitor.specs.MonitorParts.{MonitorParts, locals_in, start_of}
-use Rattle.lang_monitor.specs.Bodies.{Inputs, Memory, fits_64, reading}
+use Rattle.lang_monitor.specs.Bodies.{Inputs, Memory, Overflows, fits_64, reading}
 use Rattle.lang_monitor.specs.Inputs.{reads_inputs}
 use Rattle.lang_types.specs.Typed.{IsTyped, PlacedBlock, blocks_from}
 use Rattle.lang_types.specs.KeptMeaning.{expressions_in}
@@ -26,9 +26,9 @@ use Rattle.emit_numbers.specs.Widths.{IsWide, worked}
 abbrev pub AreShort : List Value → Type 0
 AreShort list = All (λ value. fits_64 value ≡ true) list
 
--- where the body of a block stands; the receiver is no part of what it does
-abbrev pub scope_in : MonitorTree → PlacedBlock → ScopeParts
-scope_in tree placed = body_scope tree placed.method (codes "self")
+-- where the body of a block stands, which may be whole; the receiver is no part of what it does
+abbrev pub scope_in : MonitorTree → PlacedBlock → Bool → ScopeParts
+scope_in tree placed whole = body_scope tree placed.method (codes "self") whole
 
 -- ---- bodies
 
@@ -44,28 +44,32 @@ pub record DoesStep (block : Block) (state : List Value) (inputs : Inputs) (left
     pub short : AreShort left.state
     pub short_locals : AreShort left.locals
 
+-- a block that is printed whole is run only where no value of it leaves 64 bits
+abbrev pub MayRun : Bool → Block → List Value → Inputs → Type 0
+MayRun whole block state inputs = whole ≡ true → Overflows inputs block state → ⊥
+
 -- a function that is printed without `Result` answers no overflow
-abbrev pub IsWhole : MonitorTree → PlacedBlock → Left → Type 0
-IsWhole tree placed left =
-    body_fails tree placed.method placed.block.body ≡ false
+abbrev pub AnswersAsTyped : MonitorTree → PlacedBlock → Bool → Left → Type 0
+AnswersAsTyped tree placed whole left =
+    body_fails tree placed.method placed.block.body whole ≡ false
     → left.reply ≡ replies.Overflow → ⊥
 
-abbrev pub CallSteps : MonitorTree → PlacedBlock → Block → List Value → Inputs → Type 0
-CallSteps tree placed block state inputs =
-    let left = printed_call (scope_in tree placed) placed.block.body state inputs in
-    DoesStep block state inputs left × IsWhole tree placed left
+abbrev pub CallSteps : MonitorTree → PlacedBlock → Bool → Block → List Value → Inputs → Type 0
+CallSteps tree placed whole block state inputs =
+    let left = printed_call (scope_in tree placed whole) placed.block.body state inputs in
+    DoesStep block state inputs left × AnswersAsTyped tree placed whole left
 
 -- From each state within 64 bits, with such arguments and locals, a call of the function that is
--- printed of a block's body is a step of the block.
+-- printed of a block's body is a step of the block, where a whole one may run.
 abbrev pub PrintedBodiesStep : Type 0
 PrintedBodiesStep =
     (tree : MonitorTree) (monitor : MonitorParts) (index : ℕ) (placed : PlacedBlock)
-    (block : Block) (state : List Value) (inputs : Inputs)
+    (whole : Bool) (block : Block) (state : List Value) (inputs : Inputs)
     → faults_of tree ≡ [] → IsTyped tree monitor
     → slice_get (blocks_from 0 tree.methods) index ≡ Some placed
     → slice_get monitor.blocks index ≡ Some block
     → AreShort state → AreShort inputs.arguments → AreShort inputs.locals
-    → CallSteps tree placed block state inputs
+    → MayRun whole block state inputs → CallSteps tree placed whole block state inputs
 
 -- the state at the start is within 64 bits, and so are the locals with which a call begins
 abbrev pub StartsAreShort : Type 0
@@ -122,10 +126,10 @@ StaysWide scope arguments memory expression =
 -- make on the way has 128 bits.
 abbrev pub PrintedNumbersAreWide : Type 0
 PrintedNumbersAreWide =
-    (tree : MonitorTree) (index : ℕ) (placed : PlacedBlock) (arguments : List Value)
-    (memory : Memory)
+    (tree : MonitorTree) (index : ℕ) (placed : PlacedBlock) (whole : Bool)
+    (arguments : List Value) (memory : Memory)
     → IsParsed tree → faults_of tree ≡ []
     → slice_get (blocks_from 0 tree.methods) index ≡ Some placed
     → AreShort arguments → AreShort memory.state → AreShort memory.locals
-    → All (StaysWide (scope_in tree placed) arguments memory)
+    → All (StaysWide (scope_in tree placed whole) arguments memory)
     (placed.block.guard ∷ expressions_in placed.block.body)

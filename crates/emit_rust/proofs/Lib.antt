@@ -7,4 +7,5 @@ pub mod OddNames
 pub mod Spellings
 pub mod Tries
 pub mod TryTexts
+pub mod ValueTexts
 pub mod Written

@@ -14,7 +14,7 @@ use Rattle.lang_tree.specs.declared.tree.Expr.TheOpen as layers
 use Rattle.lang_tree.specs.declared.tree.Expr.TheFolds.{fold-roll-Expr, fold_out-Addend, fold_out-Factor}
 use Rattle.lang_printer.specs.Canonical.{addend_sign, joined, op_text}
 use Rattle.emit_rust.specs.Scopes.{ScopeParts, is_read, name_text}
-use Rattle.emit_rust.specs.Expressions.{Written, Later, written, written_step, addend_step, factor_step, within, plain_name, plain_text, plain_texts, comparison, wide_comparison, wide_name, number_ending, narrowed}
+use Rattle.emit_rust.specs.Expressions.{Written, Later, written, written_step, addend_step, factor_step, within, plain_name, plain_text, plain_texts, comparison, wide_comparison, wide_name, number_ending}
 use Rattle.emit_rust.specs.inner.Parts.{wide_part, plain_part, later_factor, later_addend, factors_text, addends_text, joined_parts, any_factor, any_addend, any_part}
 use Rattle.emit_rust.proofs.Reading.{any_map}
 
@@ -229,16 +229,6 @@ comparison_wide op left right named test ending names is wide says =
     (ap (are_plain left right) (sym names) ∙ sym is ∙ wide)
 
 -- ---- values and names
-
-pub value_plain : (n : Bool) (plain wide ending : List ℕ) (test : Bool) → test ≡ n → test ≡ false → plain ≡ narrowed n plain wide ending
-value_plain n plain wide ending true is none = absurd (false≢true (sym none))
-value_plain true plain wide ending false is none = absurd (false≢true is)
-value_plain false plain wide ending false is none = refl
-
-pub value_narrowed : (n : Bool) (plain wide ending : List ℕ) (test : Bool) → test ≡ n → test ≡ true → narrowed true [] wide ending ≡ narrowed n plain wide ending
-value_narrowed n plain wide ending false is some = absurd (false≢true some)
-value_narrowed false plain wide ending true is some = absurd (false≢true (sym is))
-value_narrowed true plain wide ending true is some = refl
 
 narrow_whole : (n w c e : List ℕ) → n ++ (w ++ (c ++ e)) ≡ n ++ w ++ c ++ e
 narrow_whole n w c e = simp append_assoc

@@ -149,12 +149,3 @@ written scope = fold-Expr Written Later Later (written_step scope) addend_step f
 
 abbrev pub plain_text : ScopeParts → Expr → List ℕ
 plain_text scope expression = (written scope expression).plain
-
-abbrev pub narrowed : Bool → List ℕ → List ℕ → List ℕ → List ℕ
-narrowed true plain wide ending = codes "narrow(" ++ wide ++ codes ")" ++ ending
-narrowed false plain wide ending = plain
-
--- a value that is stored or answered, and what comes after the test that it has 64 bits
-abbrev pub value_text : ScopeParts → Expr → List ℕ → List ℕ
-value_text scope expression ending =
-    let it = written scope expression in narrowed it.narrows it.plain (it.wide []) ending

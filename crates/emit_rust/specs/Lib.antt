@@ -4,5 +4,6 @@ pub mod Names
 pub mod Lints
 pub mod Scopes
 pub mod Expressions
+pub mod Values
 pub mod Laws
 pub mod inner

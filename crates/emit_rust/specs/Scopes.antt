@@ -15,13 +15,14 @@ use Rattle.emit_rust.specs.declared.scope.Reach.TheVariants as reaches
 use Rattle.emit_rust.specs.declared.scope.Scope.{Scope}
 use Rattle.emit_rust.specs.Names.{type_name, member_name, input_name}
 
--- where an expression stands: its monitor, its method, the word before fields, and how inputs are
--- reached
+-- where an expression stands: its monitor, its method, the word before fields, how inputs are
+-- reached, and whether it is known that no value that is stored or answered there leaves 64 bits
 pub record ScopeParts : Type 0 where
   pub tree : MonitorTree
   pub method : MethodTree
   pub receiver : List ℕ
   pub reach : Reach
+  pub whole : Bool
 
 abbrev pub seen : Scope → ScopeParts
 seen scope = record {
@@ -29,6 +30,7 @@ seen scope = record {
   method = scope.method.now;
   receiver = scope.receiver.now;
   reach = scope.reach;
+  whole = scope.whole;
 }
 
 -- the constant of this name
@@ -88,3 +90,13 @@ is_reached reach meanings.Local = reaches_inputs reach
 -- a guard that reads no inputs is written without their names: 0 stands for each of them
 abbrev pub is_read : ScopeParts → List ℕ → Bool
 is_read scope name = is_reached scope.reach (meaning_of scope.tree scope.method name)
+
+abbrev pub varies : Meaning → Bool
+varies meanings.Constant = false
+varies meanings.Field = true
+varies meanings.Parameter = true
+varies meanings.Local = true
+
+-- it is the name of a field, an argument or a local
+abbrev pub is_variable_name : ScopeParts → List ℕ → Bool
+is_variable_name scope name = varies (meaning_of scope.tree scope.method name)

@@ -28,5 +28,5 @@ MEMBER_WORDS = codes "new" ∷ []
 abbrev pub INPUT_WORDS : List (List ℕ)
 INPUT_WORDS =
     codes "inner" ∷ codes "copy" ∷ codes "next" ∷ codes "answer" ∷ codes "lock" ∷ codes "wait" ∷
-    codes "narrow" ∷ codes "drop" ∷ codes "Ok" ∷ codes "Err" ∷ codes "Some" ∷ codes "None" ∷
-    codes "Overflow" ∷ []
+    codes "narrow" ∷ codes "whole" ∷ codes "drop" ∷ codes "Ok" ∷ codes "Err" ∷ codes "Some" ∷
+    codes "None" ∷ codes "Overflow" ∷ []

@@ -3,9 +3,8 @@
 ghost use Rattle.std.specs.Prelude.{◌≡◌, ◌++◌, ◌&&◌, ◌||◌, [], decimal, not, true};
 ghost use Rattle.lang_printer.specs.Canonical.{addend_sign, op_text};
 ghost use Rattle.emit_rust.specs.Scopes.{ScopeParts, is_read, name_text, seen};
-ghost use Rattle.emit_rust.specs.Expressions.{narrowed, number_ending, plain_name};
-ghost use Rattle.emit_rust.specs.Expressions.{plain_text, value_text, wide_comparison, wide_name};
-ghost use Rattle.emit_rust.specs.Expressions.{written};
+ghost use Rattle.emit_rust.specs.Expressions.{number_ending, plain_name, plain_text};
+ghost use Rattle.emit_rust.specs.Expressions.{wide_comparison, wide_name, written};
 ghost use Rattle.emit_rust.specs.inner.Parts.{addends_text, any_addend, any_factor, any_part};
 ghost use Rattle.emit_rust.specs.inner.Parts.{factors_text, joined_parts, plain_part, wide_part};
 ghost use Rattle.base_io.specs.Writing.{Wrote};
@@ -16,39 +15,6 @@ use itoa::Buffer;
 use lang_base::Name;
 use lang_printer::truth_bytes;
 use lang_tree::{Addend, Expr, Factor, Op};
-
-/// Writes a value that is stored or answered: one that may need more than 64 bits is tested, and
-/// `ending` comes after the test. It takes no memory.
-///
-/// After `SinkFailed` the first bytes were taken, fewer than all and maybe none.
-pub fn write_value<S: Sink>(
-    scope: &Scope,
-    expression: &Expr,
-    ending: &[u8],
-    out: &mut S,
-) -> Result<(), SinkFailed>
-    ensures { Wrote (S.seen out.old) (S.seen out.new) result
-        (value_text (seen scope.now) expression.now ending.now) }
-{
-    if !narrows(expression) {
-        return write_plain(scope, expression, out);
-    }
-    write_narrowed(scope, expression, ending, out)
-}
-
-fn write_narrowed<S: Sink>(
-    scope: &Scope,
-    expression: &Expr,
-    ending: &[u8],
-    out: &mut S,
-) -> Result<(), SinkFailed>
-    ensures { Wrote (S.seen out.old) (S.seen out.new) result
-        (narrowed true [] ((written (seen scope.now) expression.now).wide []) ending.now) }
-{
-    write_piece(b"narrow(", out)?;
-    write_wide(scope, b"", expression, out)?;
-    write_pieces(&[b")", ending], out)
-}
 
 // ---- what is known of an expression before it is written
 
@@ -67,7 +33,8 @@ fn level(expression: &Expr) -> u8
     }
 }
 
-fn is_number(expression: &Expr) -> bool
+/// Whether it is a number without a sign.
+pub(crate) fn is_number(expression: &Expr) -> bool
     ensures { (scope : ScopeParts) → result ≡ (written scope expression.now).is_number }
 {
     match expression {
@@ -156,8 +123,9 @@ fn any_part(scope: &Scope, parts: &[Expr]) -> bool
 
 // ---- in 128 bits
 
+/// Writes a number in 128 bits, with `ending` after each one that is written out.
 #[cycle(write_wide)]
-fn write_wide<S: Sink>(
+pub(crate) fn write_wide<S: Sink>(
     scope: &Scope,
     ending: &[u8],
     expression: &Expr,
@@ -454,7 +422,8 @@ fn op_bytes(op: Op) -> &'static [u8]
     }
 }
 
-fn sign_bytes(minus: bool) -> &'static [u8]
+/// The sign before an addend after the first.
+pub(crate) fn sign_bytes(minus: bool) -> &'static [u8]
     ensures { result.now ≡ addend_sign minus }
 {
     if minus { b" - " } else { b" + " }

@@ -88,7 +88,7 @@ const TYPE_WORDS: [&[u8]; 10] = [
 
 const MEMBER_WORDS: [&[u8]; 1] = [b"new"];
 
-const INPUT_WORDS: [&[u8]; 13] = [
+const INPUT_WORDS: [&[u8]; 14] = [
     b"inner",
     b"copy",
     b"next",
@@ -96,6 +96,7 @@ const INPUT_WORDS: [&[u8]; 13] = [
     b"lock",
     b"wait",
     b"narrow",
+    b"whole",
     b"drop",
     b"Ok",
     b"Err",

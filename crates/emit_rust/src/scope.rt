@@ -4,7 +4,7 @@ ghost use Rattle.std.specs.Prelude.{◌≡◌, ◌++◌, codes};
 ghost use Rattle.std.specs.List.{list_any};
 ghost use Rattle.emit_rust.specs.Scopes.{declares, is_constant, is_reached, is_read, lent_text};
 ghost use Rattle.emit_rust.specs.Scopes.{meaning_by, meaning_of, meaning_text, name_text};
-ghost use Rattle.emit_rust.specs.Scopes.{reaches_inputs, seen};
+ghost use Rattle.emit_rust.specs.Scopes.{is_variable_name, reaches_inputs, seen, varies};
 ghost use Rattle.emit_rust.specs.Names.{input_name, member_name, type_name};
 ghost use Rattle.emit_rust.specs.declared.style.Style.TheVariants as styles;
 ghost use Rattle.base_io.specs.Writing.{Wrote};
@@ -26,14 +26,15 @@ pub enum Reach {
     Unread,
 }
 
-/// Where an expression stands: its monitor, its method, the word before fields, and how inputs are
-/// reached.
+/// Where an expression stands: its monitor, its method, the word before fields, how inputs are
+/// reached, and whether it is known that no value that is stored or answered there leaves 64 bits.
 #[derive(Clone, Copy)]
 pub struct Scope<'a> {
     pub tree: &'a MonitorTree,
     pub method: &'a MethodTree,
     pub receiver: &'a [u8],
     pub reach: Reach,
+    pub whole: bool,
 }
 
 /// What a name stands for.
@@ -132,6 +133,22 @@ fn reaches_inputs(reach: Reach) -> bool
     match reach {
         Reach::Held | Reach::Lent => true,
         Reach::Unread => false,
+    }
+}
+
+/// Whether a name is that of a field, an argument or a local.
+pub(crate) fn is_variable_name(scope: &Scope, name: &Name) -> bool
+    ensures { result ≡ is_variable_name (seen scope.now) name.now }
+{
+    varies(meaning_of(scope.tree, scope.method, name))
+}
+
+fn varies(meaning: Meaning) -> bool
+    ensures { result ≡ varies meaning }
+{
+    match meaning {
+        Meaning::Constant => false,
+        Meaning::Field | Meaning::Local | Meaning::Parameter => true,
     }
 }
 

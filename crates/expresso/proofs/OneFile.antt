@@ -1,5 +1,5 @@
 -- How a command that works on the monitor of one file ends.
-use Rattle.std.proofs.Common.{◌≡◌, ℕ, true, List, [], Option, Result, Ok, Err, refl, sym, subst, ◌∙◌, arith, inl, inr}
+use Rattle.std.proofs.Common.{◌≡◌, ℕ, true, false, List, [], Option, Result, Ok, Err, refl, sym, subst, ◌∙◌, arith, inl, inr, true≢false}
 use Rattle.std.specs.Prelude.{Any, IfErr, IfOk}
 use Rattle.base_io.specs.Outside.{FilesSeen, SinkSeen, IsRead}
 use Rattle.lang_tree.specs.declared.tree.MonitorTree.{MonitorTree}
@@ -153,7 +153,7 @@ pub record PrintedLaws : Type 0 where
 
 bodies_step : PrintedBodiesStep → (bytes : List ℕ) (tree : MonitorTree) (monitor : MonitorParts) → IsAccepted bytes tree monitor → BodiesStep tree monitor
 bodies_step law bytes tree monitor accepted = λ index placed block state inputs at held short short_arguments short_locals.
-    law tree monitor index placed block state inputs accepted.unbroken accepted.typed at held short short_arguments short_locals
+    law tree monitor index placed false block state inputs accepted.unbroken accepted.typed at held short short_arguments short_locals (λ is over. true≢false (sym is))
 
 tests_hold : PrintedTestsHold → (bytes : List ℕ) (tree : MonitorTree) (monitor : MonitorParts) → IsAccepted bytes tree monitor → TestsHold tree monitor
 tests_hold law bytes tree monitor accepted = λ index placed block state inputs at held.
@@ -165,7 +165,7 @@ tests_are_shared law bytes tree monitor accepted = λ index placed block other w
 
 numbers_stay_wide : PrintedNumbersAreWide → (bytes : List ℕ) (tree : MonitorTree) (monitor : MonitorParts) → IsAccepted bytes tree monitor → NumbersStayWide tree
 numbers_stay_wide law bytes tree monitor accepted = λ index placed arguments memory at short short_state short_locals.
-    law tree index placed arguments memory
+    law tree index placed false arguments memory
     (record { bytes = bytes; tokens = accepted.tokens; short = accepted.short; spelled = accepted.spelled; derived = accepted.derived })
     accepted.unbroken at short short_state short_locals
 

@@ -1,5 +1,5 @@
 -- Executions keep numbers within 64 bits.
-use Rattle.std.proofs.Common.{◌≡◌, ℕ, zero, suc, ◌+◌, List, [], ◌∷◌, map, Option, Some, None, refl, sym, subst, ◌∙◌, inl, inr}
+use Rattle.std.proofs.Common.{◌≡◌, ℕ, zero, suc, ◌+◌, false, List, [], ◌∷◌, map, Option, Some, None, refl, sym, subst, ◌∙◌, inl, inr}
 use Rattle.std.specs.Prelude.{All, IsSomeAnd, slice_get}
 use Rattle.std.proofs.lemmas.List.Elements.{All-nil, All-head, All-tail}
 use Rattle.std.proofs.lemmas.Option.{none-some, same_Some}
@@ -54,7 +54,7 @@ same_next block inputs state reply other next also (inr one) (inr two) = one.2 �
 abbrev AreShortIn : Memory → Type 0
 AreShortIn memory = AreShort memory.state × AreShort memory.locals
 
-step_short : (tree : MonitorTree) (placed : PlacedBlock) (block : Block) (state : List Value) (inputs : Inputs) (reply : Reply) (next : Memory) → CallSteps tree placed block state inputs → AreShort inputs.locals
+step_short : (tree : MonitorTree) (placed : PlacedBlock) (block : Block) (state : List Value) (inputs : Inputs) (reply : Reply) (next : Memory) → CallSteps tree placed false block state inputs → AreShort inputs.locals
     → BlockSteps block inputs state reply next → AreShortIn next
 step_short tree placed block state inputs reply next call short_locals steps =
     let does = call.0 in

@@ -39,7 +39,7 @@ BodiesStep tree monitor =
     → slice_get (blocks_from 0 tree.methods) index ≡ Some placed
     → slice_get monitor.blocks index ≡ Some block
     → AreShort state → AreShort inputs.arguments → AreShort inputs.locals
-    → CallSteps tree placed block state inputs
+    → CallSteps tree placed false block state inputs
 
 -- A call of the function that is printed of a block's guard answers whether the guard is true: with
 -- the inputs where the guard reads any, and else without them. This is the law `printed_tests_hold`
@@ -74,7 +74,7 @@ NumbersStayWide tree =
     (index : ℕ) (placed : PlacedBlock) (arguments : List Value) (memory : Memory)
     → slice_get (blocks_from 0 tree.methods) index ≡ Some placed
     → AreShort arguments → AreShort memory.state → AreShort memory.locals
-    → All (StaysWide (scope_in tree placed) arguments memory)
+    → All (StaysWide (scope_in tree placed false) arguments memory)
     (placed.block.guard ∷ expressions_in placed.block.body)
 
 -- ---- executions keep numbers within 64 bits, which is what bodies and widths ask for

@@ -5,7 +5,7 @@ use Rattle.emit_bodies.proofs.bodies.write_between.Goals as goal
 
 pub returns-in_err-write_piece : goal.returns-in_err-write_piece
 returns-in_err-write_piece g c =
-    wrote_fails _ c.from_residual.ensures.0 (wrote_longer (codes "    }\n") (wrote_longer (lines_by c.args.tree.now c.args.method.now c.args.trace c.args.body.now) c.in_err-write_piece.ensures))
+    wrote_fails _ c.from_residual.ensures.0 (wrote_longer (codes "    }\n") (wrote_longer (lines_by c.args.tree.now c.args.method.now c.args.trace c.args.body.now c.args.whole) c.in_err-write_piece.ensures))
 
 pub returns-in_err-write_lines : goal.returns-in_err-write_lines
 returns-in_err-write_lines g c =

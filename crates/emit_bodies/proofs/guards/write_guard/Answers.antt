@@ -1,4 +1,4 @@
-use Rattle.std.proofs.Common.{codes}
+use Rattle.std.proofs.Common.{codes, false}
 use Rattle.emit_rust.specs.Expressions.{plain_text}
 use Rattle.base_io.proofs.Writing.{wrote_both, wrote_fails, wrote_longer, wrote_same, wrote_until}
 use Rattle.emit_bodies.proofs.GuardTexts.{guard_says}
@@ -7,7 +7,7 @@ use Rattle.emit_bodies.proofs.guards.write_guard.Goals as goal
 pub returns-in_err-write_head : goal.returns-in_err-write_head
 returns-in_err-write_head g c =
     wrote_same _ (guard_says c.args.tree.now c.args.method.now c.args.number c.args.reads c.args.guard.now _ c.guard_reach-reach.ensures)
-    (wrote_fails _ c.from_residual.ensures.0 (wrote_longer (codes "\n    }\n") (wrote_longer (plain_text (record { tree = c.args.tree.now; method = c.args.method.now; receiver = codes "self"; reach = c.guard_reach-reach.result }) c.args.guard.now) c.in_err-write_head.ensures)))
+    (wrote_fails _ c.from_residual.ensures.0 (wrote_longer (codes "\n    }\n") (wrote_longer (plain_text (record { tree = c.args.tree.now; method = c.args.method.now; receiver = codes "self"; reach = c.guard_reach-reach.result; whole = false }) c.args.guard.now) c.in_err-write_head.ensures)))
 
 pub returns-in_err-write_plain : goal.returns-in_err-write_plain
 returns-in_err-write_plain g c =

@@ -14,7 +14,7 @@ trace_body-returns t c =
 
 pub trace_statement-returns-in-Set : goal.trace_statement-returns-in-Set
 trace_statement-returns-in-Set t c =
-    c.of_value.ensures ∙ trace-Set (seen c.args.scope.now) _ _ _ _ _ c.is_declared.result c.narrows.result c.in-Set.is c.bytes.ensures c.is_declared.ensures (c.narrows.ensures (seen c.args.scope.now))
+    c.of_value.ensures ∙ trace-Set (seen c.args.scope.now) _ _ _ _ _ c.is_declared-writes.result c.in-Set.is c.bytes.ensures c.is_declared-writes.ensures
 
 pub trace_statement-returns-in-If : goal.trace_statement-returns-in-If
 trace_statement-returns-in-If t c =
@@ -22,4 +22,4 @@ trace_statement-returns-in-If t c =
 
 pub trace_statement-returns-in-Return : goal.trace_statement-returns-in-Return
 trace_statement-returns-in-Return t c =
-    c.of_value-in-Return.ensures ∙ trace-Return (seen c.args.scope.now) _ _ _ c.narrows-in-Return.result c.in-Return.is (c.narrows-in-Return.ensures (seen c.args.scope.now))
+    c.of_value-in-Return.ensures ∙ trace-Return (seen c.args.scope.now) _ _ _ c.in-Return.is

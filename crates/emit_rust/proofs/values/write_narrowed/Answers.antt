@@ -3,7 +3,7 @@ use Rattle.emit_rust.specs.Expressions.{written}
 use Rattle.base_io.proofs.Writing.{wrote_both, wrote_fails, wrote_longer, wrote_same, wrote_until}
 use Rattle.emit_rust.proofs.Written.{narrow_parts, narrow_cut}
 use Rattle.emit_rust.specs.Scopes.{seen}
-use Rattle.emit_rust.proofs.expressions.write_narrowed.Goals as goal
+use Rattle.emit_rust.proofs.values.write_narrowed.Goals as goal
 
 pub returns-in_err-write_wide : goal.returns-in_err-write_wide
 returns-in_err-write_wide g c =
