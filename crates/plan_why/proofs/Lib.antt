@@ -3,5 +3,6 @@ mod Bodies
 mod Wide
 pub mod Things
 mod Solved
+mod Ties
 pub mod Blocks
 mod Shown

@@ -7,6 +7,7 @@ ghost use Rattle.logic_wp.specs.NegatedQueries.{negated_query};
 ghost use Rattle.plan_why.specs.Failures.{IsFailureOf};
 
 use super::running::after_body;
+use super::tying::tied_failure;
 use lang_monitor::{Monitor, Query};
 use logic_linear::Formula;
 use logic_solve::{Solution, solution};
@@ -61,6 +62,9 @@ pub fn failure_of(
 {
     match negated(alloc, monitor, query)? {
         None => Ok(None),
-        Some(formula) => Ok(solved(alloc, monitor, query, &formula)?),
+        Some(formula) => match tied_failure(alloc, monitor, query, &formula)? {
+            Some(failure) => Ok(Some(failure)),
+            None => Ok(solved(alloc, monitor, query, &formula)?),
+        },
     }
 }

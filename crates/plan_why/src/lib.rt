@@ -12,6 +12,7 @@ mod listing;
 mod reason;
 mod running;
 mod starts;
+mod tying;
 
 pub use answering::reasons;
 pub use failing::{Failure, failure_of};

@@ -79,7 +79,7 @@ fn copy_of(alloc: Global, at: &Solution) -> Result<Solution, AllocError>
 }
 
 /// The solution with this number at the place.
-fn with_number(
+pub(crate) fn with_number(
     alloc: Global,
     place: u32,
     number: i128,
