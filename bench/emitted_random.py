@@ -23,7 +23,7 @@ from emitted import Source, module_text  # noqa: E402
 from trees import If, Return, read_tree  # noqa: E402
 
 WORDS = ("self Self _ __ Ok Err Some None state State next answer match match_ try startRead start_read x X y new lock "
-         "wait drop narrow inner Inner copy asleep_x Overflow Mutex Option i64 i128 std async dyn a__b can_x run_x x_ "
+         "wait drop narrow inner Inner copy asleep_x Overflow Mutex Option Refused Failed From i64 i128 std async dyn a__b can_x run_x x_ "
          "_x await clone Result try_x try_new_ box gen readX read_x").split()
 LEAST, MOST = -2 ** 63, 2 ** 63 - 1
 CALLS = 40
@@ -188,16 +188,14 @@ def called(source, method, first, arguments, state, tries):
     answer = None
     for number, block in enumerate(method.blocks):
         if not value(block.guard, known):
-            refused = "Ok(None)" if fails else "None"
-            return (refused, state) if tries and not number else None
+            return ("Err(Refused)", state) if tries and not number else None
         after = dict(known)
         try:
             answer = run(block.body, after)
         except Overflow:
             return "Err(Overflow)", {name: known[name] for name in state}
         known = after
-    text = f"Some({shown(answer)})" if tries else shown(answer)
-    return f"Ok({text})" if fails else text, {name: known[name] for name in state}
+    return f"Ok({shown(answer)})" if fails or tries else shown(answer), {name: known[name] for name in state}
 
 
 def calls_of(source, dice):

@@ -15,8 +15,8 @@ from monitors import read_monitor  # noqa: E402
 from rust_bodies import (Scope, answer, argument_texts, can_name, doc_text,  # noqa: E402
                          function_texts, kind_text, run_name, trace)
 from rust_names import Names, lints  # noqa: E402
-from rust_texts import DEBUG, DEFAULT, FIELDS, HEAD, INNER, LOCK, NEW, OVERFLOW  # noqa: E402
-from rust_texts import SKIP, STATE, STATE_HEAD, USED, WAIT  # noqa: E402
+from rust_texts import DEBUG, DEFAULT, FAILED, FIELDS, HEAD, INNER, LOCK, NEW, OVERFLOW  # noqa: E402
+from rust_texts import REFUSED, SKIP, STATE, STATE_HEAD, USED, VERSION, WAIT  # noqa: E402
 from trees import read_tree  # noqa: E402
 
 ALWAYS = joined("all", [])
@@ -37,7 +37,7 @@ class Source:
 
     def __init__(self, text, plan):
         self.tree, self.monitor = read_tree(text), read_monitor(text)
-        self.names = Names(self.tree)
+        self.names, self.plan = Names(self.tree), plan
         self.blocks = [(method, number, block) for method in self.tree.methods
                        for number, block in enumerate(method.blocks, 1)]
         self.notes = [[note for note in notes if self.is_waited_on(note[0])]
@@ -101,7 +101,7 @@ def note_lines(source, note):
     return [f"if {test} {{", f"    self.{name}.notify_{'all' if everyone else 'one'}();", "}"]
 
 
-def run_lines(source, block):
+def run_lines(source, block, tries):
     """The body of a block, and what is told where it overflows."""
     call, answer = call_text(source, block), source.answer(block)
     before = "let answer = " if answer else ""
@@ -112,7 +112,7 @@ def run_lines(source, block):
         return [f"{before}{call}?;"]
     return [f"let Ok({'answer' if answer else '()'}) = {call} else {{",
             f"    self.{source.condition_name(condition)}.notify_one();",
-            "    return Err(Overflow);", "};"]
+            f"    return Err({'Failed::' if tries else ''}Overflow);", "};"]
 
 
 def test_lines(source, block, refusal):
@@ -121,16 +121,16 @@ def test_lines(source, block, refusal):
     if not source.is_waited_on(condition):
         return []
     if refusal:
-        return [f"if !inner.state.{test_text(source, block)} {{", f"    return {refusal};", "}"]
+        return [f"if !inner.state.{test_text(source, block)} {{", f"    return Err({refusal});", "}"]
     count = f"    inner.{source.count_name(condition)}"
     return [f"while !inner.state.{test_text(source, block)} {{", f"{count} += 1;",
             f"    inner = wait(&self.{source.condition_name(condition)}, inner);", f"{count} -= 1;", "}"]
 
 
-def block_lines(source, block, refusal):
+def block_lines(source, block, refusal, tries):
     """From the lock to the notes, which come when the lock is given back."""
     lines, notes = ["let mut inner = lock(&self.inner);"], source.notes[block]
-    lines += test_lines(source, block, refusal) + run_lines(source, block)
+    lines += test_lines(source, block, refusal) + run_lines(source, block, tries)
     lines += ["let copy = *inner;"] * bool(notes) + ["drop(inner);"]
     for note in notes:
         lines += note_lines(source, note)
@@ -141,40 +141,44 @@ def end_lines(answer, fails, tries):
     """What a method answers, after its last block."""
     if not fails and not tries:
         return ["answer"] if answer else []
-    value = "answer" if answer else "()"
-    value = f"Some({value})" if tries else value
-    return [f"Ok({value})" if fails else value]
+    return [f"Ok({'answer' if answer else '()'})"]
 
 
 def method_text(source, method, first, tries):
     """A method; of one that tries, a call is refused where it would wait at the first block."""
     blocks = range(first, first + len(method.blocks))
     fails, answer = any(source.fails(block) for block in blocks), source.answer(blocks[-1])
-    refusal = ("Ok(None)" if fails else "None") if tries else None
+    error = ("Failed" if fails else "Refused") if tries else "Overflow" if fails else None
+    refusal = ("Failed::Refused" if fails else "Refused") if tries else None
     lines = [f"let mut {source.names.own(method, one.name)}: {kind_text(one.kind)} = {one.start};"
              for one in method.own_locals]
     for block in blocks:
-        lines += block_lines(source, block, refusal if block == first else None)
+        lines += block_lines(source, block, refusal if block == first else None, tries)
     lines += end_lines(answer, fails, tries)
     inputs = "".join(f", {source.names.own(method, one.name)}: {kind_text(one.kind)}"
                      for one in method.inputs)
     name = source.names.tried(method.name) if tries else source.names.member(method.name)
-    arrow = arrow_text(f"Option<{answer or '()'}>" if tries else answer, fails)
+    arrow = arrow_text(answer, error)
     body = "".join(f"        {line}\n" for line in lines)
     docs = doc_text(source, method, first, fails, tries)
     return f"\n{docs}    pub fn {name}(&self{inputs}){arrow} {{\n{body}    }}\n"
 
 
-def methods_text(source, method, first):
-    """With the calls that try, where the first block waits and no other name is theirs."""
+def has_try(source, method, first):
+    """The first block waits, and no other name is theirs."""
     waits = source.is_waited_on(source.condition_of(first))
-    tries = waits and source.names.is_free(source.names.tried(method.name))
-    return "".join(method_text(source, method, first, one) for one in [False, True][:1 + tries])
+    return waits and source.names.is_free(source.names.tried(method.name))
 
 
-def arrow_text(answer, fails):
-    if fails:
-        return f" -> Result<{answer or '()'}, Overflow>"
+def methods_text(source, method, first):
+    """With the calls that try, where it has them."""
+    ways = [False, True] if has_try(source, method, first) else [False]
+    return "".join(method_text(source, method, first, tries) for tries in ways)
+
+
+def arrow_text(answer, error):
+    if error:
+        return f" -> Result<{answer or '()'}, {error}>"
     return f" -> {answer}" if answer else ""
 
 
@@ -182,22 +186,34 @@ def arrow_text(answer, fails):
 def module_text(source):
     lint, kind = lints(source.tree), source.names.type_name()
     waited, fails = source.waited_on(), any(map(source.fails, range(len(source.blocks))))
+    refused = refusals(source)
     used = "{Mutex, MutexGuard, PoisonError}" if source.blocks else "Mutex"
     used = used.replace("{", "{Condvar, ") if waited else used
-    parts = [HEAD, f"use std::sync::{used};\n\n",
+    parts = [HEAD % (source.tree.name, VERSION), f"use std::sync::{used};\n\n",
              struct_text(source, kind, lint, waited), impl_text(source, kind, lint, waited),
-             f"impl Default for {kind}{DEFAULT}", f"impl std::fmt::Debug for {kind}{DEBUG}",
+             f"impl Default for {kind}{DEFAULT}", f"impl std::fmt::Debug for {kind}{DEBUG % kind}",
              inner_text(source, lint, waited), f"{FIELDS}{lint}struct State {{{state_fields(source)}}}\n\n", STATE,
              f"{lint}{STATE_HEAD}{starts(source)}}};\n", functions(source), "}\n"]
     own = [LOCK] * bool(source.blocks) + [WAIT] * bool(waited) + [OVERFLOW] * fails
+    own += [REFUSED] * (False in refused) + [FAILED] * (True in refused)
     return "".join(parts + own)
+
+
+def refusals(source):
+    """Of each method whose calls may be refused, whether it may fail too."""
+    found, first = [], 0
+    for method in source.tree.methods:
+        blocks = range(first, first + len(method.blocks))
+        found += [any(map(source.fails, blocks))] * has_try(source, method, first)
+        first += len(method.blocks)
+    return found
 
 
 def struct_text(source, kind, lint, waited):
     fields = "".join(f"    /// For calls that wait until `{source.shown(q)}`.\n"
                      f"    {source.condition_name(q)}: Condvar,\n" for q in waited)
     return (f"/// The monitor `{source.tree.name}`. Threads share it by reference. A call waits for its guard, "
-            f"unless it tries.\n{lint}{USED}pub struct {kind} {{\n"
+            f"unless it tries.\n/**\n# Plan\n\n```text\n{source.plan}```\n*/\n{lint}{USED}pub struct {kind} {{\n"
             f"    inner: Mutex<Inner>,\n{fields}}}\n\n")
 
 
@@ -208,7 +224,8 @@ def inner_text(source, lint, waited):
 
 
 def impl_text(source, kind, lint, waited):
-    constants = "".join(f"    pub const {source.names.constant(one.name)}: i64 = {one.start};\n"
+    constants = "".join(f"    /// The constant `{one.name}`.\n"
+                        f"    pub const {source.names.constant(one.name)}: i64 = {one.start};\n"
                         for one in source.tree.declared if one.kind == "const")
     counts = "".join(f"                {source.count_name(q)}: 0,\n" for q in waited)
     conditions = "".join(f"            {source.condition_name(q)}: Condvar::new(),\n" for q in waited)
@@ -246,7 +263,7 @@ def functions(source):
         is_tested = source.is_waited_on(condition) and (
             reads or source.first_block(condition) == number)
         texts += function_texts(source.names, method, place, block, is_tested, reads,
-                                arrow_text(source.answer(number), source.fails(number)))
+                                arrow_text(source.answer(number), "Overflow" if source.fails(number) else None))
     return "".join(f"\n{text}" for text in texts)
 
 

@@ -27,14 +27,22 @@ judge() {
     tools/emitted.py "$made/monitor" "$made/plan" | cmp - "$made/$2.rs" || fail "$1: the second reader prints another"
 }
 
+# compile COMPILER EDITION ..: a module without a warning, with a doc on each item
+compile() {
+    "$1" -D warnings -W missing_docs -W unused_qualifications "${@:3}" --edition "$2" --crate-type lib \
+        --crate-name module -o "$made/module" "$made/lib.rs"
+}
+
 # build NAME: the module compiles, and its threads come to their end
 build() {
     local module=bench/emitted/$1.rs
-    rustc -D warnings --edition 2021 --crate-type lib --crate-name module -o "$made/module" "$module" || fail "$1: rustc"
-    if has clippy-driver; then
-        clippy-driver -D warnings --edition 2021 --crate-type lib --crate-name module -o "$made/module" "$module" ||
-            fail "$1: clippy"
-    fi
+    printf '//! A module.\n\n/// It.\n#[path = "%s"]\npub mod module;\n' "$PWD/$module" >"$made/lib.rs"
+    for edition in 2021 2024; do
+        compile rustc "$edition" || fail "$1: rustc"
+        if has clippy-driver; then
+            compile clippy-driver "$edition" -W clippy::pedantic || fail "$1: clippy"
+        fi
+    done
     if has rustfmt; then
         rustfmt --edition 2021 --check "$module" || fail "$1: rustfmt"
     fi

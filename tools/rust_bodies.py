@@ -201,27 +201,37 @@ def function_texts(names, method, number, block, is_tested, reads, arrow):
 
 
 # ---- docs
-def doc_text(source, method, first, fails, tries):
+def stays_text(method):
+    return ("Its block then changes nothing, and no later one runs." if len(method.blocks) > 1
+            else "Then nothing changes.")
+
+
+def waiting_docs(source, method, first, fails):
+    """What calls that wait wait for."""
     lines = []
     for place, block in enumerate(method.blocks):
-        waits = source.is_waited_on(source.condition_of(first + place))
         lines += [""] if place else []
-        if waits and tries and not place:
-            lines.append(f"Answers `None` where `{block.shown}` is false.")
-        elif waits:
+        if source.is_waited_on(source.condition_of(first + place)):
             lines.append(f"{'Then waits' if place else 'Waits'} until `{block.shown}`.")
         else:
             lines.append("Then goes on." if place else "Does not wait.")
-        lines += [""] + [waking_text(source, note) for note in source.notes[first + place]]
-        lines += [] if source.notes[first + place] else ["Wakes nobody."]
     if fails:
-        end = ("Its block then changes nothing, and no later one runs." if len(method.blocks) > 1
-               else "Then nothing changes.")
-        lines += ["", "# Errors", "", f"[`Overflow`] where a number would leave 64 bits. {end}"]
+        lines += ["", "# Errors", "", f"[`Overflow`] where a number would leave 64 bits. {stays_text(method)}"]
+    return lines
+
+
+def trying_docs(source, method, fails):
+    """When calls that try are refused."""
+    name, shown = source.names.member(method.name), method.blocks[0].shown
+    kind = "Failed::" if fails else ""
+    lines = [f"As [`{name}`](Self::{name}), but does not wait until `{shown}`.", "", "# Errors", "",
+             f"[`{kind}Refused`] where `{shown}` is false. Then nothing changes."]
+    if fails:
+        lines += ["", f"[`Failed::Overflow`] where a number would leave 64 bits. {stays_text(method)}"]
+    return lines
+
+
+def doc_text(source, method, first, fails, tries):
+    lines = (trying_docs(source, method, fails) if tries
+             else waiting_docs(source, method, first, fails))
     return "".join(f"    /// {line}".rstrip() + "\n" for line in lines)
-
-
-def waking_text(source, note):
-    condition, everyone, tested = note
-    whom = "all calls that wait" if everyone else "one call that waits"
-    return f"Wakes {whom} until `{source.shown(condition)}`{', where that now holds' if tested else ''}."

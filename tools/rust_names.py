@@ -6,9 +6,9 @@ KEYWORDS = set(
     "as break const continue crate else enum extern false fn for if impl in let loop match mod move mut "
     "pub ref return self Self static struct super trait true type unsafe use where while async await dyn "
     "abstract become box do final gen macro override priv try typeof unsized virtual yield".split())
-TYPE_WORDS = set("Inner State Overflow Mutex MutexGuard Condvar PoisonError Default Result Option".split())
+TYPE_WORDS = set("Inner State Overflow Refused Failed Mutex MutexGuard Condvar PoisonError Default From Result".split())
 MEMBER_WORDS = {"new"}
-OWN_WORDS = set("inner copy next answer lock wait narrow whole drop Ok Err Some None Overflow".split())
+OWN_WORDS = set("inner copy next answer lock wait narrow whole drop Ok Err Some None Overflow Refused".split())
 
 
 def snake(name):

@@ -1,8 +1,24 @@
-// Made by `expresso emit`. Change the monitor, and not this file.
+// The monitor `Account` as a module of Rust, made by `expresso emit` 0.2.0.
+// Change the monitor, and not this file. It wants Rust 1.65 and the edition 2021, or later ones.
 
 use std::sync::{Condvar, Mutex, MutexGuard, PoisonError};
 
 /// The monitor `Account`. Threads share it by reference. A call waits for its guard, unless it tries.
+/**
+# Plan
+
+```text
+plan Account
+keep balance >= 0
+keep rejected >= 0
+condition 1 broadcast: !frozen
+condition 2 broadcast: amount <= balance && !frozen
+condition 3 signal: frozen
+block deposit: 2 broadcast
+block withdraw: 2 broadcast, 3 signal tested
+block thaw: 1 broadcast, 2 broadcast
+```
+*/
 #[allow(dead_code, non_camel_case_types, clippy::upper_case_acronyms)]
 pub struct Account {
     inner: Mutex<Inner>,
@@ -17,6 +33,7 @@ pub struct Account {
 #[rustfmt::skip]
 #[allow(dead_code, clippy::style)]
 impl Account {
+    /// The constant `LIMIT`.
     pub const LIMIT: i64 = 1000;
 
     /// The monitor at its start.
@@ -36,8 +53,6 @@ impl Account {
     }
 
     /// Waits until `!frozen`.
-    ///
-    /// Wakes all calls that wait until `amount <= balance && !frozen`.
     ///
     /// # Errors
     ///
@@ -61,34 +76,31 @@ impl Account {
         Ok(answer)
     }
 
-    /// Answers `None` where `!frozen` is false.
-    ///
-    /// Wakes all calls that wait until `amount <= balance && !frozen`.
+    /// As [`deposit`](Self::deposit), but does not wait until `!frozen`.
     ///
     /// # Errors
     ///
-    /// [`Overflow`] where a number would leave 64 bits. Then nothing changes.
-    pub fn try_deposit(&self, amount: i64) -> Result<Option<i64>, Overflow> {
+    /// [`Failed::Refused`] where `!frozen` is false. Then nothing changes.
+    ///
+    /// [`Failed::Overflow`] where a number would leave 64 bits. Then nothing changes.
+    pub fn try_deposit(&self, amount: i64) -> Result<i64, Failed> {
         let mut inner = lock(&self.inner);
         if !inner.state.can_deposit() {
-            return Ok(None);
+            return Err(Failed::Refused);
         }
         let Ok(answer) = inner.state.run_deposit(amount) else {
             self.can_deposit.notify_one();
-            return Err(Overflow);
+            return Err(Failed::Overflow);
         };
         let copy = *inner;
         drop(inner);
         if copy.asleep_withdraw > 0 {
             self.can_withdraw.notify_all();
         }
-        Ok(Some(answer))
+        Ok(answer)
     }
 
     /// Waits until `amount <= balance && !frozen`.
-    ///
-    /// Wakes all calls that wait until `amount <= balance && !frozen`.
-    /// Wakes one call that waits until `frozen`, where that now holds.
     ///
     /// # Errors
     ///
@@ -115,22 +127,21 @@ impl Account {
         Ok(answer)
     }
 
-    /// Answers `None` where `amount <= balance && !frozen` is false.
-    ///
-    /// Wakes all calls that wait until `amount <= balance && !frozen`.
-    /// Wakes one call that waits until `frozen`, where that now holds.
+    /// As [`withdraw`](Self::withdraw), but does not wait until `amount <= balance && !frozen`.
     ///
     /// # Errors
     ///
-    /// [`Overflow`] where a number would leave 64 bits. Then nothing changes.
-    pub fn try_withdraw(&self, amount: i64) -> Result<Option<i64>, Overflow> {
+    /// [`Failed::Refused`] where `amount <= balance && !frozen` is false. Then nothing changes.
+    ///
+    /// [`Failed::Overflow`] where a number would leave 64 bits. Then nothing changes.
+    pub fn try_withdraw(&self, amount: i64) -> Result<i64, Failed> {
         let mut inner = lock(&self.inner);
         if !inner.state.can_withdraw(amount) {
-            return Ok(None);
+            return Err(Failed::Refused);
         }
         let Ok(answer) = inner.state.run_withdraw(amount) else {
             self.can_withdraw.notify_one();
-            return Err(Overflow);
+            return Err(Failed::Overflow);
         };
         let copy = *inner;
         drop(inner);
@@ -140,13 +151,10 @@ impl Account {
         if copy.asleep_thaw > 0 && copy.state.can_thaw() {
             self.can_thaw.notify_one();
         }
-        Ok(Some(answer))
+        Ok(answer)
     }
 
     /// Waits until `frozen`.
-    ///
-    /// Wakes all calls that wait until `!frozen`.
-    /// Wakes all calls that wait until `amount <= balance && !frozen`.
     pub fn thaw(&self) {
         let mut inner = lock(&self.inner);
         while !inner.state.can_thaw() {
@@ -165,14 +173,15 @@ impl Account {
         }
     }
 
-    /// Answers `None` where `frozen` is false.
+    /// As [`thaw`](Self::thaw), but does not wait until `frozen`.
     ///
-    /// Wakes all calls that wait until `!frozen`.
-    /// Wakes all calls that wait until `amount <= balance && !frozen`.
-    pub fn try_thaw(&self) -> Option<()> {
+    /// # Errors
+    ///
+    /// [`Refused`] where `frozen` is false. Then nothing changes.
+    pub fn try_thaw(&self) -> Result<(), Refused> {
         let mut inner = lock(&self.inner);
         if !inner.state.can_thaw() {
-            return None;
+            return Err(Refused);
         }
         inner.state.run_thaw();
         let copy = *inner;
@@ -183,7 +192,7 @@ impl Account {
         if copy.asleep_withdraw > 0 {
             self.can_withdraw.notify_all();
         }
-        Some(())
+        Ok(())
     }
 }
 
@@ -195,14 +204,17 @@ impl Default for Account {
 
 impl std::fmt::Debug for Account {
     fn fmt(&self, f: &mut std::fmt::Formatter<'_>) -> std::fmt::Result {
-        let state = self
-            .inner
-            .lock()
-            .unwrap_or_else(std::sync::PoisonError::into_inner)
-            .state;
-        f.debug_struct(std::any::type_name::<Self>())
-            .field("state", &state)
-            .finish_non_exhaustive()
+        let state = match self.inner.try_lock() {
+            Ok(inner) => Some(inner.state),
+            Err(std::sync::TryLockError::Poisoned(inner)) => Some(inner.into_inner().state),
+            Err(std::sync::TryLockError::WouldBlock) => None,
+        };
+        let mut text = f.debug_struct("Account");
+        match state {
+            Some(state) => text.field("state", &state),
+            None => text.field("state", &format_args!("<locked>")),
+        };
+        text.finish_non_exhaustive()
     }
 }
 
@@ -300,3 +312,41 @@ impl std::error::Error for Overflow {}
 fn narrow(number: i128) -> Result<i64, Overflow> {
     i64::try_from(number).map_err(|_| Overflow)
 }
+
+/// The guard was false, and the call did not wait. Nothing changed.
+#[derive(Clone, Copy, Debug, PartialEq, Eq)]
+pub struct Refused;
+
+impl std::fmt::Display for Refused {
+    fn fmt(&self, f: &mut std::fmt::Formatter<'_>) -> std::fmt::Result {
+        f.write_str("the guard is false")
+    }
+}
+
+impl std::error::Error for Refused {}
+
+/// Why a call that tries has no answer.
+#[derive(Clone, Copy, Debug, PartialEq, Eq)]
+pub enum Failed {
+    /// The guard was false, and the call did not wait. Nothing changed.
+    Refused,
+    /// A number would have left 64 bits.
+    Overflow,
+}
+
+impl From<Overflow> for Failed {
+    fn from(_: Overflow) -> Self {
+        Self::Overflow
+    }
+}
+
+impl std::fmt::Display for Failed {
+    fn fmt(&self, f: &mut std::fmt::Formatter<'_>) -> std::fmt::Result {
+        f.write_str(match self {
+            Self::Refused => "the guard is false",
+            Self::Overflow => "a number would leave 64 bits",
+        })
+    }
+}
+
+impl std::error::Error for Failed {}

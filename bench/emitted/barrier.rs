@@ -1,8 +1,20 @@
-// Made by `expresso emit`. Change the monitor, and not this file.
+// The monitor `Barrier` as a module of Rust, made by `expresso emit` 0.2.0.
+// Change the monitor, and not this file. It wants Rust 1.65 and the edition 2021, or later ones.
 
 use std::sync::{Condvar, Mutex, MutexGuard, PoisonError};
 
 /// The monitor `Barrier`. Threads share it by reference. A call waits for its guard, unless it tries.
+/**
+# Plan
+
+```text
+plan Barrier
+condition 1 broadcast: !open
+condition 2 broadcast: open
+block arrive: 2 broadcast tested
+block leave: 1 broadcast tested
+```
+*/
 #[allow(dead_code, non_camel_case_types, clippy::upper_case_acronyms)]
 pub struct Barrier {
     inner: Mutex<Inner>,
@@ -15,6 +27,7 @@ pub struct Barrier {
 #[rustfmt::skip]
 #[allow(dead_code, clippy::style)]
 impl Barrier {
+    /// The constant `PARTIES`.
     pub const PARTIES: i64 = 3;
 
     /// The monitor at its start.
@@ -32,8 +45,6 @@ impl Barrier {
     }
 
     /// Waits until `!open`.
-    ///
-    /// Wakes all calls that wait until `open`, where that now holds.
     ///
     /// # Errors
     ///
@@ -57,33 +68,31 @@ impl Barrier {
         Ok(())
     }
 
-    /// Answers `None` where `!open` is false.
-    ///
-    /// Wakes all calls that wait until `open`, where that now holds.
+    /// As [`arrive`](Self::arrive), but does not wait until `!open`.
     ///
     /// # Errors
     ///
-    /// [`Overflow`] where a number would leave 64 bits. Then nothing changes.
-    pub fn try_arrive(&self) -> Result<Option<()>, Overflow> {
+    /// [`Failed::Refused`] where `!open` is false. Then nothing changes.
+    ///
+    /// [`Failed::Overflow`] where a number would leave 64 bits. Then nothing changes.
+    pub fn try_arrive(&self) -> Result<(), Failed> {
         let mut inner = lock(&self.inner);
         if !inner.state.can_arrive() {
-            return Ok(None);
+            return Err(Failed::Refused);
         }
         let Ok(()) = inner.state.run_arrive() else {
             self.can_arrive.notify_one();
-            return Err(Overflow);
+            return Err(Failed::Overflow);
         };
         let copy = *inner;
         drop(inner);
         if copy.asleep_leave > 0 && copy.state.can_leave() {
             self.can_leave.notify_all();
         }
-        Ok(Some(()))
+        Ok(())
     }
 
     /// Waits until `open`.
-    ///
-    /// Wakes all calls that wait until `!open`, where that now holds.
     ///
     /// # Errors
     ///
@@ -107,28 +116,28 @@ impl Barrier {
         Ok(answer)
     }
 
-    /// Answers `None` where `open` is false.
-    ///
-    /// Wakes all calls that wait until `!open`, where that now holds.
+    /// As [`leave`](Self::leave), but does not wait until `open`.
     ///
     /// # Errors
     ///
-    /// [`Overflow`] where a number would leave 64 bits. Then nothing changes.
-    pub fn try_leave(&self) -> Result<Option<i64>, Overflow> {
+    /// [`Failed::Refused`] where `open` is false. Then nothing changes.
+    ///
+    /// [`Failed::Overflow`] where a number would leave 64 bits. Then nothing changes.
+    pub fn try_leave(&self) -> Result<i64, Failed> {
         let mut inner = lock(&self.inner);
         if !inner.state.can_leave() {
-            return Ok(None);
+            return Err(Failed::Refused);
         }
         let Ok(answer) = inner.state.run_leave() else {
             self.can_leave.notify_one();
-            return Err(Overflow);
+            return Err(Failed::Overflow);
         };
         let copy = *inner;
         drop(inner);
         if copy.asleep_arrive > 0 && copy.state.can_arrive() {
             self.can_arrive.notify_all();
         }
-        Ok(Some(answer))
+        Ok(answer)
     }
 }
 
@@ -140,14 +149,17 @@ impl Default for Barrier {
 
 impl std::fmt::Debug for Barrier {
     fn fmt(&self, f: &mut std::fmt::Formatter<'_>) -> std::fmt::Result {
-        let state = self
-            .inner
-            .lock()
-            .unwrap_or_else(std::sync::PoisonError::into_inner)
-            .state;
-        f.debug_struct(std::any::type_name::<Self>())
-            .field("state", &state)
-            .finish_non_exhaustive()
+        let state = match self.inner.try_lock() {
+            Ok(inner) => Some(inner.state),
+            Err(std::sync::TryLockError::Poisoned(inner)) => Some(inner.into_inner().state),
+            Err(std::sync::TryLockError::WouldBlock) => None,
+        };
+        let mut text = f.debug_struct("Barrier");
+        match state {
+            Some(state) => text.field("state", &state),
+            None => text.field("state", &format_args!("<locked>")),
+        };
+        text.finish_non_exhaustive()
     }
 }
 
@@ -230,3 +242,29 @@ impl std::error::Error for Overflow {}
 fn narrow(number: i128) -> Result<i64, Overflow> {
     i64::try_from(number).map_err(|_| Overflow)
 }
+
+/// Why a call that tries has no answer.
+#[derive(Clone, Copy, Debug, PartialEq, Eq)]
+pub enum Failed {
+    /// The guard was false, and the call did not wait. Nothing changed.
+    Refused,
+    /// A number would have left 64 bits.
+    Overflow,
+}
+
+impl From<Overflow> for Failed {
+    fn from(_: Overflow) -> Self {
+        Self::Overflow
+    }
+}
+
+impl std::fmt::Display for Failed {
+    fn fmt(&self, f: &mut std::fmt::Formatter<'_>) -> std::fmt::Result {
+        f.write_str(match self {
+            Self::Refused => "the guard is false",
+            Self::Overflow => "a number would leave 64 bits",
+        })
+    }
+}
+
+impl std::error::Error for Failed {}

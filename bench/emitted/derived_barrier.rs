@@ -1,8 +1,28 @@
-// Made by `expresso emit`. Change the monitor, and not this file.
+// The monitor `Barrier` as a module of Rust, made by `expresso emit` 0.2.0.
+// Change the monitor, and not this file. It wants Rust 1.65 and the edition 2021, or later ones.
 
 use std::sync::{Condvar, Mutex, MutexGuard, PoisonError};
 
 /// The monitor `Barrier`. Threads share it by reference. A call waits for its guard, unless it tries.
+/**
+# Plan
+
+```text
+plan Barrier
+keep waiting >= 0
+keep waiting <= 3
+keep waiting <= 4
+keep waiting >= -1
+condition 1 signal: !open && waiting < PARTIES
+condition 2 signal: open && waiting > 0
+condition 3 signal: waiting == PARTIES && open
+condition 4 broadcast: waiting == 0 && !open
+block arrive: 2 broadcast tested, 3 signal tested
+block leave: 1 broadcast tested, 4 broadcast tested
+block dismiss: 1 broadcast, 4 broadcast
+block watch: none
+```
+*/
 #[allow(dead_code, non_camel_case_types, clippy::upper_case_acronyms)]
 pub struct Barrier {
     inner: Mutex<Inner>,
@@ -19,6 +39,7 @@ pub struct Barrier {
 #[rustfmt::skip]
 #[allow(dead_code, clippy::style)]
 impl Barrier {
+    /// The constant `PARTIES`.
     pub const PARTIES: i64 = 3;
 
     /// The monitor at its start.
@@ -40,9 +61,6 @@ impl Barrier {
     }
 
     /// Waits until `!open && waiting < PARTIES`.
-    ///
-    /// Wakes all calls that wait until `open && waiting > 0`, where that now holds.
-    /// Wakes one call that waits until `waiting == PARTIES && open`, where that now holds.
     ///
     /// # Errors
     ///
@@ -69,22 +87,21 @@ impl Barrier {
         Ok(answer)
     }
 
-    /// Answers `None` where `!open && waiting < PARTIES` is false.
-    ///
-    /// Wakes all calls that wait until `open && waiting > 0`, where that now holds.
-    /// Wakes one call that waits until `waiting == PARTIES && open`, where that now holds.
+    /// As [`arrive`](Self::arrive), but does not wait until `!open && waiting < PARTIES`.
     ///
     /// # Errors
     ///
-    /// [`Overflow`] where a number would leave 64 bits. Then nothing changes.
-    pub fn try_arrive(&self) -> Result<Option<i64>, Overflow> {
+    /// [`Failed::Refused`] where `!open && waiting < PARTIES` is false. Then nothing changes.
+    ///
+    /// [`Failed::Overflow`] where a number would leave 64 bits. Then nothing changes.
+    pub fn try_arrive(&self) -> Result<i64, Failed> {
         let mut inner = lock(&self.inner);
         if !inner.state.can_arrive() {
-            return Ok(None);
+            return Err(Failed::Refused);
         }
         let Ok(answer) = inner.state.run_arrive() else {
             self.can_arrive.notify_one();
-            return Err(Overflow);
+            return Err(Failed::Overflow);
         };
         let copy = *inner;
         drop(inner);
@@ -94,13 +111,10 @@ impl Barrier {
         if copy.asleep_dismiss > 0 && copy.state.can_dismiss() {
             self.can_dismiss.notify_one();
         }
-        Ok(Some(answer))
+        Ok(answer)
     }
 
     /// Waits until `open && waiting > 0`.
-    ///
-    /// Wakes all calls that wait until `!open && waiting < PARTIES`, where that now holds.
-    /// Wakes all calls that wait until `waiting == 0 && !open`, where that now holds.
     ///
     /// # Errors
     ///
@@ -127,22 +141,21 @@ impl Barrier {
         Ok(answer)
     }
 
-    /// Answers `None` where `open && waiting > 0` is false.
-    ///
-    /// Wakes all calls that wait until `!open && waiting < PARTIES`, where that now holds.
-    /// Wakes all calls that wait until `waiting == 0 && !open`, where that now holds.
+    /// As [`leave`](Self::leave), but does not wait until `open && waiting > 0`.
     ///
     /// # Errors
     ///
-    /// [`Overflow`] where a number would leave 64 bits. Then nothing changes.
-    pub fn try_leave(&self) -> Result<Option<i64>, Overflow> {
+    /// [`Failed::Refused`] where `open && waiting > 0` is false. Then nothing changes.
+    ///
+    /// [`Failed::Overflow`] where a number would leave 64 bits. Then nothing changes.
+    pub fn try_leave(&self) -> Result<i64, Failed> {
         let mut inner = lock(&self.inner);
         if !inner.state.can_leave() {
-            return Ok(None);
+            return Err(Failed::Refused);
         }
         let Ok(answer) = inner.state.run_leave() else {
             self.can_leave.notify_one();
-            return Err(Overflow);
+            return Err(Failed::Overflow);
         };
         let copy = *inner;
         drop(inner);
@@ -152,13 +165,10 @@ impl Barrier {
         if copy.asleep_watch > 0 && copy.state.can_watch() {
             self.can_watch.notify_all();
         }
-        Ok(Some(answer))
+        Ok(answer)
     }
 
     /// Waits until `waiting == PARTIES && open`.
-    ///
-    /// Wakes all calls that wait until `!open && waiting < PARTIES`.
-    /// Wakes all calls that wait until `waiting == 0 && !open`.
     pub fn dismiss(&self) {
         let mut inner = lock(&self.inner);
         while !inner.state.can_dismiss() {
@@ -177,14 +187,15 @@ impl Barrier {
         }
     }
 
-    /// Answers `None` where `waiting == PARTIES && open` is false.
+    /// As [`dismiss`](Self::dismiss), but does not wait until `waiting == PARTIES && open`.
     ///
-    /// Wakes all calls that wait until `!open && waiting < PARTIES`.
-    /// Wakes all calls that wait until `waiting == 0 && !open`.
-    pub fn try_dismiss(&self) -> Option<()> {
+    /// # Errors
+    ///
+    /// [`Refused`] where `waiting == PARTIES && open` is false. Then nothing changes.
+    pub fn try_dismiss(&self) -> Result<(), Refused> {
         let mut inner = lock(&self.inner);
         if !inner.state.can_dismiss() {
-            return None;
+            return Err(Refused);
         }
         inner.state.run_dismiss();
         let copy = *inner;
@@ -195,12 +206,10 @@ impl Barrier {
         if copy.asleep_watch > 0 {
             self.can_watch.notify_all();
         }
-        Some(())
+        Ok(())
     }
 
     /// Waits until `waiting == 0 && !open`.
-    ///
-    /// Wakes nobody.
     pub fn watch(&self) {
         let mut inner = lock(&self.inner);
         while !inner.state.can_watch() {
@@ -212,17 +221,19 @@ impl Barrier {
         drop(inner);
     }
 
-    /// Answers `None` where `waiting == 0 && !open` is false.
+    /// As [`watch`](Self::watch), but does not wait until `waiting == 0 && !open`.
     ///
-    /// Wakes nobody.
-    pub fn try_watch(&self) -> Option<()> {
+    /// # Errors
+    ///
+    /// [`Refused`] where `waiting == 0 && !open` is false. Then nothing changes.
+    pub fn try_watch(&self) -> Result<(), Refused> {
         let mut inner = lock(&self.inner);
         if !inner.state.can_watch() {
-            return None;
+            return Err(Refused);
         }
         inner.state.run_watch();
         drop(inner);
-        Some(())
+        Ok(())
     }
 }
 
@@ -234,14 +245,17 @@ impl Default for Barrier {
 
 impl std::fmt::Debug for Barrier {
     fn fmt(&self, f: &mut std::fmt::Formatter<'_>) -> std::fmt::Result {
-        let state = self
-            .inner
-            .lock()
-            .unwrap_or_else(std::sync::PoisonError::into_inner)
-            .state;
-        f.debug_struct(std::any::type_name::<Self>())
-            .field("state", &state)
-            .finish_non_exhaustive()
+        let state = match self.inner.try_lock() {
+            Ok(inner) => Some(inner.state),
+            Err(std::sync::TryLockError::Poisoned(inner)) => Some(inner.into_inner().state),
+            Err(std::sync::TryLockError::WouldBlock) => None,
+        };
+        let mut text = f.debug_struct("Barrier");
+        match state {
+            Some(state) => text.field("state", &state),
+            None => text.field("state", &format_args!("<locked>")),
+        };
+        text.finish_non_exhaustive()
     }
 }
 
@@ -339,3 +353,41 @@ impl std::error::Error for Overflow {}
 fn narrow(number: i128) -> Result<i64, Overflow> {
     i64::try_from(number).map_err(|_| Overflow)
 }
+
+/// The guard was false, and the call did not wait. Nothing changed.
+#[derive(Clone, Copy, Debug, PartialEq, Eq)]
+pub struct Refused;
+
+impl std::fmt::Display for Refused {
+    fn fmt(&self, f: &mut std::fmt::Formatter<'_>) -> std::fmt::Result {
+        f.write_str("the guard is false")
+    }
+}
+
+impl std::error::Error for Refused {}
+
+/// Why a call that tries has no answer.
+#[derive(Clone, Copy, Debug, PartialEq, Eq)]
+pub enum Failed {
+    /// The guard was false, and the call did not wait. Nothing changed.
+    Refused,
+    /// A number would have left 64 bits.
+    Overflow,
+}
+
+impl From<Overflow> for Failed {
+    fn from(_: Overflow) -> Self {
+        Self::Overflow
+    }
+}
+
+impl std::fmt::Display for Failed {
+    fn fmt(&self, f: &mut std::fmt::Formatter<'_>) -> std::fmt::Result {
+        f.write_str(match self {
+            Self::Refused => "the guard is false",
+            Self::Overflow => "a number would leave 64 bits",
+        })
+    }
+}
+
+impl std::error::Error for Failed {}

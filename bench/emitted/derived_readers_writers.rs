@@ -1,8 +1,34 @@
-// Made by `expresso emit`. Change the monitor, and not this file.
+// The monitor `ReadersWriters` as a module of Rust, made by `expresso emit` 0.2.0.
+// Change the monitor, and not this file. It wants Rust 1.65 and the edition 2021, or later ones.
 
 use std::sync::{Condvar, Mutex, MutexGuard, PoisonError};
 
 /// The monitor `ReadersWriters`. Threads share it by reference. A call waits for its guard, unless it tries.
+/**
+# Plan
+
+```text
+plan ReadersWriters
+keep readers >= 0
+keep readers <= 2
+keep readers >= -1
+keep queued >= 0
+keep queued >= -1
+keep queued >= -2
+condition 1 broadcast: !writing && queued == 0 && readers < MOST
+condition 2 signal: readers > 0
+condition 3 broadcast: true
+condition 4 signal: readers == 0 && !writing && queued > 0
+condition 5 signal: writing
+condition 6 signal: queued != 0
+block startRead: 2 signal
+block endRead: 1 broadcast tested, 4 signal tested
+block ask: 4 signal tested, 6 signal
+block startWrite: 5 signal
+block endWrite: 1 broadcast tested, 4 signal tested
+block cancel: 1 broadcast tested
+```
+*/
 #[allow(dead_code, non_camel_case_types, clippy::upper_case_acronyms)]
 pub struct ReadersWriters {
     inner: Mutex<Inner>,
@@ -21,6 +47,7 @@ pub struct ReadersWriters {
 #[rustfmt::skip]
 #[allow(dead_code, clippy::style)]
 impl ReadersWriters {
+    /// The constant `MOST`.
     pub const MOST: i64 = 2;
 
     /// The monitor at its start.
@@ -45,8 +72,6 @@ impl ReadersWriters {
 
     /// Waits until `!writing && queued == 0 && readers < MOST`.
     ///
-    /// Wakes one call that waits until `readers > 0`.
-    ///
     /// # Errors
     ///
     /// [`Overflow`] where a number would leave 64 bits. Then nothing changes.
@@ -69,34 +94,31 @@ impl ReadersWriters {
         Ok(())
     }
 
-    /// Answers `None` where `!writing && queued == 0 && readers < MOST` is false.
-    ///
-    /// Wakes one call that waits until `readers > 0`.
+    /// As [`start_read`](Self::start_read), but does not wait until `!writing && queued == 0 && readers < MOST`.
     ///
     /// # Errors
     ///
-    /// [`Overflow`] where a number would leave 64 bits. Then nothing changes.
-    pub fn try_start_read(&self) -> Result<Option<()>, Overflow> {
+    /// [`Failed::Refused`] where `!writing && queued == 0 && readers < MOST` is false. Then nothing changes.
+    ///
+    /// [`Failed::Overflow`] where a number would leave 64 bits. Then nothing changes.
+    pub fn try_start_read(&self) -> Result<(), Failed> {
         let mut inner = lock(&self.inner);
         if !inner.state.can_start_read() {
-            return Ok(None);
+            return Err(Failed::Refused);
         }
         let Ok(()) = inner.state.run_start_read() else {
             self.can_start_read.notify_one();
-            return Err(Overflow);
+            return Err(Failed::Overflow);
         };
         let copy = *inner;
         drop(inner);
         if copy.asleep_end_read > 0 {
             self.can_end_read.notify_one();
         }
-        Ok(Some(()))
+        Ok(())
     }
 
     /// Waits until `readers > 0`.
-    ///
-    /// Wakes all calls that wait until `!writing && queued == 0 && readers < MOST`, where that now holds.
-    /// Wakes one call that waits until `readers == 0 && !writing && queued > 0`, where that now holds.
     ///
     /// # Errors
     ///
@@ -123,22 +145,21 @@ impl ReadersWriters {
         Ok(())
     }
 
-    /// Answers `None` where `readers > 0` is false.
-    ///
-    /// Wakes all calls that wait until `!writing && queued == 0 && readers < MOST`, where that now holds.
-    /// Wakes one call that waits until `readers == 0 && !writing && queued > 0`, where that now holds.
+    /// As [`end_read`](Self::end_read), but does not wait until `readers > 0`.
     ///
     /// # Errors
     ///
-    /// [`Overflow`] where a number would leave 64 bits. Then nothing changes.
-    pub fn try_end_read(&self) -> Result<Option<()>, Overflow> {
+    /// [`Failed::Refused`] where `readers > 0` is false. Then nothing changes.
+    ///
+    /// [`Failed::Overflow`] where a number would leave 64 bits. Then nothing changes.
+    pub fn try_end_read(&self) -> Result<(), Failed> {
         let mut inner = lock(&self.inner);
         if !inner.state.can_end_read() {
-            return Ok(None);
+            return Err(Failed::Refused);
         }
         let Ok(()) = inner.state.run_end_read() else {
             self.can_end_read.notify_one();
-            return Err(Overflow);
+            return Err(Failed::Overflow);
         };
         let copy = *inner;
         drop(inner);
@@ -148,13 +169,10 @@ impl ReadersWriters {
         if copy.asleep_start_write > 0 && copy.state.can_start_write() {
             self.can_start_write.notify_one();
         }
-        Ok(Some(()))
+        Ok(())
     }
 
     /// Does not wait.
-    ///
-    /// Wakes one call that waits until `readers == 0 && !writing && queued > 0`, where that now holds.
-    /// Wakes one call that waits until `queued != 0`.
     ///
     /// # Errors
     ///
@@ -174,8 +192,6 @@ impl ReadersWriters {
     }
 
     /// Waits until `readers == 0 && !writing && queued > 0`.
-    ///
-    /// Wakes one call that waits until `writing`.
     ///
     /// # Errors
     ///
@@ -199,34 +215,31 @@ impl ReadersWriters {
         Ok(())
     }
 
-    /// Answers `None` where `readers == 0 && !writing && queued > 0` is false.
-    ///
-    /// Wakes one call that waits until `writing`.
+    /// As [`start_write`](Self::start_write), but does not wait until `readers == 0 && !writing && queued > 0`.
     ///
     /// # Errors
     ///
-    /// [`Overflow`] where a number would leave 64 bits. Then nothing changes.
-    pub fn try_start_write(&self) -> Result<Option<()>, Overflow> {
+    /// [`Failed::Refused`] where `readers == 0 && !writing && queued > 0` is false. Then nothing changes.
+    ///
+    /// [`Failed::Overflow`] where a number would leave 64 bits. Then nothing changes.
+    pub fn try_start_write(&self) -> Result<(), Failed> {
         let mut inner = lock(&self.inner);
         if !inner.state.can_start_write() {
-            return Ok(None);
+            return Err(Failed::Refused);
         }
         let Ok(()) = inner.state.run_start_write() else {
             self.can_start_write.notify_one();
-            return Err(Overflow);
+            return Err(Failed::Overflow);
         };
         let copy = *inner;
         drop(inner);
         if copy.asleep_end_write > 0 {
             self.can_end_write.notify_one();
         }
-        Ok(Some(()))
+        Ok(())
     }
 
     /// Waits until `writing`.
-    ///
-    /// Wakes all calls that wait until `!writing && queued == 0 && readers < MOST`, where that now holds.
-    /// Wakes one call that waits until `readers == 0 && !writing && queued > 0`, where that now holds.
     pub fn end_write(&self) {
         let mut inner = lock(&self.inner);
         while !inner.state.can_end_write() {
@@ -245,14 +258,15 @@ impl ReadersWriters {
         }
     }
 
-    /// Answers `None` where `writing` is false.
+    /// As [`end_write`](Self::end_write), but does not wait until `writing`.
     ///
-    /// Wakes all calls that wait until `!writing && queued == 0 && readers < MOST`, where that now holds.
-    /// Wakes one call that waits until `readers == 0 && !writing && queued > 0`, where that now holds.
-    pub fn try_end_write(&self) -> Option<()> {
+    /// # Errors
+    ///
+    /// [`Refused`] where `writing` is false. Then nothing changes.
+    pub fn try_end_write(&self) -> Result<(), Refused> {
         let mut inner = lock(&self.inner);
         if !inner.state.can_end_write() {
-            return None;
+            return Err(Refused);
         }
         inner.state.run_end_write();
         let copy = *inner;
@@ -263,12 +277,10 @@ impl ReadersWriters {
         if copy.asleep_start_write > 0 && copy.state.can_start_write() {
             self.can_start_write.notify_one();
         }
-        Some(())
+        Ok(())
     }
 
     /// Waits until `queued != 0`.
-    ///
-    /// Wakes all calls that wait until `!writing && queued == 0 && readers < MOST`, where that now holds.
     ///
     /// # Errors
     ///
@@ -292,28 +304,28 @@ impl ReadersWriters {
         Ok(())
     }
 
-    /// Answers `None` where `queued != 0` is false.
-    ///
-    /// Wakes all calls that wait until `!writing && queued == 0 && readers < MOST`, where that now holds.
+    /// As [`cancel`](Self::cancel), but does not wait until `queued != 0`.
     ///
     /// # Errors
     ///
-    /// [`Overflow`] where a number would leave 64 bits. Then nothing changes.
-    pub fn try_cancel(&self) -> Result<Option<()>, Overflow> {
+    /// [`Failed::Refused`] where `queued != 0` is false. Then nothing changes.
+    ///
+    /// [`Failed::Overflow`] where a number would leave 64 bits. Then nothing changes.
+    pub fn try_cancel(&self) -> Result<(), Failed> {
         let mut inner = lock(&self.inner);
         if !inner.state.can_cancel() {
-            return Ok(None);
+            return Err(Failed::Refused);
         }
         let Ok(()) = inner.state.run_cancel() else {
             self.can_cancel.notify_one();
-            return Err(Overflow);
+            return Err(Failed::Overflow);
         };
         let copy = *inner;
         drop(inner);
         if copy.asleep_start_read > 0 && copy.state.can_start_read() {
             self.can_start_read.notify_all();
         }
-        Ok(Some(()))
+        Ok(())
     }
 }
 
@@ -325,14 +337,17 @@ impl Default for ReadersWriters {
 
 impl std::fmt::Debug for ReadersWriters {
     fn fmt(&self, f: &mut std::fmt::Formatter<'_>) -> std::fmt::Result {
-        let state = self
-            .inner
-            .lock()
-            .unwrap_or_else(std::sync::PoisonError::into_inner)
-            .state;
-        f.debug_struct(std::any::type_name::<Self>())
-            .field("state", &state)
-            .finish_non_exhaustive()
+        let state = match self.inner.try_lock() {
+            Ok(inner) => Some(inner.state),
+            Err(std::sync::TryLockError::Poisoned(inner)) => Some(inner.into_inner().state),
+            Err(std::sync::TryLockError::WouldBlock) => None,
+        };
+        let mut text = f.debug_struct("ReadersWriters");
+        match state {
+            Some(state) => text.field("state", &state),
+            None => text.field("state", &format_args!("<locked>")),
+        };
+        text.finish_non_exhaustive()
     }
 }
 
@@ -448,3 +463,41 @@ impl std::error::Error for Overflow {}
 fn narrow(number: i128) -> Result<i64, Overflow> {
     i64::try_from(number).map_err(|_| Overflow)
 }
+
+/// The guard was false, and the call did not wait. Nothing changed.
+#[derive(Clone, Copy, Debug, PartialEq, Eq)]
+pub struct Refused;
+
+impl std::fmt::Display for Refused {
+    fn fmt(&self, f: &mut std::fmt::Formatter<'_>) -> std::fmt::Result {
+        f.write_str("the guard is false")
+    }
+}
+
+impl std::error::Error for Refused {}
+
+/// Why a call that tries has no answer.
+#[derive(Clone, Copy, Debug, PartialEq, Eq)]
+pub enum Failed {
+    /// The guard was false, and the call did not wait. Nothing changed.
+    Refused,
+    /// A number would have left 64 bits.
+    Overflow,
+}
+
+impl From<Overflow> for Failed {
+    fn from(_: Overflow) -> Self {
+        Self::Overflow
+    }
+}
+
+impl std::fmt::Display for Failed {
+    fn fmt(&self, f: &mut std::fmt::Formatter<'_>) -> std::fmt::Result {
+        f.write_str(match self {
+            Self::Refused => "the guard is false",
+            Self::Overflow => "a number would leave 64 bits",
+        })
+    }
+}
+
+impl std::error::Error for Failed {}

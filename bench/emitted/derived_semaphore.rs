@@ -1,8 +1,25 @@
-// Made by `expresso emit`. Change the monitor, and not this file.
+// The monitor `Semaphore` as a module of Rust, made by `expresso emit` 0.2.0.
+// Change the monitor, and not this file. It wants Rust 1.65 and the edition 2021, or later ones.
 
 use std::sync::{Condvar, Mutex, MutexGuard, PoisonError};
 
 /// The monitor `Semaphore`. Threads share it by reference. A call waits for its guard, unless it tries.
+/**
+# Plan
+
+```text
+plan Semaphore
+keep free >= 0
+keep free <= 3
+condition 1 signal: free > 0
+condition 2 signal: free >= 2
+condition 3 signal: free < LIMIT
+block takeAll: 3 broadcast
+block take: 3 signal
+block takeTwo: 3 broadcast
+block give: 1 signal, 2 signal tested
+```
+*/
 #[allow(dead_code, non_camel_case_types, clippy::upper_case_acronyms)]
 pub struct Semaphore {
     inner: Mutex<Inner>,
@@ -17,6 +34,7 @@ pub struct Semaphore {
 #[rustfmt::skip]
 #[allow(dead_code, clippy::style)]
 impl Semaphore {
+    /// The constant `LIMIT`.
     pub const LIMIT: i64 = 3;
 
     /// The monitor at its start.
@@ -36,8 +54,6 @@ impl Semaphore {
     }
 
     /// Waits until `free > 0`.
-    ///
-    /// Wakes all calls that wait until `free < LIMIT`.
     pub fn take_all(&self) {
         let mut inner = lock(&self.inner);
         while !inner.state.can_take_all() {
@@ -53,13 +69,15 @@ impl Semaphore {
         }
     }
 
-    /// Answers `None` where `free > 0` is false.
+    /// As [`take_all`](Self::take_all), but does not wait until `free > 0`.
     ///
-    /// Wakes all calls that wait until `free < LIMIT`.
-    pub fn try_take_all(&self) -> Option<()> {
+    /// # Errors
+    ///
+    /// [`Refused`] where `free > 0` is false. Then nothing changes.
+    pub fn try_take_all(&self) -> Result<(), Refused> {
         let mut inner = lock(&self.inner);
         if !inner.state.can_take_all() {
-            return None;
+            return Err(Refused);
         }
         inner.state.run_take_all();
         let copy = *inner;
@@ -67,12 +85,10 @@ impl Semaphore {
         if copy.asleep_give > 0 {
             self.can_give.notify_all();
         }
-        Some(())
+        Ok(())
     }
 
     /// Waits until `free >= 1`.
-    ///
-    /// Wakes one call that waits until `free < LIMIT`.
     ///
     /// # Errors
     ///
@@ -96,33 +112,31 @@ impl Semaphore {
         Ok(())
     }
 
-    /// Answers `None` where `free >= 1` is false.
-    ///
-    /// Wakes one call that waits until `free < LIMIT`.
+    /// As [`take`](Self::take), but does not wait until `free >= 1`.
     ///
     /// # Errors
     ///
-    /// [`Overflow`] where a number would leave 64 bits. Then nothing changes.
-    pub fn try_take(&self) -> Result<Option<()>, Overflow> {
+    /// [`Failed::Refused`] where `free >= 1` is false. Then nothing changes.
+    ///
+    /// [`Failed::Overflow`] where a number would leave 64 bits. Then nothing changes.
+    pub fn try_take(&self) -> Result<(), Failed> {
         let mut inner = lock(&self.inner);
         if !inner.state.can_take_all() {
-            return Ok(None);
+            return Err(Failed::Refused);
         }
         let Ok(()) = inner.state.run_take() else {
             self.can_take_all.notify_one();
-            return Err(Overflow);
+            return Err(Failed::Overflow);
         };
         let copy = *inner;
         drop(inner);
         if copy.asleep_give > 0 {
             self.can_give.notify_one();
         }
-        Ok(Some(()))
+        Ok(())
     }
 
     /// Waits until `free >= 2`.
-    ///
-    /// Wakes all calls that wait until `free < LIMIT`.
     ///
     /// # Errors
     ///
@@ -146,34 +160,31 @@ impl Semaphore {
         Ok(())
     }
 
-    /// Answers `None` where `free >= 2` is false.
-    ///
-    /// Wakes all calls that wait until `free < LIMIT`.
+    /// As [`take_two`](Self::take_two), but does not wait until `free >= 2`.
     ///
     /// # Errors
     ///
-    /// [`Overflow`] where a number would leave 64 bits. Then nothing changes.
-    pub fn try_take_two(&self) -> Result<Option<()>, Overflow> {
+    /// [`Failed::Refused`] where `free >= 2` is false. Then nothing changes.
+    ///
+    /// [`Failed::Overflow`] where a number would leave 64 bits. Then nothing changes.
+    pub fn try_take_two(&self) -> Result<(), Failed> {
         let mut inner = lock(&self.inner);
         if !inner.state.can_take_two() {
-            return Ok(None);
+            return Err(Failed::Refused);
         }
         let Ok(()) = inner.state.run_take_two() else {
             self.can_take_two.notify_one();
-            return Err(Overflow);
+            return Err(Failed::Overflow);
         };
         let copy = *inner;
         drop(inner);
         if copy.asleep_give > 0 {
             self.can_give.notify_all();
         }
-        Ok(Some(()))
+        Ok(())
     }
 
     /// Waits until `free < LIMIT`.
-    ///
-    /// Wakes one call that waits until `free > 0`.
-    /// Wakes one call that waits until `free >= 2`, where that now holds.
     ///
     /// # Errors
     ///
@@ -200,22 +211,21 @@ impl Semaphore {
         Ok(())
     }
 
-    /// Answers `None` where `free < LIMIT` is false.
-    ///
-    /// Wakes one call that waits until `free > 0`.
-    /// Wakes one call that waits until `free >= 2`, where that now holds.
+    /// As [`give`](Self::give), but does not wait until `free < LIMIT`.
     ///
     /// # Errors
     ///
-    /// [`Overflow`] where a number would leave 64 bits. Then nothing changes.
-    pub fn try_give(&self) -> Result<Option<()>, Overflow> {
+    /// [`Failed::Refused`] where `free < LIMIT` is false. Then nothing changes.
+    ///
+    /// [`Failed::Overflow`] where a number would leave 64 bits. Then nothing changes.
+    pub fn try_give(&self) -> Result<(), Failed> {
         let mut inner = lock(&self.inner);
         if !inner.state.can_give() {
-            return Ok(None);
+            return Err(Failed::Refused);
         }
         let Ok(()) = inner.state.run_give() else {
             self.can_give.notify_one();
-            return Err(Overflow);
+            return Err(Failed::Overflow);
         };
         let copy = *inner;
         drop(inner);
@@ -225,7 +235,7 @@ impl Semaphore {
         if copy.asleep_take_two > 0 && copy.state.can_take_two() {
             self.can_take_two.notify_one();
         }
-        Ok(Some(()))
+        Ok(())
     }
 }
 
@@ -237,14 +247,17 @@ impl Default for Semaphore {
 
 impl std::fmt::Debug for Semaphore {
     fn fmt(&self, f: &mut std::fmt::Formatter<'_>) -> std::fmt::Result {
-        let state = self
-            .inner
-            .lock()
-            .unwrap_or_else(std::sync::PoisonError::into_inner)
-            .state;
-        f.debug_struct(std::any::type_name::<Self>())
-            .field("state", &state)
-            .finish_non_exhaustive()
+        let state = match self.inner.try_lock() {
+            Ok(inner) => Some(inner.state),
+            Err(std::sync::TryLockError::Poisoned(inner)) => Some(inner.into_inner().state),
+            Err(std::sync::TryLockError::WouldBlock) => None,
+        };
+        let mut text = f.debug_struct("Semaphore");
+        match state {
+            Some(state) => text.field("state", &state),
+            None => text.field("state", &format_args!("<locked>")),
+        };
+        text.finish_non_exhaustive()
     }
 }
 
@@ -333,3 +346,41 @@ impl std::error::Error for Overflow {}
 fn narrow(number: i128) -> Result<i64, Overflow> {
     i64::try_from(number).map_err(|_| Overflow)
 }
+
+/// The guard was false, and the call did not wait. Nothing changed.
+#[derive(Clone, Copy, Debug, PartialEq, Eq)]
+pub struct Refused;
+
+impl std::fmt::Display for Refused {
+    fn fmt(&self, f: &mut std::fmt::Formatter<'_>) -> std::fmt::Result {
+        f.write_str("the guard is false")
+    }
+}
+
+impl std::error::Error for Refused {}
+
+/// Why a call that tries has no answer.
+#[derive(Clone, Copy, Debug, PartialEq, Eq)]
+pub enum Failed {
+    /// The guard was false, and the call did not wait. Nothing changed.
+    Refused,
+    /// A number would have left 64 bits.
+    Overflow,
+}
+
+impl From<Overflow> for Failed {
+    fn from(_: Overflow) -> Self {
+        Self::Overflow
+    }
+}
+
+impl std::fmt::Display for Failed {
+    fn fmt(&self, f: &mut std::fmt::Formatter<'_>) -> std::fmt::Result {
+        f.write_str(match self {
+            Self::Refused => "the guard is false",
+            Self::Overflow => "a number would leave 64 bits",
+        })
+    }
+}
+
+impl std::error::Error for Failed {}

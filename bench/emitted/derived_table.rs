@@ -1,8 +1,40 @@
-// Made by `expresso emit`. Change the monitor, and not this file.
+// The monitor `Table` as a module of Rust, made by `expresso emit` 0.2.0.
+// Change the monitor, and not this file. It wants Rust 1.65 and the edition 2021, or later ones.
 
 use std::sync::{Condvar, Mutex, MutexGuard, PoisonError};
 
 /// The monitor `Table`. Threads share it by reference. A call waits for its guard, unless it tries.
+/**
+# Plan
+
+```text
+plan Table
+keep a >= 0
+keep a >= -1
+keep a <= 3
+keep a <= 4
+keep b >= 0
+keep b >= -1
+keep b <= 2
+keep b <= 3
+keep c >= 0
+keep c >= -1
+keep c <= 3
+keep c <= 4
+condition 1 signal: a == 0 && b == 0
+condition 2 signal: b == 0 && c == 0
+condition 3 signal: c == 0 && a == 0
+condition 4 signal: a == 1 && b == 1
+condition 5 signal: b == 2 && c == 2
+condition 6 signal: c == 3 && a == 3
+block eat1: 4 signal
+block eat2: 5 signal
+block eat3: 6 signal
+block think1: 1 signal, 2 signal tested, 3 signal tested
+block think2: 1 signal tested, 2 signal, 3 signal tested
+block think3: 1 signal tested, 2 signal tested, 3 signal
+```
+*/
 #[allow(dead_code, non_camel_case_types, clippy::upper_case_acronyms)]
 pub struct Table {
     inner: Mutex<Inner>,
@@ -46,8 +78,6 @@ impl Table {
     }
 
     /// Waits until `a == 0 && b == 0`.
-    ///
-    /// Wakes one call that waits until `a == 1 && b == 1`.
     pub fn eat1(&self) {
         let mut inner = lock(&self.inner);
         while !inner.state.can_eat1() {
@@ -63,13 +93,15 @@ impl Table {
         }
     }
 
-    /// Answers `None` where `a == 0 && b == 0` is false.
+    /// As [`eat1`](Self::eat1), but does not wait until `a == 0 && b == 0`.
     ///
-    /// Wakes one call that waits until `a == 1 && b == 1`.
-    pub fn try_eat1(&self) -> Option<()> {
+    /// # Errors
+    ///
+    /// [`Refused`] where `a == 0 && b == 0` is false. Then nothing changes.
+    pub fn try_eat1(&self) -> Result<(), Refused> {
         let mut inner = lock(&self.inner);
         if !inner.state.can_eat1() {
-            return None;
+            return Err(Refused);
         }
         inner.state.run_eat1();
         let copy = *inner;
@@ -77,12 +109,10 @@ impl Table {
         if copy.asleep_think1 > 0 {
             self.can_think1.notify_one();
         }
-        Some(())
+        Ok(())
     }
 
     /// Waits until `b == 0 && c == 0`.
-    ///
-    /// Wakes one call that waits until `b == 2 && c == 2`.
     pub fn eat2(&self) {
         let mut inner = lock(&self.inner);
         while !inner.state.can_eat2() {
@@ -98,13 +128,15 @@ impl Table {
         }
     }
 
-    /// Answers `None` where `b == 0 && c == 0` is false.
+    /// As [`eat2`](Self::eat2), but does not wait until `b == 0 && c == 0`.
     ///
-    /// Wakes one call that waits until `b == 2 && c == 2`.
-    pub fn try_eat2(&self) -> Option<()> {
+    /// # Errors
+    ///
+    /// [`Refused`] where `b == 0 && c == 0` is false. Then nothing changes.
+    pub fn try_eat2(&self) -> Result<(), Refused> {
         let mut inner = lock(&self.inner);
         if !inner.state.can_eat2() {
-            return None;
+            return Err(Refused);
         }
         inner.state.run_eat2();
         let copy = *inner;
@@ -112,12 +144,10 @@ impl Table {
         if copy.asleep_think2 > 0 {
             self.can_think2.notify_one();
         }
-        Some(())
+        Ok(())
     }
 
     /// Waits until `c == 0 && a == 0`.
-    ///
-    /// Wakes one call that waits until `c == 3 && a == 3`.
     pub fn eat3(&self) {
         let mut inner = lock(&self.inner);
         while !inner.state.can_eat3() {
@@ -133,13 +163,15 @@ impl Table {
         }
     }
 
-    /// Answers `None` where `c == 0 && a == 0` is false.
+    /// As [`eat3`](Self::eat3), but does not wait until `c == 0 && a == 0`.
     ///
-    /// Wakes one call that waits until `c == 3 && a == 3`.
-    pub fn try_eat3(&self) -> Option<()> {
+    /// # Errors
+    ///
+    /// [`Refused`] where `c == 0 && a == 0` is false. Then nothing changes.
+    pub fn try_eat3(&self) -> Result<(), Refused> {
         let mut inner = lock(&self.inner);
         if !inner.state.can_eat3() {
-            return None;
+            return Err(Refused);
         }
         inner.state.run_eat3();
         let copy = *inner;
@@ -147,14 +179,10 @@ impl Table {
         if copy.asleep_think3 > 0 {
             self.can_think3.notify_one();
         }
-        Some(())
+        Ok(())
     }
 
     /// Waits until `a == 1 && b == 1`.
-    ///
-    /// Wakes one call that waits until `a == 0 && b == 0`.
-    /// Wakes one call that waits until `b == 0 && c == 0`, where that now holds.
-    /// Wakes one call that waits until `c == 0 && a == 0`, where that now holds.
     pub fn think1(&self) {
         let mut inner = lock(&self.inner);
         while !inner.state.can_think1() {
@@ -176,15 +204,15 @@ impl Table {
         }
     }
 
-    /// Answers `None` where `a == 1 && b == 1` is false.
+    /// As [`think1`](Self::think1), but does not wait until `a == 1 && b == 1`.
     ///
-    /// Wakes one call that waits until `a == 0 && b == 0`.
-    /// Wakes one call that waits until `b == 0 && c == 0`, where that now holds.
-    /// Wakes one call that waits until `c == 0 && a == 0`, where that now holds.
-    pub fn try_think1(&self) -> Option<()> {
+    /// # Errors
+    ///
+    /// [`Refused`] where `a == 1 && b == 1` is false. Then nothing changes.
+    pub fn try_think1(&self) -> Result<(), Refused> {
         let mut inner = lock(&self.inner);
         if !inner.state.can_think1() {
-            return None;
+            return Err(Refused);
         }
         inner.state.run_think1();
         let copy = *inner;
@@ -198,14 +226,10 @@ impl Table {
         if copy.asleep_eat3 > 0 && copy.state.can_eat3() {
             self.can_eat3.notify_one();
         }
-        Some(())
+        Ok(())
     }
 
     /// Waits until `b == 2 && c == 2`.
-    ///
-    /// Wakes one call that waits until `a == 0 && b == 0`, where that now holds.
-    /// Wakes one call that waits until `b == 0 && c == 0`.
-    /// Wakes one call that waits until `c == 0 && a == 0`, where that now holds.
     pub fn think2(&self) {
         let mut inner = lock(&self.inner);
         while !inner.state.can_think2() {
@@ -227,15 +251,15 @@ impl Table {
         }
     }
 
-    /// Answers `None` where `b == 2 && c == 2` is false.
+    /// As [`think2`](Self::think2), but does not wait until `b == 2 && c == 2`.
     ///
-    /// Wakes one call that waits until `a == 0 && b == 0`, where that now holds.
-    /// Wakes one call that waits until `b == 0 && c == 0`.
-    /// Wakes one call that waits until `c == 0 && a == 0`, where that now holds.
-    pub fn try_think2(&self) -> Option<()> {
+    /// # Errors
+    ///
+    /// [`Refused`] where `b == 2 && c == 2` is false. Then nothing changes.
+    pub fn try_think2(&self) -> Result<(), Refused> {
         let mut inner = lock(&self.inner);
         if !inner.state.can_think2() {
-            return None;
+            return Err(Refused);
         }
         inner.state.run_think2();
         let copy = *inner;
@@ -249,14 +273,10 @@ impl Table {
         if copy.asleep_eat3 > 0 && copy.state.can_eat3() {
             self.can_eat3.notify_one();
         }
-        Some(())
+        Ok(())
     }
 
     /// Waits until `c == 3 && a == 3`.
-    ///
-    /// Wakes one call that waits until `a == 0 && b == 0`, where that now holds.
-    /// Wakes one call that waits until `b == 0 && c == 0`, where that now holds.
-    /// Wakes one call that waits until `c == 0 && a == 0`.
     pub fn think3(&self) {
         let mut inner = lock(&self.inner);
         while !inner.state.can_think3() {
@@ -278,15 +298,15 @@ impl Table {
         }
     }
 
-    /// Answers `None` where `c == 3 && a == 3` is false.
+    /// As [`think3`](Self::think3), but does not wait until `c == 3 && a == 3`.
     ///
-    /// Wakes one call that waits until `a == 0 && b == 0`, where that now holds.
-    /// Wakes one call that waits until `b == 0 && c == 0`, where that now holds.
-    /// Wakes one call that waits until `c == 0 && a == 0`.
-    pub fn try_think3(&self) -> Option<()> {
+    /// # Errors
+    ///
+    /// [`Refused`] where `c == 3 && a == 3` is false. Then nothing changes.
+    pub fn try_think3(&self) -> Result<(), Refused> {
         let mut inner = lock(&self.inner);
         if !inner.state.can_think3() {
-            return None;
+            return Err(Refused);
         }
         inner.state.run_think3();
         let copy = *inner;
@@ -300,7 +320,7 @@ impl Table {
         if copy.asleep_eat3 > 0 {
             self.can_eat3.notify_one();
         }
-        Some(())
+        Ok(())
     }
 }
 
@@ -312,14 +332,17 @@ impl Default for Table {
 
 impl std::fmt::Debug for Table {
     fn fmt(&self, f: &mut std::fmt::Formatter<'_>) -> std::fmt::Result {
-        let state = self
-            .inner
-            .lock()
-            .unwrap_or_else(std::sync::PoisonError::into_inner)
-            .state;
-        f.debug_struct(std::any::type_name::<Self>())
-            .field("state", &state)
-            .finish_non_exhaustive()
+        let state = match self.inner.try_lock() {
+            Ok(inner) => Some(inner.state),
+            Err(std::sync::TryLockError::Poisoned(inner)) => Some(inner.into_inner().state),
+            Err(std::sync::TryLockError::WouldBlock) => None,
+        };
+        let mut text = f.debug_struct("Table");
+        match state {
+            Some(state) => text.field("state", &state),
+            None => text.field("state", &format_args!("<locked>")),
+        };
+        text.finish_non_exhaustive()
     }
 }
 
@@ -421,3 +444,15 @@ fn wait<'a>(condition: &Condvar, inner: MutexGuard<'a, Inner>) -> MutexGuard<'a,
         .wait(inner)
         .unwrap_or_else(PoisonError::into_inner)
 }
+
+/// The guard was false, and the call did not wait. Nothing changed.
+#[derive(Clone, Copy, Debug, PartialEq, Eq)]
+pub struct Refused;
+
+impl std::fmt::Display for Refused {
+    fn fmt(&self, f: &mut std::fmt::Formatter<'_>) -> std::fmt::Result {
+        f.write_str("the guard is false")
+    }
+}
+
+impl std::error::Error for Refused {}

@@ -1,8 +1,31 @@
-// Made by `expresso emit`. Change the monitor, and not this file.
+// The monitor `Tickets` as a module of Rust, made by `expresso emit` 0.2.0.
+// Change the monitor, and not this file. It wants Rust 1.65 and the edition 2021, or later ones.
 
 use std::sync::{Condvar, Mutex, MutexGuard, PoisonError};
 
 /// The monitor `Tickets`. Threads share it by reference. A call waits for its guard, unless it tries.
+/**
+# Plan
+
+```text
+plan Tickets
+keep next >= 0
+keep serving >= 0
+keep !broken
+keep serving <= next
+condition 1 broadcast: true
+condition 2 broadcast: ticket == serving && serving < next && !busy
+condition 3 signal: busy
+condition 4 broadcast: serving == next && !busy
+condition 5 signal: serving > next
+block draw: 2 broadcast
+block enter: 3 signal
+block giveUp: 2 broadcast, 4 broadcast tested
+block leave: 2 broadcast, 4 broadcast tested
+block rest: none
+block fail: none
+```
+*/
 #[allow(dead_code, non_camel_case_types, clippy::upper_case_acronyms)]
 pub struct Tickets {
     inner: Mutex<Inner>,
@@ -39,8 +62,6 @@ impl Tickets {
 
     /// Does not wait.
     ///
-    /// Wakes all calls that wait until `ticket == serving && serving < next && !busy`.
-    ///
     /// # Errors
     ///
     /// [`Overflow`] where a number would leave 64 bits. Then nothing changes.
@@ -56,8 +77,6 @@ impl Tickets {
     }
 
     /// Waits until `ticket == serving && serving < next && !busy`.
-    ///
-    /// Wakes one call that waits until `busy`.
     ///
     /// # Errors
     ///
@@ -81,34 +100,31 @@ impl Tickets {
         Ok(())
     }
 
-    /// Answers `None` where `ticket == serving && serving < next && !busy` is false.
-    ///
-    /// Wakes one call that waits until `busy`.
+    /// As [`enter`](Self::enter), but does not wait until `ticket == serving && serving < next && !busy`.
     ///
     /// # Errors
     ///
-    /// [`Overflow`] where a number would leave 64 bits. Then nothing changes.
-    pub fn try_enter(&self, ticket: i64) -> Result<Option<()>, Overflow> {
+    /// [`Failed::Refused`] where `ticket == serving && serving < next && !busy` is false. Then nothing changes.
+    ///
+    /// [`Failed::Overflow`] where a number would leave 64 bits. Then nothing changes.
+    pub fn try_enter(&self, ticket: i64) -> Result<(), Failed> {
         let mut inner = lock(&self.inner);
         if !inner.state.can_enter(ticket) {
-            return Ok(None);
+            return Err(Failed::Refused);
         }
         let Ok(()) = inner.state.run_enter(ticket) else {
             self.can_enter.notify_one();
-            return Err(Overflow);
+            return Err(Failed::Overflow);
         };
         let copy = *inner;
         drop(inner);
         if copy.asleep_leave > 0 {
             self.can_leave.notify_one();
         }
-        Ok(Some(()))
+        Ok(())
     }
 
     /// Waits until `turn == serving && serving < next && !busy`.
-    ///
-    /// Wakes all calls that wait until `ticket == serving && serving < next && !busy`.
-    /// Wakes all calls that wait until `serving == next && !busy`, where that now holds.
     ///
     /// # Errors
     ///
@@ -135,22 +151,21 @@ impl Tickets {
         Ok(())
     }
 
-    /// Answers `None` where `turn == serving && serving < next && !busy` is false.
-    ///
-    /// Wakes all calls that wait until `ticket == serving && serving < next && !busy`.
-    /// Wakes all calls that wait until `serving == next && !busy`, where that now holds.
+    /// As [`give_up`](Self::give_up), but does not wait until `turn == serving && serving < next && !busy`.
     ///
     /// # Errors
     ///
-    /// [`Overflow`] where a number would leave 64 bits. Then nothing changes.
-    pub fn try_give_up(&self, turn: i64) -> Result<Option<()>, Overflow> {
+    /// [`Failed::Refused`] where `turn == serving && serving < next && !busy` is false. Then nothing changes.
+    ///
+    /// [`Failed::Overflow`] where a number would leave 64 bits. Then nothing changes.
+    pub fn try_give_up(&self, turn: i64) -> Result<(), Failed> {
         let mut inner = lock(&self.inner);
         if !inner.state.can_give_up(turn) {
-            return Ok(None);
+            return Err(Failed::Refused);
         }
         let Ok(()) = inner.state.run_give_up(turn) else {
             self.can_enter.notify_one();
-            return Err(Overflow);
+            return Err(Failed::Overflow);
         };
         let copy = *inner;
         drop(inner);
@@ -160,13 +175,10 @@ impl Tickets {
         if copy.asleep_rest > 0 && copy.state.can_rest() {
             self.can_rest.notify_all();
         }
-        Ok(Some(()))
+        Ok(())
     }
 
     /// Waits until `busy`.
-    ///
-    /// Wakes all calls that wait until `ticket == serving && serving < next && !busy`.
-    /// Wakes all calls that wait until `serving == next && !busy`, where that now holds.
     pub fn leave(&self) {
         let mut inner = lock(&self.inner);
         while !inner.state.can_leave() {
@@ -185,14 +197,15 @@ impl Tickets {
         }
     }
 
-    /// Answers `None` where `busy` is false.
+    /// As [`leave`](Self::leave), but does not wait until `busy`.
     ///
-    /// Wakes all calls that wait until `ticket == serving && serving < next && !busy`.
-    /// Wakes all calls that wait until `serving == next && !busy`, where that now holds.
-    pub fn try_leave(&self) -> Option<()> {
+    /// # Errors
+    ///
+    /// [`Refused`] where `busy` is false. Then nothing changes.
+    pub fn try_leave(&self) -> Result<(), Refused> {
         let mut inner = lock(&self.inner);
         if !inner.state.can_leave() {
-            return None;
+            return Err(Refused);
         }
         inner.state.run_leave();
         let copy = *inner;
@@ -203,12 +216,10 @@ impl Tickets {
         if copy.asleep_rest > 0 && copy.state.can_rest() {
             self.can_rest.notify_all();
         }
-        Some(())
+        Ok(())
     }
 
     /// Waits until `serving == next && !busy`.
-    ///
-    /// Wakes nobody.
     pub fn rest(&self) {
         let mut inner = lock(&self.inner);
         while !inner.state.can_rest() {
@@ -220,22 +231,22 @@ impl Tickets {
         drop(inner);
     }
 
-    /// Answers `None` where `serving == next && !busy` is false.
+    /// As [`rest`](Self::rest), but does not wait until `serving == next && !busy`.
     ///
-    /// Wakes nobody.
-    pub fn try_rest(&self) -> Option<()> {
+    /// # Errors
+    ///
+    /// [`Refused`] where `serving == next && !busy` is false. Then nothing changes.
+    pub fn try_rest(&self) -> Result<(), Refused> {
         let mut inner = lock(&self.inner);
         if !inner.state.can_rest() {
-            return None;
+            return Err(Refused);
         }
         inner.state.run_rest();
         drop(inner);
-        Some(())
+        Ok(())
     }
 
     /// Waits until `serving > next`.
-    ///
-    /// Wakes nobody.
     pub fn fail(&self) {
         let mut inner = lock(&self.inner);
         while !inner.state.can_fail() {
@@ -247,17 +258,19 @@ impl Tickets {
         drop(inner);
     }
 
-    /// Answers `None` where `serving > next` is false.
+    /// As [`fail`](Self::fail), but does not wait until `serving > next`.
     ///
-    /// Wakes nobody.
-    pub fn try_fail(&self) -> Option<()> {
+    /// # Errors
+    ///
+    /// [`Refused`] where `serving > next` is false. Then nothing changes.
+    pub fn try_fail(&self) -> Result<(), Refused> {
         let mut inner = lock(&self.inner);
         if !inner.state.can_fail() {
-            return None;
+            return Err(Refused);
         }
         inner.state.run_fail();
         drop(inner);
-        Some(())
+        Ok(())
     }
 }
 
@@ -269,14 +282,17 @@ impl Default for Tickets {
 
 impl std::fmt::Debug for Tickets {
     fn fmt(&self, f: &mut std::fmt::Formatter<'_>) -> std::fmt::Result {
-        let state = self
-            .inner
-            .lock()
-            .unwrap_or_else(std::sync::PoisonError::into_inner)
-            .state;
-        f.debug_struct(std::any::type_name::<Self>())
-            .field("state", &state)
-            .finish_non_exhaustive()
+        let state = match self.inner.try_lock() {
+            Ok(inner) => Some(inner.state),
+            Err(std::sync::TryLockError::Poisoned(inner)) => Some(inner.into_inner().state),
+            Err(std::sync::TryLockError::WouldBlock) => None,
+        };
+        let mut text = f.debug_struct("Tickets");
+        match state {
+            Some(state) => text.field("state", &state),
+            None => text.field("state", &format_args!("<locked>")),
+        };
+        text.finish_non_exhaustive()
     }
 }
 
@@ -390,3 +406,41 @@ impl std::error::Error for Overflow {}
 fn narrow(number: i128) -> Result<i64, Overflow> {
     i64::try_from(number).map_err(|_| Overflow)
 }
+
+/// The guard was false, and the call did not wait. Nothing changed.
+#[derive(Clone, Copy, Debug, PartialEq, Eq)]
+pub struct Refused;
+
+impl std::fmt::Display for Refused {
+    fn fmt(&self, f: &mut std::fmt::Formatter<'_>) -> std::fmt::Result {
+        f.write_str("the guard is false")
+    }
+}
+
+impl std::error::Error for Refused {}
+
+/// Why a call that tries has no answer.
+#[derive(Clone, Copy, Debug, PartialEq, Eq)]
+pub enum Failed {
+    /// The guard was false, and the call did not wait. Nothing changed.
+    Refused,
+    /// A number would have left 64 bits.
+    Overflow,
+}
+
+impl From<Overflow> for Failed {
+    fn from(_: Overflow) -> Self {
+        Self::Overflow
+    }
+}
+
+impl std::fmt::Display for Failed {
+    fn fmt(&self, f: &mut std::fmt::Formatter<'_>) -> std::fmt::Result {
+        f.write_str(match self {
+            Self::Refused => "the guard is false",
+            Self::Overflow => "a number would leave 64 bits",
+        })
+    }
+}
+
+impl std::error::Error for Failed {}

@@ -1,8 +1,32 @@
-// Made by `expresso emit`. Change the monitor, and not this file.
+// The monitor `TwoKinds` as a module of Rust, made by `expresso emit` 0.2.0.
+// Change the monitor, and not this file. It wants Rust 1.65 and the edition 2021, or later ones.
 
 use std::sync::{Condvar, Mutex, MutexGuard, PoisonError};
 
 /// The monitor `TwoKinds`. Threads share it by reference. A call waits for its guard, unless it tries.
+/**
+# Plan
+
+```text
+plan TwoKinds
+keep total >= 0
+keep total <= 2
+keep total <= 3
+keep red >= 0
+keep red <= 2
+keep red <= total
+condition 1 signal: total < ROOM
+condition 2 signal: red > 0
+condition 3 signal: red < total
+condition 4 signal: total == ROOM
+block putRed: 2 signal, 4 signal tested
+block putBlue: 3 signal, 4 signal tested
+block put: 2 signal tested, 3 signal tested, 4 signal tested
+block getRed: 1 signal
+block getBlue: 1 signal
+block drain: 1 broadcast
+```
+*/
 #[allow(dead_code, non_camel_case_types, clippy::upper_case_acronyms)]
 pub struct TwoKinds {
     inner: Mutex<Inner>,
@@ -19,6 +43,7 @@ pub struct TwoKinds {
 #[rustfmt::skip]
 #[allow(dead_code, clippy::style)]
 impl TwoKinds {
+    /// The constant `ROOM`.
     pub const ROOM: i64 = 2;
 
     /// The monitor at its start.
@@ -40,9 +65,6 @@ impl TwoKinds {
     }
 
     /// Waits until `total < ROOM`.
-    ///
-    /// Wakes one call that waits until `red > 0`.
-    /// Wakes one call that waits until `total == ROOM`, where that now holds.
     ///
     /// # Errors
     ///
@@ -69,22 +91,21 @@ impl TwoKinds {
         Ok(())
     }
 
-    /// Answers `None` where `total < ROOM` is false.
-    ///
-    /// Wakes one call that waits until `red > 0`.
-    /// Wakes one call that waits until `total == ROOM`, where that now holds.
+    /// As [`put_red`](Self::put_red), but does not wait until `total < ROOM`.
     ///
     /// # Errors
     ///
-    /// [`Overflow`] where a number would leave 64 bits. Then nothing changes.
-    pub fn try_put_red(&self) -> Result<Option<()>, Overflow> {
+    /// [`Failed::Refused`] where `total < ROOM` is false. Then nothing changes.
+    ///
+    /// [`Failed::Overflow`] where a number would leave 64 bits. Then nothing changes.
+    pub fn try_put_red(&self) -> Result<(), Failed> {
         let mut inner = lock(&self.inner);
         if !inner.state.can_put_red() {
-            return Ok(None);
+            return Err(Failed::Refused);
         }
         let Ok(()) = inner.state.run_put_red() else {
             self.can_put_red.notify_one();
-            return Err(Overflow);
+            return Err(Failed::Overflow);
         };
         let copy = *inner;
         drop(inner);
@@ -94,13 +115,10 @@ impl TwoKinds {
         if copy.asleep_drain > 0 && copy.state.can_drain() {
             self.can_drain.notify_one();
         }
-        Ok(Some(()))
+        Ok(())
     }
 
     /// Waits until `total < ROOM`.
-    ///
-    /// Wakes one call that waits until `red < total`.
-    /// Wakes one call that waits until `total == ROOM`, where that now holds.
     ///
     /// # Errors
     ///
@@ -127,22 +145,21 @@ impl TwoKinds {
         Ok(())
     }
 
-    /// Answers `None` where `total < ROOM` is false.
-    ///
-    /// Wakes one call that waits until `red < total`.
-    /// Wakes one call that waits until `total == ROOM`, where that now holds.
+    /// As [`put_blue`](Self::put_blue), but does not wait until `total < ROOM`.
     ///
     /// # Errors
     ///
-    /// [`Overflow`] where a number would leave 64 bits. Then nothing changes.
-    pub fn try_put_blue(&self) -> Result<Option<()>, Overflow> {
+    /// [`Failed::Refused`] where `total < ROOM` is false. Then nothing changes.
+    ///
+    /// [`Failed::Overflow`] where a number would leave 64 bits. Then nothing changes.
+    pub fn try_put_blue(&self) -> Result<(), Failed> {
         let mut inner = lock(&self.inner);
         if !inner.state.can_put_red() {
-            return Ok(None);
+            return Err(Failed::Refused);
         }
         let Ok(()) = inner.state.run_put_blue() else {
             self.can_put_red.notify_one();
-            return Err(Overflow);
+            return Err(Failed::Overflow);
         };
         let copy = *inner;
         drop(inner);
@@ -152,14 +169,10 @@ impl TwoKinds {
         if copy.asleep_drain > 0 && copy.state.can_drain() {
             self.can_drain.notify_one();
         }
-        Ok(Some(()))
+        Ok(())
     }
 
     /// Waits until `total < ROOM`.
-    ///
-    /// Wakes one call that waits until `red > 0`, where that now holds.
-    /// Wakes one call that waits until `red < total`, where that now holds.
-    /// Wakes one call that waits until `total == ROOM`, where that now holds.
     ///
     /// # Errors
     ///
@@ -189,23 +202,21 @@ impl TwoKinds {
         Ok(())
     }
 
-    /// Answers `None` where `total < ROOM` is false.
-    ///
-    /// Wakes one call that waits until `red > 0`, where that now holds.
-    /// Wakes one call that waits until `red < total`, where that now holds.
-    /// Wakes one call that waits until `total == ROOM`, where that now holds.
+    /// As [`put`](Self::put), but does not wait until `total < ROOM`.
     ///
     /// # Errors
     ///
-    /// [`Overflow`] where a number would leave 64 bits. Then nothing changes.
-    pub fn try_put(&self, is_red: bool) -> Result<Option<()>, Overflow> {
+    /// [`Failed::Refused`] where `total < ROOM` is false. Then nothing changes.
+    ///
+    /// [`Failed::Overflow`] where a number would leave 64 bits. Then nothing changes.
+    pub fn try_put(&self, is_red: bool) -> Result<(), Failed> {
         let mut inner = lock(&self.inner);
         if !inner.state.can_put_red() {
-            return Ok(None);
+            return Err(Failed::Refused);
         }
         let Ok(()) = inner.state.run_put(is_red) else {
             self.can_put_red.notify_one();
-            return Err(Overflow);
+            return Err(Failed::Overflow);
         };
         let copy = *inner;
         drop(inner);
@@ -218,12 +229,10 @@ impl TwoKinds {
         if copy.asleep_drain > 0 && copy.state.can_drain() {
             self.can_drain.notify_one();
         }
-        Ok(Some(()))
+        Ok(())
     }
 
     /// Waits until `red > 0`.
-    ///
-    /// Wakes one call that waits until `total < ROOM`.
     ///
     /// # Errors
     ///
@@ -247,33 +256,31 @@ impl TwoKinds {
         Ok(())
     }
 
-    /// Answers `None` where `red > 0` is false.
-    ///
-    /// Wakes one call that waits until `total < ROOM`.
+    /// As [`get_red`](Self::get_red), but does not wait until `red > 0`.
     ///
     /// # Errors
     ///
-    /// [`Overflow`] where a number would leave 64 bits. Then nothing changes.
-    pub fn try_get_red(&self) -> Result<Option<()>, Overflow> {
+    /// [`Failed::Refused`] where `red > 0` is false. Then nothing changes.
+    ///
+    /// [`Failed::Overflow`] where a number would leave 64 bits. Then nothing changes.
+    pub fn try_get_red(&self) -> Result<(), Failed> {
         let mut inner = lock(&self.inner);
         if !inner.state.can_get_red() {
-            return Ok(None);
+            return Err(Failed::Refused);
         }
         let Ok(()) = inner.state.run_get_red() else {
             self.can_get_red.notify_one();
-            return Err(Overflow);
+            return Err(Failed::Overflow);
         };
         let copy = *inner;
         drop(inner);
         if copy.asleep_put_red > 0 {
             self.can_put_red.notify_one();
         }
-        Ok(Some(()))
+        Ok(())
     }
 
     /// Waits until `red < total`.
-    ///
-    /// Wakes one call that waits until `total < ROOM`.
     ///
     /// # Errors
     ///
@@ -297,33 +304,31 @@ impl TwoKinds {
         Ok(())
     }
 
-    /// Answers `None` where `red < total` is false.
-    ///
-    /// Wakes one call that waits until `total < ROOM`.
+    /// As [`get_blue`](Self::get_blue), but does not wait until `red < total`.
     ///
     /// # Errors
     ///
-    /// [`Overflow`] where a number would leave 64 bits. Then nothing changes.
-    pub fn try_get_blue(&self) -> Result<Option<()>, Overflow> {
+    /// [`Failed::Refused`] where `red < total` is false. Then nothing changes.
+    ///
+    /// [`Failed::Overflow`] where a number would leave 64 bits. Then nothing changes.
+    pub fn try_get_blue(&self) -> Result<(), Failed> {
         let mut inner = lock(&self.inner);
         if !inner.state.can_get_blue() {
-            return Ok(None);
+            return Err(Failed::Refused);
         }
         let Ok(()) = inner.state.run_get_blue() else {
             self.can_get_blue.notify_one();
-            return Err(Overflow);
+            return Err(Failed::Overflow);
         };
         let copy = *inner;
         drop(inner);
         if copy.asleep_put_red > 0 {
             self.can_put_red.notify_one();
         }
-        Ok(Some(()))
+        Ok(())
     }
 
     /// Waits until `total == ROOM`.
-    ///
-    /// Wakes all calls that wait until `total < ROOM`.
     pub fn drain(&self) {
         let mut inner = lock(&self.inner);
         while !inner.state.can_drain() {
@@ -339,13 +344,15 @@ impl TwoKinds {
         }
     }
 
-    /// Answers `None` where `total == ROOM` is false.
+    /// As [`drain`](Self::drain), but does not wait until `total == ROOM`.
     ///
-    /// Wakes all calls that wait until `total < ROOM`.
-    pub fn try_drain(&self) -> Option<()> {
+    /// # Errors
+    ///
+    /// [`Refused`] where `total == ROOM` is false. Then nothing changes.
+    pub fn try_drain(&self) -> Result<(), Refused> {
         let mut inner = lock(&self.inner);
         if !inner.state.can_drain() {
-            return None;
+            return Err(Refused);
         }
         inner.state.run_drain();
         let copy = *inner;
@@ -353,7 +360,7 @@ impl TwoKinds {
         if copy.asleep_put_red > 0 {
             self.can_put_red.notify_all();
         }
-        Some(())
+        Ok(())
     }
 }
 
@@ -365,14 +372,17 @@ impl Default for TwoKinds {
 
 impl std::fmt::Debug for TwoKinds {
     fn fmt(&self, f: &mut std::fmt::Formatter<'_>) -> std::fmt::Result {
-        let state = self
-            .inner
-            .lock()
-            .unwrap_or_else(std::sync::PoisonError::into_inner)
-            .state;
-        f.debug_struct(std::any::type_name::<Self>())
-            .field("state", &state)
-            .finish_non_exhaustive()
+        let state = match self.inner.try_lock() {
+            Ok(inner) => Some(inner.state),
+            Err(std::sync::TryLockError::Poisoned(inner)) => Some(inner.into_inner().state),
+            Err(std::sync::TryLockError::WouldBlock) => None,
+        };
+        let mut text = f.debug_struct("TwoKinds");
+        match state {
+            Some(state) => text.field("state", &state),
+            None => text.field("state", &format_args!("<locked>")),
+        };
+        text.finish_non_exhaustive()
     }
 }
 
@@ -490,3 +500,41 @@ impl std::error::Error for Overflow {}
 fn narrow(number: i128) -> Result<i64, Overflow> {
     i64::try_from(number).map_err(|_| Overflow)
 }
+
+/// The guard was false, and the call did not wait. Nothing changed.
+#[derive(Clone, Copy, Debug, PartialEq, Eq)]
+pub struct Refused;
+
+impl std::fmt::Display for Refused {
+    fn fmt(&self, f: &mut std::fmt::Formatter<'_>) -> std::fmt::Result {
+        f.write_str("the guard is false")
+    }
+}
+
+impl std::error::Error for Refused {}
+
+/// Why a call that tries has no answer.
+#[derive(Clone, Copy, Debug, PartialEq, Eq)]
+pub enum Failed {
+    /// The guard was false, and the call did not wait. Nothing changed.
+    Refused,
+    /// A number would have left 64 bits.
+    Overflow,
+}
+
+impl From<Overflow> for Failed {
+    fn from(_: Overflow) -> Self {
+        Self::Overflow
+    }
+}
+
+impl std::fmt::Display for Failed {
+    fn fmt(&self, f: &mut std::fmt::Formatter<'_>) -> std::fmt::Result {
+        f.write_str(match self {
+            Self::Refused => "the guard is false",
+            Self::Overflow => "a number would leave 64 bits",
+        })
+    }
+}
+
+impl std::error::Error for Failed {}

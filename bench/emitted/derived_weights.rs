@@ -1,8 +1,25 @@
-// Made by `expresso emit`. Change the monitor, and not this file.
+// The monitor `Weights` as a module of Rust, made by `expresso emit` 0.2.0.
+// Change the monitor, and not this file. It wants Rust 1.65 and the edition 2021, or later ones.
 
 use std::sync::{Condvar, Mutex, MutexGuard, PoisonError};
 
 /// The monitor `Weights`. Threads share it by reference. A call waits for its guard, unless it tries.
+/**
+# Plan
+
+```text
+plan Weights
+keep free >= 0
+condition 1 signal: free >= 5
+condition 2 signal: free >= 10
+condition 3 signal: free >= 15
+condition 4 signal: free < LIMIT
+block take5: 4 broadcast tested
+block take10: 4 broadcast tested
+block take15: 4 broadcast tested
+block give: 1 signal tested, 2 signal tested, 3 signal tested
+```
+*/
 #[allow(dead_code, non_camel_case_types, clippy::upper_case_acronyms)]
 pub struct Weights {
     inner: Mutex<Inner>,
@@ -19,6 +36,7 @@ pub struct Weights {
 #[rustfmt::skip]
 #[allow(dead_code, clippy::style)]
 impl Weights {
+    /// The constant `LIMIT`.
     pub const LIMIT: i64 = 20;
 
     /// The monitor at its start.
@@ -40,8 +58,6 @@ impl Weights {
     }
 
     /// Waits until `free >= 5`.
-    ///
-    /// Wakes all calls that wait until `free < LIMIT`, where that now holds.
     ///
     /// # Errors
     ///
@@ -65,33 +81,31 @@ impl Weights {
         Ok(())
     }
 
-    /// Answers `None` where `free >= 5` is false.
-    ///
-    /// Wakes all calls that wait until `free < LIMIT`, where that now holds.
+    /// As [`take5`](Self::take5), but does not wait until `free >= 5`.
     ///
     /// # Errors
     ///
-    /// [`Overflow`] where a number would leave 64 bits. Then nothing changes.
-    pub fn try_take5(&self) -> Result<Option<()>, Overflow> {
+    /// [`Failed::Refused`] where `free >= 5` is false. Then nothing changes.
+    ///
+    /// [`Failed::Overflow`] where a number would leave 64 bits. Then nothing changes.
+    pub fn try_take5(&self) -> Result<(), Failed> {
         let mut inner = lock(&self.inner);
         if !inner.state.can_take5() {
-            return Ok(None);
+            return Err(Failed::Refused);
         }
         let Ok(()) = inner.state.run_take5() else {
             self.can_take5.notify_one();
-            return Err(Overflow);
+            return Err(Failed::Overflow);
         };
         let copy = *inner;
         drop(inner);
         if copy.asleep_give > 0 && copy.state.can_give() {
             self.can_give.notify_all();
         }
-        Ok(Some(()))
+        Ok(())
     }
 
     /// Waits until `free >= 10`.
-    ///
-    /// Wakes all calls that wait until `free < LIMIT`, where that now holds.
     ///
     /// # Errors
     ///
@@ -115,33 +129,31 @@ impl Weights {
         Ok(())
     }
 
-    /// Answers `None` where `free >= 10` is false.
-    ///
-    /// Wakes all calls that wait until `free < LIMIT`, where that now holds.
+    /// As [`take10`](Self::take10), but does not wait until `free >= 10`.
     ///
     /// # Errors
     ///
-    /// [`Overflow`] where a number would leave 64 bits. Then nothing changes.
-    pub fn try_take10(&self) -> Result<Option<()>, Overflow> {
+    /// [`Failed::Refused`] where `free >= 10` is false. Then nothing changes.
+    ///
+    /// [`Failed::Overflow`] where a number would leave 64 bits. Then nothing changes.
+    pub fn try_take10(&self) -> Result<(), Failed> {
         let mut inner = lock(&self.inner);
         if !inner.state.can_take10() {
-            return Ok(None);
+            return Err(Failed::Refused);
         }
         let Ok(()) = inner.state.run_take10() else {
             self.can_take10.notify_one();
-            return Err(Overflow);
+            return Err(Failed::Overflow);
         };
         let copy = *inner;
         drop(inner);
         if copy.asleep_give > 0 && copy.state.can_give() {
             self.can_give.notify_all();
         }
-        Ok(Some(()))
+        Ok(())
     }
 
     /// Waits until `free >= 15`.
-    ///
-    /// Wakes all calls that wait until `free < LIMIT`, where that now holds.
     ///
     /// # Errors
     ///
@@ -165,35 +177,31 @@ impl Weights {
         Ok(())
     }
 
-    /// Answers `None` where `free >= 15` is false.
-    ///
-    /// Wakes all calls that wait until `free < LIMIT`, where that now holds.
+    /// As [`take15`](Self::take15), but does not wait until `free >= 15`.
     ///
     /// # Errors
     ///
-    /// [`Overflow`] where a number would leave 64 bits. Then nothing changes.
-    pub fn try_take15(&self) -> Result<Option<()>, Overflow> {
+    /// [`Failed::Refused`] where `free >= 15` is false. Then nothing changes.
+    ///
+    /// [`Failed::Overflow`] where a number would leave 64 bits. Then nothing changes.
+    pub fn try_take15(&self) -> Result<(), Failed> {
         let mut inner = lock(&self.inner);
         if !inner.state.can_take15() {
-            return Ok(None);
+            return Err(Failed::Refused);
         }
         let Ok(()) = inner.state.run_take15() else {
             self.can_take15.notify_one();
-            return Err(Overflow);
+            return Err(Failed::Overflow);
         };
         let copy = *inner;
         drop(inner);
         if copy.asleep_give > 0 && copy.state.can_give() {
             self.can_give.notify_all();
         }
-        Ok(Some(()))
+        Ok(())
     }
 
     /// Waits until `free < LIMIT`.
-    ///
-    /// Wakes one call that waits until `free >= 5`, where that now holds.
-    /// Wakes one call that waits until `free >= 10`, where that now holds.
-    /// Wakes one call that waits until `free >= 15`, where that now holds.
     ///
     /// # Errors
     ///
@@ -223,23 +231,21 @@ impl Weights {
         Ok(())
     }
 
-    /// Answers `None` where `free < LIMIT` is false.
-    ///
-    /// Wakes one call that waits until `free >= 5`, where that now holds.
-    /// Wakes one call that waits until `free >= 10`, where that now holds.
-    /// Wakes one call that waits until `free >= 15`, where that now holds.
+    /// As [`give`](Self::give), but does not wait until `free < LIMIT`.
     ///
     /// # Errors
     ///
-    /// [`Overflow`] where a number would leave 64 bits. Then nothing changes.
-    pub fn try_give(&self) -> Result<Option<()>, Overflow> {
+    /// [`Failed::Refused`] where `free < LIMIT` is false. Then nothing changes.
+    ///
+    /// [`Failed::Overflow`] where a number would leave 64 bits. Then nothing changes.
+    pub fn try_give(&self) -> Result<(), Failed> {
         let mut inner = lock(&self.inner);
         if !inner.state.can_give() {
-            return Ok(None);
+            return Err(Failed::Refused);
         }
         let Ok(()) = inner.state.run_give() else {
             self.can_give.notify_one();
-            return Err(Overflow);
+            return Err(Failed::Overflow);
         };
         let copy = *inner;
         drop(inner);
@@ -252,7 +258,7 @@ impl Weights {
         if copy.asleep_take15 > 0 && copy.state.can_take15() {
             self.can_take15.notify_one();
         }
-        Ok(Some(()))
+        Ok(())
     }
 }
 
@@ -264,14 +270,17 @@ impl Default for Weights {
 
 impl std::fmt::Debug for Weights {
     fn fmt(&self, f: &mut std::fmt::Formatter<'_>) -> std::fmt::Result {
-        let state = self
-            .inner
-            .lock()
-            .unwrap_or_else(std::sync::PoisonError::into_inner)
-            .state;
-        f.debug_struct(std::any::type_name::<Self>())
-            .field("state", &state)
-            .finish_non_exhaustive()
+        let state = match self.inner.try_lock() {
+            Ok(inner) => Some(inner.state),
+            Err(std::sync::TryLockError::Poisoned(inner)) => Some(inner.into_inner().state),
+            Err(std::sync::TryLockError::WouldBlock) => None,
+        };
+        let mut text = f.debug_struct("Weights");
+        match state {
+            Some(state) => text.field("state", &state),
+            None => text.field("state", &format_args!("<locked>")),
+        };
+        text.finish_non_exhaustive()
     }
 }
 
@@ -366,3 +375,29 @@ impl std::error::Error for Overflow {}
 fn narrow(number: i128) -> Result<i64, Overflow> {
     i64::try_from(number).map_err(|_| Overflow)
 }
+
+/// Why a call that tries has no answer.
+#[derive(Clone, Copy, Debug, PartialEq, Eq)]
+pub enum Failed {
+    /// The guard was false, and the call did not wait. Nothing changed.
+    Refused,
+    /// A number would have left 64 bits.
+    Overflow,
+}
+
+impl From<Overflow> for Failed {
+    fn from(_: Overflow) -> Self {
+        Self::Overflow
+    }
+}
+
+impl std::fmt::Display for Failed {
+    fn fmt(&self, f: &mut std::fmt::Formatter<'_>) -> std::fmt::Result {
+        f.write_str(match self {
+            Self::Refused => "the guard is false",
+            Self::Overflow => "a number would leave 64 bits",
+        })
+    }
+}
+
+impl std::error::Error for Failed {}

@@ -1,8 +1,20 @@
-// Made by `expresso emit`. Change the monitor, and not this file.
+// The monitor `Lock` as a module of Rust, made by `expresso emit` 0.2.0.
+// Change the monitor, and not this file. It wants Rust 1.65 and the edition 2021, or later ones.
 
 use std::sync::{Condvar, Mutex, MutexGuard, PoisonError};
 
 /// The monitor `Lock`. Threads share it by reference. A call waits for its guard, unless it tries.
+/**
+# Plan
+
+```text
+plan Lock
+condition 1 signal: !held
+condition 2 signal: held
+block acquire: 2 signal
+block release: 1 signal
+```
+*/
 #[allow(dead_code, non_camel_case_types, clippy::upper_case_acronyms)]
 pub struct Lock {
     inner: Mutex<Inner>,
@@ -30,8 +42,6 @@ impl Lock {
     }
 
     /// Waits until `!held`.
-    ///
-    /// Wakes one call that waits until `held`.
     pub fn acquire(&self) {
         let mut inner = lock(&self.inner);
         while !inner.state.can_acquire() {
@@ -47,13 +57,15 @@ impl Lock {
         }
     }
 
-    /// Answers `None` where `!held` is false.
+    /// As [`acquire`](Self::acquire), but does not wait until `!held`.
     ///
-    /// Wakes one call that waits until `held`.
-    pub fn try_acquire(&self) -> Option<()> {
+    /// # Errors
+    ///
+    /// [`Refused`] where `!held` is false. Then nothing changes.
+    pub fn try_acquire(&self) -> Result<(), Refused> {
         let mut inner = lock(&self.inner);
         if !inner.state.can_acquire() {
-            return None;
+            return Err(Refused);
         }
         inner.state.run_acquire();
         let copy = *inner;
@@ -61,12 +73,10 @@ impl Lock {
         if copy.asleep_release > 0 {
             self.can_release.notify_one();
         }
-        Some(())
+        Ok(())
     }
 
     /// Waits until `held`.
-    ///
-    /// Wakes one call that waits until `!held`.
     pub fn release(&self) {
         let mut inner = lock(&self.inner);
         while !inner.state.can_release() {
@@ -82,13 +92,15 @@ impl Lock {
         }
     }
 
-    /// Answers `None` where `held` is false.
+    /// As [`release`](Self::release), but does not wait until `held`.
     ///
-    /// Wakes one call that waits until `!held`.
-    pub fn try_release(&self) -> Option<()> {
+    /// # Errors
+    ///
+    /// [`Refused`] where `held` is false. Then nothing changes.
+    pub fn try_release(&self) -> Result<(), Refused> {
         let mut inner = lock(&self.inner);
         if !inner.state.can_release() {
-            return None;
+            return Err(Refused);
         }
         inner.state.run_release();
         let copy = *inner;
@@ -96,7 +108,7 @@ impl Lock {
         if copy.asleep_acquire > 0 {
             self.can_acquire.notify_one();
         }
-        Some(())
+        Ok(())
     }
 }
 
@@ -108,14 +120,17 @@ impl Default for Lock {
 
 impl std::fmt::Debug for Lock {
     fn fmt(&self, f: &mut std::fmt::Formatter<'_>) -> std::fmt::Result {
-        let state = self
-            .inner
-            .lock()
-            .unwrap_or_else(std::sync::PoisonError::into_inner)
-            .state;
-        f.debug_struct(std::any::type_name::<Self>())
-            .field("state", &state)
-            .finish_non_exhaustive()
+        let state = match self.inner.try_lock() {
+            Ok(inner) => Some(inner.state),
+            Err(std::sync::TryLockError::Poisoned(inner)) => Some(inner.into_inner().state),
+            Err(std::sync::TryLockError::WouldBlock) => None,
+        };
+        let mut text = f.debug_struct("Lock");
+        match state {
+            Some(state) => text.field("state", &state),
+            None => text.field("state", &format_args!("<locked>")),
+        };
+        text.finish_non_exhaustive()
     }
 }
 
@@ -171,3 +186,15 @@ fn wait<'a>(condition: &Condvar, inner: MutexGuard<'a, Inner>) -> MutexGuard<'a,
         .wait(inner)
         .unwrap_or_else(PoisonError::into_inner)
 }
+
+/// The guard was false, and the call did not wait. Nothing changed.
+#[derive(Clone, Copy, Debug, PartialEq, Eq)]
+pub struct Refused;
+
+impl std::fmt::Display for Refused {
+    fn fmt(&self, f: &mut std::fmt::Formatter<'_>) -> std::fmt::Result {
+        f.write_str("the guard is false")
+    }
+}
+
+impl std::error::Error for Refused {}

@@ -1,8 +1,26 @@
-// Made by `expresso emit`. Change the monitor, and not this file.
+// The monitor `state` as a module of Rust, made by `expresso emit` 0.2.0.
+// Change the monitor, and not this file. It wants Rust 1.65 and the edition 2021, or later ones.
 
 use std::sync::{Condvar, Mutex, MutexGuard, PoisonError};
 
 /// The monitor `state`. Threads share it by reference. A call waits for its guard, unless it tries.
+/**
+# Plan
+
+```text
+plan state
+keep startRead
+keep !start_read
+condition 1 broadcast: Ok && state > Mutex
+condition 2 broadcast: answer * 2 >= narrow - match
+condition 3 broadcast: lock && startRead || match_ <= drop
+condition 4 broadcast: true
+block new: none
+block await.1: 3 broadcast
+block await.2: 2 broadcast
+block try_new_: none
+```
+*/
 #[allow(non_snake_case, non_upper_case_globals)]
 #[allow(dead_code, non_camel_case_types, clippy::upper_case_acronyms)]
 pub struct State_ {
@@ -19,6 +37,7 @@ pub struct State_ {
 #[allow(dead_code, clippy::style)]
 #[allow(non_snake_case, non_upper_case_globals)]
 impl State_ {
+    /// The constant `Mutex`.
     pub const MUTEX: i64 = -3;
 
     /// The monitor at its start.
@@ -38,8 +57,6 @@ impl State_ {
     }
 
     /// Waits until `Ok && state > Mutex`.
-    ///
-    /// Wakes nobody.
     ///
     /// # Errors
     ///
@@ -61,11 +78,7 @@ impl State_ {
 
     /// Waits until `answer * 2 >= narrow - match`.
     ///
-    /// Wakes all calls that wait until `lock && startRead || match_ <= drop`.
-    ///
     /// Then waits until `lock && startRead || match_ <= drop`.
-    ///
-    /// Wakes all calls that wait until `answer * 2 >= narrow - match`.
     ///
     /// # Errors
     ///
@@ -106,27 +119,23 @@ impl State_ {
         Ok(answer)
     }
 
-    /// Answers `None` where `answer * 2 >= narrow - match` is false.
-    ///
-    /// Wakes all calls that wait until `lock && startRead || match_ <= drop`.
-    ///
-    /// Then waits until `lock && startRead || match_ <= drop`.
-    ///
-    /// Wakes all calls that wait until `answer * 2 >= narrow - match`.
+    /// As [`await_`](Self::await_), but does not wait until `answer * 2 >= narrow - match`.
     ///
     /// # Errors
     ///
-    /// [`Overflow`] where a number would leave 64 bits. Its block then changes nothing, and no later one runs.
-    pub fn try_await_(&self, answer_: i64, narrow_: i64) -> Result<Option<i64>, Overflow> {
+    /// [`Failed::Refused`] where `answer * 2 >= narrow - match` is false. Then nothing changes.
+    ///
+    /// [`Failed::Overflow`] where a number would leave 64 bits. Its block then changes nothing, and no later one runs.
+    pub fn try_await_(&self, answer_: i64, narrow_: i64) -> Result<i64, Failed> {
         let mut drop_: i64 = 0;
         let mut lock_: bool = true;
         let mut inner = lock(&self.inner);
         if !inner.state.can_await_(answer_, narrow_, drop_, lock_) {
-            return Ok(None);
+            return Err(Failed::Refused);
         }
         let Ok(()) = inner.state.run_await_(answer_, narrow_, &mut drop_, &mut lock_) else {
             self.can_await_.notify_one();
-            return Err(Overflow);
+            return Err(Failed::Overflow);
         };
         let copy = *inner;
         drop(inner);
@@ -141,19 +150,17 @@ impl State_ {
         }
         let Ok(answer) = inner.state.run2_await_(answer_, narrow_, &mut drop_, &mut lock_) else {
             self.can2_await_.notify_one();
-            return Err(Overflow);
+            return Err(Failed::Overflow);
         };
         let copy = *inner;
         drop(inner);
         if copy.asleep_await_ > 0 {
             self.can_await_.notify_all();
         }
-        Ok(Some(answer))
+        Ok(answer)
     }
 
     /// Does not wait.
-    ///
-    /// Wakes nobody.
     pub fn try_new_(&self) {
         let mut inner = lock(&self.inner);
         inner.state.run_try_new_();
@@ -169,14 +176,17 @@ impl Default for State_ {
 
 impl std::fmt::Debug for State_ {
     fn fmt(&self, f: &mut std::fmt::Formatter<'_>) -> std::fmt::Result {
-        let state = self
-            .inner
-            .lock()
-            .unwrap_or_else(std::sync::PoisonError::into_inner)
-            .state;
-        f.debug_struct(std::any::type_name::<Self>())
-            .field("state", &state)
-            .finish_non_exhaustive()
+        let state = match self.inner.try_lock() {
+            Ok(inner) => Some(inner.state),
+            Err(std::sync::TryLockError::Poisoned(inner)) => Some(inner.into_inner().state),
+            Err(std::sync::TryLockError::WouldBlock) => None,
+        };
+        let mut text = f.debug_struct("State_");
+        match state {
+            Some(state) => text.field("state", &state),
+            None => text.field("state", &format_args!("<locked>")),
+        };
+        text.finish_non_exhaustive()
     }
 }
 
@@ -291,3 +301,29 @@ impl std::error::Error for Overflow {}
 fn narrow(number: i128) -> Result<i64, Overflow> {
     i64::try_from(number).map_err(|_| Overflow)
 }
+
+/// Why a call that tries has no answer.
+#[derive(Clone, Copy, Debug, PartialEq, Eq)]
+pub enum Failed {
+    /// The guard was false, and the call did not wait. Nothing changed.
+    Refused,
+    /// A number would have left 64 bits.
+    Overflow,
+}
+
+impl From<Overflow> for Failed {
+    fn from(_: Overflow) -> Self {
+        Self::Overflow
+    }
+}
+
+impl std::fmt::Display for Failed {
+    fn fmt(&self, f: &mut std::fmt::Formatter<'_>) -> std::fmt::Result {
+        f.write_str(match self {
+            Self::Refused => "the guard is false",
+            Self::Overflow => "a number would leave 64 bits",
+        })
+    }
+}
+
+impl std::error::Error for Failed {}

@@ -1,8 +1,21 @@
-// Made by `expresso emit`. Change the monitor, and not this file.
+// The monitor `Twice` as a module of Rust, made by `expresso emit` 0.2.0.
+// Change the monitor, and not this file. It wants Rust 1.65 and the edition 2021, or later ones.
 
 use std::sync::{Condvar, Mutex, MutexGuard, PoisonError};
 
 /// The monitor `Twice`. Threads share it by reference. A call waits for its guard, unless it tries.
+/**
+# Plan
+
+```text
+plan Twice
+keep level >= 0
+condition 1 broadcast: true
+condition 2 broadcast: level > seen + 1
+block pair.1: 2 broadcast
+block pair.2: none
+```
+*/
 #[allow(dead_code, non_camel_case_types, clippy::upper_case_acronyms)]
 pub struct Twice {
     inner: Mutex<Inner>,
@@ -27,11 +40,7 @@ impl Twice {
 
     /// Does not wait.
     ///
-    /// Wakes all calls that wait until `level > seen + 1`.
-    ///
     /// Then waits until `level > seen + 1`.
-    ///
-    /// Wakes nobody.
     ///
     /// # Errors
     ///
@@ -65,14 +74,17 @@ impl Default for Twice {
 
 impl std::fmt::Debug for Twice {
     fn fmt(&self, f: &mut std::fmt::Formatter<'_>) -> std::fmt::Result {
-        let state = self
-            .inner
-            .lock()
-            .unwrap_or_else(std::sync::PoisonError::into_inner)
-            .state;
-        f.debug_struct(std::any::type_name::<Self>())
-            .field("state", &state)
-            .finish_non_exhaustive()
+        let state = match self.inner.try_lock() {
+            Ok(inner) => Some(inner.state),
+            Err(std::sync::TryLockError::Poisoned(inner)) => Some(inner.into_inner().state),
+            Err(std::sync::TryLockError::WouldBlock) => None,
+        };
+        let mut text = f.debug_struct("Twice");
+        match state {
+            Some(state) => text.field("state", &state),
+            None => text.field("state", &format_args!("<locked>")),
+        };
+        text.finish_non_exhaustive()
     }
 }
 

@@ -1,8 +1,22 @@
-// Made by `expresso emit`. Change the monitor, and not this file.
+// The monitor `Up` as a module of Rust, made by `expresso emit` 0.2.0.
+// Change the monitor, and not this file. It wants Rust 1.65 and the edition 2021, or later ones.
 
 use std::sync::{Condvar, Mutex, MutexGuard, PoisonError};
 
 /// The monitor `Up`. Threads share it by reference. A call waits for its guard, unless it tries.
+/**
+# Plan
+
+```text
+plan Up
+keep x >= 0
+keep x >= 9223372036854775807
+keep x >= 1
+keep x >= 2
+condition 1 broadcast: x > 0
+block inc: none
+```
+*/
 #[allow(dead_code, non_camel_case_types, clippy::upper_case_acronyms)]
 pub struct Up {
     inner: Mutex<Inner>,
@@ -27,8 +41,6 @@ impl Up {
 
     /// Waits until `x > 0`.
     ///
-    /// Wakes nobody.
-    ///
     /// # Errors
     ///
     /// [`Overflow`] where a number would leave 64 bits. Then nothing changes.
@@ -47,24 +59,24 @@ impl Up {
         Ok(())
     }
 
-    /// Answers `None` where `x > 0` is false.
-    ///
-    /// Wakes nobody.
+    /// As [`inc`](Self::inc), but does not wait until `x > 0`.
     ///
     /// # Errors
     ///
-    /// [`Overflow`] where a number would leave 64 bits. Then nothing changes.
-    pub fn try_inc(&self) -> Result<Option<()>, Overflow> {
+    /// [`Failed::Refused`] where `x > 0` is false. Then nothing changes.
+    ///
+    /// [`Failed::Overflow`] where a number would leave 64 bits. Then nothing changes.
+    pub fn try_inc(&self) -> Result<(), Failed> {
         let mut inner = lock(&self.inner);
         if !inner.state.can_inc() {
-            return Ok(None);
+            return Err(Failed::Refused);
         }
         let Ok(()) = inner.state.run_inc() else {
             self.can_inc.notify_one();
-            return Err(Overflow);
+            return Err(Failed::Overflow);
         };
         drop(inner);
-        Ok(Some(()))
+        Ok(())
     }
 }
 
@@ -76,14 +88,17 @@ impl Default for Up {
 
 impl std::fmt::Debug for Up {
     fn fmt(&self, f: &mut std::fmt::Formatter<'_>) -> std::fmt::Result {
-        let state = self
-            .inner
-            .lock()
-            .unwrap_or_else(std::sync::PoisonError::into_inner)
-            .state;
-        f.debug_struct(std::any::type_name::<Self>())
-            .field("state", &state)
-            .finish_non_exhaustive()
+        let state = match self.inner.try_lock() {
+            Ok(inner) => Some(inner.state),
+            Err(std::sync::TryLockError::Poisoned(inner)) => Some(inner.into_inner().state),
+            Err(std::sync::TryLockError::WouldBlock) => None,
+        };
+        let mut text = f.debug_struct("Up");
+        match state {
+            Some(state) => text.field("state", &state),
+            None => text.field("state", &format_args!("<locked>")),
+        };
+        text.finish_non_exhaustive()
     }
 }
 
@@ -148,3 +163,29 @@ impl std::error::Error for Overflow {}
 fn narrow(number: i128) -> Result<i64, Overflow> {
     i64::try_from(number).map_err(|_| Overflow)
 }
+
+/// Why a call that tries has no answer.
+#[derive(Clone, Copy, Debug, PartialEq, Eq)]
+pub enum Failed {
+    /// The guard was false, and the call did not wait. Nothing changed.
+    Refused,
+    /// A number would have left 64 bits.
+    Overflow,
+}
+
+impl From<Overflow> for Failed {
+    fn from(_: Overflow) -> Self {
+        Self::Overflow
+    }
+}
+
+impl std::fmt::Display for Failed {
+    fn fmt(&self, f: &mut std::fmt::Formatter<'_>) -> std::fmt::Result {
+        f.write_str(match self {
+            Self::Refused => "the guard is false",
+            Self::Overflow => "a number would leave 64 bits",
+        })
+    }
+}
+
+impl std::error::Error for Failed {}

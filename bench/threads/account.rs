@@ -4,7 +4,7 @@
 mod account;
 mod common;
 
-use account::{Account, Overflow};
+use account::{Account, Failed, Overflow};
 use common::{assert_state, in_threads};
 
 fn main() {
@@ -19,14 +19,14 @@ fn main() {
         }
     });
     assert_state(&account, "balance: 0, rejected: 0, frozen: false");
-    assert_eq!(account.try_withdraw(1), Ok(None));
+    assert_eq!(account.try_withdraw(1), Err(Failed::Refused));
     assert_eq!(account.deposit(501), Ok(501));
     assert_eq!(account.withdraw(501), Ok(-Account::LIMIT));
-    assert_eq!(account.try_deposit(1), Ok(None));
+    assert_eq!(account.try_deposit(1), Err(Failed::Refused));
     account.thaw();
     assert_eq!(account.deposit(i64::MAX), Ok(i64::MAX));
     assert_eq!(account.deposit(1), Err(Overflow));
-    assert_eq!(account.try_deposit(1), Err(Overflow));
+    assert_eq!(account.try_deposit(1), Err(Failed::Overflow));
     assert_state(
         &account,
         "balance: 9223372036854775807, rejected: 0, frozen: false",

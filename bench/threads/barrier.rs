@@ -4,7 +4,7 @@
 mod barrier;
 mod common;
 
-use barrier::Barrier;
+use barrier::{Barrier, Failed};
 use common::{assert_state, in_threads};
 
 fn main() {
@@ -16,5 +16,5 @@ fn main() {
         }
     });
     assert_state(&barrier, "waiting: 0, open: false");
-    assert_eq!(barrier.try_leave(), Ok(None));
+    assert_eq!(barrier.try_leave(), Err(Failed::Refused));
 }

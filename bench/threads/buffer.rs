@@ -4,7 +4,7 @@
 mod buffer;
 mod common;
 
-use buffer::Buffer;
+use buffer::{Buffer, Failed};
 use common::{assert_state, in_threads};
 
 static BUFFER: Buffer = Buffer::new();
@@ -20,8 +20,8 @@ fn main() {
         }
     });
     assert_state(&BUFFER, "count: 0");
-    assert_eq!(BUFFER.try_get(), Ok(None));
-    assert_eq!(BUFFER.try_put(), Ok(Some(())));
-    assert_eq!(BUFFER.try_put(), Ok(None));
+    assert_eq!(BUFFER.try_get(), Err(Failed::Refused));
+    assert_eq!(BUFFER.try_put(), Ok(()));
+    assert_eq!(BUFFER.try_put(), Err(Failed::Refused));
     assert_state(&BUFFER, "count: 1");
 }

@@ -4,7 +4,7 @@
 mod barrier;
 mod common;
 
-use barrier::Barrier;
+use barrier::{Barrier, Refused};
 use common::{assert_state, in_threads};
 
 fn main() {
@@ -24,5 +24,5 @@ fn main() {
     });
     barrier.dismiss();
     assert_state(&barrier, "waiting: 0, open: false");
-    assert_eq!(barrier.try_dismiss(), None);
+    assert_eq!(barrier.try_dismiss(), Err(Refused));
 }

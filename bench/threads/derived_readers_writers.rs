@@ -5,7 +5,7 @@ mod common;
 mod readers_writers;
 
 use common::{assert_state, in_threads};
-use readers_writers::ReadersWriters;
+use readers_writers::{Failed, ReadersWriters};
 
 fn main() {
     let monitor = ReadersWriters::new();
@@ -25,5 +25,5 @@ fn main() {
         }
     });
     assert_state(&monitor, "readers: 0, queued: 0, writing: false");
-    assert_eq!(monitor.try_cancel(), Ok(None));
+    assert_eq!(monitor.try_cancel(), Err(Failed::Refused));
 }

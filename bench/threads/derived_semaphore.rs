@@ -5,7 +5,7 @@ mod common;
 mod semaphore;
 
 use common::{assert_state, in_threads};
-use semaphore::Semaphore;
+use semaphore::{Failed, Semaphore};
 
 fn main() {
     let semaphore = Semaphore::new();
@@ -20,7 +20,7 @@ fn main() {
             semaphore.give().unwrap();
         }
     });
-    assert_eq!(semaphore.try_give(), Ok(None));
+    assert_eq!(semaphore.try_give(), Err(Failed::Refused));
     semaphore.take_all();
     in_threads(3, |_| semaphore.give().unwrap());
     assert_state(&semaphore, "free: 3");

@@ -5,7 +5,7 @@ mod common;
 mod table;
 
 use common::{assert_state, in_threads};
-use table::Table;
+use table::{Refused, Table};
 
 fn main() {
     let table = Table::new();
@@ -21,6 +21,6 @@ fn main() {
         }
     });
     assert_state(&table, "a: 0, b: 0, c: 0");
-    assert_eq!(table.try_think2(), None);
-    assert_eq!(table.try_eat2(), Some(()));
+    assert_eq!(table.try_think2(), Err(Refused));
+    assert_eq!(table.try_eat2(), Ok(()));
 }

@@ -5,7 +5,7 @@ mod common;
 mod tickets;
 
 use common::{assert_state, in_threads};
-use tickets::Tickets;
+use tickets::{Failed, Refused, Tickets};
 
 fn main() {
     let tickets = Tickets::new();
@@ -25,6 +25,6 @@ fn main() {
         &tickets,
         "next: 4096, serving: 4096, busy: false, broken: false",
     );
-    assert_eq!(tickets.try_enter(4096), Ok(None));
-    assert_eq!(tickets.try_fail(), None);
+    assert_eq!(tickets.try_enter(4096), Err(Failed::Refused));
+    assert_eq!(tickets.try_fail(), Err(Refused));
 }

@@ -5,7 +5,7 @@ mod common;
 mod two_kinds;
 
 use common::{assert_state, in_threads};
-use two_kinds::TwoKinds;
+use two_kinds::{Failed, TwoKinds};
 
 fn main() {
     let things = TwoKinds::new();
@@ -24,5 +24,5 @@ fn main() {
     in_threads(2, |_| things.put_red().unwrap());
     things.drain();
     assert_state(&things, "total: 0, red: 0");
-    assert_eq!(things.try_get_blue(), Ok(None));
+    assert_eq!(things.try_get_blue(), Err(Failed::Refused));
 }

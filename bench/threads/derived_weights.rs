@@ -5,7 +5,7 @@ mod common;
 mod weights;
 
 use common::{assert_state, in_threads};
-use weights::Weights;
+use weights::{Failed, Weights};
 
 fn main() {
     let weights = Weights::new();
@@ -23,5 +23,5 @@ fn main() {
         }
     });
     assert_state(&weights, "free: 0");
-    assert_eq!(weights.try_take5(), Ok(None));
+    assert_eq!(weights.try_take5(), Err(Failed::Refused));
 }

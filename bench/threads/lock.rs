@@ -5,7 +5,7 @@ mod common;
 mod lock;
 
 use common::{assert_state, in_threads};
-use lock::Lock;
+use lock::{Lock, Refused};
 
 fn main() {
     let lock = Lock::default();
@@ -16,7 +16,7 @@ fn main() {
         }
     });
     assert_state(&lock, "held: false");
-    assert_eq!(lock.try_acquire(), Some(()));
-    assert_eq!(lock.try_acquire(), None);
-    assert_eq!(lock.try_release(), Some(()));
+    assert_eq!(lock.try_acquire(), Ok(()));
+    assert_eq!(lock.try_acquire(), Err(Refused));
+    assert_eq!(lock.try_release(), Ok(()));
 }

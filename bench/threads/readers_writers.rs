@@ -5,7 +5,7 @@ mod common;
 mod readers_writers;
 
 use common::{assert_state, in_threads};
-use readers_writers::ReadersWriters;
+use readers_writers::{ReadersWriters, Refused};
 
 fn main() {
     let monitor = ReadersWriters::new();
@@ -22,6 +22,6 @@ fn main() {
         }
     });
     assert_state(&monitor, "readers: 0, queued: 0, writing: false");
-    assert_eq!(monitor.try_end_write(), None);
-    assert_eq!(monitor.try_start_read(), Ok(Some(())));
+    assert_eq!(monitor.try_end_write(), Err(Refused));
+    assert_eq!(monitor.try_start_read(), Ok(()));
 }

@@ -16,5 +16,5 @@ fn main() {
         }
     });
     assert_state(&semaphore, "free: 2");
-    assert_eq!(semaphore.try_acquire(), Ok(Some(())));
+    assert_eq!(semaphore.try_acquire(), Ok(()));
 }

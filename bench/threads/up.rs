@@ -5,7 +5,7 @@ mod common;
 mod up;
 
 use common::{assert_state, in_threads};
-use up::{Overflow, Up};
+use up::{Failed, Overflow, Up};
 
 fn main() {
     let up = Up::new();
@@ -14,6 +14,6 @@ fn main() {
             assert_eq!(up.inc(), Err(Overflow));
         }
     });
-    assert_eq!(up.try_inc(), Err(Overflow));
+    assert_eq!(up.try_inc(), Err(Failed::Overflow));
     assert_state(&up, "x: 9223372036854775807");
 }

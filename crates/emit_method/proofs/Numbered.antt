@@ -1,7 +1,8 @@
--- Texts of a row, each by its number.
-use Rattle.std.proofs.Common.{◌≡◌, ℕ, ◌+◌, ◌<◌, ◌≤◌, ◌∙◌, List, length, get_or, take, ap, sym, arith, Result, Ok, Err, IsErr}
-use Rattle.std.specs.List.{flat_map, enumerate_from}
+-- Texts and tests of a row, each by its number.
+use Rattle.std.proofs.Common.{◌≡◌, ℕ, ◌+◌, ◌<◌, ◌≤◌, ◌∙◌, Bool, ◌||◌, List, length, get_or, take, ap, sym, arith, Result, Ok, Err, IsErr}
+use Rattle.std.specs.List.{flat_map, list_any, enumerate_from}
 use Rattle.std.proofs.lemmas.List.{take_all}
+use Rattle.std.proofs.lemmas.List.Folds.{list_any_more}
 use Rattle.std.proofs.lemmas.List.FromFn.{length-enumerate_from, get_or-enumerate_from}
 use Rattle.base_io.specs.declared.sink.SinkFailed.{SinkFailed}
 use Rattle.base_io.specs.Outside.{SinkSeen}
@@ -37,3 +38,20 @@ numbered_stopped f xs i x text answer less is says fails before here =
 
 pub numbered_done : {X : Type 0} (f : ℕ → X → List ℕ) (xs : List X) (i : ℕ) → length xs ≤ i → flat_map (numbered f) (take i (enumerate_from 0 xs)) ≡ flat_map (numbered f) (enumerate_from 0 xs)
 numbered_done f xs i end = ap (flat_map (numbered f)) (take_all i (enumerate_from 0 xs) (omega (arith, length-enumerate_from 0 xs)))
+
+-- ---- tests of a row, each by its number
+
+-- the test of an element with its number
+abbrev pub numbered_test : {X : Type 0} → (ℕ → X → Bool) → ℕ × X → Bool
+numbered_test f one = f one.0 one.1
+
+pub tested_more : {X : Type 0} (f : ℕ → X → Bool) (xs : List X) (i : ℕ) (x : X) (found here : Bool)
+    → i < length xs → x ≡ get_or xs i x → here ≡ f i x → found ≡ list_any (numbered_test f) (take i (enumerate_from 0 xs))
+    → (found || here) ≡ list_any (numbered_test f) (take (i + 1) (enumerate_from 0 xs))
+tested_more f xs i x found here less is says before =
+    ap (λ (b : Bool). b || here) before
+    ∙ ap (λ (b : Bool). list_any (numbered_test f) (take i (enumerate_from 0 xs)) || b) (says ∙ ap (numbered_test f) (at xs i x less is))
+    ∙ sym (list_any_more (numbered_test f) (enumerate_from 0 xs) i (both i x) (within xs i less))
+
+pub tested_all : {X : Type 0} (f : ℕ → X → Bool) (xs : List X) (i : ℕ) → length xs ≤ i → list_any (numbered_test f) (take i (enumerate_from 0 xs)) ≡ list_any (numbered_test f) (enumerate_from 0 xs)
+tested_all f xs i end = ap (list_any (numbered_test f)) (take_all i (enumerate_from 0 xs) (omega (arith, length-enumerate_from 0 xs)))

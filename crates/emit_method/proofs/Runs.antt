@@ -5,7 +5,7 @@ use Rattle.emit_code.specs.Code.{is_waited_on, signal_on}
 use Rattle.emit_code.specs.Code.Op.{WaitUntil, ElseRefuse}
 use Rattle.emit_method.specs.Sources.{answer_of}
 use Rattle.emit_method.specs.Conditions.{condition_name}
-use Rattle.emit_method.specs.Statements.{MethodParts, answer_name, call_text, fails_at, op_text, ops_text, plain_run, run_text}
+use Rattle.emit_method.specs.Statements.{MethodParts, answer_name, call_text, fails_at, op_text, ops_text, overflow_text, plain_run, run_text}
 use Rattle.emit_method.specs.inner.Parts.{guarded_run, run_op, test_ops}
 
 -- ---- the test of a guard
@@ -39,16 +39,15 @@ module _ (it : MethodParts) (block : ℕ) where
   pub run_alone : (fails answer : Bool) → fails ≡ fails_at it block → fails ≡ true → answer ≡ waits → answer ≡ false → plain_run it block (codes "?;\n") ≡ run_op it block
   run_alone fails answer is holds same lacks = ap (λ (b : Bool). run_by false b) (sym holds ∙ is) ∙ ap (λ (b : Bool). run_by b (fails_at it block)) (sym lacks ∙ same)
 
-  noted : (front name : List ℕ) → front ++ (codes " else {\n            self." ++ name ++ codes ".notify_one();\n            return Err(Overflow);\n        };\n")
-      ≡ front ++ codes " else {\n" ++ ((codes "    " ++ (codes "        self." ++ name ++ codes ".notify_one();\n")) ++ []) ++ codes "            return Err(Overflow);\n        };\n"
-  noted front name =
+  noted : (front name last : List ℕ) → front ++ (codes " else {\n            self." ++ name ++ (codes ".notify_one();\n" ++ last))
+      ≡ front ++ codes " else {\n" ++ ((codes "    " ++ (codes "        self." ++ name ++ codes ".notify_one();\n")) ++ []) ++ last
+  noted front name last =
       let said = (codes "    " ++ (codes "        self." ++ name ++ codes ".notify_one();\n")) ++ [] in
-      let last = codes "            return Err(Overflow);\n        };\n" in
       sym (append_assoc (front ++ codes " else {\n") said last ∙ append_assoc front (codes " else {\n") (said ++ last)
       ∙ ap (λ text. front ++ (codes " else {\n            self." ++ text))
       (ap (λ text. text ++ last) (append-nil (name ++ codes ".notify_one();\n")) ∙ append_assoc name (codes ".notify_one();\n") last))
 
   pub run_guarded : (fails answer : Bool) → fails ≡ fails_at it block → fails ≡ true → answer ≡ waits → answer ≡ true → guarded_run it block ≡ run_op it block
   run_guarded fails answer is holds same waiting =
-      noted (codes "        let Ok(" ++ answer_name (answer_of it.source.monitor block) ++ codes ") = " ++ call_text it block) (condition_name it.source (block_condition it.source.monitor block))
+      noted (codes "        let Ok(" ++ answer_name (answer_of it.source.monitor block) ++ codes ") = " ++ call_text it block) (condition_name it.source (block_condition it.source.monitor block)) (overflow_text it.tries)
       ∙ ap (λ (b : Bool). run_by true b) (sym holds ∙ is) ∙ ap (λ (b : Bool). run_by b (fails_at it block)) (sym waiting ∙ same)

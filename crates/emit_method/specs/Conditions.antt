@@ -56,11 +56,6 @@ around_name source before condition after = before ++ condition_name source cond
 abbrev pub around_count : SourceParts → List ℕ → ℕ → List ℕ → List ℕ
 around_count source before condition after = before ++ count_name source condition ++ after
 
--- its guard in canonical form, as the first of its blocks has it
-abbrev pub shown_text : SourceParts → ℕ → List ℕ
-shown_text source condition =
-    option_map_or (λ which. which.shown) (slice_get source.monitor.conditions (condition - 1)) []
-
 -- ---- what a call hands on: parameters, and locals, which are lent to a body
 
 -- before each but the first

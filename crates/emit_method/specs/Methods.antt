@@ -46,19 +46,14 @@ called_text it =
     if it.tries then try_name it.source.tree it.method.name
     else member_name it.source.tree styles.Snake it.method.name
 
--- a call that tries answers an option
-abbrev pub before_option : Bool → List ℕ
-before_option true = codes " -> Result<Option<"
-before_option false = codes " -> Option<"
+-- what its calls that try may end with, by whether it may fail too
+abbrev pub error_text : Bool → List ℕ
+error_text true = codes ", Failed>"
+error_text false = codes ", Refused>"
 
--- what comes after what it answers, where it is not refused
-abbrev pub after_option : Bool → List ℕ
-after_option true = codes ">, Overflow>"
-after_option false = codes ">"
-
--- `Result<Option<i64>, Overflow>` where it may also fail
+-- `Result<i64, Refused>`
 abbrev pub try_arrow : Option Kind → Bool → List ℕ
-try_arrow answer fails = before_option fails ++ answer_text answer ++ after_option fails
+try_arrow answer fails = codes " -> Result<" ++ answer_text answer ++ error_text fails
 
 -- what a method answers
 abbrev pub method_arrow : MethodParts → List ℕ

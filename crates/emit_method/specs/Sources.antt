@@ -16,14 +16,18 @@ use Rattle.emit_method.specs.declared.source.Source.{Source}
 pub record SourceParts : Type 0 where
   pub tree : MonitorTree
   pub monitor : MonitorParts
+  -- without the notes that nobody hears
   pub plan : Plan
+  -- with all of them
+  pub given : Plan
 
--- the plan is taken without the notes that nobody hears
+-- the parts of a module's source
 abbrev pub source_of : MonitorTree → MonitorParts → Plan → SourceParts
 source_of tree monitor plan = record {
   tree = tree;
   monitor = monitor;
   plan = live_plan monitor plan;
+  given = plan;
 }
 
 -- a source of the code, as contracts see it

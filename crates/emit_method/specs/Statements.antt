@@ -80,10 +80,10 @@ test_text it block =
 abbrev pub call_text : MethodParts → ℕ → List ℕ
 call_text it block = codes "inner.state." ++ own_call it (codes "run") block reaches.Lent
 
--- a call that tries and is refused answers `None`
+-- a call that tries and is refused, by whether its method may fail too
 abbrev pub refusal_text : Bool → List ℕ
-refusal_text true = codes " {\n            return Ok(None);\n        }\n"
-refusal_text false = codes " {\n            return None;\n        }\n"
+refusal_text true = codes " {\n            return Err(Failed::Refused);\n        }\n"
+refusal_text false = codes " {\n            return Err(Refused);\n        }\n"
 
 -- ---- the loop of a block
 
@@ -143,6 +143,11 @@ abbrev pub plain_run : MethodParts → ℕ → List ℕ → List ℕ
 plain_run it block ending =
     let_text (answer_of it.source.monitor block) ++ call_text it block ++ ending
 
+-- the error of a body that overflows, by whether the call tries
+abbrev pub overflow_text : Bool → List ℕ
+overflow_text true = codes "            return Err(Failed::Overflow);\n        };\n"
+overflow_text false = codes "            return Err(Overflow);\n        };\n"
+
 -- with the notes that are made where it overflows, and whether it may
 abbrev pub run_text : MethodParts → ℕ → List Note → Bool → List ℕ
 run_text it block notes false = plain_run it block (codes ";\n")
@@ -151,7 +156,7 @@ run_text it block (note ∷ notes) true =
     codes "        let Ok(" ++ answer_name (answer_of it.source.monitor block) ++ codes ") = "
     ++ call_text it block ++ codes " else {\n"
     ++ flat_map (λ other. codes "    " ++ notify_text it.source other) (note ∷ notes)
-    ++ codes "            return Err(Overflow);\n        };\n"
+    ++ overflow_text it.tries
 
 -- ---- a statement for each operation
 
@@ -173,18 +178,6 @@ ops_text it = flat_map (op_text it)
 
 -- ---- what the method answers after them, by whether it may fail, and whether its calls try
 
--- what stands before what the last body answered
-abbrev pub opening : Bool → Bool → List ℕ
-opening true true = codes "        Ok(Some("
-opening true false = codes "        Ok("
-opening false tries = codes "        Some("
-
--- what stands after it
-abbrev pub closing : Bool → Bool → List ℕ
-closing true true = codes "))\n"
-closing true false = codes ")\n"
-closing false tries = codes ")\n"
-
 -- it is answered as it is
 abbrev pub plain_end : Option Kind → List ℕ
 plain_end None = []
@@ -193,5 +186,5 @@ plain_end (Some kind) = codes "        answer\n"
 -- the last line of a method
 abbrev pub end_text : Bool → Bool → Option Kind → List ℕ
 end_text fails tries answer =
-    if fails || tries then opening fails tries ++ answer_name answer ++ closing fails tries
+    if fails || tries then codes "        Ok(" ++ answer_name answer ++ codes ")\n"
     else plain_end answer

@@ -1,13 +1,13 @@
 //! What conditions are called, and what a call hands on.
 
-ghost use Rattle.std.specs.Prelude.{◌≡◌, ◌++◌, ◌+◌, ◌<◌, ◌^◌, [], length};
+ghost use Rattle.std.specs.Prelude.{◌≡◌, ◌+◌, ◌<◌, ◌^◌, [], length};
 ghost use Rattle.std.specs.List.{enumerate_from, flat_map};
 ghost use Rattle.base_io.specs.Writing.{Wrote};
 ghost use Rattle.emit_method.specs.Sources.{seen};
 ghost use Rattle.emit_method.specs.Conditions.{arguments_text, around_count, around_name};
 ghost use Rattle.emit_method.specs.Conditions.{comma_text, condition_name, count_name};
 ghost use Rattle.emit_method.specs.Conditions.{handed_local, handed_parameter, name_in, name_of};
-ghost use Rattle.emit_method.specs.Conditions.{shown_text, word_name};
+ghost use Rattle.emit_method.specs.Conditions.{word_name};
 
 use crate::source::{Source, first_block, first_of};
 use base_io::{Sink, SinkFailed, write_piece, write_pieces};
@@ -123,24 +123,6 @@ pub fn write_around_count<S: Sink>(
     write_piece(before, out)?;
     write_count_name(source, condition, out)?;
     write_piece(after, out)
-}
-
-/// Writes the text of a condition's guard between two pieces.
-pub(crate) fn write_around_shown<S: Sink>(
-    source: &Source,
-    before: &[u8],
-    condition: u32,
-    after: &[u8],
-    out: &mut S,
-) -> Result<(), SinkFailed>
-    ensures { Wrote (S.seen out.old) (S.seen out.new) result
-        (before.now ++ shown_text (seen source.now) condition ++ after.now) }
-{
-    let place = (condition as usize).saturating_sub(1);
-    match source.monitor.conditions().get(place) {
-        Some(which) => write_pieces(&[before, which.shown.items(), after], out),
-        None => write_pieces(&[before, after], out),
-    }
 }
 
 // ---- what a call hands on

@@ -3,28 +3,31 @@
 ghost use Rattle.std.specs.Prelude.{◌≡◌, ◌+◌, ◌<◌, ◌^◌, ◌++◌, [], if◌then◌else◌, length};
 ghost use Rattle.std.specs.List.{enumerate_from, flat_map};
 ghost use Rattle.machine_events.specs.Configurations.{block_condition};
-ghost use Rattle.machine_events.specs.Plans.{notes_at};
 ghost use Rattle.emit_code.specs.Code.{is_waited_on};
-ghost use Rattle.emit_code.specs.LivePlans.{heard_notes};
 ghost use Rattle.base_io.specs.Writing.{Wrote};
-ghost use Rattle.emit_method.specs.Sources.{seen};
 ghost use Rattle.emit_method.specs.Statements.{method_seen};
-ghost use Rattle.emit_method.specs.Docs.{block_docs, docs_text, errors_text, going_text};
-ghost use Rattle.emit_method.specs.Docs.{waiting_text};
-ghost use Rattle.emit_method.specs.Docs.{wakes_by, wakes_text, wakes_where, waking_text, waits_end};
-ghost use Rattle.emit_method.specs.Docs.{waits_until};
-ghost use Rattle.emit_method.specs.inner.Parts.{heard_doc};
+ghost use Rattle.emit_method.specs.Docs.{ERRORS, docs_text, errors_text, first_guard, going_text};
+ghost use Rattle.emit_method.specs.Docs.{likeness_text, other_error, refused_by, trying_docs};
+ghost use Rattle.emit_method.specs.Docs.{waiting_docs, waiting_text, waits_until};
 
-use crate::conditions::write_around_shown;
-use crate::source::{Calls, Source, are_heard, condition_of, is_waited_on, notes_of};
+use crate::source::{Calls, condition_of, is_waited_on};
 use base_io::{Sink, SinkFailed, write_piece};
+use emit_rust::{Style, write_member};
 use lang_printer::write_around;
-use lang_tree::BlockTree;
-use machine_events::Note;
+use lang_tree::{BlockTree, MethodTree};
 
-/// Writes what each block waits for and whom it wakes, and when the method fails.
+/// Writes what a method waits for, and when it fails.
 pub(crate) fn write_docs<S: Sink>(it: &Calls, out: &mut S) -> Result<(), SinkFailed>
     ensures { Wrote (S.seen out.old) (S.seen out.new) result (docs_text (method_seen it.now)) }
+{
+    if it.tries {
+        return write_trying(it, out);
+    }
+    write_waiting_docs(it, out)
+}
+
+fn write_waiting_docs<S: Sink>(it: &Calls, out: &mut S) -> Result<(), SinkFailed>
+    ensures { Wrote (S.seen out.old) (S.seen out.new) result (waiting_docs (method_seen it.now)) }
 {
     write_blocks_docs(it, it.method.blocks.items(), out)?;
     write_errors(it, out)
@@ -36,28 +39,13 @@ fn write_blocks_docs<S: Sink>(
     out: &mut S,
 ) -> Result<(), SinkFailed>
     ensures { Wrote (S.seen out.old) (S.seen out.new) result
-        (flat_map (λ one. block_docs (method_seen it.now) one.0 one.1)
+        (flat_map (λ one. waiting_text (method_seen it.now) one.0 one.1)
         (enumerate_from 0 blocks.now)) }
 {
     for (place, block) in blocks.iter().enumerate() {
-        write_block_docs(it, place, block, out)?;
+        write_waiting(it, place, block, out)?;
     }
     Ok(())
-}
-
-fn write_block_docs<S: Sink>(
-    it: &Calls,
-    place: usize,
-    block: &BlockTree,
-    out: &mut S,
-) -> Result<(), SinkFailed>
-    requires { place < 2 ^ 63 }
-    ensures { Wrote (S.seen out.old) (S.seen out.new) result
-        (block_docs (method_seen it.now) place block.now) }
-{
-    write_waiting(it, place, block, out)?;
-    write_piece(b"    ///\n", out)?;
-    write_wakes_at(it, place, out)
 }
 
 // ---- what a block waits for, by its number in the method, from 0
@@ -76,12 +64,7 @@ fn write_waiting<S: Sink>(
     if !is_waited_on(it.source.monitor, condition_of(it.source.monitor, number)) {
         return write_piece(going_bytes(place), out);
     }
-    write_around(
-        &[waits_until(it.tries, place)],
-        &block.guard,
-        waits_end(it.tries, place),
-        out,
-    )
+    write_around(&[waits_until(place)], &block.guard, b"`.\n", out)
 }
 
 fn going_bytes(place: usize) -> &'static [u8]
@@ -94,101 +77,13 @@ fn going_bytes(place: usize) -> &'static [u8]
     }
 }
 
-fn waits_until(tries: bool, place: usize) -> &'static [u8]
-    ensures { result.now ≡ waits_until tries place }
+fn waits_until(place: usize) -> &'static [u8]
+    ensures { result.now ≡ waits_until place }
 {
-    if place != 0 {
-        return b"    ///\n    /// Then waits until `";
-    }
-    if tries {
-        b"    /// Answers `None` where `"
-    } else {
+    if place == 0 {
         b"    /// Waits until `"
-    }
-}
-
-fn waits_end(tries: bool, place: usize) -> &'static [u8]
-    ensures { result.now ≡ waits_end tries place }
-{
-    if tries && place == 0 {
-        b"` is false.\n"
     } else {
-        b"`.\n"
-    }
-}
-
-// ---- whom a block wakes
-
-fn write_wakes_at<S: Sink>(it: &Calls, place: usize, out: &mut S) -> Result<(), SinkFailed>
-    requires { place < 2 ^ 63 }
-    ensures { Wrote (S.seen out.old) (S.seen out.new) result (wakes_text (seen it.now.source.now)
-        (notes_at (seen it.now.source.now).plan (it.now.first + place))) }
-{
-    write_wakes(
-        it.source,
-        notes_of(it.source.plan, it.first as usize + place),
-        out,
-    )
-}
-
-fn write_wakes<S: Sink>(source: &Source, notes: &[Note], out: &mut S) -> Result<(), SinkFailed>
-    ensures { Wrote (S.seen out.old) (S.seen out.new) result
-        (wakes_text (seen source.now) (heard_notes source.now.monitor.now notes.now)) }
-{
-    if !are_heard(source, notes) {
-        return write_piece(b"    /// Wakes nobody.\n", out);
-    }
-    write_heard_docs(source, notes, out)
-}
-
-fn write_heard_docs<S: Sink>(source: &Source, notes: &[Note], out: &mut S) -> Result<(), SinkFailed>
-    ensures { Wrote (S.seen out.old) (S.seen out.new) result
-        (flat_map (heard_doc (seen source.now)) notes.now) }
-{
-    for note in notes {
-        write_heard_doc(source, *note, out)?;
-    }
-    Ok(())
-}
-
-fn write_heard_doc<S: Sink>(source: &Source, note: Note, out: &mut S) -> Result<(), SinkFailed>
-    ensures { Wrote (S.seen out.old) (S.seen out.new) result (heard_doc (seen source.now) note) }
-{
-    if !is_waited_on(source.monitor, note.condition) {
-        return Ok(());
-    }
-    write_waking(source, note, out)
-}
-
-fn write_waking<S: Sink>(source: &Source, note: Note, out: &mut S) -> Result<(), SinkFailed>
-    ensures { Wrote (S.seen out.old) (S.seen out.new) result (waking_text (seen source.now) note) }
-{
-    write_around_shown(
-        source,
-        wakes_by(note.all),
-        note.condition,
-        wakes_where(note.tested),
-        out,
-    )
-}
-
-fn wakes_by(all: bool) -> &'static [u8]
-    ensures { result.now ≡ wakes_by all }
-{
-    if all {
-        b"    /// Wakes all calls that wait until `"
-    } else {
-        b"    /// Wakes one call that waits until `"
-    }
-}
-
-fn wakes_where(tested: bool) -> &'static [u8]
-    ensures { result.now ≡ wakes_where tested }
-{
-    if tested {
-        b"`, where that now holds.\n"
-    } else {
-        b"`.\n"
+        b"    ///\n    /// Then waits until `"
     }
 }
 
@@ -218,6 +113,81 @@ fn errors_bytes(fails: bool, blocks: usize) -> &'static [u8]
     /// # Errors
     ///
     /// [`Overflow`] where a number would leave 64 bits. Its block then changes nothing, and no later one runs.
+"
+    }
+}
+
+// ---- calls that try
+
+fn write_trying<S: Sink>(it: &Calls, out: &mut S) -> Result<(), SinkFailed>
+    ensures { Wrote (S.seen out.old) (S.seen out.new) result (trying_docs (method_seen it.now)) }
+{
+    write_likeness(it, out)?;
+    write_piece(errors_head(), out)?;
+    write_piece(refused_by(it.fails), out)?;
+    write_guard(it.method, out)?;
+    write_piece(b"` is false. Then nothing changes.\n", out)?;
+    write_other_error(it, out)
+}
+
+fn write_likeness<S: Sink>(it: &Calls, out: &mut S) -> Result<(), SinkFailed>
+    ensures { Wrote (S.seen out.old) (S.seen out.new) result (likeness_text (method_seen it.now)) }
+{
+    write_piece(b"    /// As [`", out)?;
+    write_member(it.source.tree, Style::Snake, &it.method.name, out)?;
+    write_piece(b"`](Self::", out)?;
+    write_member(it.source.tree, Style::Snake, &it.method.name, out)?;
+    write_piece(b"), but does not wait until `", out)?;
+    write_guard(it.method, out)?;
+    write_piece(b"`.\n", out)
+}
+
+// The guard of a method's first block.
+fn write_guard<S: Sink>(method: &MethodTree, out: &mut S) -> Result<(), SinkFailed>
+    ensures { Wrote (S.seen out.old) (S.seen out.new) result (first_guard method.now) }
+{
+    match method.blocks.items().get(0) {
+        Some(block) => write_around(&[], &block.guard, b"", out),
+        None => Ok(()),
+    }
+}
+
+fn errors_head() -> &'static [u8]
+    ensures { result.now ≡ ERRORS }
+{
+    b"    ///\n    /// # Errors\n    ///\n"
+}
+
+fn refused_by(fails: bool) -> &'static [u8]
+    ensures { result.now ≡ refused_by fails }
+{
+    if fails {
+        b"    /// [`Failed::Refused`] where `"
+    } else {
+        b"    /// [`Refused`] where `"
+    }
+}
+
+fn write_other_error<S: Sink>(it: &Calls, out: &mut S) -> Result<(), SinkFailed>
+    ensures { Wrote (S.seen out.old) (S.seen out.new) result
+        (other_error it.now.fails (length it.now.method.now.blocks)) }
+{
+    write_piece(other_bytes(it.fails, it.method.blocks.items().len()), out)
+}
+
+fn other_bytes(fails: bool, blocks: usize) -> &'static [u8]
+    ensures { result.now ≡ other_error fails blocks }
+{
+    if !fails {
+        return b"";
+    }
+    if blocks <= 1 {
+        b"    ///
+    /// [`Failed::Overflow`] where a number would leave 64 bits. Then nothing changes.
+"
+    } else {
+        b"    ///
+    /// [`Failed::Overflow`] where a number would leave 64 bits. Its block then changes nothing, and no later one runs.
 "
     }
 }

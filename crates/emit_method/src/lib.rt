@@ -17,7 +17,7 @@ mod statements;
 
 pub use conditions::{write_around_count, write_around_name};
 pub use declared::{write_start, write_typed_start};
-pub use methods::write_methods_of;
+pub use methods::{has_try, write_methods_of};
 pub use source::{
     Source, answer_of, condition_of, first_block, first_of, is_always, is_waited_on, reads_inputs,
 };

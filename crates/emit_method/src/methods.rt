@@ -7,8 +7,7 @@ ghost use Rattle.emit_bodies.specs.Bodies.{answer_text};
 ghost use Rattle.base_io.specs.Writing.{Wrote};
 ghost use Rattle.emit_method.specs.Sources.{seen};
 ghost use Rattle.emit_method.specs.Statements.{method_seen};
-ghost use Rattle.emit_method.specs.Methods.{after_option, before_option, called_text, has_try};
-ghost use Rattle.emit_method.specs.Methods.{head_text};
+ghost use Rattle.emit_method.specs.Methods.{called_text, error_text, has_try, head_text};
 ghost use Rattle.emit_method.specs.Methods.{local_line, method_answer, method_arrow, method_text};
 ghost use Rattle.emit_method.specs.Methods.{methods_text, parts_of, try_arrow, try_text};
 ghost use Rattle.emit_method.specs.Methods.{waits_first};
@@ -57,7 +56,8 @@ fn write_try<S: Sink>(
     write_method(source, number, method, true, out)
 }
 
-fn has_try(source: &Source, number: usize, method: &MethodTree) -> bool
+/// Whether a method of the monitor, by its number, has calls that try.
+pub fn has_try(source: &Source, number: usize, method: &MethodTree) -> bool
     ensures { result ≡ has_try (seen source.now) number method.now }
 {
     let waits = waits_first(source.monitor, number);
@@ -177,32 +177,18 @@ fn write_try_arrow<S: Sink>(
     ensures { Wrote (S.seen out.old) (S.seen out.new) result (try_arrow answer fails) }
 {
     write_pieces(
-        &[
-            before_option(fails),
-            option_bytes(answer),
-            after_option(fails),
-        ],
+        &[b" -> Result<", answered_bytes(answer), error_bytes(fails)],
         out,
     )
 }
 
-fn before_option(fails: bool) -> &'static [u8]
-    ensures { result.now ≡ before_option fails }
+fn error_bytes(fails: bool) -> &'static [u8]
+    ensures { result.now ≡ error_text fails }
 {
-    if fails {
-        b" -> Result<Option<"
-    } else {
-        b" -> Option<"
-    }
+    if fails { b", Failed>" } else { b", Refused>" }
 }
 
-fn after_option(fails: bool) -> &'static [u8]
-    ensures { result.now ≡ after_option fails }
-{
-    if fails { b">, Overflow>" } else { b">" }
-}
-
-fn option_bytes(answer: Option<Kind>) -> &'static [u8]
+fn answered_bytes(answer: Option<Kind>) -> &'static [u8]
     ensures { result.now ≡ answer_text answer }
 {
     match answer {

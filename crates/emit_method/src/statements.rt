@@ -1,20 +1,19 @@
 //! The statements of a method: one for each operation of its code.
 
 ghost use Rattle.std.specs.Prelude.{◌≡◌, ◌++◌, ◌+◌, ◌<◌, ◌^◌, ◌==◌, codes, if◌then◌else◌, not};
-ghost use Rattle.std.specs.Prelude.{◌&&◌};
+ghost use Rattle.std.specs.Prelude.{◌&&◌, ◌||◌};
 ghost use Rattle.std.specs.List.{flat_map, list_any};
 ghost use Rattle.machine_events.specs.Configurations.{block_condition};
 ghost use Rattle.base_io.specs.Writing.{Wrote};
 ghost use Rattle.emit_method.specs.Sources.{answer_of, seen};
 ghost use Rattle.emit_method.specs.Conditions.{around_name};
-ghost use Rattle.emit_method.specs.Statements.{answer_name, block_fails, call_text, closing};
-ghost use Rattle.emit_method.specs.Statements.{end_text};
+ghost use Rattle.emit_method.specs.Statements.{answer_name, block_fails, call_text, end_text};
 ghost use Rattle.emit_method.specs.Statements.{fails_at, let_text, method_fails, method_seen};
 ghost use Rattle.emit_method.specs.Statements.{note_test, note_text, release_text, sleep_text};
-ghost use Rattle.emit_method.specs.Statements.{notify_call, notify_text, opening};
-ghost use Rattle.emit_method.specs.Statements.{op_text, own_call};
+ghost use Rattle.emit_method.specs.Statements.{notify_call, notify_text, op_text, own_call};
 ghost use Rattle.emit_method.specs.Statements.{plain_end, plain_run, refusal_text, test_text};
-ghost use Rattle.emit_method.specs.inner.Parts.{block_ops, blocks_ops, guarded_run, heard_text};
+ghost use Rattle.emit_method.specs.inner.Parts.{block_ops, blocks_ops, guarded_end, guarded_run};
+ghost use Rattle.emit_method.specs.inner.Parts.{heard_text};
 ghost use Rattle.emit_method.specs.inner.Parts.{heard_texts, run_op, test_ops, told_ops};
 ghost use Rattle.emit_code.specs.Code.{is_waited_on};
 ghost use Rattle.emit_code.specs.LivePlans.{heard_notes};
@@ -157,9 +156,9 @@ fn refusal_bytes(fails: bool) -> &'static [u8]
     ensures { result.now ≡ refusal_text fails }
 {
     if fails {
-        b" {\n            return Ok(None);\n        }\n"
+        b" {\n            return Err(Failed::Refused);\n        }\n"
     } else {
-        b" {\n            return None;\n        }\n"
+        b" {\n            return Err(Refused);\n        }\n"
     }
 }
 
@@ -320,13 +319,31 @@ fn write_guarded_run<S: Sink>(it: &Calls, block: usize, out: &mut S) -> Result<(
 {
     write_let_ok(it, block, out)?;
     write_call(it, block, out)?;
+    write_overflow(it, block, out)
+}
+
+fn write_overflow<S: Sink>(it: &Calls, block: usize, out: &mut S) -> Result<(), SinkFailed>
+    ensures { Wrote (S.seen out.old) (S.seen out.new) result
+        (around_name (seen it.now.source.now) (codes " else {\n            self.")
+        (block_condition it.now.source.now.monitor.now block) (guarded_end it.now.tries)) }
+{
     write_around_own_name(
         it,
         b" else {\n            self.",
         block,
-        b".notify_one();\n            return Err(Overflow);\n        };\n",
+        guarded_end(it.tries),
         out,
     )
+}
+
+fn guarded_end(tries: bool) -> &'static [u8]
+    ensures { result.now ≡ guarded_end tries }
+{
+    if tries {
+        b".notify_one();\n            return Err(Failed::Overflow);\n        };\n"
+    } else {
+        b".notify_one();\n            return Err(Overflow);\n        };\n"
+    }
 }
 
 fn write_let_ok<S: Sink>(it: &Calls, block: usize, out: &mut S) -> Result<(), SinkFailed>
@@ -454,29 +471,24 @@ pub(crate) fn write_end<S: Sink>(
 ) -> Result<(), SinkFailed>
     ensures { Wrote (S.seen out.old) (S.seen out.new) result (end_text fails tries answer) }
 {
-    if !fails && !tries {
+    if !is_wrapped(fails, tries) {
         return write_piece(plain_end(answer), out);
     }
-    write_wrapped_end(fails, tries, answer, out)
+    write_wrapped_end(answer, out)
 }
 
-fn write_wrapped_end<S: Sink>(
-    fails: bool,
-    tries: bool,
-    answer: Option<Kind>,
-    out: &mut S,
-) -> Result<(), SinkFailed>
-    ensures { Wrote (S.seen out.old) (S.seen out.new) result
-        (opening fails tries ++ answer_name answer ++ closing fails tries) }
+// Whether the answer is a `Result`.
+fn is_wrapped(fails: bool, tries: bool) -> bool
+    ensures { result ≡ (fails || tries) }
 {
-    write_pieces(
-        &[
-            opening(fails, tries),
-            answer_bytes(answer),
-            closing(fails, tries),
-        ],
-        out,
-    )
+    fails || tries
+}
+
+fn write_wrapped_end<S: Sink>(answer: Option<Kind>, out: &mut S) -> Result<(), SinkFailed>
+    ensures { Wrote (S.seen out.old) (S.seen out.new) result
+        (codes "        Ok(" ++ answer_name answer ++ codes ")\n") }
+{
+    write_pieces(&[b"        Ok(", answer_bytes(answer), b")\n"], out)
 }
 
 fn plain_end(answer: Option<Kind>) -> &'static [u8]
@@ -485,24 +497,5 @@ fn plain_end(answer: Option<Kind>) -> &'static [u8]
     match answer {
         None => b"",
         Some(_) => b"        answer\n",
-    }
-}
-
-fn opening(fails: bool, tries: bool) -> &'static [u8]
-    ensures { result.now ≡ opening fails tries }
-{
-    match (fails, tries) {
-        (true, true) => b"        Ok(Some(",
-        (true, false) => b"        Ok(",
-        (false, _) => b"        Some(",
-    }
-}
-
-fn closing(fails: bool, tries: bool) -> &'static [u8]
-    ensures { result.now ≡ closing fails tries }
-{
-    match (fails, tries) {
-        (true, true) => b"))\n",
-        (true, false) | (false, _) => b")\n",
     }
 }

@@ -1,9 +1,15 @@
 -- The texts that are the same in every module.
 use Rattle.std.specs.Prelude.{ℕ, List, ◌++◌, codes}
 
--- the first line
+-- the program's version
+abbrev pub VERSION : List ℕ
+VERSION = codes "0.2.0"
+
+-- after the version in the head
 abbrev pub HEAD : List ℕ
-HEAD = codes "// Made by `expresso emit`. Change the monitor, and not this file.\n\n"
+HEAD =
+    codes ".\n// Change the monitor, and not this file. "
+    ++ codes "It wants Rust 1.65 and the edition 2021, or later ones.\n\n"
 
 -- up to the counts at their start
 abbrev pub NEW : List ℕ
@@ -16,16 +22,24 @@ NEW =
 abbrev pub DEFAULT : List ℕ
 DEFAULT = codes " {\n    fn default() -> Self {\n        Self::new()\n    }\n}\n\n"
 
--- the braces of `impl Debug`
+-- `impl Debug` up to the name that it prints
 abbrev pub DEBUG : List ℕ
 DEBUG =
     codes " {\n    fn fmt(&self, f: &mut std::fmt::Formatter<'_>) -> std::fmt::Result {\n"
-    ++ codes "        let state = self\n            .inner\n            .lock()\n"
-    ++ codes "            .unwrap_or_else(std::sync::PoisonError::into_inner)\n"
-    ++ codes "            .state;\n"
-    ++ codes "        f.debug_struct(std::any::type_name::<Self>())\n"
-    ++ codes "            .field(\"state\", &state)\n            .finish_non_exhaustive()\n"
-    ++ codes "    }\n}\n\n"
+    ++ codes "        let state = match self.inner.try_lock() {\n"
+    ++ codes "            Ok(inner) => Some(inner.state),\n"
+    ++ codes "            Err(std::sync::TryLockError::Poisoned(inner)) => "
+    ++ codes "Some(inner.into_inner().state),\n"
+    ++ codes "            Err(std::sync::TryLockError::WouldBlock) => None,\n        };\n"
+    ++ codes "        let mut text = f.debug_struct(\""
+
+-- and after it
+abbrev pub DEBUG_END : List ℕ
+DEBUG_END =
+    codes "\");\n        match state {\n"
+    ++ codes "            Some(state) => text.field(\"state\", &state),\n"
+    ++ codes "            None => text.field(\"state\", &format_args!(\"<locked>\")),\n        };\n"
+    ++ codes "        text.finish_non_exhaustive()\n    }\n}\n\n"
 
 -- before the struct of what the mutex guards
 abbrev pub INNER : List ℕ
@@ -75,3 +89,29 @@ OVERFLOW =
     ++ codes "/// The number, where it has 64 bits.\n"
     ++ codes "fn narrow(number: i128) -> Result<i64, Overflow> {\n"
     ++ codes "    i64::try_from(number).map_err(|_| Overflow)\n}\n"
+
+-- the error of calls that may be refused alone
+abbrev pub REFUSED : List ℕ
+REFUSED =
+    codes "\n/// The guard was false, and the call did not wait. Nothing changed.\n"
+    ++ codes "#[derive(Clone, Copy, Debug, PartialEq, Eq)]\npub struct Refused;\n\n"
+    ++ codes "impl std::fmt::Display for Refused {\n"
+    ++ codes "    fn fmt(&self, f: &mut std::fmt::Formatter<'_>) -> std::fmt::Result {\n"
+    ++ codes "        f.write_str(\"the guard is false\")\n    }\n}\n\n"
+    ++ codes "impl std::error::Error for Refused {}\n"
+
+-- the error of calls that may be refused, and may overflow
+abbrev pub FAILED : List ℕ
+FAILED =
+    codes "\n/// Why a call that tries has no answer.\n"
+    ++ codes "#[derive(Clone, Copy, Debug, PartialEq, Eq)]\npub enum Failed {\n"
+    ++ codes "    /// The guard was false, and the call did not wait. Nothing changed.\n"
+    ++ codes "    Refused,\n    /// A number would have left 64 bits.\n    Overflow,\n}\n\n"
+    ++ codes "impl From<Overflow> for Failed {\n"
+    ++ codes "    fn from(_: Overflow) -> Self {\n        Self::Overflow\n    }\n}\n\n"
+    ++ codes "impl std::fmt::Display for Failed {\n"
+    ++ codes "    fn fmt(&self, f: &mut std::fmt::Formatter<'_>) -> std::fmt::Result {\n"
+    ++ codes "        f.write_str(match self {\n"
+    ++ codes "            Self::Refused => \"the guard is false\",\n"
+    ++ codes "            Self::Overflow => \"a number would leave 64 bits\",\n"
+    ++ codes "        })\n    }\n}\n\nimpl std::error::Error for Failed {}\n"

@@ -11,6 +11,7 @@ use Rattle.lang_tree.specs.Names.{declared_name}
 use Rattle.lang_monitor.specs.declared.monitor.Condition.{Condition}
 use Rattle.lang_monitor.specs.MonitorParts.{MonitorParts, first_in}
 use Rattle.machine_events.specs.declared.plan.Plan.{Plan}
+use Rattle.machine_events.specs.PlanText.{plan_text}
 use Rattle.machine_events.specs.Configurations.{block_condition}
 use Rattle.emit_code.specs.Code.{is_always, is_waited_on}
 use Rattle.emit_rust.specs.declared.style.Style.TheVariants as styles
@@ -22,9 +23,9 @@ use Rattle.emit_bodies.specs.Guards.{guard_text}
 use Rattle.emit_method.specs.Sources.{SourceParts, source_of, answer_of, reads_inputs}
 use Rattle.emit_method.specs.Conditions.{around_count, around_name, first_block}
 use Rattle.emit_method.specs.Statements.{method_fails}
-use Rattle.emit_method.specs.Methods.{methods_text, start_text, typed_start}
-use Rattle.emit_module.specs.Fixed.{HEAD, NEW, DEFAULT, DEBUG, INNER, STATE, STATE_IMPL, LOCK, WAIT}
-use Rattle.emit_module.specs.Fixed.{OVERFLOW}
+use Rattle.emit_method.specs.Methods.{has_try, methods_text, start_text, typed_start}
+use Rattle.emit_module.specs.Fixed.{VERSION, HEAD, NEW, DEFAULT, DEBUG, DEBUG_END, INNER, STATE}
+use Rattle.emit_module.specs.Fixed.{STATE_IMPL, LOCK, WAIT, OVERFLOW, REFUSED, FAILED}
 
 -- lints would speak of names that are written as they stand
 abbrev pub lints_text : MonitorTree → List ℕ
@@ -83,11 +84,13 @@ has_calls tree = not (length tree.methods == 0)
 abbrev pub use_text : SourceParts → List ℕ
 use_text source = use_by (waits_somewhere source.monitor) (has_calls source.tree)
 
--- what is said of the type
-abbrev pub struct_docs : MonitorTree → List ℕ
-struct_docs tree =
-    codes "/// The monitor `" ++ tree.name
+-- what is said of the type, with its plan
+abbrev pub struct_docs : SourceParts → List ℕ
+struct_docs source =
+    codes "/// The monitor `" ++ source.tree.name
     ++ codes "`. Threads share it by reference. A call waits for its guard, unless it tries.\n"
+    ++ codes "/**\n# Plan\n\n```text\n" ++ plan_text source.monitor source.given
+    ++ codes "```\n*/\n"
 
 -- Up to the condition variables. A program may use little of the module, and the name may be one of
 -- which lints would speak.
@@ -99,7 +102,7 @@ struct_head tree =
 -- the type that threads share
 abbrev pub struct_text : SourceParts → List ℕ
 struct_text source =
-    struct_docs source.tree ++ lints_text source.tree ++ struct_head source.tree
+    struct_docs source ++ lints_text source.tree ++ struct_head source.tree
     ++ flat_map (λ one. condition_field source one.0 one.1)
     (enumerate_from 0 source.monitor.conditions)
     ++ codes "}\n\n"
@@ -115,8 +118,9 @@ is_field (decls.Flag at name value) = true
 -- `pub const CAP: i64 = 4;`
 abbrev pub constant_text : MonitorTree → Decl → List ℕ
 constant_text tree declared =
-    codes "    pub const " ++ member_name tree styles.Upper (declared_name declared)
-    ++ typed_start declared ++ codes ";\n"
+    codes "    /// The constant `" ++ declared_name declared ++ codes "`.\n    pub const "
+    ++ member_name tree styles.Upper (declared_name declared) ++ typed_start declared
+    ++ codes ";\n"
 
 -- nothing for a field
 abbrev pub constant_line : MonitorTree → Decl → List ℕ
@@ -157,9 +161,12 @@ impl_text source =
 abbrev pub default_text : SourceParts → List ℕ
 default_text source = codes "impl Default for " ++ type_name source.tree ++ DEFAULT
 
--- It shows a copy of the state, since the caller's own code runs in it, which may call the monitor.
+-- It shows a copy of the state, since the caller's own code runs in it, which may call the monitor;
+-- and it waits for nobody, since it may be called by who has the mutex.
 abbrev pub debug_text : SourceParts → List ℕ
-debug_text source = codes "impl std::fmt::Debug for " ++ type_name source.tree ++ DEBUG
+debug_text source =
+    codes "impl std::fmt::Debug for " ++ type_name source.tree ++ DEBUG ++ type_name source.tree
+    ++ DEBUG_END
 
 -- what the type is by traits of `std`
 abbrev pub traits_text : SourceParts → List ℕ
@@ -282,18 +289,41 @@ state_impl_text source =
 abbrev pub fails_somewhere : MonitorTree → Bool
 fails_somewhere tree = list_any (method_fails tree) tree.methods
 
--- what is free of the monitor: where there are calls, where some wait, and where some may fail
+-- the calls of a method that try are refused, by whether it may fail too
+abbrev pub refuses_so : SourceParts → Bool → ℕ → MethodTree → Bool
+refuses_so source fails number method =
+    has_try source number method && (if fails then method_fails source.tree method
+    else not (method_fails source.tree method))
+
+-- so are those of some method
+abbrev pub refuses_somewhere : SourceParts → Bool → Bool
+refuses_somewhere source fails =
+    list_any (λ one. refuses_so source fails one.0 one.1) (enumerate_from 0 source.tree.methods)
+
+-- a text where there is a use for it
+abbrev pub text_if : Bool → List ℕ → List ℕ
+text_if any text = if any then text else []
+
+-- what is free of the monitor: where there are calls, where some wait, where some may fail, and
+-- where some may be refused
 abbrev pub functions_text : SourceParts → List ℕ
 functions_text source =
-    (if has_calls source.tree then LOCK else [])
-    ++ (if waits_somewhere source.monitor then WAIT else [])
-    ++ (if fails_somewhere source.tree then OVERFLOW else [])
+    text_if (has_calls source.tree) LOCK ++ text_if (waits_somewhere source.monitor) WAIT
+    ++ text_if (fails_somewhere source.tree) OVERFLOW
+    ++ text_if (refuses_somewhere source false) REFUSED
+    ++ text_if (refuses_somewhere source true) FAILED
+
+-- what the module is, and what made it
+abbrev pub head_text : MonitorTree → List ℕ
+head_text tree =
+    codes "// The monitor `" ++ tree.name
+    ++ codes "` as a module of Rust, made by `expresso emit` " ++ VERSION ++ HEAD
 
 -- the whole module
 abbrev pub module_text : SourceParts → List ℕ
 module_text source =
-    HEAD ++ use_text source ++ struct_text source ++ impl_text source ++ traits_text source
-    ++ inner_text source ++ state_text source.tree ++ state_impl_text source
+    head_text source.tree ++ use_text source ++ struct_text source ++ impl_text source
+    ++ traits_text source ++ inner_text source ++ state_text source.tree ++ state_impl_text source
     ++ functions_text source
 
 -- the module of a monitor, as it is written and as it was checked, under its plan

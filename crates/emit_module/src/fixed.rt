@@ -1,14 +1,22 @@
 //! The texts that are the same in every module.
 
 ghost use Rattle.std.specs.Prelude.{◌≡◌};
-ghost use Rattle.emit_module.specs.Fixed.{DEBUG, DEFAULT, HEAD, INNER, LOCK, NEW, OVERFLOW, STATE};
-ghost use Rattle.emit_module.specs.Fixed.{STATE_IMPL, WAIT};
+ghost use Rattle.emit_module.specs.Fixed.{DEBUG, DEBUG_END, DEFAULT, FAILED, HEAD, INNER, LOCK};
+ghost use Rattle.emit_module.specs.Fixed.{NEW, OVERFLOW, REFUSED, STATE, STATE_IMPL, VERSION, WAIT};
 
-/// The first line.
+/// The program's version.
+pub(crate) fn version_bytes() -> &'static [u8]
+    ensures { result.now ≡ VERSION }
+{
+    b"0.2.0"
+}
+
+/// What stands after the version in the head.
 pub(crate) fn head_bytes() -> &'static [u8]
     ensures { result.now ≡ HEAD }
 {
-    b"// Made by `expresso emit`. Change the monitor, and not this file.
+    b".
+// Change the monitor, and not this file. It wants Rust 1.65 and the edition 2021, or later ones.
 
 "
 }
@@ -39,20 +47,30 @@ pub(crate) fn default_bytes() -> &'static [u8]
 "
 }
 
-/// The braces of `impl Debug`.
+/// `impl Debug` up to the name that it prints.
 pub(crate) fn debug_bytes() -> &'static [u8]
     ensures { result.now ≡ DEBUG }
 {
     b" {
     fn fmt(&self, f: &mut std::fmt::Formatter<'_>) -> std::fmt::Result {
-        let state = self
-            .inner
-            .lock()
-            .unwrap_or_else(std::sync::PoisonError::into_inner)
-            .state;
-        f.debug_struct(std::any::type_name::<Self>())
-            .field(\"state\", &state)
-            .finish_non_exhaustive()
+        let state = match self.inner.try_lock() {
+            Ok(inner) => Some(inner.state),
+            Err(std::sync::TryLockError::Poisoned(inner)) => Some(inner.into_inner().state),
+            Err(std::sync::TryLockError::WouldBlock) => None,
+        };
+        let mut text = f.debug_struct(\""
+}
+
+/// `impl Debug` after that name.
+pub(crate) fn debug_end() -> &'static [u8]
+    ensures { result.now ≡ DEBUG_END }
+{
+    b"\");
+        match state {
+            Some(state) => text.field(\"state\", &state),
+            None => text.field(\"state\", &format_args!(\"<locked>\")),
+        };
+        text.finish_non_exhaustive()
     }
 }
 
@@ -136,5 +154,57 @@ impl std::error::Error for Overflow {}
 fn narrow(number: i128) -> Result<i64, Overflow> {
     i64::try_from(number).map_err(|_| Overflow)
 }
+"
+}
+
+/// The error of calls that may be refused alone.
+pub(crate) fn refused_bytes() -> &'static [u8]
+    ensures { result.now ≡ REFUSED }
+{
+    b"
+/// The guard was false, and the call did not wait. Nothing changed.
+#[derive(Clone, Copy, Debug, PartialEq, Eq)]
+pub struct Refused;
+
+impl std::fmt::Display for Refused {
+    fn fmt(&self, f: &mut std::fmt::Formatter<'_>) -> std::fmt::Result {
+        f.write_str(\"the guard is false\")
+    }
+}
+
+impl std::error::Error for Refused {}
+"
+}
+
+/// The error of calls that may be refused, and may overflow.
+pub(crate) fn failed_bytes() -> &'static [u8]
+    ensures { result.now ≡ FAILED }
+{
+    b"
+/// Why a call that tries has no answer.
+#[derive(Clone, Copy, Debug, PartialEq, Eq)]
+pub enum Failed {
+    /// The guard was false, and the call did not wait. Nothing changed.
+    Refused,
+    /// A number would have left 64 bits.
+    Overflow,
+}
+
+impl From<Overflow> for Failed {
+    fn from(_: Overflow) -> Self {
+        Self::Overflow
+    }
+}
+
+impl std::fmt::Display for Failed {
+    fn fmt(&self, f: &mut std::fmt::Formatter<'_>) -> std::fmt::Result {
+        f.write_str(match self {
+            Self::Refused => \"the guard is false\",
+            Self::Overflow => \"a number would leave 64 bits\",
+        })
+    }
+}
+
+impl std::error::Error for Failed {}
 "
 }

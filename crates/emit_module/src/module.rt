@@ -1,6 +1,6 @@
 //! The module of a monitor.
 
-ghost use Rattle.std.specs.Prelude.{if◌then◌else◌, ◌≡◌, [], not};
+ghost use Rattle.std.specs.Prelude.{◌≡◌, ◌||◌, false, not, true};
 ghost use Rattle.std.specs.List.{enumerate_from, flat_map, list_any};
 ghost use Rattle.emit_code.specs.Code.{is_always};
 ghost use Rattle.base_io.specs.Writing.{Wrote};
@@ -9,25 +9,29 @@ ghost use Rattle.emit_method.specs.Statements.{method_fails};
 ghost use Rattle.emit_method.specs.Methods.{methods_text};
 ghost use Rattle.emit_module.specs.Modules.{constant_line};
 ghost use Rattle.emit_module.specs.Modules.{constant_text, constants_end, constants_text};
+ghost use Rattle.emit_module.specs.Fixed.{FAILED, REFUSED};
 ghost use Rattle.emit_module.specs.Modules.{debug_text, default_text, fails_somewhere, functions_text};
-ghost use Rattle.emit_module.specs.Modules.{has_calls, impl_text, is_field, module_text, new_text};
-ghost use Rattle.emit_module.specs.Modules.{rust_text, struct_docs, struct_head, struct_text};
+ghost use Rattle.emit_module.specs.Modules.{has_calls, head_text, impl_text, is_field, module_text};
+ghost use Rattle.emit_module.specs.Modules.{new_text, refuses_so, refuses_somewhere, rust_text};
+ghost use Rattle.emit_module.specs.Modules.{struct_docs, struct_head, struct_text, text_if};
 ghost use Rattle.emit_module.specs.Modules.{traits_text, use_by, use_text};
 ghost use Rattle.emit_module.specs.Modules.{waits_somewhere};
 
 use crate::declared::{is_field, write_lints};
 use crate::fields::{ConditionLine, write_conditions};
 use crate::fixed::{
-    debug_bytes, default_bytes, head_bytes, lock_bytes, new_bytes, overflow_bytes, wait_bytes,
+    debug_bytes, debug_end, default_bytes, failed_bytes, head_bytes, lock_bytes, new_bytes,
+    overflow_bytes, refused_bytes, version_bytes, wait_bytes,
 };
 use crate::state::{write_inner, write_state, write_state_impl};
 use base_io::{Sink, SinkFailed, write_piece};
-use emit_method::{Source, is_always, method_fails, write_methods_of, write_typed_start};
+use emit_method::{Source, has_try, is_always, method_fails, write_methods_of, write_typed_start};
 use emit_rust::{Style, write_member, write_type};
 use lang_base::Named;
 use lang_monitor::{Condition, Monitor};
 use lang_tree::{Decl, MethodTree, MonitorTree};
 use machine_events::Plan;
+use report_text::write_plan;
 
 /// Writes the Rust module of a monitor under a plan. It takes no memory.
 ///
@@ -52,7 +56,7 @@ pub fn write_rust<S: Sink>(
 fn write_module<S: Sink>(source: &Source, out: &mut S) -> Result<(), SinkFailed>
     ensures { Wrote (S.seen out.old) (S.seen out.new) result (module_text (seen source.now)) }
 {
-    write_piece(head_bytes(), out)?;
+    write_head(source.tree, out)?;
     write_use(source, out)?;
     write_struct(source, out)?;
     write_impl(source, out)?;
@@ -61,6 +65,16 @@ fn write_module<S: Sink>(source: &Source, out: &mut S) -> Result<(), SinkFailed>
     write_state(source.tree, out)?;
     write_state_impl(source, out)?;
     write_functions(source, out)
+}
+
+fn write_head<S: Sink>(tree: &MonitorTree, out: &mut S) -> Result<(), SinkFailed>
+    ensures { Wrote (S.seen out.old) (S.seen out.new) result (head_text tree.now) }
+{
+    write_piece(b"// The monitor `", out)?;
+    write_piece(tree.name.bytes(), out)?;
+    write_piece(b"` as a module of Rust, made by `expresso emit` ", out)?;
+    write_piece(version_bytes(), out)?;
+    write_piece(head_bytes(), out)
 }
 
 fn write_use<S: Sink>(source: &Source, out: &mut S) -> Result<(), SinkFailed>
@@ -109,7 +123,7 @@ fn any_waits(conditions: &[Condition]) -> bool
 fn write_struct<S: Sink>(source: &Source, out: &mut S) -> Result<(), SinkFailed>
     ensures { Wrote (S.seen out.old) (S.seen out.new) result (struct_text (seen source.now)) }
 {
-    write_struct_docs(source.tree, out)?;
+    write_struct_docs(source, out)?;
     write_lints(source.tree, out)?;
     write_struct_head(source.tree, out)?;
     let conditions = source.monitor.conditions();
@@ -117,15 +131,18 @@ fn write_struct<S: Sink>(source: &Source, out: &mut S) -> Result<(), SinkFailed>
     write_piece(b"}\n\n", out)
 }
 
-fn write_struct_docs<S: Sink>(tree: &MonitorTree, out: &mut S) -> Result<(), SinkFailed>
-    ensures { Wrote (S.seen out.old) (S.seen out.new) result (struct_docs tree.now) }
+fn write_struct_docs<S: Sink>(source: &Source, out: &mut S) -> Result<(), SinkFailed>
+    ensures { Wrote (S.seen out.old) (S.seen out.new) result (struct_docs (seen source.now)) }
 {
     write_piece(b"/// The monitor `", out)?;
-    write_piece(tree.name.bytes(), out)?;
+    write_piece(source.tree.name.bytes(), out)?;
     write_piece(
         b"`. Threads share it by reference. A call waits for its guard, unless it tries.\n",
         out,
-    )
+    )?;
+    write_piece(b"/**\n# Plan\n\n```text\n", out)?;
+    write_plan(source.monitor, source.plan, out)?;
+    write_piece(b"```\n*/\n", out)
 }
 
 fn write_struct_head<S: Sink>(tree: &MonitorTree, out: &mut S) -> Result<(), SinkFailed>
@@ -200,7 +217,9 @@ fn write_constant<S: Sink>(
 ) -> Result<(), SinkFailed>
     ensures { Wrote (S.seen out.old) (S.seen out.new) result (constant_text tree.now declared.now) }
 {
-    write_piece(b"    pub const ", out)?;
+    write_piece(b"    /// The constant `", out)?;
+    write_piece(declared.name().bytes(), out)?;
+    write_piece(b"`.\n    pub const ", out)?;
     write_member(tree, Style::Upper, declared.name(), out)?;
     write_typed_start(declared, out)?;
     write_piece(b";\n", out)
@@ -265,7 +284,9 @@ fn write_debug<S: Sink>(source: &Source, out: &mut S) -> Result<(), SinkFailed>
 {
     write_piece(b"impl std::fmt::Debug for ", out)?;
     write_type(source.tree, out)?;
-    write_piece(debug_bytes(), out)
+    write_piece(debug_bytes(), out)?;
+    write_type(source.tree, out)?;
+    write_piece(debug_end(), out)
 }
 
 // ---- what is free of the monitor
@@ -273,13 +294,36 @@ fn write_debug<S: Sink>(source: &Source, out: &mut S) -> Result<(), SinkFailed>
 fn write_functions<S: Sink>(source: &Source, out: &mut S) -> Result<(), SinkFailed>
     ensures { Wrote (S.seen out.old) (S.seen out.new) result (functions_text (seen source.now)) }
 {
-    write_piece(if_any(has_calls(source.tree), lock_bytes()), out)?;
-    write_piece(if_any(waits_somewhere(source.monitor), wait_bytes()), out)?;
-    write_piece(if_any(fails_somewhere(source.tree), overflow_bytes()), out)
+    write_piece(text_if(has_calls(source.tree), lock_bytes()), out)?;
+    write_piece(text_if(waits_somewhere(source.monitor), wait_bytes()), out)?;
+    write_piece(text_if(fails_somewhere(source.tree), overflow_bytes()), out)?;
+    write_refused(source, out)?;
+    write_failed(source, out)
 }
 
-fn if_any(any: bool, text: &[u8]) -> &[u8]
-    ensures { result.now ≡ if any then text.now else [] }
+fn write_refused<S: Sink>(source: &Source, out: &mut S) -> Result<(), SinkFailed>
+    ensures { Wrote (S.seen out.old) (S.seen out.new) result
+        (text_if (refuses_somewhere (seen source.now) false) REFUSED) }
+{
+    write_piece(
+        text_if(refuses_somewhere(source, false), refused_bytes()),
+        out,
+    )
+}
+
+fn write_failed<S: Sink>(source: &Source, out: &mut S) -> Result<(), SinkFailed>
+    ensures { Wrote (S.seen out.old) (S.seen out.new) result
+        (text_if (refuses_somewhere (seen source.now) true) FAILED) }
+{
+    write_piece(
+        text_if(refuses_somewhere(source, true), failed_bytes()),
+        out,
+    )
+}
+
+// A text where there is a use for it.
+fn text_if(any: bool, text: &[u8]) -> &[u8]
+    ensures { result.now ≡ text_if any text.now }
 {
     if any { text } else { b"" }
 }
@@ -295,4 +339,37 @@ fn any_fails(tree: &MonitorTree, methods: &[MethodTree]) -> bool
     ensures { result ≡ list_any (method_fails tree.now) methods.now }
 {
     methods.iter().any(|method| method_fails(tree, method))
+}
+
+// Whether the calls of some method that try are refused, by whether it may fail too.
+fn refuses_somewhere(source: &Source, fails: bool) -> bool
+    ensures { result ≡ refuses_somewhere (seen source.now) fails }
+{
+    any_refuses(source, fails, source.tree.methods.items())
+}
+
+fn any_refuses(source: &Source, fails: bool, methods: &[MethodTree]) -> bool
+    ensures { result ≡ list_any (λ one. refuses_so (seen source.now) fails one.0 one.1)
+        (enumerate_from 0 methods.now) }
+{
+    let mut found = false;
+    for (number, method) in methods.iter().enumerate() {
+        let here = refuses_so(source, fails, number, method);
+        found = either(found, here);
+    }
+    found
+}
+
+fn either(one: bool, other: bool) -> bool
+    ensures { result ≡ (one || other) }
+{
+    one || other
+}
+
+fn refuses_so(source: &Source, fails: bool, number: usize, method: &MethodTree) -> bool
+    ensures { result ≡ refuses_so (seen source.now) fails number method.now }
+{
+    let tries = has_try(source, number, method);
+    let failing = method_fails(source.tree, method);
+    tries && if fails { failing } else { !failing }
 }

@@ -17,8 +17,9 @@ KEYWORDS =
 -- other types of a module
 abbrev pub TYPE_WORDS : List (List ℕ)
 TYPE_WORDS =
-    codes "Inner" ∷ codes "State" ∷ codes "Overflow" ∷ codes "Mutex" ∷ codes "MutexGuard" ∷
-    codes "Condvar" ∷ codes "PoisonError" ∷ codes "Default" ∷ codes "Result" ∷ codes "Option" ∷ []
+    codes "Inner" ∷ codes "State" ∷ codes "Overflow" ∷ codes "Refused" ∷ codes "Failed" ∷
+    codes "Mutex" ∷ codes "MutexGuard" ∷ codes "Condvar" ∷ codes "PoisonError" ∷ codes "Default" ∷
+    codes "From" ∷ codes "Result" ∷ []
 
 -- the other function of a monitor's type
 abbrev pub MEMBER_WORDS : List (List ℕ)
@@ -29,4 +30,4 @@ abbrev pub INPUT_WORDS : List (List ℕ)
 INPUT_WORDS =
     codes "inner" ∷ codes "copy" ∷ codes "next" ∷ codes "answer" ∷ codes "lock" ∷ codes "wait" ∷
     codes "narrow" ∷ codes "whole" ∷ codes "drop" ∷ codes "Ok" ∷ codes "Err" ∷ codes "Some" ∷
-    codes "None" ∷ codes "Overflow" ∷ []
+    codes "None" ∷ codes "Overflow" ∷ codes "Refused" ∷ []

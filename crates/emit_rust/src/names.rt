@@ -73,22 +73,24 @@ const KEYWORDS: [&[u8]; 52] = [
     b"yield",
 ];
 
-const TYPE_WORDS: [&[u8]; 10] = [
+const TYPE_WORDS: [&[u8]; 12] = [
     b"Inner",
     b"State",
     b"Overflow",
+    b"Refused",
+    b"Failed",
     b"Mutex",
     b"MutexGuard",
     b"Condvar",
     b"PoisonError",
     b"Default",
+    b"From",
     b"Result",
-    b"Option",
 ];
 
 const MEMBER_WORDS: [&[u8]; 1] = [b"new"];
 
-const INPUT_WORDS: [&[u8]; 14] = [
+const INPUT_WORDS: [&[u8]; 15] = [
     b"inner",
     b"copy",
     b"next",
@@ -103,6 +105,7 @@ const INPUT_WORDS: [&[u8]; 14] = [
     b"Some",
     b"None",
     b"Overflow",
+    b"Refused",
 ];
 
 /// Writes the name of a constant, a field or a method as Rust has it. It takes no memory.

@@ -1,8 +1,27 @@
-// Made by `expresso emit`. Change the monitor, and not this file.
+// The monitor `MapGate` as a module of Rust, made by `expresso emit` 0.2.0.
+// Change the monitor, and not this file. It wants Rust 1.65 and the edition 2021, or later ones.
 
 use std::sync::{Condvar, Mutex, MutexGuard, PoisonError};
 
 /// The monitor `MapGate`. Threads share it by reference. A call waits for its guard, unless it tries.
+/**
+# Plan
+
+```text
+plan MapGate
+keep state >= -1
+keep queued >= 0
+keep queued >= -1
+condition 1 broadcast: state >= 0 && queued == 0
+condition 2 broadcast: true
+condition 3 signal: state == 0
+block startRead: none
+block endRead: 3 signal tested
+block startWrite.1: none
+block startWrite.2: none
+block endWrite: 1 broadcast tested, 3 signal
+```
+*/
 #[allow(dead_code, non_camel_case_types, clippy::upper_case_acronyms)]
 pub struct MapGate {
     inner: Mutex<Inner>,
@@ -31,8 +50,6 @@ impl MapGate {
 
     /// Waits until `state >= 0 && queued == 0`.
     ///
-    /// Wakes nobody.
-    ///
     /// # Errors
     ///
     /// [`Overflow`] where a number would leave 64 bits. Then nothing changes.
@@ -51,29 +68,27 @@ impl MapGate {
         Ok(())
     }
 
-    /// Answers `None` where `state >= 0 && queued == 0` is false.
-    ///
-    /// Wakes nobody.
+    /// As [`start_read`](Self::start_read), but does not wait until `state >= 0 && queued == 0`.
     ///
     /// # Errors
     ///
-    /// [`Overflow`] where a number would leave 64 bits. Then nothing changes.
-    pub fn try_start_read(&self) -> Result<Option<()>, Overflow> {
+    /// [`Failed::Refused`] where `state >= 0 && queued == 0` is false. Then nothing changes.
+    ///
+    /// [`Failed::Overflow`] where a number would leave 64 bits. Then nothing changes.
+    pub fn try_start_read(&self) -> Result<(), Failed> {
         let mut inner = lock(&self.inner);
         if !inner.state.can_start_read() {
-            return Ok(None);
+            return Err(Failed::Refused);
         }
         let Ok(()) = inner.state.run_start_read() else {
             self.can_start_read.notify_one();
-            return Err(Overflow);
+            return Err(Failed::Overflow);
         };
         drop(inner);
-        Ok(Some(()))
+        Ok(())
     }
 
     /// Does not wait.
-    ///
-    /// Wakes one call that waits until `state == 0`, where that now holds.
     ///
     /// # Errors
     ///
@@ -91,11 +106,7 @@ impl MapGate {
 
     /// Does not wait.
     ///
-    /// Wakes nobody.
-    ///
     /// Then waits until `state == 0`.
-    ///
-    /// Wakes nobody.
     ///
     /// # Errors
     ///
@@ -119,9 +130,6 @@ impl MapGate {
     }
 
     /// Does not wait.
-    ///
-    /// Wakes all calls that wait until `state >= 0 && queued == 0`, where that now holds.
-    /// Wakes one call that waits until `state == 0`.
     pub fn end_write(&self) {
         let mut inner = lock(&self.inner);
         inner.state.run_end_write();
@@ -144,14 +152,17 @@ impl Default for MapGate {
 
 impl std::fmt::Debug for MapGate {
     fn fmt(&self, f: &mut std::fmt::Formatter<'_>) -> std::fmt::Result {
-        let state = self
-            .inner
-            .lock()
-            .unwrap_or_else(std::sync::PoisonError::into_inner)
-            .state;
-        f.debug_struct(std::any::type_name::<Self>())
-            .field("state", &state)
-            .finish_non_exhaustive()
+        let state = match self.inner.try_lock() {
+            Ok(inner) => Some(inner.state),
+            Err(std::sync::TryLockError::Poisoned(inner)) => Some(inner.into_inner().state),
+            Err(std::sync::TryLockError::WouldBlock) => None,
+        };
+        let mut text = f.debug_struct("MapGate");
+        match state {
+            Some(state) => text.field("state", &state),
+            None => text.field("state", &format_args!("<locked>")),
+        };
+        text.finish_non_exhaustive()
     }
 }
 
@@ -249,3 +260,29 @@ impl std::error::Error for Overflow {}
 fn narrow(number: i128) -> Result<i64, Overflow> {
     i64::try_from(number).map_err(|_| Overflow)
 }
+
+/// Why a call that tries has no answer.
+#[derive(Clone, Copy, Debug, PartialEq, Eq)]
+pub enum Failed {
+    /// The guard was false, and the call did not wait. Nothing changed.
+    Refused,
+    /// A number would have left 64 bits.
+    Overflow,
+}
+
+impl From<Overflow> for Failed {
+    fn from(_: Overflow) -> Self {
+        Self::Overflow
+    }
+}
+
+impl std::fmt::Display for Failed {
+    fn fmt(&self, f: &mut std::fmt::Formatter<'_>) -> std::fmt::Result {
+        f.write_str(match self {
+            Self::Refused => "the guard is false",
+            Self::Overflow => "a number would leave 64 bits",
+        })
+    }
+}
+
+impl std::error::Error for Failed {}

@@ -2,7 +2,7 @@ use std::collections::HashMap;
 use std::ops::{Deref, DerefMut};
 use std::sync::{PoisonError, RwLock, RwLockReadGuard, RwLockWriteGuard, TryLockError};
 
-use crate::map_gate::MapGate;
+use crate::map_gate::{Failed, MapGate};
 
 /// Why a call of the gate can't fail: it counts threads.
 const SMALL: &str = "there are fewer than 2^63 threads";
@@ -38,8 +38,11 @@ impl<'a, K, V> ReadGuard<'a, K, V> {
 
     /// `None` where somebody writes or waits to write.
     pub(crate) fn try_now(gate: &'a MapGate, map: &'a RwLock<HashMap<K, V>>) -> Option<Self> {
-        gate.try_start_read().expect(SMALL)?;
-        Some(Self::within(ReadLeave(gate), map))
+        match gate.try_start_read() {
+            Ok(()) => Some(Self::within(ReadLeave(gate), map)),
+            Err(Failed::Refused) => None,
+            Err(Failed::Overflow) => panic!("{SMALL}"),
+        }
     }
 
     fn within(leave: ReadLeave<'a>, map: &'a RwLock<HashMap<K, V>>) -> Self {

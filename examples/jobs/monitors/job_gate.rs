@@ -1,8 +1,26 @@
-// Made by `expresso emit`. Change the monitor, and not this file.
+// The monitor `JobGate` as a module of Rust, made by `expresso emit` 0.2.0.
+// Change the monitor, and not this file. It wants Rust 1.65 and the edition 2021, or later ones.
 
 use std::sync::{Condvar, Mutex, MutexGuard, PoisonError};
 
 /// The monitor `JobGate`. Threads share it by reference. A call waits for its guard, unless it tries.
+/**
+# Plan
+
+```text
+plan JobGate
+keep used <= 8
+keep ready >= 0
+condition 1 signal: used < CAP || !open
+condition 2 broadcast: true
+condition 3 signal: ready > 0 || !open && filling == 0
+block reserve: none
+block publish: 3 broadcast
+block claim: none
+block release: 1 signal
+block close: 1 broadcast, 3 broadcast tested
+```
+*/
 #[allow(dead_code, non_camel_case_types, clippy::upper_case_acronyms)]
 pub struct JobGate {
     inner: Mutex<Inner>,
@@ -15,6 +33,7 @@ pub struct JobGate {
 #[rustfmt::skip]
 #[allow(dead_code, clippy::style)]
 impl JobGate {
+    /// The constant `CAP`.
     pub const CAP: i64 = 8;
 
     /// The monitor at its start.
@@ -32,8 +51,6 @@ impl JobGate {
     }
 
     /// Waits until `used < CAP || !open`.
-    ///
-    /// Wakes nobody.
     ///
     /// # Errors
     ///
@@ -53,29 +70,27 @@ impl JobGate {
         Ok(answer)
     }
 
-    /// Answers `None` where `used < CAP || !open` is false.
-    ///
-    /// Wakes nobody.
+    /// As [`reserve`](Self::reserve), but does not wait until `used < CAP || !open`.
     ///
     /// # Errors
     ///
-    /// [`Overflow`] where a number would leave 64 bits. Then nothing changes.
-    pub fn try_reserve(&self) -> Result<Option<bool>, Overflow> {
+    /// [`Failed::Refused`] where `used < CAP || !open` is false. Then nothing changes.
+    ///
+    /// [`Failed::Overflow`] where a number would leave 64 bits. Then nothing changes.
+    pub fn try_reserve(&self) -> Result<bool, Failed> {
         let mut inner = lock(&self.inner);
         if !inner.state.can_reserve() {
-            return Ok(None);
+            return Err(Failed::Refused);
         }
         let Ok(answer) = inner.state.run_reserve() else {
             self.can_reserve.notify_one();
-            return Err(Overflow);
+            return Err(Failed::Overflow);
         };
         drop(inner);
-        Ok(Some(answer))
+        Ok(answer)
     }
 
     /// Does not wait.
-    ///
-    /// Wakes all calls that wait until `ready > 0 || !open && filling == 0`.
     ///
     /// # Errors
     ///
@@ -92,8 +107,6 @@ impl JobGate {
     }
 
     /// Waits until `ready > 0 || !open && filling == 0`.
-    ///
-    /// Wakes nobody.
     ///
     /// # Errors
     ///
@@ -114,30 +127,28 @@ impl JobGate {
         Ok(answer)
     }
 
-    /// Answers `None` where `ready > 0 || !open && filling == 0` is false.
-    ///
-    /// Wakes nobody.
+    /// As [`claim`](Self::claim), but does not wait until `ready > 0 || !open && filling == 0`.
     ///
     /// # Errors
     ///
-    /// [`Overflow`] where a number would leave 64 bits. Then nothing changes.
-    pub fn try_claim(&self) -> Result<Option<bool>, Overflow> {
+    /// [`Failed::Refused`] where `ready > 0 || !open && filling == 0` is false. Then nothing changes.
+    ///
+    /// [`Failed::Overflow`] where a number would leave 64 bits. Then nothing changes.
+    pub fn try_claim(&self) -> Result<bool, Failed> {
         let mut found: bool = false;
         let mut inner = lock(&self.inner);
         if !inner.state.can_claim() {
-            return Ok(None);
+            return Err(Failed::Refused);
         }
         let Ok(answer) = inner.state.run_claim(&mut found) else {
             self.can_claim.notify_one();
-            return Err(Overflow);
+            return Err(Failed::Overflow);
         };
         drop(inner);
-        Ok(Some(answer))
+        Ok(answer)
     }
 
     /// Does not wait.
-    ///
-    /// Wakes one call that waits until `used < CAP || !open`.
     ///
     /// # Errors
     ///
@@ -154,9 +165,6 @@ impl JobGate {
     }
 
     /// Does not wait.
-    ///
-    /// Wakes all calls that wait until `used < CAP || !open`.
-    /// Wakes all calls that wait until `ready > 0 || !open && filling == 0`, where that now holds.
     pub fn close(&self) {
         let mut inner = lock(&self.inner);
         inner.state.run_close();
@@ -179,14 +187,17 @@ impl Default for JobGate {
 
 impl std::fmt::Debug for JobGate {
     fn fmt(&self, f: &mut std::fmt::Formatter<'_>) -> std::fmt::Result {
-        let state = self
-            .inner
-            .lock()
-            .unwrap_or_else(std::sync::PoisonError::into_inner)
-            .state;
-        f.debug_struct(std::any::type_name::<Self>())
-            .field("state", &state)
-            .finish_non_exhaustive()
+        let state = match self.inner.try_lock() {
+            Ok(inner) => Some(inner.state),
+            Err(std::sync::TryLockError::Poisoned(inner)) => Some(inner.into_inner().state),
+            Err(std::sync::TryLockError::WouldBlock) => None,
+        };
+        let mut text = f.debug_struct("JobGate");
+        match state {
+            Some(state) => text.field("state", &state),
+            None => text.field("state", &format_args!("<locked>")),
+        };
+        text.finish_non_exhaustive()
     }
 }
 
@@ -292,3 +303,29 @@ impl std::error::Error for Overflow {}
 fn narrow(number: i128) -> Result<i64, Overflow> {
     i64::try_from(number).map_err(|_| Overflow)
 }
+
+/// Why a call that tries has no answer.
+#[derive(Clone, Copy, Debug, PartialEq, Eq)]
+pub enum Failed {
+    /// The guard was false, and the call did not wait. Nothing changed.
+    Refused,
+    /// A number would have left 64 bits.
+    Overflow,
+}
+
+impl From<Overflow> for Failed {
+    fn from(_: Overflow) -> Self {
+        Self::Overflow
+    }
+}
+
+impl std::fmt::Display for Failed {
+    fn fmt(&self, f: &mut std::fmt::Formatter<'_>) -> std::fmt::Result {
+        f.write_str(match self {
+            Self::Refused => "the guard is false",
+            Self::Overflow => "a number would leave 64 bits",
+        })
+    }
+}
+
+impl std::error::Error for Failed {}

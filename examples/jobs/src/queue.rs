@@ -3,7 +3,7 @@ use std::error::Error;
 use std::fmt;
 use std::sync::{Mutex, MutexGuard, PoisonError};
 
-use crate::job_gate::JobGate;
+use crate::job_gate::{Failed, JobGate};
 
 /// Why a call of the gate can't fail: its numbers stay between 0 and the capacity.
 const SMALL: &str = "the gate counts no further than its capacity";
@@ -50,13 +50,14 @@ impl<T> JobQueue<T> {
     ///
     /// [`TryPushError`], with the job, where there is no room or the queue is closed.
     pub fn try_push(&self, job: T) -> Result<(), TryPushError<T>> {
-        match self.gate.try_reserve().expect(SMALL) {
-            Some(true) => {
+        match self.gate.try_reserve() {
+            Ok(true) => {
                 self.store(job);
                 Ok(())
             }
-            Some(false) => Err(TryPushError::Closed(job)),
-            None => Err(TryPushError::Full(job)),
+            Ok(false) => Err(TryPushError::Closed(job)),
+            Err(Failed::Refused) => Err(TryPushError::Full(job)),
+            Err(Failed::Overflow) => panic!("{SMALL}"),
         }
     }
 
@@ -184,7 +185,7 @@ mod tests {
         // Thread A goes on, too late.
         queue.jobs().push_back("a job that nobody comes for");
         assert_eq!(queue.len(), 1);
-        assert_eq!(queue.gate.try_claim(), Ok(None));
+        assert_eq!(queue.gate.try_claim(), Err(Failed::Refused));
     }
 
     /// A thread that was let in before the close is waited for, so that its job is done.
@@ -195,7 +196,7 @@ mod tests {
         assert_eq!(queue.gate.reserve(), Ok(true));
         queue.close();
         // Thread B: neither a job nor the end.
-        assert_eq!(queue.gate.try_claim(), Ok(None));
+        assert_eq!(queue.gate.try_claim(), Err(Failed::Refused));
         // Thread A goes on.
         queue.store("the last job");
         assert_eq!(queue.pop(), Some("the last job"));
@@ -214,7 +215,7 @@ mod tests {
         assert_eq!(queue.gate.claim(), Ok(true));
         assert_eq!(queue.gate.release(), Ok(()));
         // Thread B: it is let in, and there is no room.
-        assert_eq!(queue.gate.try_reserve(), Ok(Some(true)));
+        assert_eq!(queue.gate.try_reserve(), Ok(true));
         assert_eq!(queue.len(), JobQueue::<usize>::CAPACITY);
     }
 }

@@ -10,9 +10,8 @@ use Rattle.emit_code.specs.Code.Op.{Lock, Run}
 use Rattle.emit_method.specs.Sources.{SourceParts}
 use Rattle.emit_method.specs.Conditions.{around_name}
 use Rattle.emit_method.specs.Statements.{MethodParts, answer_name, call_text, note_text, op_text}
-use Rattle.emit_method.specs.Statements.{ops_text}
+use Rattle.emit_method.specs.Statements.{ops_text, overflow_text}
 use Rattle.emit_method.specs.Sources.{answer_of}
-use Rattle.emit_method.specs.Docs.{waking_text}
 use Rattle.emit_method.specs.Methods.{code_text}
 
 -- a formula of no parts is `true`
@@ -28,14 +27,17 @@ test_ops it tries block = ops_text it (test_code it.source.monitor tries block [
 abbrev pub run_op : MethodParts → ℕ → List ℕ
 run_op it block = op_text it (Run block (overflow_notes it.source.monitor block))
 
+-- a note, and the error of a body that overflows
+abbrev pub guarded_end : Bool → List ℕ
+guarded_end tries = codes ".notify_one();\n" ++ overflow_text tries
+
 -- a body that may fail in a block that waits
 abbrev pub guarded_run : MethodParts → ℕ → List ℕ
 guarded_run it block =
     codes "        let Ok(" ++ answer_name (answer_of it.source.monitor block) ++ codes ") = "
     ++ call_text it block
     ++ around_name it.source (codes " else {\n            self.")
-    (block_condition it.source.monitor block)
-    (codes ".notify_one();\n            return Err(Overflow);\n        };\n")
+    (block_condition it.source.monitor block) (guarded_end it.tries)
 
 -- what comes after the body
 abbrev pub told_ops : MethodParts → ℕ → List ℕ
@@ -67,8 +69,3 @@ heard_text source note =
 -- the statements of such notes
 abbrev pub heard_texts : SourceParts → List Note → List ℕ
 heard_texts source = flat_map (heard_text source)
-
--- what is said of a note that someone may hear
-abbrev pub heard_doc : SourceParts → Note → List ℕ
-heard_doc source note =
-    if is_waited_on source.monitor note.condition then waking_text source note else []

@@ -1,16 +1,13 @@
-use Rattle.std.proofs.Common.{ap, length, List}
-use Rattle.base_io.proofs.Writing.{wrote_both, wrote_fails, wrote_longer, wrote_same}
-use Rattle.emit_method.proofs.Numbered.{numbered}
-use Rattle.emit_method.specs.Docs.{block_docs, errors_text}
+use Rattle.base_io.proofs.Writing.{wrote_same}
+use Rattle.emit_method.proofs.Choices.{if_false, if_true}
+use Rattle.emit_method.specs.Docs.{trying_docs, waiting_docs}
 use Rattle.emit_method.specs.Statements.{method_seen}
-use Rattle.lang_tree.specs.declared.tree.BlockTree.{BlockTree}
-use Rattle.std.specs.List.{enumerate_from, flat_map}
 use Rattle.emit_method.proofs.docs.write_docs.Goals as goal
 
-pub returns-in_err-write_blocks_docs : goal.returns-in_err-write_blocks_docs
-returns-in_err-write_blocks_docs g c =
-    wrote_fails _ c.from_residual.ensures.0 (wrote_longer (errors_text c.args.it.now.fails (length c.args.it.now.method.now.blocks)) (wrote_same _ (ap (λ (xs : List BlockTree). flat_map (numbered (block_docs (method_seen c.args.it.now))) (enumerate_from 0 xs)) c.items.ensures) c.in_err-write_blocks_docs.ensures))
+pub returns-then-it : goal.returns-then-it
+returns-then-it g c =
+    wrote_same _ (if_true c.args.it.now.tries (trying_docs (method_seen c.args.it.now)) (waiting_docs (method_seen c.args.it.now)) c.if-it.true) c.write_trying.ensures
 
 pub returns : goal.returns
 returns g c =
-    wrote_both (wrote_same _ (ap (λ (xs : List BlockTree). flat_map (numbered (block_docs (method_seen c.args.it.now))) (enumerate_from 0 xs)) c.items.ensures) c.in_ok-write_blocks_docs.ensures) c.write_errors.ensures
+    wrote_same _ (if_false c.args.it.now.tries (trying_docs (method_seen c.args.it.now)) (waiting_docs (method_seen c.args.it.now)) c.if-it.false) c.write_waiting_docs.ensures

@@ -10,4 +10,4 @@ returns-then-not-is_waited_on g c =
 
 pub returns : goal.returns
 returns g c =
-    wrote_same _ (waits_then (method_seen c.args.it.now) c.args.place c.args.block.now _ _ _ _ _ refl c.condition_of.ensures c.is_waited_on.ensures c.if-not-is_waited_on.false c.waits_until.ensures c.waits_end.ensures) c.write_around.ensures
+    wrote_same _ (waits_then (method_seen c.args.it.now) c.args.place c.args.block.now _ _ _ _ refl c.condition_of.ensures c.is_waited_on.ensures c.if-not-is_waited_on.false c.waits_until.ensures) c.write_around.ensures
