@@ -19,17 +19,18 @@ pub record StartsIn64 (monitor : MonitorParts) : Type 0 where
   pub state : AreIn64 (start_of monitor)
   pub locals : (method : ℕ) → AreIn64 (locals_in (slice_get monitor.methods method))
 
--- the arguments of all calls are
+-- the arguments of all calls of these clients are within 64 bits
 abbrev pub PassIn64 : List Client → Type 0
 PassIn64 clients = All (λ client. All (λ call. AreIn64 call.inputs) client.calls) clients
 
--- the fields, and what each thread has for locals
+-- the fields, and the locals that each thread has, are within 64 bits at this moment
 pub record IsIn64 (now : Moment) : Type 0 where
   pub state : AreIn64 now.state
   pub locals : (thread : ℕ) (frame : Frame) (position : Position)
       → IsThread now.threads thread frame position → AreIn64 frame.locals
 
--- so is each moment of each execution
+-- Where the start and the arguments of all calls are within 64 bits, so are the fields and locals
+-- at each moment of each execution.
 abbrev pub MomentsStayIn64 : Type 0
 MomentsStayIn64 =
     (program : Program) (last : Moment) → StartsIn64 program.monitor → PassIn64 program.clients

@@ -1,7 +1,8 @@
 //! What the emitted code does with blocks that fit 64 bits: laws alone.
 //!
-//! Each moment of each execution keeps the fields and locals within 64 bits, and under a lawful
-//! plan no block that fits (`plan_fits`, `specs/Fits`) overflows there. Definitions: `specs/Laws`.
+//! Where the start and the arguments of all calls are within 64 bits, so are the fields and locals
+//! at each moment of each execution; and there, under a plan that is lawful by counting, no block
+//! that fits under what the plan keeps (`plan_fits`, `specs/Fits`) overflows. Definitions: `specs/Laws`.
 //! The laws are functions of `laws`: this crate has no code of its own.
 #![tactic(auto)]
 

@@ -29,9 +29,10 @@ use Rattle.machine_implicit.proofs.Placed.{placed}
 use Rattle.machine_events.specs.Plans.{AreSomeOf}
 use Rattle.machine_events.specs.Running.{MayRun}
 use Rattle.machine_events.proofs.Valuations.{arguments_back, few_held, fields_back, joint, locals_back}
-use Rattle.plan_fits.specs.Answers.{IsFit, MayStayUnknown, limits, undecided}
+use Rattle.plan_fits.specs.Answers.{IsFitAnswer, QuestionMayStayOpen, limits, undecided}
 use Rattle.plan_fits.specs.Fits.{Fits64, MayRunIn64, OverflowsAt}
 use Rattle.plan_fits.specs.Outside.{answers_number, assigns_number, assigns_step, block_question, has_numbers, outside_question, question_in}
+use Rattle.plan_fits.specs.States.{OverflowsBy}
 use Rattle.plan_fits.specs.Within.{is_asked_within, is_made_within}
 use Rattle.plan_fits.proofs.OutsideTruth.{any_truth}
 use Rattle.plan_fits.proofs.Questions.{full_truth, inputs_at, own_state, runs_there, runs_truth, there_runs}
@@ -84,8 +85,8 @@ answer_stays memory arguments rets.Nothing none = refl
 answer_stays memory arguments (rets.Int form) none = absurd cc
 answer_stays memory arguments (rets.Bool formula) none = refl
 
-pub narrow_stays : (block : Block) → has_numbers block ≡ false → (inputs : Inputs) (state : List Value) → overflows_in inputs block state ≡ false
-narrow_stays block none inputs state =
+pub numberless_stays : (block : Block) → has_numbers block ≡ false → (inputs : Inputs) (state : List Value) → overflows_in inputs block state ≡ false
+numberless_stays block none inputs state =
     let both = or_parts (list_any assigns_number block.body) (answers_number block.result) none in
     or_from ((body_effect inputs.arguments block.body).overflows (memory_of state inputs)) (not (fits_result_64 (result_value (after inputs block.body state) inputs.arguments block.result)))
     (body_stays block.body both.0 inputs.arguments (memory_of state inputs)) (answer_stays (after inputs block.body state) inputs.arguments block.result both.1)
@@ -125,7 +126,7 @@ pub never_fits : (monitor : MonitorParts) (kept : List Candidate) (number : ℕ)
 never_fits monitor kept number never block inputs state run over = by (has_numbers block) refl
   where
     by : (has : Bool) → has_numbers block ≡ has → ⊥
-    by false has = let stays = narrow_stays block has inputs state in cc
+    by false has = let stays = numberless_stays block has inputs state in cc
     by true has =
         let v = valuation_of_both state inputs in
         let same = are monitor kept number block inputs state run.runs in
@@ -143,17 +144,16 @@ never_fits monitor kept number never block inputs state run over = by (has_numbe
 nowhere : (v : Valuation) → truth_of v (formulas.Any []) ≡ true → ⊥
 nowhere v holds = let none = any_truth v [] in cc
 
-pub somewhere_overflows : (monitor : MonitorParts) (kept : List Candidate) (number : ℕ) (v : Valuation) → IsMonitor monitor → AreSomeOf kept (candidates_of monitor)
-    → truth_of v (outside_question monitor kept number) ≡ true → OverflowsAt monitor kept number
-somewhere_overflows monitor kept number v rule some holds = by (slice_get monitor.blocks number) refl holds
+pub somewhere_by : (monitor : MonitorParts) (kept : List Candidate) (number : ℕ) (v : Valuation) → IsMonitor monitor → AreSomeOf kept (candidates_of monitor)
+    → truth_of v (outside_question monitor kept number) ≡ true → OverflowsBy monitor kept number v
+somewhere_by monitor kept number v rule some holds = by (slice_get monitor.blocks number) refl holds
   where
-    by_numbers : (block : Block) → slice_get monitor.blocks number ≡ Some block → (has : Bool) → has_numbers block ≡ has → truth_of v (block_question monitor kept block) ≡ true → OverflowsAt monitor kept number
+    by_numbers : (block : Block) → slice_get monitor.blocks number ≡ Some block → (has : Bool) → has_numbers block ≡ has → truth_of v (block_question monitor kept block) ≡ true → OverflowsBy monitor kept number v
     by_numbers block is true has holds =
         let both = and_parts (runs_truth monitor kept block v) (overflows_in (inputs_at monitor block v) block (own_state monitor block v)) (sym (full_truth monitor kept number block v rule is has) ∙ holds) in
         record {
           block = block;
-          inputs = inputs_at monitor block v;
-          state = own_state monitor block v;
+          is = is;
           runs = runs_there monitor kept number block v rule some is both.0;
           overflows = both.1;
         }
@@ -163,9 +163,21 @@ somewhere_overflows monitor kept number v rule some holds = by (slice_get monito
         unchosen one other false is = refl
         unchosen one other true is = absurd cc
 
-    by : (held : Option Block) → slice_get monitor.blocks number ≡ held → truth_of v (question_in monitor kept held) ≡ true → OverflowsAt monitor kept number
+    by : (held : Option Block) → slice_get monitor.blocks number ≡ held → truth_of v (question_in monitor kept held) ≡ true → OverflowsBy monitor kept number v
     by None is holds = absurd (nowhere v holds)
     by (Some block) is holds = by_numbers block is (has_numbers block) refl holds
+
+pub somewhere_overflows : (monitor : MonitorParts) (kept : List Candidate) (number : ℕ) (v : Valuation) → IsMonitor monitor → AreSomeOf kept (candidates_of monitor)
+    → truth_of v (outside_question monitor kept number) ≡ true → OverflowsAt monitor kept number
+somewhere_overflows monitor kept number v rule some holds =
+    let at = somewhere_by monitor kept number v rule some holds in
+    record {
+      block = at.block;
+      inputs = inputs_at monitor at.block v;
+      state = own_state monitor at.block v;
+      runs = at.runs;
+      overflows = at.overflows;
+    }
 
 pub fits_never : (monitor : MonitorParts) (kept : List Candidate) (number : ℕ) → IsMonitor monitor → AreSomeOf kept (candidates_of monitor) → Fits64 monitor kept number
     → (v : Valuation) → truth_of v (outside_question monitor kept number) ≡ false
@@ -182,11 +194,11 @@ many_cubes monitor kept number many = and_right (is_made_within monitor kept num
 
 pub answer_fits : (monitor : MonitorParts) (kept : List Candidate) (number : ℕ) (answer : Option Cert) → IsMonitor monitor → AreSomeOf kept (candidates_of monitor)
     → ((formula : Formula) (cert : Cert) (v : Valuation) → Refutes formula cert → truth_of v formula ≡ false)
-    → IsAnswer (outside_question monitor kept number) answer → IsFit monitor kept number answer
+    → IsAnswer (outside_question monitor kept number) answer → IsFitAnswer monitor kept number answer
 answer_fits monitor kept number (Some cert) rule some refuted is = record { refutes = is; fits = never_fits monitor kept number (λ v. refuted (outside_question monitor kept number) cert v is) }
 answer_fits monitor kept number None rule some refuted is = λ fits. by fits is
   where
-    by : Fits64 monitor kept number → IsLeftOpen (outside_question monitor kept number) → MayStayUnknown monitor kept number
+    by : Fits64 monitor kept number → IsLeftOpen (outside_question monitor kept number) → QuestionMayStayOpen monitor kept number
     by fits (inl many) = limits (many_cubes monitor kept number many)
     by fits (inr (inl held)) = let never = fits_never monitor kept number rule some fits held.0 in absurd (both _ never held.1)
       where
@@ -194,5 +206,5 @@ answer_fits monitor kept number None rule some refuted is = λ fits. by fits is
         both b never held = cc
     by fits (inr (inr cube)) = undecided cube
 
-pub beyond_fits : (monitor : MonitorParts) (kept : List Candidate) (number : ℕ) → is_made_within monitor kept number ≡ false → IsFit monitor kept number None
+pub beyond_fits : (monitor : MonitorParts) (kept : List Candidate) (number : ℕ) → is_made_within monitor kept number ≡ false → IsFitAnswer monitor kept number None
 beyond_fits monitor kept number beyond = λ fits. limits (and_left (is_made_within monitor kept number) (has_few_cubes (outside_question monitor kept number)) beyond)

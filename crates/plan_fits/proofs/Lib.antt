@@ -6,4 +6,5 @@ mod CandidateKinds
 mod Questions
 mod Exactness
 mod MadeQuestions
-mod NarrowQuestions
+mod NumberlessQuestions
+mod OverflowStates

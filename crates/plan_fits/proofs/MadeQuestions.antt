@@ -2,6 +2,7 @@
 use Rattle.std.proofs.Common.{◌≡◌, ℕ, zero, suc, ◌+◌, ◌-◌, ◌<◌, ◌≤◌, ◌^◌, ℤ, pos, neg_ℤ, ◌+ℤ◌, ◌≤ℤ◌, ◌<ℤ◌, Bool, true, false, cond, ◌&&◌, ◌||◌, List, [], ◌∷◌, ◌++◌, map, drop, get_or, length, Option, Some, None, arith, refl, sym, ap, subst, ◌∙◌}
 use Rattle.std.specs.Prelude.{slice_get}
 use Rattle.std.specs.List.{list_all, list_any}
+use Rattle.std.specs.Option.{is_some}
 use Rattle.std.proofs.lemmas.Bool.{and_from, and_left, and_parts, and_right}
 use Rattle.std.proofs.lemmas.Int.{ints}
 use Rattle.std.proofs.lemmas.List.{at_drop_more}
@@ -41,7 +42,7 @@ use Rattle.logic_wp.specs.Limits.{value_if}
 use Rattle.logic_wp.specs.NegatedQueries.{part_before}
 use Rattle.machine_implicit.proofs.Placed.{some_of}
 use Rattle.plan_prune.proofs.SomeOf.{some_pass}
-use Rattle.plan_fits.specs.Answers.{IsFit}
+use Rattle.plan_fits.specs.Answers.{IsFitAnswer, IsWhole}
 use Rattle.plan_fits.specs.Outside.{answers_outside, assigns_number, assigns_outside, assigns_step, bounds_from, bounds_of, hyps_of, outside_64, path_outside}
 use Rattle.plan_fits.specs.Within.{has_room, has_room_at_end, is_step_within, is_way_within}
 use Rattle.plan_fits.specs.inner.Hypotheses.{places_in}
@@ -218,28 +219,41 @@ hyps_made monitor kept all number block places is same made =
 
 -- ---- answers, one after the other
 
-abbrev EachFits : MonitorParts → List Candidate → List (Option Cert) → Type 0
-EachFits monitor kept fits = (number : ℕ) (answer : Option Cert) → slice_get fits number ≡ Some answer → IsFit monitor kept number answer
-
-push_at : (fits : List (Option Cert)) (answer found : Option Cert) (number : ℕ) (P : ℕ → Option Cert → Type 0)
-    → ((k : ℕ) (one : Option Cert) → slice_get fits k ≡ Some one → P k one) → P (length fits) answer
-    → slice_get (fits ++ answer ∷ []) number ≡ Some found → P number found
-push_at [] answer found zero P each last is = subst (P zero) (same_Some answer found is) last
-push_at [] answer found (suc number) P each last is = absurd (none-some found is)
-push_at (first ∷ fits) answer found zero P each last is = each zero found is
-push_at (first ∷ fits) answer found (suc number) P each last is =
-    push_at fits answer found number (λ k one. P (suc k) one) (λ k one at. each (suc k) one at) (subst (λ (n : ℕ). P n answer) longer last) is
+push_at : {X : Type 0} (list : List X) (last found : X) (number : ℕ) (P : ℕ → X → Type 0)
+    → ((k : ℕ) (one : X) → slice_get list k ≡ Some one → P k one) → P (length list) last
+    → slice_get (list ++ last ∷ []) number ≡ Some found → P number found
+push_at [] last found zero P each is at = subst (P zero) (same_Some last found at) is
+push_at [] last found (suc number) P each is at = absurd (none-some found at)
+push_at (first ∷ list) last found zero P each is at = each zero found at
+push_at (first ∷ list) last found (suc number) P each is at =
+    push_at list last found number (λ k one. P (suc k) one) (λ k one there. each (suc k) one there) (subst (λ (n : ℕ). P n last) longer is) at
   where
-    longer : length (first ∷ fits) ≡ suc (length fits)
+    longer : length (first ∷ list) ≡ suc (length list)
     longer = omega arith
 
-pushed_length : (fits : List (Option Cert)) (answer : Option Cert) → length (fits ++ answer ∷ []) ≡ length fits + 1
-pushed_length [] answer = refl
-pushed_length (first ∷ fits) answer = let rest = pushed_length fits answer in omega (arith, rest)
+pushed_length : {X : Type 0} (list : List X) (last : X) → length (list ++ last ∷ []) ≡ length list + 1
+pushed_length [] last = refl
+pushed_length (first ∷ list) last = let rest = pushed_length list last in omega (arith, rest)
 
-pub one_more_fit : (monitor : MonitorParts) (kept : List Candidate) (old new : List (Option Cert)) (answer : Option Cert) (block : ℕ) → length old ≡ block → EachFits monitor kept old → IsFit monitor kept block answer
-    → new ≡ old ++ answer ∷ [] → (length new ≡ block + 1) × EachFits monitor kept new
-one_more_fit monitor kept old new answer block count each fits is = (
-  ap length is ∙ pushed_length old answer ∙ ap (λ (n : ℕ). n + 1) count,
-  λ number found at. push_at old answer found number (IsFit monitor kept) each (subst (λ (n : ℕ). IsFit monitor kept n answer) (sym count) fits) (ap (λ (some : List (Option Cert)). slice_get some number) (sym is) ∙ at),
+one_more : {X : Type 0} (P : ℕ → X → Type 0) (old new : List X) (last : X) (count : ℕ) → length old ≡ count
+    → ((number : ℕ) (found : X) → slice_get old number ≡ Some found → P number found) → P count last → new ≡ old ++ last ∷ []
+    → (length new ≡ count + 1) × ((number : ℕ) (found : X) → slice_get new number ≡ Some found → P number found)
+one_more P old new last count is each here made = (
+  ap length made ∙ pushed_length old last ∙ ap (λ (n : ℕ). n + 1) is,
+  λ number found at. push_at old last found number P each (subst (λ (n : ℕ). P n last) (sym is) here) (ap (λ some. slice_get some number) (sym made) ∙ at),
 )
+
+pub one_more_fit : (monitor : MonitorParts) (kept : List Candidate) (old new : List (Option Cert)) (answer : Option Cert) (block : ℕ) → length old ≡ block
+    → ((number : ℕ) (found : Option Cert) → slice_get old number ≡ Some found → IsFitAnswer monitor kept number found) → IsFitAnswer monitor kept block answer → new ≡ old ++ answer ∷ []
+    → (length new ≡ block + 1) × ((number : ℕ) (found : Option Cert) → slice_get new number ≡ Some found → IsFitAnswer monitor kept number found)
+one_more_fit monitor kept old new answer block count each fits made = one_more (IsFitAnswer monitor kept) old new answer block count each fits made
+
+is_whole : (monitor : MonitorParts) (kept : List Candidate) (number : ℕ) (answer : Option Cert) → IsFitAnswer monitor kept number answer → IsWhole monitor kept number (is_some answer)
+is_whole monitor kept number (Some cert) is = is.fits
+is_whole monitor kept number None is = is
+
+pub one_more_whole : (monitor : MonitorParts) (kept : List Candidate) (old new : List Bool) (answer : Option Cert) (test : Bool) (block : ℕ) → length old ≡ block
+    → ((number : ℕ) (found : Bool) → slice_get old number ≡ Some found → IsWhole monitor kept number found) → IsFitAnswer monitor kept block answer → test ≡ is_some answer → new ≡ old ++ test ∷ []
+    → (length new ≡ block + 1) × ((number : ℕ) (found : Bool) → slice_get new number ≡ Some found → IsWhole monitor kept number found)
+one_more_whole monitor kept old new answer test block count each fits told made =
+    one_more (IsWhole monitor kept) old new test block count each (subst (IsWhole monitor kept block) (sym told) (is_whole monitor kept block answer fits)) made

@@ -24,7 +24,6 @@ use Rattle.lang_monitor.specs.declared.monitor.Block.{Block}
 use Rattle.lang_monitor.specs.MonitorParts.{MonitorParts, IsMonitor, Places, fits_formula, fits_result, fits_statement}
 use Rattle.lang_monitor.specs.Bodies.{Inputs, fits_64, inputs_from, overflows_in, values_from}
 use Rattle.lang_monitor.specs.Candidates.{candidate_formula, candidates_of}
-use Rattle.lang_monitor.specs.Queries.{hypotheses}
 use Rattle.lang_monitor.specs.Triples.{places_of}
 use Rattle.machine_implicit.proofs.Placed.{placed}
 use Rattle.machine_implicit.proofs.Sums.{both_true}

@@ -20,8 +20,9 @@ pub record MayRunIn64 (monitor : MonitorParts) (kept : List Candidate) (number :
   pub arguments_fit : AreIn64 inputs.arguments
   pub locals_fit : AreIn64 inputs.locals
 
--- Wherever the block may so run, each number that it assigns on the way, and its answer, is within
--- 64 bits.
+-- Wherever the block may so run, each number that it stores in a field or a local on the way, and
+-- its answer, is within 64 bits. Nothing is said of the sums that are made for these. What is kept
+-- need not be inductive: it only says where the block may run.
 abbrev pub Fits64 : MonitorParts → List Candidate → ℕ → Type 0
 Fits64 monitor kept number =
     (block : Block) (inputs : Inputs) (state : List Value)

@@ -7,7 +7,7 @@ use Rattle.lang_monitor.specs.MonitorParts.{MonitorParts, IsMonitor}
 use Rattle.lang_monitor.specs.Candidates.{AreSomeOf, candidates_of}
 use Rattle.logic_cert.specs.declared.cert.Cert.{Cert}
 use Rattle.logic_cert.specs.Refutes.{Refutes}
-use Rattle.plan_fits.specs.Answers.{MayStayUnknown}
+use Rattle.plan_fits.specs.Answers.{QuestionMayStayOpen}
 use Rattle.plan_fits.specs.Fits.{Fits64}
 use Rattle.plan_fits.specs.Outside.{has_numbers, outside_question}
 
@@ -25,9 +25,10 @@ CertifiedBlocksFit =
     (monitor : MonitorParts) (kept : List Candidate) (number : ℕ) (cert : Cert)
     → Refutes (outside_question monitor kept number) cert → Fits64 monitor kept number
 
--- a block that assigns and answers no number fits, whatever is kept, and its question is decided
-abbrev pub NarrowBlocksFit : Type 0
-NarrowBlocksFit =
+-- a block that assigns and answers no number fits, whatever is kept, and its question never stays
+-- open
+abbrev pub NumberlessBlocksFit : Type 0
+NumberlessBlocksFit =
     (monitor : MonitorParts) (kept : List Candidate) (number : ℕ) (block : Block)
     → slice_get monitor.blocks number ≡ Some block → has_numbers block ≡ false
-    → Fits64 monitor kept number × (MayStayUnknown monitor kept number → ⊥)
+    → Fits64 monitor kept number × (QuestionMayStayOpen monitor kept number → ⊥)

@@ -1,9 +1,8 @@
 //! Which blocks fit, with certificates.
 
-ghost use Rattle.std.specs.Prelude.{◌≡◌, ◌<◌, IfOk, IfSome, length, map};
-ghost use Rattle.std.specs.Option.{is_some};
+ghost use Rattle.std.specs.Prelude.{◌<◌, IfOk, length};
 ghost use Rattle.lang_monitor.specs.Candidates.{AreSomeOf, candidates_of};
-ghost use Rattle.plan_fits.specs.Answers.{AreFits, IsFit};
+ghost use Rattle.plan_fits.specs.Answers.{AreFitAnswers, AreWhole, IsFitAnswer};
 
 use super::question::outside_question;
 use lang_monitor::{Candidate, Monitor};
@@ -13,8 +12,10 @@ use std::alloc::{AllocError, Global};
 
 /// A certificate that refutes the question of a block, which is a number from 0; the block then
 /// fits. There is none only where the block does not fit, or its question is beyond the limits of
-/// [`outside_question`], has more than 1,024 cubes, or has a cube that the prover does not decide
-/// (`specs/Answers`). It fails only for want of memory.
+/// [`outside_question`], has more than 1,024 cubes, or has a cube with a row that is no difference
+/// row and with no flag of opposite truths. Such a cube is never light, since its variables have
+/// bounds of 2^63: the prover tries it all the same (`specs/Answers`). It fails only for want of
+/// memory.
 pub fn fit_of(
     alloc: Global,
     monitor: &Monitor,
@@ -23,7 +24,7 @@ pub fn fit_of(
 ) -> Result<Option<Cert>, AllocError>
     requires kept { AreSomeOf kept.now (candidates_of monitor.now) }
     requires block { block < length monitor.now.blocks }
-    ensures { IfOk result (IsFit monitor.now kept.now block) }
+    ensures { IfOk result (IsFitAnswer monitor.now kept.now block) }
 {
     refuted_formula_is_false();
     monitor.blocks();
@@ -41,7 +42,7 @@ pub fn fits_of(
     kept: &[Candidate],
 ) -> Result<Vec<Option<Cert>>, AllocError>
     requires { AreSomeOf kept.now (candidates_of monitor.now) }
-    ensures { IfOk result (λ fits. AreFits monitor.now kept.now fits.items) }
+    ensures { IfOk result (λ fits. AreFitAnswers monitor.now kept.now fits.items) }
 {
     let count = monitor.blocks().len();
     let mut fits = Vec::new(alloc);
@@ -51,12 +52,20 @@ pub fn fits_of(
     Ok(fits)
 }
 
-/// Which of the blocks have a certificate. It fails only for want of memory.
-pub fn whole_blocks(alloc: Global, fits: &[Option<Cert>]) -> Result<Vec<bool>, AllocError>
-    ensures { IfOk result (λ whole. whole.items ≡ map is_some fits.now) }
+/// For each block in order whether a certificate is found that it fits. It fails only for want of
+/// memory.
+pub fn whole_blocks(
+    alloc: Global,
+    monitor: &Monitor,
+    kept: &[Candidate],
+) -> Result<Vec<bool>, AllocError>
+    requires { AreSomeOf kept.now (candidates_of monitor.now) }
+    ensures { IfOk result (λ whole. AreWhole monitor.now kept.now whole.items) }
 {
+    let count = monitor.blocks().len();
     let mut whole = Vec::new(alloc);
-    for fit in fits {
+    for block in 0..count {
+        let fit = fit_of(alloc, monitor, kept, block as u32)?;
         whole.push(fit.is_some())?;
     }
     Ok(whole)

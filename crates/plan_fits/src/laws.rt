@@ -1,6 +1,6 @@
 //! What follows from the definitions alone.
 
-ghost use Rattle.plan_fits.specs.Laws.{CertifiedBlocksFit, NarrowBlocksFit, QuestionsAreExact};
+ghost use Rattle.plan_fits.specs.Laws.{CertifiedBlocksFit, NumberlessBlocksFit, QuestionsAreExact};
 
 use logic_cert::refuted_formula_is_false;
 
@@ -17,6 +17,6 @@ pub fn certified_blocks_fit()
 }
 
 /// A block that assigns and answers no number fits, and its question never stays open.
-pub fn narrow_blocks_fit()
-    ensures { NarrowBlocksFit }
+pub fn numberless_blocks_fit()
+    ensures { NumberlessBlocksFit }
 {}

@@ -101,9 +101,10 @@ fn full_question(
 ///
 /// It is made along each path from its end, as in the weakest precondition of a negated post
 /// formula, where each assignment of a number adds that this one is outside 64 bits. It is none
-/// exactly beyond the limits: the body has more than 64 paths, a formula on the way has a number
-/// outside 96 bits or more than [`MOST_NODES`] nodes, or the whole has more. It fails only for want
-/// of memory.
+/// exactly where the body has more than 64 paths, a formula that an assignment makes on the way has
+/// a number outside 96 bits or more than [`MOST_NODES`] nodes, a form that is assigned or answered
+/// has a constant beyond 2^94 or a number of times that can't be turned in 96 bits, or the whole
+/// has more than those nodes (`specs/Within`). It fails only for want of memory.
 pub fn outside_question(
     alloc: Global,
     monitor: &Monitor,

@@ -17,11 +17,11 @@ use Rattle.logic_cert.specs.declared.cert.Literal.{Literal}
 use Rattle.logic_solve.specs.Cubes.{IsCubeFrom, row, flag, every, chosen, ended}
 use Rattle.logic_solve.specs.Refutation.{HasUndecidedCube}
 use Rattle.logic_wp.specs.PlainClaims.{has_few_cubes}
-use Rattle.plan_fits.specs.Answers.{MayStayUnknown, limits, undecided}
+use Rattle.plan_fits.specs.Answers.{QuestionMayStayOpen, limits, undecided}
 use Rattle.plan_fits.specs.Fits.{Fits64}
 use Rattle.plan_fits.specs.Outside.{has_numbers, outside_question, question_in}
 use Rattle.plan_fits.specs.Within.{is_asked_within, is_made_in, is_made_within}
-use Rattle.plan_fits.proofs.Exactness.{narrow_stays}
+use Rattle.plan_fits.proofs.Exactness.{numberless_stays}
 
 -- ---- an any of no parts has no cube
 
@@ -56,9 +56,9 @@ unchosen : (one other : Formula) (test : Bool) → test ≡ false → cond test 
 unchosen one other false is = refl
 unchosen one other true is = absurd cc
 
-narrow_question : (monitor : MonitorParts) (kept : List Candidate) (number : ℕ) (block : Block) → slice_get monitor.blocks number ≡ Some block → has_numbers block ≡ false
+numberless_question : (monitor : MonitorParts) (kept : List Candidate) (number : ℕ) (block : Block) → slice_get monitor.blocks number ≡ Some block → has_numbers block ≡ false
     → outside_question monitor kept number ≡ formulas.Any []
-narrow_question monitor kept number block is none = ap (question_in monitor kept) is ∙ unchosen _ (formulas.Any []) (has_numbers block) none
+numberless_question monitor kept number block is none = ap (question_in monitor kept) is ∙ unchosen _ (formulas.Any []) (has_numbers block) none
 
 few_cubes : has_few_cubes (formulas.Any []) ≡ true
 few_cubes = ap (λ (n : ℕ). nat_le n MOST_CUBES) (ap cubes_of (sym (rolls-Any [])) ∙ fold-roll-Formula ℕ cubes_layer (Some_of []))
@@ -75,18 +75,18 @@ true_or_false : (a : Bool) → a ≡ true → a ≡ false → ⊥
 true_or_false true e f = cc
 true_or_false false e f = cc
 
-pub narrow_fits : (monitor : MonitorParts) (kept : List Candidate) (number : ℕ) (block : Block) → slice_get monitor.blocks number ≡ Some block → has_numbers block ≡ false → Fits64 monitor kept number
-narrow_fits monitor kept number block is none other inputs state run over =
+pub numberless_fits : (monitor : MonitorParts) (kept : List Candidate) (number : ℕ) (block : Block) → slice_get monitor.blocks number ≡ Some block → has_numbers block ≡ false → Fits64 monitor kept number
+numberless_fits monitor kept number block is none other inputs state run over =
     let same : Some block ≡ Some other = sym is ∙ run.runs.is in
     let here : has_numbers other ≡ false = ap has_numbers (sym (one_block block other same)) ∙ none in
-    true_or_false (overflows_in inputs other state) over (narrow_stays other here inputs state)
+    true_or_false (overflows_in inputs other state) over (numberless_stays other here inputs state)
   where
     one_block : (one two : Block) → Some one ≡ Some two → one ≡ two
     one_block one two e = cc
 
-pub narrow_decided : (monitor : MonitorParts) (kept : List Candidate) (number : ℕ) (block : Block) → slice_get monitor.blocks number ≡ Some block → has_numbers block ≡ false → MayStayUnknown monitor kept number → ⊥
-narrow_decided monitor kept number block is none (limits beyond) =
+pub numberless_decided : (monitor : MonitorParts) (kept : List Candidate) (number : ℕ) (block : Block) → slice_get monitor.blocks number ≡ Some block → has_numbers block ≡ false → QuestionMayStayOpen monitor kept number → ⊥
+numberless_decided monitor kept number block is none (limits beyond) =
     true_or_false (is_asked_within monitor kept number)
     (and_from (is_made_within monitor kept number) (has_few_cubes (outside_question monitor kept number)) (made monitor kept number block is none)
-    (ap has_few_cubes (narrow_question monitor kept number block is none) ∙ few_cubes)) beyond
-narrow_decided monitor kept number block is none (undecided cube) = no_cube (subst HasUndecidedCube (narrow_question monitor kept number block is none) cube)
+    (ap has_few_cubes (numberless_question monitor kept number block is none) ∙ few_cubes)) beyond
+numberless_decided monitor kept number block is none (undecided cube) = no_cube (subst HasUndecidedCube (numberless_question monitor kept number block is none) cube)
