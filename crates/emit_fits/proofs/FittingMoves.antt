@@ -35,7 +35,7 @@ no_overflow (Some (values.Int number)) is = cc
 no_overflow (Some (values.Bool truth)) is = cc
 
 -- under any order of the notes
-never_told : (system : System) (told : ℕ → List Op) → HasCountingPlan system → IsTold system told → StartsIn64 system.monitor → PassIn64 system.clients → (thread : ℕ) (frame : Frame) (before next : Moment)
+pub never_told : (system : System) (told : ℕ → List Op) → HasCountingPlan system → IsTold system told → StartsIn64 system.monitor → PassIn64 system.clients → (thread : ℕ) (frame : Frame) (before next : Moment)
     → Leads (program_with system told) before → (move : RunsBody (program_with system told) thread frame before next)
     → Fits64 system.monitor system.plan.kept move.block → move.reply ≡ replies.Overflow → ⊥
 never_told system told set order starts pass thread frame before next run move fits overflows =

@@ -1,3 +1,4 @@
 mod BodiesIn64
 mod MomentsIn64
 mod FittingMoves
+mod FittingCalls

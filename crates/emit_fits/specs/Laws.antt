@@ -1,13 +1,19 @@
 -- What the laws say.
-use Rattle.std.specs.Prelude.{◌≡◌, ℕ, List, All, slice_get}
-use Rattle.lang_monitor.specs.MonitorParts.{MonitorParts, IsMonitor, locals_in, start_of}
+use Rattle.std.specs.Prelude.{◌≡◌, ℕ, ◌+◌, ◌<◌, ◌≤◌, List, All, Some, slice_get}
+use Rattle.lang_monitor.specs.declared.candidate.Candidate.{Candidate}
+use Rattle.lang_monitor.specs.MonitorParts.{MonitorParts, IsMonitor, count_in, first_in, locals_in}
+use Rattle.lang_monitor.specs.MonitorParts.{start_of}
 use Rattle.machine_implicit.specs.declared.commit.Reply.TheVariants as replies
+use Rattle.machine_implicit.specs.declared.script.Call.{Call}
 use Rattle.machine_implicit.specs.declared.script.Client.{Client}
 use Rattle.machine_implicit.specs.Scripted.{FitsScripts}
 use Rattle.machine_events.specs.declared.plan.Plan.{Plan}
 use Rattle.machine_events.specs.Plans.{FitsPlan}
 use Rattle.machine_events.specs.Counts.{IsLawfulByCounting}
+use Rattle.emit_code.specs.Code.{Op}
 use Rattle.emit_code.specs.Executions.{Frame, IsThread, Moment, Position, Program, RunsBody}
+use Rattle.emit_code.specs.Executions.{call_of}
+use Rattle.emit_code.specs.Executions.Position.{At}
 use Rattle.emit_code.specs.Laws.{Leads}
 use Rattle.emit_code.specs.LivePlans.{printed_program}
 use Rattle.plan_fits.specs.Fits.{AreIn64, Fits64}
@@ -50,3 +56,25 @@ FittingBlocksNeverOverflow =
     → Leads (printed_program monitor plan clients) before
     → (move : RunsBody (printed_program monitor plan clients) thread frame before next)
     → Fits64 monitor plan.kept move.block → move.reply ≡ replies.Overflow → ⊥
+
+-- each block of the method fits
+abbrev pub MethodFits : MonitorParts → List Candidate → ℕ → Type 0
+MethodFits monitor kept method =
+    (number : ℕ) → first_in (slice_get monitor.methods method) ≤ number
+    → number < first_in (slice_get monitor.methods method)
+    + count_in (slice_get monitor.methods method)
+    → Fits64 monitor kept number
+
+-- So no call of a method all of whose blocks fit has an overflow for its answer, at any moment from
+-- its begin to its return.
+abbrev pub FittingCallsNeverOverflow : Type 0
+FittingCallsNeverOverflow =
+    (monitor : MonitorParts) (plan : Plan) (clients : List Client) (last : Moment) (thread : ℕ)
+    (frame : Frame) (rest : List Op) (call : Call)
+    → IsMonitor monitor → FitsScripts monitor clients
+    → FitsPlan monitor plan → IsLawfulByCounting monitor plan
+    → StartsIn64 monitor → PassIn64 clients
+    → Leads (printed_program monitor plan clients) last
+    → IsThread last.threads thread frame (At rest)
+    → call_of (printed_program monitor plan clients) thread frame ≡ Some call
+    → MethodFits monitor plan.kept call.method → frame.answer ≡ replies.Overflow → ⊥
