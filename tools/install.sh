@@ -239,7 +239,7 @@ if [ -z "$was_given" ] && [ "$(program='' && sum)" != "$wanted" ]; then
 fi
 place "$wanted"
 [ -n "$was_given" ] || rm -rf "$cache"
-say "expresso stands in $prefix: bin/expresso, its manual page, and completions for bash, zsh and fish."
+say "expresso $(tools/manual.py version) stands in $prefix: bin/expresso, its manual page, and completions for bash, zsh and fish."
 case :$PATH: in
     *:"$prefix/bin":*) ;;
     *) say "Put $prefix/bin on your path: export PATH=\"$prefix/bin:\$PATH\"" ;;

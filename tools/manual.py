@@ -2,9 +2,10 @@
 """Makes the manual page and the completions of `expresso` from tools/manual.txt.
 
 `tools/manual.py write FOLDER` writes them below FOLDER, each where an installed program's stands.
-`tools/manual.py list` prints where that is. `tools/manual.py check [PROGRAM]` fails where manual.txt hasn't the usage
-of README.md, or of what PROGRAM prints; where it describes a command, a value or an option that the usage hasn't, or
-lacks one that it has; and where its exit statuses are not those of the program's sources.
+`tools/manual.py list` prints where that is, and `tools/manual.py version` the program's version.
+`tools/manual.py check [PROGRAM]` fails where manual.txt hasn't the usage of README.md, or of what PROGRAM prints; where
+it describes a command, a value or an option that the usage hasn't, or lacks one that it has; and where its exit
+statuses are not those of the program's sources.
 """
 
 import itertools
@@ -124,10 +125,16 @@ def item(tag, entry):
     return [".TP", placeholders(tag), *filled([words]), *paragraphs(entry.text(), "", ".IP")]
 
 
+def version():
+    """The program's version, which emitted modules name: its definition is the one place where it stands."""
+    texts = (ROOT / "crates" / "emit_module" / "specs" / "Fixed.antt").read_text()
+    return re.search(r'^VERSION = codes "([^"]*)"$', texts, re.M)[1]
+
+
 def page_of(manual):
     name, date = manual.of_kind("name")[0], manual.of_kind("date")[0].name
     program = name.name.split()[0]
-    made = [f'.\\" {MADE}', f'.TH {program.upper()} 1 {date} "Expresso" "User Commands"']
+    made = [f'.\\" {MADE}', f'.TH {program.upper()} 1 {date} "Expresso {version()}" "User Commands"']
     made += [".SH NAME", f"{program} \\- {name.words}", ".SH SYNOPSIS", ".nf"]
     made += [placeholders(line) for line in manual.usage] + [".fi"]
     forms = {command: " ".join([command, *values]) for command, values, _ in manual.forms}
@@ -376,6 +383,9 @@ def main(words):
         found = [*faults(manual, words[1] if words[1:] else None)]
         print("\n".join(found or ["the manual has the usage, with each command, option, value and exit status"]))
         return 1 if found else 0
+    if words == ["version"]:
+        print(version())
+        return 0
     if words == ["list"]:
         print("\n".join(PLACES.values()))
         return 0
