@@ -1,8 +1,9 @@
 #!/usr/bin/env python3
-"""`tools/emitted.py MONITOR PLAN` prints the module of Rust that `expresso emit` prints of a monitor.
+"""`tools/emitted.py MONITOR PLAN BLOCK ..` prints the module of Rust that `expresso emit` prints of a monitor.
 
 It shares no code with the product. MONITOR is in canonical form, as `expresso check` prints it, and
-PLAN is the plan that `expresso compile --count` prints of it.
+PLAN is the plan that `expresso compile --count` prints of it. Each BLOCK, as the plan
+names it, is one of which it is known that no number leaves 64 bits.
 """
 
 import pathlib
@@ -13,10 +14,10 @@ sys.dont_write_bytecode = True
 from formulas import joined  # noqa: E402
 from monitors import read_monitor  # noqa: E402
 from rust_bodies import (Scope, answer, argument_texts, can_name, doc_text,  # noqa: E402
-                         function_texts, kind_text, run_name, trace)
+                         function_texts, kind_text, run_name, shortens, trace)
 from rust_names import Names, lints  # noqa: E402
 from rust_texts import DEBUG, DEFAULT, FAILED, FIELDS, HEAD, INNER, LOCK, NEW, OVERFLOW  # noqa: E402
-from rust_texts import REFUSED, SKIP, STATE, STATE_HEAD, USED, VERSION, WAIT  # noqa: E402
+from rust_texts import REFUSED, SKIP, STATE, STATE_HEAD, USED, VERSION, WAIT, WHOLE  # noqa: E402
 from trees import read_tree  # noqa: E402
 
 ALWAYS = joined("all", [])
@@ -32,14 +33,19 @@ def notes_of(plan):
     return notes
 
 
+def block_name(method, number):
+    return f"{method.name}.{number}" if len(method.blocks) > 1 else method.name
+
+
 class Source:
     """A monitor as it is written and as it is checked, with the notes that somebody hears."""
 
-    def __init__(self, text, plan):
+    def __init__(self, text, plan, whole=()):
         self.tree, self.monitor = read_tree(text), read_monitor(text)
         self.names, self.plan = Names(self.tree), plan
         self.blocks = [(method, number, block) for method in self.tree.methods
                        for number, block in enumerate(method.blocks, 1)]
+        self.whole = [block_name(method, number) in whole for method, number, _ in self.blocks]
         self.notes = [[note for note in notes if self.is_waited_on(note[0])]
                       for notes in notes_of(plan)]
 
@@ -70,8 +76,13 @@ class Source:
         return self.blocks[self.first_block(condition)][2].shown
 
     def fails(self, block):
-        method, _, parts = self.blocks[block]
-        return trace(Scope(self.names, method, "self", "lent"), parts.body).fails
+        return trace(self.scope(block), self.blocks[block][2].body).fails
+
+    def shortens(self, block):
+        return shortens(self.scope(block), self.blocks[block][2].body)
+
+    def scope(self, block):
+        return Scope(self.names, self.blocks[block][0], "self", "lent", self.whole[block])
 
     def answer(self, block):
         method, _, parts = self.blocks[block]
@@ -196,6 +207,7 @@ def module_text(source):
              f"{lint}{STATE_HEAD}{starts(source)}}};\n", functions(source), "}\n"]
     own = [LOCK] * bool(source.blocks) + [WAIT] * bool(waited) + [OVERFLOW] * fails
     own += [REFUSED] * (False in refused) + [FAILED] * (True in refused)
+    own += [WHOLE] * any(map(source.shortens, range(len(source.blocks))))
     return "".join(parts + own)
 
 
@@ -263,17 +275,18 @@ def functions(source):
         is_tested = source.is_waited_on(condition) and (
             reads or source.first_block(condition) == number)
         texts += function_texts(source.names, method, place, block, is_tested, reads,
-                                arrow_text(source.answer(number), "Overflow" if source.fails(number) else None))
+                                arrow_text(source.answer(number), "Overflow" if source.fails(number) else None),
+                                source.whole[number])
     return "".join(f"\n{text}" for text in texts)
 
 
-def main(monitor, plan):
+def main(monitor, plan, *whole):
     sys.setrecursionlimit(10 ** 6)
     text, plan = (pathlib.Path(one).read_text("ascii") for one in (monitor, plan))
-    sys.stdout.write(module_text(Source(text, plan)))
+    sys.stdout.write(module_text(Source(text, plan, whole)))
 
 
 if __name__ == "__main__":
-    if len(sys.argv) != 3:
+    if len(sys.argv) < 3:
         sys.exit(__doc__)
     main(*sys.argv[1:])

@@ -6,8 +6,9 @@ from trees import If, Return, Set
 
 COMPARISONS = "==", "!=", "<", "<=", ">", ">="
 
-# where an expression stands: `own` is "held" where inputs are read, "lent" in a body, or "unread"
-Scope = namedtuple("Scope", "names method receiver own")
+# where an expression stands: `own` is "held" where inputs are read, "lent" in a body, or "unread"; of a whole block no
+# number leaves 64 bits
+Scope = namedtuple("Scope", "names method receiver own whole", defaults=[False])
 
 # Text in 64 bits; in 128 bits, by what comes after a number; how tightly both hold together; whether
 # some name in it is read, and whether its value may need more than 64 bits.
@@ -113,8 +114,46 @@ def comparison(sign, left, right):
     return f"{left.wide(end)} {sign} {right.wide(end)}"
 
 
-def value_text(value, end):
-    return f"narrow({value.wide('')}){end}" if value.narrows else value.plain
+def is_variable(scope, expression):
+    return expression.sign == "name" and scope.names.kind_of(scope.method, expression.parts) != "const"
+
+
+def is_atom(expression):
+    return expression.sign in ("name", "number") or (
+        expression.sign == "minus" and expression.parts[0].sign == "number")
+
+
+def single_text(scope, expression):
+    """One operation of atoms, some of them a variable, in 64 bits; else None."""
+    sign, parts = expression
+    if sign == "minus" and is_variable(scope, parts[0]):
+        return "-" + written(scope, parts[0]).plain
+    signs, parts = zip(*parts) if sign == "+" else ("*" * len(parts), parts)
+    if sign not in ("+", "*") or len(parts) != 2:
+        return None
+    if not all(map(is_atom, parts)) or not any(is_variable(scope, part) for part in parts):
+        return None
+    one, other = (written(scope, part).plain for part in parts)
+    return f"{one} {signs[1]} {other}"
+
+
+def is_shortened(scope, expression):
+    return scope.whole and written(scope, expression).narrows and single_text(scope, expression) is None
+
+
+def value_text(scope, expression, end):
+    value = written(scope, expression)
+    if not value.narrows:
+        return value.plain
+    if not scope.whole:
+        return f"narrow({value.wide('')}){end}"
+    return f"whole({value.wide('')})" if is_shortened(scope, expression) else single_text(scope, expression)
+
+
+def shortens(scope, body):
+    """Some value of a whole body is worked out in 128 bits."""
+    return any(shortens(scope, one.body) or shortens(scope, one.other) if isinstance(one, If)
+               else is_shortened(scope, one.value) for one in body)
 
 
 # ---- bodies
@@ -132,12 +171,12 @@ def statement_trace(scope, statement):
         return Trace(*map(any, zip(*paths)))
     is_local = isinstance(statement, Return) or (
         scope.names.kind_of(scope.method, statement.name) == "local")
-    return Trace(not is_local, written(scope, statement.value).narrows, False)
+    return Trace(not is_local, written(scope, statement.value).narrows and not scope.whole, False)
 
 
 def statement_lines(scope, statement, indent):
     if isinstance(statement, Set):
-        value = value_text(written(scope, statement.value), "?")
+        value = value_text(scope, statement.value, "?")
         return [f"{indent}{name_text(scope, statement.name)} = {value};"]
     if isinstance(statement, Return):
         return []
@@ -173,7 +212,7 @@ def run_body(scope, body):
         if result is None:
             return lines + (["        Ok(())"] if path.fails else [])
         value = written(scope, result)
-        text = f"Ok({value.plain})" if path.fails and not value.narrows else value_text(value, "")
+        text = f"Ok({value.plain})" if path.fails and not value.narrows else value_text(scope, result, "")
         return lines + [f"        {text}"]
     copied = scope._replace(receiver="next")
     lines = ["        let mut next = *self;"] + body_lines(copied, body, "        ")
@@ -181,12 +220,12 @@ def run_body(scope, body):
         return lines + ["        *self = next;", "        Ok(())"]
     value = written(copied, result)
     if value.narrows:
-        return lines + [f"        let answer = {value_text(value, '?')};", "        *self = next;",
+        return lines + [f"        let answer = {value_text(copied, result, '?')};", "        *self = next;",
                         "        Ok(answer)"]
     return lines + ["        *self = next;", f"        Ok({written(scope, result).plain})"]
 
 
-def function_texts(names, method, number, block, is_tested, reads, arrow):
+def function_texts(names, method, number, block, is_tested, reads, arrow, whole):
     """The functions of a block: that of its guard, where it has one, and that of its body."""
     texts = []
     if is_tested:
@@ -194,7 +233,7 @@ def function_texts(names, method, number, block, is_tested, reads, arrow):
         inputs = parameters(names, method, "") if reads else ""
         texts.append(f"    fn {can_name(names, method, number)}(&self{inputs}) -> bool {{\n"
                      f"        {written(scope, block.guard).plain}\n    }}\n")
-    lines = run_body(Scope(names, method, "self", "lent"), block.body)
+    lines = run_body(Scope(names, method, "self", "lent", whole), block.body)
     head = f"    fn {run_name(names, method, number)}(&mut self{parameters(names, method, '&mut ')})"
     inside = "".join(["\n"] + [f"{line}\n" for line in lines] + ["    "]) if block.body else ""
     return texts + [f"{head}{arrow} {{{inside}}}\n"]

@@ -147,3 +147,11 @@ impl std::fmt::Display for Failed {
 
 impl std::error::Error for Failed {}
 """
+
+WHOLE = """
+/// The number, of which it is proved that it has 64 bits.
+#[allow(clippy::cast_possible_truncation)]
+fn whole(number: i128) -> i64 {
+    number as i64
+}
+"""

@@ -16,7 +16,7 @@ use Rattle.emit_rust.specs.Names.{is_try_free, input_name, member_name, try_name
 use Rattle.emit_bodies.specs.Blocks.{kind_declared, kind_text, parameter_text}
 use Rattle.emit_bodies.specs.Bodies.{answer_text, arrow_text}
 use Rattle.emit_method.specs.Sources.{SourceParts, answer_of}
-use Rattle.emit_method.specs.Statements.{MethodParts, method_fails, ops_text, end_text}
+use Rattle.emit_method.specs.Statements.{MethodParts, first_of, method_fails, ops_text, end_text}
 use Rattle.emit_method.specs.Docs.{docs_text}
 
 -- ---- locals
@@ -80,9 +80,9 @@ abbrev pub parts_of : SourceParts → ℕ → MethodTree → Bool → MethodPart
 parts_of source number method tries = record {
   source = source;
   method = method;
-  first = first_in (slice_get source.monitor.methods number);
+  first = first_of source number;
   answer = method_answer source.monitor number;
-  fails = method_fails source.tree method;
+  fails = method_fails source number method;
   tries = tries;
 }
 

@@ -1,6 +1,6 @@
 -- What a module is printed of.
 use Rattle.std.specs.Prelude.{Option, Some, None, Bool, false, slice_get}
-use Rattle.std.specs.Prelude.{ℕ, ◌-◌}
+use Rattle.std.specs.Prelude.{ℕ, ◌-◌, List}
 use Rattle.std.specs.Option.{option_map_or}
 use Rattle.lang_base.specs.declared.kind.Kind.{Kind}
 use Rattle.lang_base.specs.declared.kind.Kind.TheVariants as kinds
@@ -20,24 +20,32 @@ pub record SourceParts : Type 0 where
   pub plan : Plan
   -- with all of them
   pub given : Plan
+  -- of each block, whether it is known that no number of it leaves 64 bits
+  pub whole : List Bool
 
 -- the parts of a module's source
-abbrev pub source_of : MonitorTree → MonitorParts → Plan → SourceParts
-source_of tree monitor plan = record {
+abbrev pub source_of : MonitorTree → MonitorParts → Plan → List Bool → SourceParts
+source_of tree monitor plan whole = record {
   tree = tree;
   monitor = monitor;
   plan = live_plan monitor plan;
   given = plan;
+  whole = whole;
 }
 
 -- a source of the code, as contracts see it
 abbrev pub seen : Source → SourceParts
-seen source = source_of source.tree.now source.monitor.now source.plan.now
+seen source =
+    source_of source.tree.now source.monitor.now source.plan.now source.whole.now
 
 -- the guard of a condition reads inputs or locals
 abbrev pub reads_inputs : MonitorParts → ℕ → Bool
 reads_inputs monitor condition =
     option_map_or (λ which. which.reads_inputs) (slice_get monitor.conditions (condition - 1)) false
+
+-- no number of the block of this number leaves 64 bits
+abbrev pub is_whole : SourceParts → ℕ → Bool
+is_whole source block = option_map_or (λ is. is) (slice_get source.whole block) false
 
 -- ---- what a block answers
 

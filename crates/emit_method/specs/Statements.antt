@@ -1,12 +1,12 @@
 -- The statements of a method: one for each operation of its code.
 use Rattle.std.specs.Prelude.{ℕ, ◌+◌, ◌-◌, Bool, true, false, ◌||◌, List, [], ◌∷◌, ◌++◌, codes}
 use Rattle.std.specs.Prelude.{Option, Some, None, slice_get, if◌then◌else◌}
-use Rattle.std.specs.List.{flat_map, list_any}
+use Rattle.std.specs.List.{flat_map, list_any, enumerate_from}
 use Rattle.std.specs.Option.{option_map_or}
 use Rattle.lang_base.specs.declared.kind.Kind.{Kind}
 use Rattle.lang_tree.specs.declared.tree.BlockTree.{BlockTree}
 use Rattle.lang_tree.specs.declared.tree.MethodTree.{MethodTree}
-use Rattle.lang_tree.specs.declared.tree.MonitorTree.{MonitorTree}
+use Rattle.lang_monitor.specs.MonitorParts.{first_in}
 use Rattle.machine_events.specs.declared.plan.Note.{Note}
 use Rattle.machine_events.specs.Configurations.{block_condition}
 use Rattle.emit_code.specs.Code.{Op}
@@ -14,20 +14,38 @@ use Rattle.emit_code.specs.Code.Op.{Lock, WaitUntil, ElseRefuse, Run, Release, N
 use Rattle.emit_rust.specs.declared.scope.Reach.{Reach}
 use Rattle.emit_rust.specs.declared.scope.Reach.TheVariants as reaches
 use Rattle.emit_bodies.specs.Blocks.{block_name}
-use Rattle.emit_bodies.specs.Bodies.{body_fails}
+use Rattle.emit_bodies.specs.Bodies.{body_fails, body_shortens}
 use Rattle.emit_method.specs.declared.source.Calls.{Calls}
-use Rattle.emit_method.specs.Sources.{SourceParts, seen, answer_of, reads_inputs}
+use Rattle.emit_method.specs.Sources.{SourceParts, seen, answer_of, is_whole, reads_inputs}
 use Rattle.emit_method.specs.Conditions.{arguments_text, around_count, around_name}
 
 -- ---- whether a call may fail
 
--- the body of the block may
-abbrev pub block_fails : MonitorTree → MethodTree → BlockTree → Bool
-block_fails tree method block = body_fails tree method block.body false
+-- the body of the block may, by its number in the monitor
+abbrev pub block_fails : SourceParts → MethodTree → ℕ → BlockTree → Bool
+block_fails source method block parts =
+    body_fails source.tree method parts.body (is_whole source block)
 
--- the body of some block of the method may
-abbrev pub method_fails : MonitorTree → MethodTree → Bool
-method_fails tree method = list_any (block_fails tree method) method.blocks
+-- the number of a method's first block
+abbrev pub first_of : SourceParts → ℕ → ℕ
+first_of source number = first_in (slice_get source.monitor.methods number)
+
+-- the body of some block of the method of this number may
+abbrev pub method_fails : SourceParts → ℕ → MethodTree → Bool
+method_fails source number method =
+    list_any (λ one. block_fails source method (first_of source number + one.0) one.1)
+    (enumerate_from 0 method.blocks)
+
+-- the body of the block has a number that is known to have 64 bits, and is worked out in 128
+abbrev pub block_shortens : SourceParts → MethodTree → ℕ → BlockTree → Bool
+block_shortens source method block parts =
+    body_shortens source.tree method parts.body (is_whole source block)
+
+-- so has some block of the method
+abbrev pub method_shortens : SourceParts → ℕ → MethodTree → Bool
+method_shortens source number method =
+    list_any (λ one. block_shortens source method (first_of source number + one.0) one.1)
+    (enumerate_from 0 method.blocks)
 
 -- ---- a method, for calls that wait or for those that try
 
@@ -57,7 +75,7 @@ method_seen calls = record {
 -- the body of this block may fail
 abbrev pub fails_at : MethodParts → ℕ → Bool
 fails_at it block =
-    option_map_or (block_fails it.source.tree it.method)
+    option_map_or (block_fails it.source it.method block)
     (slice_get it.method.blocks (block - it.first)) false
 
 -- ---- calls of the functions of the state
@@ -160,7 +178,8 @@ run_text it block (note ∷ notes) true =
 
 -- ---- a statement for each operation
 
--- an operation of a method
+-- An operation of a method. A body that cannot fail has no branch for an overflow: then the code's
+-- notes of one are never made.
 abbrev pub op_text : MethodParts → Op → List ℕ
 op_text it Lock = codes "        let mut inner = lock(&self.inner);\n"
 op_text it (WaitUntil block condition) =

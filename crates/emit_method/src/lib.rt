@@ -19,6 +19,7 @@ pub use conditions::{write_around_count, write_around_name};
 pub use declared::{write_start, write_typed_start};
 pub use methods::{has_try, write_methods_of};
 pub use source::{
-    Source, answer_of, condition_of, first_block, first_of, is_always, is_waited_on, reads_inputs,
+    Source, answer_of, condition_of, first_block, first_of, is_always, is_waited_on, is_whole,
+    reads_inputs,
 };
-pub use statements::method_fails;
+pub use statements::{method_fails, method_shortens};

@@ -102,7 +102,7 @@ fn calls_of<'a>(
         method,
         first: first_of(source.monitor, number),
         answer: method_answer(source.monitor, number),
-        fails: method_fails(source.tree, method),
+        fails: method_fails(source, number, method),
         tries,
     }
 }

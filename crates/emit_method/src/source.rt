@@ -6,7 +6,7 @@ ghost use Rattle.lang_monitor.specs.MonitorParts.{count_in, first_in};
 ghost use Rattle.machine_events.specs.Configurations.{block_condition};
 ghost use Rattle.machine_events.specs.Plans.{notes_at};
 ghost use Rattle.emit_code.specs.Code.{is_always, is_waited_on};
-ghost use Rattle.emit_method.specs.Sources.{answer_of, kind_answered, reads_inputs};
+ghost use Rattle.emit_method.specs.Sources.{answer_of, is_whole, kind_answered, reads_inputs, seen};
 ghost use Rattle.emit_method.specs.Conditions.{first_block, is_of};
 ghost use Rattle.emit_method.specs.inner.Parts.{are_none};
 
@@ -25,6 +25,8 @@ pub struct Source<'a> {
     pub monitor: &'a Monitor,
     /// Its plan.
     pub plan: &'a Plan,
+    /// Of each block, whether it is known that no number of it leaves 64 bits.
+    pub whole: &'a [bool],
 }
 
 /// A method, for calls that wait or for those that try: the number of its first block, what it
@@ -123,6 +125,16 @@ pub fn reads_inputs(monitor: &Monitor, condition: u32) -> bool
         .get((condition as usize).saturating_sub(1))
     {
         Some(which) => which.reads_inputs,
+        None => false,
+    }
+}
+
+/// Whether it is known that no number of the block of this number leaves 64 bits.
+pub fn is_whole(source: &Source, block: usize) -> bool
+    ensures { result ≡ is_whole (seen source.now) block }
+{
+    match source.whole.get(block) {
+        Some(is) => *is,
         None => false,
     }
 }

@@ -2,12 +2,13 @@
 
 ghost use Rattle.std.specs.Prelude.{◌≡◌, ◌++◌, ◌+◌, ◌<◌, ◌^◌, ◌==◌, codes, if◌then◌else◌, not};
 ghost use Rattle.std.specs.Prelude.{◌&&◌, ◌||◌};
-ghost use Rattle.std.specs.List.{flat_map, list_any};
+ghost use Rattle.std.specs.List.{enumerate_from, flat_map, list_any};
 ghost use Rattle.machine_events.specs.Configurations.{block_condition};
 ghost use Rattle.base_io.specs.Writing.{Wrote};
 ghost use Rattle.emit_method.specs.Sources.{answer_of, seen};
 ghost use Rattle.emit_method.specs.Conditions.{around_name};
-ghost use Rattle.emit_method.specs.Statements.{answer_name, block_fails, call_text, end_text};
+ghost use Rattle.emit_method.specs.Statements.{answer_name, block_fails, block_shortens, call_text};
+ghost use Rattle.emit_method.specs.Statements.{end_text, method_shortens};
 ghost use Rattle.emit_method.specs.Statements.{fails_at, let_text, method_fails, method_seen};
 ghost use Rattle.emit_method.specs.Statements.{note_test, note_text, release_text, sleep_text};
 ghost use Rattle.emit_method.specs.Statements.{notify_call, notify_text, op_text, own_call};
@@ -21,34 +22,87 @@ ghost use Rattle.emit_code.specs.Code.Op.{ElseRefuse, WaitUntil};
 
 use crate::conditions::{write_arguments, write_around_count, write_around_name};
 use crate::source::{
-    Calls, Source, answer_of, are_heard, condition_of, is_waited_on, notes_of, reads_inputs,
+    Calls, Source, answer_of, are_heard, condition_of, first_of, is_waited_on, is_whole, notes_of,
+    reads_inputs,
 };
 use base_io::{Sink, SinkFailed, write_piece, write_pieces};
-use emit_bodies::{fails, write_block_name};
+use emit_bodies::{fails, shortens, write_block_name};
 use emit_rust::Reach;
 use lang_base::Kind;
-use lang_tree::{BlockTree, MethodTree, MonitorTree};
+use lang_tree::{BlockTree, MethodTree};
 use machine_events::Note;
 
 // ---- whether a call may fail
 
-/// Whether some block of a method may fail.
-pub fn method_fails(tree: &MonitorTree, method: &MethodTree) -> bool
-    ensures { result ≡ method_fails tree.now method.now }
+/// Whether some block of a method may fail, by its number.
+pub fn method_fails(source: &Source, number: usize, method: &MethodTree) -> bool
+    ensures { result ≡ method_fails (seen source.now) number method.now }
 {
-    any_fails(tree, method, method.blocks.items())
+    let first = first_of(source.monitor, number);
+    any_fails(source, method, first, method.blocks.items())
 }
 
-fn any_fails(tree: &MonitorTree, method: &MethodTree, blocks: &[BlockTree]) -> bool
-    ensures { result ≡ list_any (block_fails tree.now method.now) blocks.now }
+fn any_fails(source: &Source, method: &MethodTree, first: u32, blocks: &[BlockTree]) -> bool
+    ensures { result ≡ list_any
+        (λ one. block_fails (seen source.now) method.now (first + one.0) one.1)
+        (enumerate_from 0 blocks.now) }
 {
-    blocks.iter().any(|block| block_fails(tree, method, block))
+    let mut found = false;
+    for (place, block) in blocks.iter().enumerate() {
+        let here = block_fails(source, method, first as usize + place, block);
+        found = either(found, here);
+    }
+    found
 }
 
-fn block_fails(tree: &MonitorTree, method: &MethodTree, block: &BlockTree) -> bool
-    ensures { result ≡ block_fails tree.now method.now block.now }
+fn either(one: bool, other: bool) -> bool
+    ensures { result ≡ (one || other) }
 {
-    fails(tree, method, block.body.items(), false)
+    one || other
+}
+
+fn block_fails(source: &Source, method: &MethodTree, block: usize, parts: &BlockTree) -> bool
+    ensures { result ≡ block_fails (seen source.now) method.now block parts.now }
+{
+    fails(
+        source.tree,
+        method,
+        parts.body.items(),
+        is_whole(source, block),
+    )
+}
+
+/// Whether some block of a method, by its number, has a number that is known to have 64 bits, and
+/// is worked out in 128.
+pub fn method_shortens(source: &Source, number: usize, method: &MethodTree) -> bool
+    ensures { result ≡ method_shortens (seen source.now) number method.now }
+{
+    let first = first_of(source.monitor, number);
+    any_shortens(source, method, first, method.blocks.items())
+}
+
+fn any_shortens(source: &Source, method: &MethodTree, first: u32, blocks: &[BlockTree]) -> bool
+    ensures { result ≡ list_any
+        (λ one. block_shortens (seen source.now) method.now (first + one.0) one.1)
+        (enumerate_from 0 blocks.now) }
+{
+    let mut found = false;
+    for (place, block) in blocks.iter().enumerate() {
+        let here = block_shortens(source, method, first as usize + place, block);
+        found = either(found, here);
+    }
+    found
+}
+
+fn block_shortens(source: &Source, method: &MethodTree, block: usize, parts: &BlockTree) -> bool
+    ensures { result ≡ block_shortens (seen source.now) method.now block parts.now }
+{
+    shortens(
+        source.tree,
+        method,
+        parts.body.items(),
+        is_whole(source, block),
+    )
 }
 
 // Whether the body of the block of this number may fail.
@@ -57,7 +111,7 @@ fn fails_at(it: &Calls, block: usize) -> bool
 {
     let place = block.saturating_sub(it.first as usize);
     match it.method.blocks.items().get(place) {
-        Some(block) => block_fails(it.source.tree, it.method, block),
+        Some(parts) => block_fails(it.source, it.method, block, parts),
         None => false,
     }
 }

@@ -7,7 +7,7 @@ use Rattle.lang_tree.specs.declared.tree.StmtTree.{StmtTree}
 use Rattle.machine_events.specs.Configurations.{block_condition}
 use Rattle.emit_bodies.specs.Bodies.{body_text}
 use Rattle.emit_bodies.specs.Guards.{guard_text}
-use Rattle.emit_method.specs.Sources.{SourceParts, answer_of, reads_inputs}
+use Rattle.emit_method.specs.Sources.{SourceParts, answer_of, is_whole, reads_inputs}
 use Rattle.emit_module.specs.Modules.{body_function, test_function, tests_guard}
 
 module _ (source : SourceParts) (method : MethodTree) (place block : ℕ) (parts : BlockTree) where
@@ -27,8 +27,9 @@ module _ (source : SourceParts) (method : MethodTree) (place block : ℕ) (parts
       ap (test_by true) (same ∙ ap (reads_inputs source.monitor) is)
       ∙ ap (λ (b : Bool). test_by b (reads_inputs source.monitor own)) (sym holds ∙ says ∙ ap (λ (q : ℕ). tests_guard source.monitor q block) is)
 
-  pub body_says : (answer : Option Kind) (body : List StmtTree) → answer ≡ answer_of source.monitor block → body ≡ parts.body
-      → codes "\n" ++ body_text source.tree method (place + 1) answer body false ≡ body_function source method place block parts
-  body_says answer body is same =
-      ap (λ (a : Option Kind). codes "\n" ++ body_text source.tree method (place + 1) a body false) is
-      ∙ ap (λ (some : List StmtTree). codes "\n" ++ body_text source.tree method (place + 1) (answer_of source.monitor block) some false) same
+  pub body_says : (answer : Option Kind) (body : List StmtTree) (whole : Bool) → answer ≡ answer_of source.monitor block → body ≡ parts.body → whole ≡ is_whole source block
+      → codes "\n" ++ body_text source.tree method (place + 1) answer body whole ≡ body_function source method place block parts
+  body_says answer body whole is same says =
+      ap (λ (a : Option Kind). codes "\n" ++ body_text source.tree method (place + 1) a body whole) is
+      ∙ ap (λ (some : List StmtTree). codes "\n" ++ body_text source.tree method (place + 1) (answer_of source.monitor block) some whole) same
+      ∙ ap (λ (b : Bool). codes "\n" ++ body_text source.tree method (place + 1) (answer_of source.monitor block) parts.body b) says

@@ -115,3 +115,10 @@ FAILED =
     ++ codes "            Self::Refused => \"the guard is false\",\n"
     ++ codes "            Self::Overflow => \"a number would leave 64 bits\",\n"
     ++ codes "        })\n    }\n}\n\nimpl std::error::Error for Failed {}\n"
+
+-- a number of which it is known that it has 64 bits
+abbrev pub WHOLE : List ℕ
+WHOLE =
+    codes "\n/// The number, of which it is proved that it has 64 bits.\n"
+    ++ codes "#[allow(clippy::cast_possible_truncation)]\n"
+    ++ codes "fn whole(number: i128) -> i64 {\n    number as i64\n}\n"

@@ -20,12 +20,12 @@ use Rattle.emit_rust.specs.Lints.{has_odd_name}
 use Rattle.emit_bodies.specs.Blocks.{kind_declared, kind_text}
 use Rattle.emit_bodies.specs.Bodies.{body_text}
 use Rattle.emit_bodies.specs.Guards.{guard_text}
-use Rattle.emit_method.specs.Sources.{SourceParts, source_of, answer_of, reads_inputs}
+use Rattle.emit_method.specs.Sources.{SourceParts, source_of, answer_of, is_whole, reads_inputs}
 use Rattle.emit_method.specs.Conditions.{around_count, around_name, first_block}
-use Rattle.emit_method.specs.Statements.{method_fails}
+use Rattle.emit_method.specs.Statements.{method_fails, method_shortens}
 use Rattle.emit_method.specs.Methods.{has_try, methods_text, start_text, typed_start}
 use Rattle.emit_module.specs.Fixed.{VERSION, HEAD, NEW, DEFAULT, DEBUG, DEBUG_END, INNER, STATE}
-use Rattle.emit_module.specs.Fixed.{STATE_IMPL, LOCK, WAIT, OVERFLOW, REFUSED, FAILED}
+use Rattle.emit_module.specs.Fixed.{STATE_IMPL, LOCK, WAIT, OVERFLOW, REFUSED, FAILED, WHOLE}
 
 -- lints would speak of names that are written as they stand
 abbrev pub lints_text : MonitorTree → List ℕ
@@ -261,7 +261,8 @@ test_function source method place block parts =
 abbrev pub body_function : SourceParts → MethodTree → ℕ → ℕ → BlockTree → List ℕ
 body_function source method place block parts =
     codes "\n"
-    ++ body_text source.tree method (place + 1) (answer_of source.monitor block) parts.body false
+    ++ body_text source.tree method (place + 1) (answer_of source.monitor block) parts.body
+    (is_whole source block)
 
 -- by the number of the first block of its method
 abbrev pub block_functions : SourceParts → MethodTree → ℕ → ℕ → BlockTree → List ℕ
@@ -286,14 +287,20 @@ state_impl_text source =
 -- ---- the module
 
 -- some method may fail
-abbrev pub fails_somewhere : MonitorTree → Bool
-fails_somewhere tree = list_any (method_fails tree) tree.methods
+abbrev pub fails_somewhere : SourceParts → Bool
+fails_somewhere source =
+    list_any (λ one. method_fails source one.0 one.1) (enumerate_from 0 source.tree.methods)
+
+-- some number is known to have 64 bits, and is worked out in 128
+abbrev pub shortens_somewhere : SourceParts → Bool
+shortens_somewhere source =
+    list_any (λ one. method_shortens source one.0 one.1) (enumerate_from 0 source.tree.methods)
 
 -- the calls of a method that try are refused, by whether it may fail too
 abbrev pub refuses_so : SourceParts → Bool → ℕ → MethodTree → Bool
 refuses_so source fails number method =
-    has_try source number method && (if fails then method_fails source.tree method
-    else not (method_fails source.tree method))
+    has_try source number method && (if fails then method_fails source number method
+    else not (method_fails source number method))
 
 -- so are those of some method
 abbrev pub refuses_somewhere : SourceParts → Bool → Bool
@@ -304,14 +311,15 @@ refuses_somewhere source fails =
 abbrev pub text_if : Bool → List ℕ → List ℕ
 text_if any text = if any then text else []
 
--- what is free of the monitor: where there are calls, where some wait, where some may fail, and
--- where some may be refused
+-- what is free of the monitor: where there are calls, where some wait, where some may fail, where
+-- some may be refused, and where some number is known to have 64 bits
 abbrev pub functions_text : SourceParts → List ℕ
 functions_text source =
     text_if (has_calls source.tree) LOCK ++ text_if (waits_somewhere source.monitor) WAIT
-    ++ text_if (fails_somewhere source.tree) OVERFLOW
+    ++ text_if (fails_somewhere source) OVERFLOW
     ++ text_if (refuses_somewhere source false) REFUSED
     ++ text_if (refuses_somewhere source true) FAILED
+    ++ text_if (shortens_somewhere source) WHOLE
 
 -- what the module is, and what made it
 abbrev pub head_text : MonitorTree → List ℕ
@@ -326,6 +334,7 @@ module_text source =
     ++ traits_text source ++ inner_text source ++ state_text source.tree ++ state_impl_text source
     ++ functions_text source
 
--- the module of a monitor, as it is written and as it was checked, under its plan
-abbrev pub rust_text : MonitorTree → MonitorParts → Plan → List ℕ
-rust_text tree monitor plan = module_text (source_of tree monitor plan)
+-- the module of a monitor, as it is written and as it was checked, under its plan, and with those
+-- blocks of which it is known that no number of them leaves 64 bits
+abbrev pub rust_text : MonitorTree → MonitorParts → Plan → List Bool → List ℕ
+rust_text tree monitor plan whole = module_text (source_of tree monitor plan whole)

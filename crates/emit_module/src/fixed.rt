@@ -2,7 +2,7 @@
 
 ghost use Rattle.std.specs.Prelude.{◌≡◌};
 ghost use Rattle.emit_module.specs.Fixed.{DEBUG, DEBUG_END, DEFAULT, FAILED, HEAD, INNER, LOCK};
-ghost use Rattle.emit_module.specs.Fixed.{NEW, OVERFLOW, REFUSED, STATE, STATE_IMPL, VERSION, WAIT};
+ghost use Rattle.emit_module.specs.Fixed.{NEW, OVERFLOW, REFUSED, STATE, STATE_IMPL, VERSION, WAIT, WHOLE};
 
 /// The program's version.
 pub(crate) fn version_bytes() -> &'static [u8]
@@ -206,5 +206,18 @@ impl std::fmt::Display for Failed {
 }
 
 impl std::error::Error for Failed {}
+"
+}
+
+/// A number of which it is known that it has 64 bits.
+pub(crate) fn whole_bytes() -> &'static [u8]
+    ensures { result.now ≡ WHOLE }
+{
+    b"
+/// The number, of which it is proved that it has 64 bits.
+#[allow(clippy::cast_possible_truncation)]
+fn whole(number: i128) -> i64 {
+    number as i64
+}
 "
 }

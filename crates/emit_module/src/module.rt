@@ -5,7 +5,7 @@ ghost use Rattle.std.specs.List.{enumerate_from, flat_map, list_any};
 ghost use Rattle.emit_code.specs.Code.{is_always};
 ghost use Rattle.base_io.specs.Writing.{Wrote};
 ghost use Rattle.emit_method.specs.Sources.{seen};
-ghost use Rattle.emit_method.specs.Statements.{method_fails};
+ghost use Rattle.emit_method.specs.Statements.{method_fails, method_shortens};
 ghost use Rattle.emit_method.specs.Methods.{methods_text};
 ghost use Rattle.emit_module.specs.Modules.{constant_line};
 ghost use Rattle.emit_module.specs.Modules.{constant_text, constants_end, constants_text};
@@ -13,6 +13,7 @@ ghost use Rattle.emit_module.specs.Fixed.{FAILED, REFUSED};
 ghost use Rattle.emit_module.specs.Modules.{debug_text, default_text, fails_somewhere, functions_text};
 ghost use Rattle.emit_module.specs.Modules.{has_calls, head_text, impl_text, is_field, module_text};
 ghost use Rattle.emit_module.specs.Modules.{new_text, refuses_so, refuses_somewhere, rust_text};
+ghost use Rattle.emit_module.specs.Modules.{shortens_somewhere};
 ghost use Rattle.emit_module.specs.Modules.{struct_docs, struct_head, struct_text, text_if};
 ghost use Rattle.emit_module.specs.Modules.{traits_text, use_by, use_text};
 ghost use Rattle.emit_module.specs.Modules.{waits_somewhere};
@@ -21,11 +22,13 @@ use crate::declared::{is_field, write_lints};
 use crate::fields::{ConditionLine, write_conditions};
 use crate::fixed::{
     debug_bytes, debug_end, default_bytes, failed_bytes, head_bytes, lock_bytes, new_bytes,
-    overflow_bytes, refused_bytes, version_bytes, wait_bytes,
+    overflow_bytes, refused_bytes, version_bytes, wait_bytes, whole_bytes,
 };
 use crate::state::{write_inner, write_state, write_state_impl};
 use base_io::{Sink, SinkFailed, write_piece};
-use emit_method::{Source, has_try, is_always, method_fails, write_methods_of, write_typed_start};
+use emit_method::{
+    Source, has_try, is_always, method_fails, method_shortens, write_methods_of, write_typed_start,
+};
 use emit_rust::{Style, write_member, write_type};
 use lang_base::Named;
 use lang_monitor::{Condition, Monitor};
@@ -33,22 +36,25 @@ use lang_tree::{Decl, MethodTree, MonitorTree};
 use machine_events::Plan;
 use report_text::write_plan;
 
-/// Writes the Rust module of a monitor under a plan. It takes no memory.
+/// Writes the Rust module of a monitor under a plan, by which of its blocks are known to have no
+/// number that leaves 64 bits. It takes no memory.
 ///
 /// After `SinkFailed` the first bytes were taken, fewer than all and maybe none.
 pub fn write_rust<S: Sink>(
     tree: &MonitorTree,
     monitor: &Monitor,
     plan: &Plan,
+    whole: &[bool],
     out: &mut S,
 ) -> Result<(), SinkFailed>
     ensures { Wrote (S.seen out.old) (S.seen out.new) result
-        (rust_text tree.now monitor.now plan.now) }
+        (rust_text tree.now monitor.now plan.now whole.now) }
 {
     let source = Source {
         tree,
         monitor,
         plan,
+        whole,
     };
     write_module(&source, out)
 }
@@ -296,9 +302,10 @@ fn write_functions<S: Sink>(source: &Source, out: &mut S) -> Result<(), SinkFail
 {
     write_piece(text_if(has_calls(source.tree), lock_bytes()), out)?;
     write_piece(text_if(waits_somewhere(source.monitor), wait_bytes()), out)?;
-    write_piece(text_if(fails_somewhere(source.tree), overflow_bytes()), out)?;
+    write_piece(text_if(fails_somewhere(source), overflow_bytes()), out)?;
     write_refused(source, out)?;
-    write_failed(source, out)
+    write_failed(source, out)?;
+    write_piece(text_if(shortens_somewhere(source), whole_bytes()), out)
 }
 
 fn write_refused<S: Sink>(source: &Source, out: &mut S) -> Result<(), SinkFailed>
@@ -329,16 +336,41 @@ fn text_if(any: bool, text: &[u8]) -> &[u8]
 }
 
 // Whether some method may fail.
-fn fails_somewhere(tree: &MonitorTree) -> bool
-    ensures { result ≡ fails_somewhere tree.now }
+fn fails_somewhere(source: &Source) -> bool
+    ensures { result ≡ fails_somewhere (seen source.now) }
 {
-    any_fails(tree, tree.methods.items())
+    any_fails(source, source.tree.methods.items())
 }
 
-fn any_fails(tree: &MonitorTree, methods: &[MethodTree]) -> bool
-    ensures { result ≡ list_any (method_fails tree.now) methods.now }
+fn any_fails(source: &Source, methods: &[MethodTree]) -> bool
+    ensures { result ≡ list_any (λ one. method_fails (seen source.now) one.0 one.1)
+        (enumerate_from 0 methods.now) }
 {
-    methods.iter().any(|method| method_fails(tree, method))
+    let mut found = false;
+    for (number, method) in methods.iter().enumerate() {
+        let here = method_fails(source, number, method);
+        found = either(found, here);
+    }
+    found
+}
+
+// Whether some number is known to have 64 bits, and is worked out in 128.
+fn shortens_somewhere(source: &Source) -> bool
+    ensures { result ≡ shortens_somewhere (seen source.now) }
+{
+    any_shortens(source, source.tree.methods.items())
+}
+
+fn any_shortens(source: &Source, methods: &[MethodTree]) -> bool
+    ensures { result ≡ list_any (λ one. method_shortens (seen source.now) one.0 one.1)
+        (enumerate_from 0 methods.now) }
+{
+    let mut found = false;
+    for (number, method) in methods.iter().enumerate() {
+        let here = method_shortens(source, number, method);
+        found = either(found, here);
+    }
+    found
 }
 
 // Whether the calls of some method that try are refused, by whether it may fail too.
@@ -370,6 +402,6 @@ fn refuses_so(source: &Source, fails: bool, number: usize, method: &MethodTree) 
     ensures { result ≡ refuses_so (seen source.now) fails number method.now }
 {
     let tries = has_try(source, number, method);
-    let failing = method_fails(source.tree, method);
+    let failing = method_fails(source, number, method);
     tries && if fails { failing } else { !failing }
 }

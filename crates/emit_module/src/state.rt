@@ -1,7 +1,7 @@
-//! What the mutex guards: the state of a monitor, its fields and a function for each guard and body,
-//! and how many sleep on each condition.
+//! What the mutex guards: the state of a monitor, its fields and a function for each guard and
+//! body, and how many sleep on each condition.
 
-ghost use Rattle.std.specs.Prelude.{◌≡◌, ◌<◌, ◌^◌, ◌++◌, codes, false};
+ghost use Rattle.std.specs.Prelude.{◌≡◌, ◌<◌, ◌^◌, ◌++◌, codes};
 ghost use Rattle.std.specs.List.{enumerate_from, flat_map, list_any};
 ghost use Rattle.emit_bodies.specs.Bodies.{body_text};
 ghost use Rattle.emit_bodies.specs.Guards.{guard_text};
@@ -20,7 +20,7 @@ use crate::fixed::{inner_bytes, state_bytes, state_impl_bytes};
 use base_io::{Sink, SinkFailed, write_piece};
 use emit_bodies::{write_body, write_guard};
 use emit_method::{
-    Source, answer_of, condition_of, first_block, first_of, is_waited_on, reads_inputs,
+    Source, answer_of, condition_of, first_block, first_of, is_waited_on, is_whole, reads_inputs,
 };
 use lang_base::Kind;
 use lang_monitor::Monitor;
@@ -234,7 +234,9 @@ fn write_body_function<S: Sink>(
         (body_function (seen source.now) method.now place block parts.now) }
 {
     let answer = answer_of(source.monitor, block);
-    write_own_body(source, method, place + 1, answer, parts.body.items(), out)
+    let whole = is_whole(source, block);
+    let body = parts.body.items();
+    write_own_body(source, method, place + 1, answer, body, whole, out)
 }
 
 fn write_own_body<S: Sink>(
@@ -243,11 +245,12 @@ fn write_own_body<S: Sink>(
     number: usize,
     answer: Option<Kind>,
     body: &[StmtTree],
+    whole: bool,
     out: &mut S,
 ) -> Result<(), SinkFailed>
     ensures { Wrote (S.seen out.old) (S.seen out.new) result
-        (codes "\n" ++ body_text source.now.tree.now method.now number answer body.now false) }
+        (codes "\n" ++ body_text source.now.tree.now method.now number answer body.now whole) }
 {
     write_piece(b"\n", out)?;
-    write_body(source.tree, method, number, answer, body, false, out)
+    write_body(source.tree, method, number, answer, body, whole, out)
 }

@@ -189,8 +189,8 @@ is_as_promised laws bytes tree monitor plan accepted chosen = record {
 
 pub emit_done : PrintedLaws → (file : List ℕ) (tree : MonitorTree) (monitor : MonitorParts) (plan : Plan) (files files_now : FilesSeen) (result : Status) (out out_now : SinkSeen)
     → HoldsMonitor files.held file tree monitor → IsChosen Counted monitor plan → files_now.faults ≡ files.faults
-    → IsWritten statuses.Done (rust_text tree monitor plan) result out out_now → CommandEnds (emit file) files files_now result out out_now
+    → IsWritten statuses.Done (rust_text tree monitor plan []) result out out_now → CommandEnds (emit file) files files_now result out out_now
 emit_done laws file tree monitor plan files files_now result out out_now holds chosen steady written =
-    work_ended (emit file) files files_now (rust_text tree monitor plan) result out out_now true
+    work_ended (emit file) files files_now (rust_text tree monitor plan []) result out out_now true
     (record { tree = tree; monitor = monitor; plan = plan; holds = holds; chosen = chosen; promised = is_as_promised laws holds.bytes tree monitor plan holds.accepted chosen; printed = refl })
     (no_rejection files.held file tree monitor holds) steady written

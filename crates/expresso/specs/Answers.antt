@@ -1,5 +1,5 @@
 -- What the program answers.
-use Rattle.std.specs.Prelude.{◌≡◌, ◌<◌, ◌⊎◌, ℕ, Bool, List, All, Any, map, Option, Some, IfSome}
+use Rattle.std.specs.Prelude.{◌≡◌, ◌<◌, ◌⊎◌, ℕ, Bool, List, [], All, Any, map, Option, Some, IfSome}
 use Rattle.std.specs.Prelude.{codes}
 use Rattle.std.specs.Io.KnownBytes.{Appends}
 use Rattle.base_io.specs.Outside.{FilesSeen, SinkSeen, AppendsFront, Rises}
@@ -212,7 +212,7 @@ pub record IsEmitText (held : List ℕ → Option (List ℕ)) (file text : List 
   pub holds : HoldsMonitor held file tree monitor
   pub chosen : IsChosen Counted monitor plan
   pub promised : IsAsPromised tree monitor plan
-  pub printed : text ≡ rust_text tree monitor plan
+  pub printed : text ≡ rust_text tree monitor plan []
 
 -- the text of a command whose work is done; of `turns`, `simulate`, `run` and `block`, that no
 -- client has a call left

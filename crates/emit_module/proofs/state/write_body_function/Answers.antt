@@ -5,4 +5,4 @@ use Rattle.emit_module.proofs.state.write_body_function.Goals as goal
 
 pub returns : goal.returns
 returns g c =
-    wrote_same _ (body_says (seen c.args.source.now) c.args.method.now c.args.place c.args.block c.args.parts.now _ _ c.answer_of-answer.ensures c.items.ensures) c.write_own_body.ensures
+    wrote_same _ (body_says (seen c.args.source.now) c.args.method.now c.args.place c.args.block c.args.parts.now _ _ _ c.answer_of-answer.ensures c.items-body.ensures c.is_whole-whole.ensures) c.write_own_body.ensures

@@ -1,3 +1,4 @@
+use Rattle.std.proofs.Common.{[]}
 use Rattle.emit_module.specs.Modules.{rust_text}
 use Rattle.expresso.specs.declared.status.Status.TheVariants.{Done}
 use Rattle.front_command.specs.CommandLine.{emit}
@@ -22,4 +23,4 @@ returns-in-Ok-plan_of-clause-ended g c =
     } in
     emit_done laws c.args.file.now found.tree found.monitor plan
     (g.F.Files.seen c.args.files.now) (g.F.Files.seen c.monitor_of.new.files) _ (g.S.Sink.seen c.args.out.now) _ c.in-Ok.ensures.holds c.in-Ok-plan_of.ensures c.in-Ok.ensures.quiet.steady
-    (written_since Done (rust_text found.tree found.monitor plan) _ _ _ _ c.in-Ok.ensures.quiet.silent c.show_module.ensures)
+    (written_since Done (rust_text found.tree found.monitor plan []) _ _ _ _ c.in-Ok.ensures.quiet.silent c.show_module.ensures)

@@ -1,0 +1,13 @@
+use Rattle.std.proofs.Common.{◌∙◌}
+use Rattle.emit_method.proofs.Numbered.{tested_all, tested_more}
+use Rattle.emit_method.specs.Sources.{seen}
+use Rattle.emit_method.specs.Statements.{method_shortens}
+use Rattle.emit_module.proofs.module.any_shortens.Goals as goal
+
+pub loop-number-preserved : goal.loop-number-preserved
+loop-number-preserved c =
+    c.either-found.ensures ∙ tested_more (method_shortens (seen c.args.source.now)) c.args.methods.now c.loop-number.number c.index-methods-number.result _ _ c.loop-number-test.true c.index-methods-number.is c.method_shortens-here.ensures c.loop-number.invariant
+
+pub returns : goal.returns
+returns c =
+    c.loop-number.invariant ∙ tested_all (method_shortens (seen c.args.source.now)) c.args.methods.now c.loop-number.number c.loop-number-test.false

@@ -1,0 +1,11 @@
+use Rattle.std.proofs.Common.{◌∙◌, List, ap}
+use Rattle.std.specs.List.{enumerate_from, list_any}
+use Rattle.emit_method.proofs.Numbered.{numbered_test}
+use Rattle.emit_method.specs.Sources.{seen}
+use Rattle.emit_method.specs.Statements.{method_shortens}
+use Rattle.lang_tree.specs.declared.tree.MethodTree.{MethodTree}
+use Rattle.emit_module.proofs.module.shortens_somewhere.Goals as goal
+
+pub returns : goal.returns
+returns c =
+    c.any_shortens.ensures ∙ ap (λ (xs : List MethodTree). list_any (numbered_test (method_shortens (seen c.args.source.now))) (enumerate_from 0 xs)) c.items.ensures
