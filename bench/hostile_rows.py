@@ -107,7 +107,7 @@ expresso report FILE
 expresso recheck FILE REPORT
 expresso block FILE CLIENTS [--count]
 expresso audit FILE PLAN [--count]
-expresso explain FILE
+expresso explain FILE [--count]
 expresso emit FILE
 """
 

@@ -125,6 +125,10 @@ def advice(checker):
     checker.wants("GUIDE", 0, last + "\n", ["compile", other])
     if not checker.run(["compile", other])[1].endswith(last + "\n"):
         checker.faults.append(f"GUIDE: the last line is not `{last}`")
+    two = "method releaseTwo() waituntil (true) { free = free + 2; }\n}"
+    semaphore = (HOME / "data" / "semaphore.mon").read_text().rstrip().removesuffix("}") + two
+    why = next(it for it in re.findall(BLOCK, GUIDE, re.M) if it.startswith("why release 1: "))
+    checker.wants("GUIDE", 0, why, ["explain", "--count", checker.file("two.mon", semaphore)])
     size = re.search(r"^sed '(.*)' job_gate\.mon >", GUIDE, re.M)[1]
     gate = (ROOT / "examples" / "jobs" / "monitors" / "job_gate.mon").read_text()
     larger = subprocess.run(["sed", size], input=gate, capture_output=True, text=True, check=True).stdout

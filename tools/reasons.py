@@ -1,8 +1,9 @@
 #!/usr/bin/env python3
-"""`tools/reasons.py MONITOR EXPLAINED` checks each state that `expresso explain` shows.
+"""`tools/reasons.py MONITOR EXPLAINED [PLACED]` checks each state that `expresso explain` shows.
 
-It shares no code with the product. MONITOR is in canonical form, as `expresso check` prints it. It
-prints how many states it checked and how many reasons are not decided.
+With PLACED, in which the placed plan stands first, EXPLAINED is of the counted one, as `explain
+--count` prints it. It shares no code with the product. MONITOR is in canonical form, as `expresso
+check` prints it. It prints how many states it checked and how many reasons are not decided.
 """
 
 import pathlib
@@ -10,7 +11,7 @@ import re
 import sys
 
 sys.dont_write_bytecode = True
-from formulas import CONSTANT, Formula  # noqa: E402
+from formulas import CONSTANT, Formula, forms_of, joined, negation  # noqa: E402
 from monitors import read_monitor  # noqa: E402
 from recheck import expect, read_plan  # noqa: E402
 
@@ -19,23 +20,65 @@ BEYOND = " numbers beyond 128 bits"
 GIVEN = rf"(?:\((\w+={VALUE}(?: \w+={VALUE})*)\))?"
 
 
+# ---- triples that would spare something: the block, the condition, the hypotheses, and whether it
+# fails from a state where these are true to the one after the block
+def triple(w, p, hyps, post):
+    return w, p, hyps, lambda state, ended: not is_true(post, ended)
+
+
+def measure_of(guard):
+    """Its first row, and what is true where any number may pass."""
+    free = [part for part in guard.value if part.kind != "row"] if guard.kind == "any" else []
+    return (forms_of(guard) or [{}])[0], joined("any", free)
+
+
+def leaves(w, q, p, facts, gives):
+    """The block leaves the condition counted, with so many signals on it."""
+    form, free = measure_of(p.guard)
+    net = (w.condition == q) - gives
+
+    def fails(state, ended):
+        now = value_of(form, ended)
+        return is_true(p.waiting, ended) and (
+            is_true(free, ended) or now > 0 or value_of(form, state) - now + net > 0)
+    return w, p, facts + [w.guard, p.waiting, negation(free)], fails
+
+
+def lets_in_one(w, p, facts):
+    """Where nobody could pass before the block, one client at most may after it."""
+    form, free = measure_of(p.guard)
+
+    def fails(_, ended):
+        return is_true(p.waiting, ended) and (is_true(free, ended) or value_of(form, ended) < 0)
+    return w, p, facts + [w.guard, p.failing], fails
+
+
 # ---- what costs something, in order: the words of its line, and for each block that it may be about
-# the hypotheses of the triple that would spare it, and what should be true after the block
-def things_of(monitor, kept, kinds, notes):
+# the triples that would spare it
+def things_of(monitor, kept, kinds, notes, placed=None):
     facts, conditions = [fact for _, fact in kept], list(enumerate(monitor.conditions, 1))
-    noted = [(w, q, on[q][1]) for w, on in zip(monitor.blocks, notes) for q in on]
-    for w, q, _ in noted:
-        p = monitor.conditions[q - 1]
-        yield f"{w.name}{{own}} {q}{{others}}", [(w, p, facts + [w.guard, p.failing], p.failing)]
+    noted = [(w, q, monitor.conditions[q - 1], *on[q])
+             for w, on in zip(monitor.blocks, notes) for q in on]
+    counted = {q for q, pair in enumerate(zip(placed or [], kinds), 1)
+               if pair == ("broadcast", "signal")}
+    for w, q, p, _, _ in noted:
+        sparing = [triple(w, p, facts + [w.guard, p.failing], p.failing)]
+        if q in counted:
+            sparing.append(leaves(w, q, p, facts, 0))
+        yield f"{w.name}{{own}} {q}{{others}}", sparing
     for (q, p), kind in zip(conditions, kinds):
         if kind == "broadcast" and not p.reads_inputs:
             yield f"{q} broadcast {{block}}{{own}}", [
-                (w, p, facts + [p.waiting], p.failing) for w in monitor.blocks if w.condition == q]
-    for w, q, tested in noted:
-        p = monitor.conditions[q - 1]
+                triple(w, p, facts + [p.waiting], p.failing) if placed is None
+                else leaves(w, q, p, facts, 0) for w in monitor.blocks if w.condition == q]
+    for w, q, p, _, tested in noted:
         if tested:
             yield f"{w.name}{{own}} {q}{{others}} tested", [
-                (w, p, facts + [w.guard, p.failing], p.waiting)]
+                triple(w, p, facts + [w.guard, p.failing], p.waiting)]
+    for w, q, p, kind, _ in noted:
+        if q in counted and kind == "broadcast":
+            yield f"{w.name}{{own}} {q} broadcast", [
+                leaves(w, q, p, facts, 1), lets_in_one(w, p, facts)]
 
 
 # ---- states: from places to numbers and truths
@@ -91,21 +134,22 @@ def check(monitor, line, words, cases):
     expect(shown)
     *heads, first, last = shown.groups()
     if " broadcast " in words:
-        cases, heads = [case for case in cases if case[0].name == heads[0]], heads[1:] + [None]
-    (block, condition, hyps, post), (own, others) = cases[0], heads
+        cases, heads = [case for case in cases if case[0].name == heads[0]], heads[1:]
+    (block, condition, *_), (own, others) = cases[0], (heads + [None])[:2]
     fields = [(name, variable) for name, variable, _ in monitor.fields]
     state = read_values(first, fields)
     state |= read_values(own, list(block.own.items()))
     state |= read_values(others, list(condition.others.items()) if condition.reads_inputs else [])
     ended = after(block.body, state)
-    expect(all(is_true(fact, state) for fact in hyps) and not is_true(post, ended))
+    expect(any(all(is_true(fact, state) for fact in hyps) and fails(state, ended)
+               for _, _, hyps, fails in cases))
     if last != BEYOND:
         values = read_values(last, fields)
         expect(values == {place: ended[place] for place in values})
     return True
 
 
-def main(monitor, explained):
+def main(monitor, explained, placed=None):
     sys.setrecursionlimit(10 ** 6)
     monitor = read_monitor(pathlib.Path(monitor).read_text("ascii"))
     text = pathlib.Path(explained).read_text("ascii")
@@ -113,6 +157,9 @@ def main(monitor, explained):
         expect(text.endswith("\n"))
         lines = text.split("\n")[-2::-1]
         plan = read_plan(monitor, lines)
+        if placed:
+            first = pathlib.Path(placed).read_text("ascii").split("\n")[-2::-1]
+            plan = *plan, read_plan(monitor, first)[1]
         shown = [check(monitor, lines.pop(), *thing) for thing in things_of(monitor, *plan)]
         expect(not lines)
     except (LookupError, ValueError) as fault:

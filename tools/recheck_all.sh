@@ -20,14 +20,13 @@ judge() {
     fi
 }
 
-# explain: the states that are shown hold, and with a line missing the text is refused
+# explain TEXT [PLACED]: the states that are shown hold, and with a line missing the text is refused
 explain() {
-    "$program" explain "$monitor" >"$made/explained" || exit 1
-    sed '$d' "$made/explained" >"$made/shorter"
-    if ! "$reasons" "$made/monitor" "$made/explained" >>"$made/counted"; then
+    sed '$d' "$1" >"$made/shorter"
+    if ! "$reasons" "$made/monitor" "$@" >>"$made/states"; then
         echo "$monitor: what explain shows is refused by the second reader"
         exit 1
-    elif "$reasons" "$made/monitor" "$made/shorter" >"$made/refused"; then
+    elif "$reasons" "$made/monitor" "$made/shorter" "${@:2}" >"$made/refused"; then
         echo "$monitor: the second reader takes reasons of which one is missing"
         exit 1
     fi
@@ -44,8 +43,11 @@ for monitor in data/*.mon data/derived/*.mon; do
     judge 1 "$made/shorter"
     judge - "$made/emptied"
     judge - "$made/shifted"
-    explain
+    "$program" explain "$monitor" >"$made/explained" || exit 1
+    explain "$made/explained"
+    "$program" explain --count "$monitor" >"$made/counted" || exit 1
+    explain "$made/counted" "$made/explained"
     count=$((count + 1))
 done
 echo "both readers agree on the reports of $count monitors; of their reasons" \
-    "$(awk '{ shown += $1; undecided += $3 } END { print shown " are shown and " undecided " not decided" }' "$made/counted")"
+    "$(awk '{ shown += $1; undecided += $3 } END { print shown " are shown and " undecided " not decided" }' "$made/states")"

@@ -1,5 +1,5 @@
 -- How a command that works on the monitor of one file ends.
-use Rattle.std.proofs.Common.{◌≡◌, ℕ, true, false, List, [], Option, Result, Ok, Err, refl, sym, subst, ◌∙◌, arith, inl, inr, true≢false}
+use Rattle.std.proofs.Common.{◌≡◌, ℕ, Bool, true, false, List, [], Option, Result, Ok, Err, refl, sym, subst, ◌∙◌, arith, inl, inr, true≢false}
 use Rattle.std.specs.Prelude.{Any, IfErr, IfOk}
 use Rattle.base_io.specs.Outside.{FilesSeen, SinkSeen, IsRead}
 use Rattle.lang_tree.specs.declared.tree.MonitorTree.{MonitorTree}
@@ -20,12 +20,13 @@ use Rattle.expresso.specs.declared.monitor_file.MonitorFile.{MonitorFile}
 use Rattle.front_command.specs.declared.plan_choice.PlanChoice.{PlanChoice}
 use Rattle.front_command.specs.declared.plan_choice.PlanChoice.TheVariants.{Counted}
 use Rattle.front_command.specs.CommandLine.{Command, check, compile, report, explain, emit}
+use Rattle.plan_needs.specs.declared.broadcasts.BroadcastReason.{BroadcastReason}
 use Rattle.plan_why.specs.declared.reason.Reason.{Reason}
 use Rattle.expresso.specs.Placements.{IsChosen, IsPlacement}
 use Rattle.expresso.specs.MonitorFiles.{IsAccepted}
 use Rattle.expresso.specs.PrintedPrograms.{BodiesStep, IsAsPromised, MomentsStayShort, NumbersStayWide, StartIsShort, TestsAreShared, TestsHold, ThreadsLoseNone}
-use Rattle.expresso.specs.Texts.{explained_text}
-use Rattle.expresso.specs.inner.Explaining.{IsExplained}
+use Rattle.expresso.specs.Texts.{count_explained_text, explained_text}
+use Rattle.expresso.specs.inner.Explaining.{IsCountExplained, IsExplained}
 use Rattle.expresso.specs.FirstFaults.{IsRefusalLine}
 use Rattle.expresso.specs.MonitorFiles.{IsAccepted, IsFirstOfMonitor}
 use Rattle.expresso.specs.Answers.{AcceptsMonitor, HoldsMonitor, IsUnreadText, RejectsMonitor}
@@ -48,8 +49,8 @@ compile_works file choice = record { files = refl; refused = λ held text is. is
 pub report_works : (file : List ℕ) → WorksOn (report file) file []
 report_works file = record { files = refl; refused = λ held text is. is; accepted = λ held is. is }
 
-pub explain_works : (file : List ℕ) → WorksOn (explain file) file []
-explain_works file = record { files = refl; refused = λ held text is. is; accepted = λ held is. is }
+pub explain_works : (file : List ℕ) (count : Bool) → WorksOn (explain file count) file []
+explain_works file count = record { files = refl; refused = λ held text is. is; accepted = λ held is. is }
 
 pub emit_works : (file : List ℕ) → WorksOn (emit file) file []
 emit_works file = record { files = refl; refused = λ held text is. is; accepted = λ held is. is }
@@ -132,10 +133,31 @@ compile_done file choice tree monitor plan files files_now result out out_now ho
 
 pub explain_done : (file : List ℕ) (tree : MonitorTree) (monitor : MonitorParts) (plan : Plan) (reasons : List Reason) (files files_now : FilesSeen) (result : Status) (out out_now : SinkSeen)
     → HoldsMonitor files.held file tree monitor → IsExplained monitor plan reasons → files_now.faults ≡ files.faults
-    → IsWritten statuses.Done (explained_text tree monitor plan reasons) result out out_now → CommandEnds (explain file) files files_now result out out_now
+    → IsWritten statuses.Done (explained_text tree monitor plan reasons) result out out_now → CommandEnds (explain file false) files files_now result out out_now
 explain_done file tree monitor plan reasons files files_now result out out_now holds explained steady written =
-    work_ended (explain file) files files_now (explained_text tree monitor plan reasons) result out out_now true
+    work_ended (explain file false) files files_now (explained_text tree monitor plan reasons) result out out_now true
     (record { tree = tree; monitor = monitor; plan = plan; reasons = reasons; holds = holds; placement = explained.placement; things = explained.things; each = explained.each; printed = refl })
+    (no_rejection files.held file tree monitor holds) steady written
+
+pub count_explain_done : (file : List ℕ) (tree : MonitorTree) (monitor : MonitorParts) (plan : Plan) (reasons : List Reason) (broadcasts : List BroadcastReason) (files files_now : FilesSeen) (result : Status) (out out_now : SinkSeen)
+    → HoldsMonitor files.held file tree monitor → IsCountExplained monitor plan reasons broadcasts → files_now.faults ≡ files.faults
+    → IsWritten statuses.Done (count_explained_text tree monitor plan reasons broadcasts) result out out_now → CommandEnds (explain file true) files files_now result out out_now
+count_explain_done file tree monitor plan reasons broadcasts files files_now result out out_now holds explained steady written =
+    work_ended (explain file true) files files_now (count_explained_text tree monitor plan reasons broadcasts) result out out_now true
+    (record {
+      tree = tree;
+      monitor = monitor;
+      plan = plan;
+      reasons = reasons;
+      broadcasts = broadcasts;
+      holds = holds;
+      chosen = explained.chosen;
+      things = explained.things;
+      each = explained.each;
+      listed = explained.listed;
+      each_listed = explained.each_listed;
+      printed = refl;
+    })
     (no_rejection files.held file tree monitor holds) steady written
 
 -- under a counted plan, threads lose no wake-up by the printed code

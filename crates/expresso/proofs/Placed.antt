@@ -1,5 +1,5 @@
 -- Plans that are asked for, and a machine that ended closed under one.
-use Rattle.std.proofs.Common.{◌≡◌, ℕ, Bool, true, false, List, Option, Result, Ok, Err, IfOk, refl, sym, ap, subst, ◌∙◌, true≢false}
+use Rattle.std.proofs.Common.{◌≡◌, ℕ, Bool, true, false, List, All, map, Option, Result, Ok, Err, IfOk, refl, sym, ap, subst, ◌∙◌, true≢false}
 use Rattle.lang_monitor.specs.MonitorParts.{MonitorParts}
 use Rattle.machine_implicit.specs.declared.script.Client.{Client}
 use Rattle.machine_implicit.specs.Scripted.{AreClients}
@@ -21,6 +21,12 @@ use Rattle.plan_counted.specs.CountedAndRelayed.{IsCountedAndRelayed, OmitsNoMor
 use Rattle.plan_counted.specs.Exact.{HasNoOpenQuestion, IsExactlyCounted}
 use Rattle.expresso.specs.Placements.{IsChosen, IsCountTable, IsLawfulChoice, IsPlacement}
 use Rattle.expresso.specs.PlacedRuns.{IsPlacedRun}
+use Rattle.expresso.specs.inner.Explaining.{IsCountExplained}
+use Rattle.plan_needs.specs.declared.broadcasts.BroadcastReason.{BroadcastReason}
+use Rattle.plan_needs.specs.CountedReasons.{IsBroadcastReason, IsCountedReason}
+use Rattle.plan_needs.specs.Needs.{broadcasts_of}
+use Rattle.plan_why.specs.declared.reason.Reason.{Reason}
+use Rattle.plan_why.specs.Things.{things_of}
 
 -- ---- plans
 
@@ -64,17 +70,38 @@ count_table monitor placed counted columns is from exact backed = record {
 }
 
 -- that plan counted
-pub counted_chosen : (choice : PlanChoice) (monitor : MonitorParts) (placed plan : Plan) (columns : List (Option (List Told))) → choice ≡ Counted → IsPlacement monitor placed → plan ≡ counted_of placed columns
+counted_choice : (monitor : MonitorParts) (placed plan : Plan) (columns : List (Option (List Told))) → IsPlacement monitor placed → plan ≡ counted_of placed columns
     → IsCountedFrom monitor placed plan → (HasNoOpenQuestion monitor placed.kept → IsExactlyCounted monitor placed plan) → AreBacked monitor placed columns
-    → FitsPlan monitor plan → IsLawfulByCounting monitor plan → OmitsNoMore placed plan → IsChosen choice monitor plan
-counted_chosen choice monitor placed plan columns is placement made from exact backed fits lawful omits = subst (λ (c : PlanChoice). IsChosen c monitor plan) (sym is) (record {
+    → FitsPlan monitor plan → IsLawfulByCounting monitor plan → OmitsNoMore placed plan → IsChosen Counted monitor plan
+counted_choice monitor placed plan columns placement made from exact backed fits lawful omits = record {
   placed = placed;
   placement = placement;
   is = (columns, record { table = count_table monitor placed plan columns made from exact backed; made = made });
   fits = fits;
   lawful = lawful;
   omits = omits;
-})
+}
+
+pub counted_chosen : (choice : PlanChoice) (monitor : MonitorParts) (placed plan : Plan) (columns : List (Option (List Told))) → choice ≡ Counted → IsPlacement monitor placed → plan ≡ counted_of placed columns
+    → IsCountedFrom monitor placed plan → (HasNoOpenQuestion monitor placed.kept → IsExactlyCounted monitor placed plan) → AreBacked monitor placed columns
+    → FitsPlan monitor plan → IsLawfulByCounting monitor plan → OmitsNoMore placed plan → IsChosen choice monitor plan
+counted_chosen choice monitor placed plan columns is placement made from exact backed fits lawful omits =
+    subst (λ (c : PlanChoice). IsChosen c monitor plan) (sym is) (counted_choice monitor placed plan columns placement made from exact backed fits lawful omits)
+
+-- that plan counted, with the reasons that were found
+pub count_explained : (monitor : MonitorParts) (placed plan : Plan) (columns : List (Option (List Told))) (reasons : List Reason) (broadcasts : List BroadcastReason) → IsPlacement monitor placed → plan ≡ counted_of placed columns
+    → IsCountedFrom monitor placed plan → (HasNoOpenQuestion monitor placed.kept → IsExactlyCounted monitor placed plan) → AreBacked monitor placed columns
+    → FitsPlan monitor plan → IsLawfulByCounting monitor plan → OmitsNoMore placed plan
+    → map (λ reason. reason.thing) reasons ≡ things_of monitor plan → All (IsCountedReason monitor placed plan) reasons
+    → map (λ reason. reason.broadcast) broadcasts ≡ broadcasts_of placed plan → All (IsBroadcastReason monitor plan) broadcasts → IsCountExplained monitor plan reasons broadcasts
+unfolding counted_choice
+count_explained monitor placed plan columns reasons broadcasts placement made from exact backed fits lawful omits things each listed each_listed = record {
+  chosen = counted_choice monitor placed plan columns placement made from exact backed fits lawful omits;
+  things = things;
+  each = each;
+  listed = listed;
+  each_listed = each_listed;
+}
 
 -- that plan counted, with the signals relayed on each condition that is not counted
 pub both_chosen : (choice : PlanChoice) (monitor : MonitorParts) (placed counted plan : Plan) (columns : List (Option (List Told))) → choice ≡ CountedAndRelayed → IsPlacement monitor placed

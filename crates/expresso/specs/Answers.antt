@@ -1,6 +1,6 @@
 -- What the program answers.
-use Rattle.std.specs.Prelude.{◌≡◌, ◌<◌, ◌⊎◌, ℕ, Bool, List, [], All, Any, map, Option, Some, IfSome}
-use Rattle.std.specs.Prelude.{codes}
+use Rattle.std.specs.Prelude.{◌≡◌, ◌<◌, ◌⊎◌, ℕ, Bool, true, false, List, [], All, Any, map}
+use Rattle.std.specs.Prelude.{Option, Some, IfSome, codes}
 use Rattle.std.specs.Io.KnownBytes.{Appends}
 use Rattle.base_io.specs.Outside.{FilesSeen, SinkSeen, AppendsFront, Rises}
 use Rattle.lang_tree.specs.declared.tree.MonitorTree.{MonitorTree}
@@ -44,12 +44,15 @@ use Rattle.plan_place.specs.Backing.{AreProofs, backed_claims}
 use Rattle.report_recheck.specs.declared.report.Report.{Report}
 use Rattle.logic_outline.specs.Outlines.{HasTypedNumbers}
 use Rattle.report_recheck.specs.Reports.{report_of, report_text}
+use Rattle.plan_needs.specs.declared.broadcasts.BroadcastReason.{BroadcastReason}
+use Rattle.plan_needs.specs.CountedReasons.{IsBroadcastReason, IsCountedReason}
+use Rattle.plan_needs.specs.Needs.{broadcasts_of}
 use Rattle.plan_why.specs.declared.reason.Reason.{Reason}
 use Rattle.plan_why.specs.Reasons.{IsReason}
 use Rattle.plan_why.specs.Things.{things_of}
 use Rattle.emit_module.specs.Modules.{rust_text}
 use Rattle.expresso.specs.PrintedPrograms.{IsAsPromised}
-use Rattle.expresso.specs.Texts.{explained_text, usage_text}
+use Rattle.expresso.specs.Texts.{count_explained_text, explained_text, usage_text}
 
 -- the bytes are those held by a name, where they are told
 abbrev pub HoldsBytes : (List ℕ → Option (List ℕ)) → List ℕ → List ℕ → Type 0
@@ -202,6 +205,22 @@ pub record IsExplainText (held : List ℕ → Option (List ℕ)) (file text : Li
   pub each : All (IsReason monitor plan) reasons
   pub printed : text ≡ explained_text tree monitor plan reasons
 
+-- the text of such a plan counted, why each thing stands in it that costs something, and why the
+-- broadcasts of blocks on conditions that are counted do
+pub record IsCountExplainText (held : List ℕ → Option (List ℕ)) (file text : List ℕ) : Type 0 where
+  pub tree : MonitorTree
+  pub monitor : MonitorParts
+  pub plan : Plan
+  pub reasons : List Reason
+  pub broadcasts : List BroadcastReason
+  pub holds : HoldsMonitor held file tree monitor
+  pub chosen : IsChosen Counted monitor plan
+  pub things : map (λ reason. reason.thing) reasons ≡ things_of monitor plan
+  pub each : All (IsCountedReason monitor chosen.placed plan) reasons
+  pub listed : map (λ reason. reason.broadcast) broadcasts ≡ broadcasts_of chosen.placed plan
+  pub each_listed : All (IsBroadcastReason monitor plan) broadcasts
+  pub printed : text ≡ count_explained_text tree monitor plan reasons broadcasts
+
 -- the text of the Rust module of the monitor of the file, under a counted plan: what threads do by
 -- the code of that plan is a run of the monitor, no wake-up is lost, and each printed body does the
 -- step of its block
@@ -235,7 +254,8 @@ IsDoneText held (block monitor clients choice) text =
     IsFinishedRunText held monitor clients choice text
 IsDoneText held (audit monitor plan_file count) text =
     IsAuditText held count monitor plan_file text
-IsDoneText held (explain file) text = IsExplainText held file text
+IsDoneText held (explain file false) text = IsExplainText held file text
+IsDoneText held (explain file true) text = IsCountExplainText held file text
 IsDoneText held (emit file) text = IsEmitText held file text
 
 -- the text of `turns`, `simulate`, `run` or `block` where some client has a call left; no other
@@ -258,7 +278,7 @@ IsStalledText held (recheck monitor report_file) text = ⊥
 IsStalledText held (block monitor clients choice) text =
     IsStalledRunText held monitor clients choice text
 IsStalledText held (audit monitor plan_file count) text = ⊥
-IsStalledText held (explain file) text = ⊥
+IsStalledText held (explain file count) text = ⊥
 IsStalledText held (emit file) text = ⊥
 
 -- ---- refusals
@@ -332,7 +352,7 @@ IsRefusedText held (recheck monitor report_file) text =
 IsRefusedText held (block monitor clients choice) text = IsRunRefusal held monitor clients text
 IsRefusedText held (audit monitor plan_file count) text =
     IsAuditRefusal held count monitor plan_file text
-IsRefusedText held (explain file) text = IsMonitorRefusal held file text
+IsRefusedText held (explain file count) text = IsMonitorRefusal held file text
 IsRefusedText held (emit file) text = IsMonitorRefusal held file text
 
 -- a read fault's line that names one of the command's files; which of them, no clause says
@@ -450,7 +470,7 @@ AcceptsFiles held (report file) = AcceptsMonitor held file
 AcceptsFiles held (recheck monitor report_file) = AcceptsReport held monitor report_file
 AcceptsFiles held (block monitor clients choice) = AcceptsRun held monitor clients
 AcceptsFiles held (audit monitor plan_file count) = AcceptsPlan held count monitor plan_file
-AcceptsFiles held (explain file) = AcceptsMonitor held file
+AcceptsFiles held (explain file count) = AcceptsMonitor held file
 AcceptsFiles held (emit file) = AcceptsMonitor held file
 
 -- they tell their bytes, and one of them is not accepted
@@ -465,7 +485,7 @@ RejectsFiles held (report file) = RejectsMonitor held file
 RejectsFiles held (recheck monitor report_file) = RejectsReport held monitor report_file
 RejectsFiles held (block monitor clients choice) = RejectsRun held monitor clients
 RejectsFiles held (audit monitor plan_file count) = RejectsPlan held count monitor plan_file
-RejectsFiles held (explain file) = RejectsMonitor held file
+RejectsFiles held (explain file count) = RejectsMonitor held file
 RejectsFiles held (emit file) = RejectsMonitor held file
 
 -- the words are a command's whose files are accepted; or one of them is not

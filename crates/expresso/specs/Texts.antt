@@ -8,6 +8,8 @@ use Rattle.lang_monitor.specs.MonitorParts.{MonitorParts}
 use Rattle.machine_events.specs.declared.plan.Plan.{Plan}
 use Rattle.machine_events.specs.PlanText.{plan_text}
 use Rattle.plan_why.specs.declared.reason.Reason.{Reason}
+use Rattle.plan_needs.specs.declared.broadcasts.BroadcastReason.{BroadcastReason}
+use Rattle.report_reasons.specs.BroadcastText.{broadcast_reasons_text}
 use Rattle.report_reasons.specs.ReasonText.{reasons_text}
 
 abbrev pub usage_text : List ℕ
@@ -23,10 +25,17 @@ usage_text =
     ++ codes "expresso recheck FILE REPORT\n"
     ++ codes "expresso block FILE CLIENTS [--count]\n"
     ++ codes "expresso audit FILE PLAN [--count]\n"
-    ++ codes "expresso explain FILE\n"
+    ++ codes "expresso explain FILE [--count]\n"
     ++ codes "expresso emit FILE\n"
 
 -- a plan, and why each thing stands in it that costs something
 abbrev pub explained_text : MonitorTree → MonitorParts → Plan → List Reason → List ℕ
 explained_text tree monitor plan reasons =
     plan_text monitor plan ++ reasons_text tree monitor reasons
+
+-- a counted plan, why each thing stands in it that costs something, and why the broadcasts of
+-- blocks on conditions that are counted do
+abbrev pub count_explained_text : MonitorTree → MonitorParts → Plan → List Reason
+    → List BroadcastReason → List ℕ
+count_explained_text tree monitor plan reasons broadcasts =
+    explained_text tree monitor plan reasons ++ broadcast_reasons_text tree monitor broadcasts

@@ -7,9 +7,10 @@
 //! schedule in place of threads, `stress` runs a large input, and `block` has a caller for each
 //! client run it in place of workers. `report` prints the plan with a certificate of each claim
 //! that it rests on, and `recheck` checks such a text without the prover. `audit` says whether a
-//! plan that was written by hand is lawful, with `--count` also by counting, or what it lacks. `explain` prints a plan with a state
-//! that shows why each thing stands in it that costs something. `emit` prints a monitor under the
-//! counted plan as a module of Rust, for threads of any program to call.
+//! plan that was written by hand is lawful, with `--count` also by counting, or what it lacks.
+//! `explain` prints a plan, with `--count` the counted one, with a state that shows why each thing
+//! stands in it that costs something. `emit` prints a monitor under the counted plan as a module of
+//! Rust, for threads of any program to call.
 //!
 //! `--relay` asks for the plan with its signals relayed, and `--count` for the counted plan.
 //!

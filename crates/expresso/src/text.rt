@@ -17,12 +17,12 @@ ghost use Rattle.report_recheck.specs.Reports.{placed_text};
 ghost use Rattle.report_recheck.specs.Verdicts.{verdict_text};
 ghost use Rattle.report_audit.specs.FindingText.{finding_text};
 ghost use Rattle.emit_module.specs.Modules.{rust_text};
-ghost use Rattle.expresso.specs.Texts.{explained_text, usage_text};
+ghost use Rattle.expresso.specs.Texts.{count_explained_text, explained_text, usage_text};
 ghost use Rattle.expresso.specs.inner.Auditing.{audit_status};
 ghost use Rattle.expresso.specs.inner.Ending.{IsWritten, ended, fault_status};
 ghost use Rattle.expresso.specs.inner.Judging.{verdict_status};
 
-use crate::explain::Explanation;
+use crate::explain::{CountExplanation, Explanation};
 use crate::status::Status;
 use base_io::{Sink, SinkFailed, write_pieces};
 use emit_module::write_rust;
@@ -34,7 +34,7 @@ use machine_explicit::FreeMonitor;
 use machine_implicit::{Scripts, Turns};
 use plan_place::PlacedPlan;
 use report_audit::{Finding, write_finding};
-use report_reasons::write_reasons;
+use report_reasons::{write_broadcast_reasons, write_reasons};
 use report_recheck::{Verdict, write_report, write_verdict};
 use report_text::{
     Fault, are_done, write_fault, write_log, write_plan, write_summary, write_turns,
@@ -72,7 +72,7 @@ pub(crate) fn show_usage<S: Sink>(out: &mut S) -> Status
             b"expresso recheck FILE REPORT\n",
             b"expresso block FILE CLIENTS [--count]\n",
             b"expresso audit FILE PLAN [--count]\n",
-            b"expresso explain FILE\n",
+            b"expresso explain FILE [--count]\n",
             b"expresso emit FILE\n",
         ],
         out,
@@ -156,6 +156,36 @@ fn write_explanation<S: Sink>(
 {
     write_plan(monitor, &explanation.plan, out)?;
     write_reasons(tree, monitor, explanation.reasons.as_slice(), out)
+}
+
+/// Writes a counted plan, and why each thing stands in it that costs something.
+pub(crate) fn show_count_explanation<S: Sink>(
+    tree: &MonitorTree,
+    monitor: &Monitor,
+    explanation: &CountExplanation,
+    out: &mut S,
+) -> Status
+    ensures { IsWritten Status.Done (count_explained_text tree.now monitor.now
+        explanation.now.explanation.plan explanation.now.explanation.reasons.items
+        explanation.now.broadcasts.items) result (S.seen out.old) (S.seen out.new) }
+{
+    let outcome = write_count_explanation(tree, monitor, explanation, out);
+    finish(Status::Done, outcome, out)
+}
+
+/// Writes the plan with its reasons, and then those of the broadcasts of blocks.
+fn write_count_explanation<S: Sink>(
+    tree: &MonitorTree,
+    monitor: &Monitor,
+    explanation: &CountExplanation,
+    out: &mut S,
+) -> Result<(), SinkFailed>
+    ensures { Wrote (S.seen out.old) (S.seen out.new) result (count_explained_text tree.now
+        monitor.now explanation.now.explanation.plan explanation.now.explanation.reasons.items
+        explanation.now.broadcasts.items) }
+{
+    write_explanation(tree, monitor, &explanation.explanation, out)?;
+    write_broadcast_reasons(tree, monitor, explanation.broadcasts.as_slice(), out)
 }
 
 /// Writes the Rust module of a monitor under a plan.

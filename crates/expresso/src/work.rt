@@ -1,7 +1,7 @@
 //! What is done for a command.
 
 ghost use Rattle.std.specs.Prelude.{◌≡◌, All, IfErr, IfOk, OnErr};
-ghost use Rattle.front_command.specs.CommandLine.{files_of};
+ghost use Rattle.front_command.specs.CommandLine.{explain, files_of};
 ghost use Rattle.front_command.specs.Commands.{command_meant};
 ghost use Rattle.expresso.specs.ProgramEnds.{HasThreads, KeepsFiles};
 ghost use Rattle.expresso.specs.inner.Ending.{CommandEnds};
@@ -12,7 +12,7 @@ use crate::block::block_files;
 use crate::check::check_file;
 use crate::compile::compile_file;
 use crate::emit::emit_file;
-use crate::explain::explain_file;
+use crate::explain::{explain_counted_file, explain_file};
 use crate::recheck::recheck_files;
 use crate::report::report_file;
 use crate::run::run_files;
@@ -67,11 +67,31 @@ pub(crate) fn work<'a, F: Files, S: Sink>(
             plan,
             count,
         } => Ok(audit_files(alloc, monitor, plan, count, files, out)),
-        Command::Explain { monitor } => Ok(explain_file(alloc, monitor, files, out)),
+        Command::Explain { monitor, count } => { Ok(explained(alloc, monitor, count, files, out)) }
         Command::Emit { monitor } => Ok(emit_file(alloc, monitor, files, out)),
         Command::Run { .. } => Err(command),
         Command::Stress { .. } => Err(command),
         Command::Block { .. } => Err(command),
+    }
+}
+
+/// Explains the plan that is asked for.
+fn explained<F: Files, S: Sink>(
+    alloc: Global,
+    file: &str,
+    count: bool,
+    files: &mut F,
+    out: &mut S,
+) -> Status
+    requires { F.may_read files.old file.now }
+    ensures ended { CommandEnds (explain file.now count)
+        (F.seen files.old) (F.seen files.new) result (S.seen out.old) (S.seen out.new) }
+    ensures files { KeepsFiles (F.seen files.old) (F.seen files.new)
+        (F.may_read files.old) (F.may_read files.new) }
+{
+    match count {
+        true => explain_counted_file(alloc, file, files, out),
+        false => explain_file(alloc, file, files, out),
     }
 }
 

@@ -109,6 +109,12 @@ audit_found given monitor plan_file count rounds no_workers no_relay count_is =
     let unused = schedule_unused given rounds in
     λ i. cond ((unused i || is_some (no_workers i)) || no_relay i) None (Some (audit monitor plan_file (count_is i)))
 
+explain_found : (given : Given) (monitor : Text) (count : Bool) → HasNoSchedule given → given.workers ≡ None → given.relay ≡ false → given.count ≡ count
+    → counted_if given (explain monitor given.count) ≡ Some (explain monitor count)
+explain_found given monitor count rounds no_workers no_relay count_is =
+    let unused = schedule_unused given rounds in
+    λ i. cond ((unused i || is_some (no_workers i)) || no_relay i) None (Some (explain monitor (count_is i)))
+
 compile_found : (given : Given) (monitor : Text) (choice : PlanChoice) → HasNoSchedule given → given.workers ≡ None → choice_in given ≡ choice
     → compile_if given monitor ≡ Some (compile monitor choice)
 compile_found given monitor choice rounds no_workers chosen_is =
@@ -143,7 +149,7 @@ single_named name given value =
     (cond (bytes_eq name (codes "compile")) (compile_if given value)
     (cond (bytes_eq name (codes "stress")) (stress_if given value)
     (cond (bytes_eq name (codes "report")) (plain_if given (report value))
-    (cond (bytes_eq name (codes "explain")) (plain_if given (explain value))
+    (cond (bytes_eq name (codes "explain")) (counted_if given (explain value given.count))
     (cond (bytes_eq name (codes "emit")) (plain_if given (emit value)) None)))))
 
 pair_named : Text → Given → Text → Text → Option Command
@@ -172,7 +178,9 @@ command_found given (compile m p) asks =
     let (rounds, no_workers, chosen_is) = asks.has_options in
     single_found given (codes "compile") m (compile m p) asks.name asks.has_values (compile_found given m p rounds no_workers chosen_is)
 command_found given (report m) asks = single_found given (codes "report") m (report m) asks.name asks.has_values (plain_found given (report m) asks.has_options)
-command_found given (explain m) asks = single_found given (codes "explain") m (explain m) asks.name asks.has_values (plain_found given (explain m) asks.has_options)
+command_found given (explain m n) asks =
+    let (rounds, no_workers, no_relay, count_is) = asks.has_options in
+    single_found given (codes "explain") m (explain m n) asks.name asks.has_values (explain_found given m n rounds no_workers no_relay count_is)
 command_found given (emit m) asks = single_found given (codes "emit") m (emit m) asks.name asks.has_values (plain_found given (emit m) asks.has_options)
 command_found given (recheck m r) asks = pair_found given (codes "recheck") m r (recheck m r) asks.name asks.has_values (plain_found given (recheck m r) asks.has_options)
 command_found given (block m c p) asks =
@@ -225,6 +233,18 @@ audit_asks given monitor plan_file found name values e =
     let (settings, no_relay) = neither (has_settings given) given.relay unused in
     let (rounds, no_workers) = neither (has_schedule given) (is_some given.workers) settings in
     subst (Asks given) (same_Some (audit monitor plan_file given.count) found same) (record {
+      name = name;
+      has_values = values;
+      has_options = (no_schedule given rounds, none_given given.workers no_workers, no_relay, refl);
+    })
+
+explain_asks : (given : Given) (monitor : Text) (found : Command) → given.command ≡ codes "explain" → given.values ≡ monitor ∷ []
+    → counted_if given (explain monitor given.count) ≡ Some found → Asks given found
+explain_asks given monitor found name values e =
+    let (unused, same) = cond_second (has_settings given || given.relay) (Some (explain monitor given.count)) found e in
+    let (settings, no_relay) = neither (has_settings given) given.relay unused in
+    let (rounds, no_workers) = neither (has_schedule given) (is_some given.workers) settings in
+    subst (Asks given) (same_Some (explain monitor given.count) found same) (record {
       name = name;
       has_values = values;
       has_options = (no_schedule given rounds, none_given given.workers no_workers, no_relay, refl);
@@ -292,9 +312,7 @@ single_asks given value found values e =
     let (unused, same) = plain_is given (report value) found made in
     subst (Asks given) same (record { name = named given (codes "report") is; has_values = values; has_options = unused }))
     (λ no_report later. chosen (bytes_eq given.command (codes "explain")) _ _ found later
-    (λ is made.
-    let (unused, same) = plain_is given (explain value) found made in
-    subst (Asks given) same (record { name = named given (codes "explain") is; has_values = values; has_options = unused }))
+    (λ is made. explain_asks given value found (named given (codes "explain") is) values made)
     (λ no_explain last. chosen (bytes_eq given.command (codes "emit")) _ _ found last
     (λ is made.
     let (unused, same) = plain_is given (emit value) found made in

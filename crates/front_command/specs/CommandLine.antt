@@ -39,8 +39,9 @@ pub data Command : Type 0 where
   -- says whether a plan, the second file, is lawful for the monitor of the first, or with `--count`
   -- whether it is so by counting
   audit : List ℕ → List ℕ → Bool → Command
-  -- compiles a monitor to a plan, and shows why each thing stands that costs something
-  explain : List ℕ → Command
+  -- compiles a monitor to a plan, or with `--count` to that one counted, and shows why each thing
+  -- stands that costs something
+  explain : List ℕ → Bool → Command
   -- compiles a monitor to a plan, and prints it under that plan as a module of Rust
   emit : List ℕ → Command
 
@@ -167,7 +168,7 @@ name_of (report monitor) = codes "report"
 name_of (recheck monitor report_file) = codes "recheck"
 name_of (block monitor clients choice) = codes "block"
 name_of (audit monitor plan_file count) = codes "audit"
-name_of (explain monitor) = codes "explain"
+name_of (explain monitor count) = codes "explain"
 name_of (emit monitor) = codes "emit"
 
 -- the values are those of the command, as many as it has
@@ -183,7 +184,7 @@ HasValues values (report monitor) = values ≡ monitor ∷ []
 HasValues values (recheck monitor report_file) = values ≡ monitor ∷ report_file ∷ []
 HasValues values (block monitor clients choice) = values ≡ monitor ∷ clients ∷ []
 HasValues values (audit monitor plan_file count) = values ≡ monitor ∷ plan_file ∷ []
-HasValues values (explain monitor) = values ≡ monitor ∷ []
+HasValues values (explain monitor count) = values ≡ monitor ∷ []
 HasValues values (emit monitor) = values ≡ monitor ∷ []
 
 abbrev pub HasNoSchedule : Given → Type 0
@@ -196,7 +197,8 @@ abbrev pub HasNoOptions : Given → Type 0
 HasNoOptions given = HasNoSchedule given × (given.workers ≡ None) × HasNoChoice given
 
 -- the options are the command's own: a schedule for `simulate`, workers for `run` and `stress`,
--- `--relay` for `compile`, `simulate` and `run`, and `--count` for these, `block` and `audit`
+-- `--relay` for `compile`, `simulate` and `run`, and `--count` for these, `block`, `audit` and
+-- `explain`
 abbrev pub HasOptions : Given → Command → Type 0
 HasOptions given (check monitor) = HasNoOptions given
 HasOptions given (turns monitor clients) = HasNoOptions given
@@ -216,7 +218,8 @@ HasOptions given (block monitor clients choice) =
     × (choice_in given ≡ choice)
 HasOptions given (audit monitor plan_file count) =
     HasNoSchedule given × (given.workers ≡ None) × (given.relay ≡ false) × (given.count ≡ count)
-HasOptions given (explain monitor) = HasNoOptions given
+HasOptions given (explain monitor count) =
+    HasNoSchedule given × (given.workers ≡ None) × (given.relay ≡ false) × (given.count ≡ count)
 HasOptions given (emit monitor) = HasNoOptions given
 
 -- the arguments ask for the command
@@ -247,7 +250,7 @@ files_of (report monitor) = monitor ∷ []
 files_of (recheck monitor report_file) = monitor ∷ report_file ∷ []
 files_of (block monitor clients choice) = monitor ∷ clients ∷ []
 files_of (audit monitor plan_file count) = monitor ∷ plan_file ∷ []
-files_of (explain monitor) = monitor ∷ []
+files_of (explain monitor count) = monitor ∷ []
 files_of (emit monitor) = monitor ∷ []
 
 -- each file that the words name is one that may be read

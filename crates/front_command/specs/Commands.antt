@@ -18,5 +18,5 @@ command_meant (read.Report monitor) = report monitor.now
 command_meant (read.Recheck monitor report_file) = recheck monitor.now report_file.now
 command_meant (read.Block monitor clients choice) = block monitor.now clients.now choice
 command_meant (read.Audit monitor plan_file count) = audit monitor.now plan_file.now count
-command_meant (read.Explain monitor) = explain monitor.now
+command_meant (read.Explain monitor count) = explain monitor.now count
 command_meant (read.Emit monitor) = emit monitor.now

@@ -43,7 +43,13 @@ fn single_asked<'a>(given: &Given<'a>, value: &'a str) -> Option<Command<'a>>
     } else if given.command == "report" {
         plain_asked(given, Command::Report { monitor: value })
     } else if given.command == "explain" {
-        plain_asked(given, Command::Explain { monitor: value })
+        counted_asked(
+            given,
+            Command::Explain {
+                monitor: value,
+                count: given.count,
+            },
+        )
     } else if given.command == "emit" {
         plain_asked(given, Command::Emit { monitor: value })
     } else {

@@ -72,10 +72,11 @@ pub enum Command<'a> {
         plan: &'a str,
         count: bool,
     },
-    /// Compiles a monitor to a plan, with a state that shows why each thing stands that costs
-    /// something.
+    /// Compiles a monitor to a plan, or to that one counted, with a state that shows why each thing
+    /// stands that costs something.
     Explain {
         monitor: &'a str,
+        count: bool,
     },
     /// Compiles a monitor to a plan, and prints it under that plan as a module of Rust.
     Emit {

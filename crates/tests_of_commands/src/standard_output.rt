@@ -46,7 +46,7 @@ expresso report FILE
 expresso recheck FILE REPORT
 expresso block FILE CLIENTS [--count]
 expresso audit FILE PLAN [--count]
-expresso explain FILE
+expresso explain FILE [--count]
 expresso emit FILE
 ";
 

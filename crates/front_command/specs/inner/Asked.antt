@@ -90,7 +90,7 @@ single_if given value =
     (cond (bytes_eq given.command (codes "compile")) (compile_if given value)
     (cond (bytes_eq given.command (codes "stress")) (stress_if given value)
     (cond (bytes_eq given.command (codes "report")) (plain_if given (report value))
-    (cond (bytes_eq given.command (codes "explain")) (plain_if given (explain value))
+    (cond (bytes_eq given.command (codes "explain")) (counted_if given (explain value given.count))
     (cond (bytes_eq given.command (codes "emit")) (plain_if given (emit value)) None)))))
 
 -- the command of two values

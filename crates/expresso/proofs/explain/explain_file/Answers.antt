@@ -1,3 +1,4 @@
+use Rattle.std.proofs.Common.{false}
 use Rattle.expresso.specs.Texts.{explained_text}
 use Rattle.expresso.specs.declared.status.Status.TheVariants.{Done}
 use Rattle.front_command.specs.CommandLine.{explain}
@@ -6,7 +7,7 @@ use Rattle.expresso.proofs.Outcomes.{written_since}
 use Rattle.expresso.proofs.explain.explain_file.Goals as goal
 
 pub returns-in-Err-clause-ended : goal.returns-in-Err-clause-ended
-returns-in-Err-clause-ended g c = c.in-Err.ensures.ended (explain c.args.file.now) (explain_works c.args.file.now)
+returns-in-Err-clause-ended g c = c.in-Err.ensures.ended (explain c.args.file.now false) (explain_works c.args.file.now false)
 
 pub returns-in-Ok-explanation_of-clause-ended : goal.returns-in-Ok-explanation_of-clause-ended
 returns-in-Ok-explanation_of-clause-ended g c =
