@@ -10,11 +10,13 @@ import re
 import sys
 
 sys.dont_write_bytecode = True
-from formulas import CONSTANT, are_within, combined, negated_query, negation  # noqa: E402
-from monitors import candidates_of, holds_at_start, read_monitor  # noqa: E402
+from formulas import (CONSTANT, Beyond, are_within, combined, forms_of, joined,  # noqa: E402
+                      negated_query, negation, number, row)
+from monitors import WAITING, candidates_of, holds_at_start, read_monitor  # noqa: E402
 
 MOST_BYTES, CHAIN_BITS, FACTOR = 16777216, 128, (-2 ** 127, 2 ** 127)
 KINDS = "signal", "broadcast"
+OLD = {WAITING: 1}  # what a counted form was worth before the block
 
 
 # ---- plans: what is kept has a text and a fact; a block's notes lead from conditions to kind, test
@@ -33,6 +35,43 @@ def claims_of(monitor, kept, kinds, notes):
     for w, on, q, p in pairs:
         if q in on and not on[q][1] and not p.reads_inputs:
             yield f"untested {w.name} {q}", facts + [w.guard, p.failing], w.body, p.waiting
+
+
+# ---- questions on conditions that are counted
+def measure_of(guard):
+    """By which form the clients are counted that may pass, and where any number may."""
+    forms, parts = forms_of(guard), guard.value if guard.kind == "any" else []
+    free = joined("any", [part for part in parts if part.kind != "row"])
+    return (forms[0] if forms else {}), free
+
+
+def question_query(kept, kind, block, condition, takes):
+    """The hypotheses, body and post formula."""
+    facts, (form, free) = [fact for _, fact in kept] + [block.guard], measure_of(condition.waiting)
+    below = combined(1, OLD, -1, form)
+    if kind == "first":
+        facts, owed = facts + [condition.failing], [row(combined(1, {}, -1, form))]
+    else:
+        facts += [condition.waiting, negation(free), row(combined(1, form, -1, OLD)), row(below)]
+        owed = [row(form), row(combined(1, below, 1, number(takes - (kind == "gives"))))]
+    still = joined("all", [negation(free)] + owed)
+    return facts, block.body, joined("any", [condition.failing, still])
+
+
+def questions_of(monitor, kept, notes, counted):
+    """In their order: the text, and the arguments of the query."""
+    for q, (w, on) in itertools.product(counted, [*zip(monitor.blocks, notes)]):
+        way = on[q][0] if q in on else "none"
+        for kind in {"none": ["counts"], "signal": ["gives", "first"], "broadcast": []}[way]:
+            condition = monitor.conditions[q - 1]
+            yield f"{kind} {q} {w.name}", (kept, kind, w, condition, w.condition == q)
+
+
+def negated_question(*asked):
+    try:
+        return negated_query(*question_query(*asked))
+    except Beyond:
+        return None
 
 
 def is_lawful_at_sight(monitor, kept, kinds, notes):
@@ -113,17 +152,28 @@ def read_plan(monitor, lines):
     return kept, kinds, notes
 
 
+def is_proved(line, text, formula):
+    """Whether the line has a certificate that refutes the formula, which is none past the limits."""
+    head, _, cert = line.partition(": ")
+    expect(head == f"proof {text}")
+    words = cert.split(" ")[::-1]
+    proved = refutes(words, [formula] if formula else [], [])
+    expect(not words)
+    return proved
+
+
 def verdict(monitor, text):
     expect(text.endswith("\n"))
     lines = text.split("\n")[-2::-1]
-    plan = read_plan(monitor, lines)
+    kept, kinds, notes = plan = read_plan(monitor, lines)
+    counted = [q for q, kind in enumerate(kinds, 1) if kind == "signal"
+               and not any(line.startswith(f"proof one {q} ") for line in lines)]
     plan_lines, proved = text.count("\n") - len(lines), []
     for claim, *query in claims_of(monitor, *plan):
-        head, _, cert = lines.pop().partition(": ")
-        expect(head == f"proof {claim}")
-        formula, words = negated_query(*query), cert.split(" ")[::-1]
-        proved.append(refutes(words, [formula] if formula else [], []))
-        expect(not words)
+        if not any(claim.startswith(f"one {q} ") for q in counted):
+            proved.append(is_proved(lines.pop(), claim, negated_query(*query)))
+    for question, asked in questions_of(monitor, kept, notes, counted):
+        proved.append(is_proved(lines.pop(), question, negated_question(*asked)))
     expect(not lines)
     if not is_lawful_at_sight(monitor, *plan):
         return "rejected: plan"

@@ -1,6 +1,7 @@
 #!/usr/bin/env bash
-# Has the report of each monitor of the program, and changed ones, judged by the program and by the
-# second reader, tools/recheck.py. Fails where they differ, or where a whole report isn't accepted.
+# Has the reports of each monitor of the program, of the placed and of the counted plan, and changed
+# ones, judged by the program and by the second reader, tools/recheck.py. Fails where they differ, or
+# where a whole report isn't accepted.
 # Then each state that `explain` shows of the monitor is checked by tools/reasons.py.
 cd "$(dirname "$0")/../crates/expresso_cli" || exit 1
 program=$PWD/out/expresso_cli
@@ -20,6 +21,20 @@ judge() {
     fi
 }
 
+# reports [--count]: the report of the monitor, and changed ones
+reports() {
+    "$program" report "$monitor" "$@" >"$made/whole" || exit 1
+    sed '$d' "$made/whole" >"$made/shorter"
+    sed '$s/: .*/: split 0/' "$made/whole" >"$made/emptied"
+    sed 's/clash 0 /clash 1 /; s/chain 1 /chain 1 1/' "$made/whole" >"$made/shifted"
+    sed 's/^\(proof \(counts\|gives\|first\) .*: \).*/\1split 1 split 0/' "$made/whole" >"$made/unanswered"
+    judge 0 "$made/whole"
+    judge 1 "$made/shorter"
+    judge - "$made/emptied"
+    judge - "$made/shifted"
+    judge - "$made/unanswered"
+}
+
 # explain TEXT [PLACED]: the states that are shown hold, and with a line missing the text is refused
 explain() {
     sed '$d' "$1" >"$made/shorter"
@@ -35,14 +50,8 @@ explain() {
 count=0
 for monitor in data/*.mon data/derived/*.mon; do
     "$program" check "$monitor" >"$made/monitor" || exit 1
-    "$program" report "$monitor" >"$made/whole" || exit 1
-    sed '$d' "$made/whole" >"$made/shorter"
-    sed '$s/: .*/: split 0/' "$made/whole" >"$made/emptied"
-    sed 's/clash 0 /clash 1 /; s/chain 1 /chain 1 1/' "$made/whole" >"$made/shifted"
-    judge 0 "$made/whole"
-    judge 1 "$made/shorter"
-    judge - "$made/emptied"
-    judge - "$made/shifted"
+    reports
+    reports --count
     "$program" explain "$monitor" >"$made/explained" || exit 1
     explain "$made/explained"
     "$program" explain --count "$monitor" >"$made/counted" || exit 1

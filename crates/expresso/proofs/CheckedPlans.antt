@@ -1,5 +1,7 @@
 -- What `recheck` accepts and `audit` calls lawful loses no wake-up.
-use Rattle.std.proofs.Common.{◌≡◌, ℕ, Bool, true, false, List, Option, Some, subst}
+use Rattle.std.proofs.Common.{◌≡◌, ℕ, Bool, true, false, List, [], ◌∷◌, Option, Some, refl, subst, true≢false}
+use Rattle.std.specs.Prelude.{All}
+use Rattle.std.proofs.lemmas.List.Elements.{All-nil, All-cons}
 use Rattle.lang_tree.specs.declared.tree.MonitorTree.{MonitorTree}
 use Rattle.lang_syntax.specs.Grammar.{IsParsed}
 use Rattle.lang_syntax.proofs.NameLaws.{monitor_named}
@@ -16,7 +18,7 @@ use Rattle.machine_events.specs.Plans.{FitsPlan, IsCondition, WakesAll}
 use Rattle.machine_events.specs.Configurations.{system_under}
 use Rattle.machine_events.specs.Laws.{CountedClosedIsTheEnd, CountedStuckIsTheEnd, CountedWakesArePending, HasCountingPlan, LawfulIsByCounting}
 use Rattle.emit_code.specs.Laws.{CountedCodeLosesNone}
-use Rattle.expresso.proofs.LawfulFits.{lawful_fits, reading_fits}
+use Rattle.expresso.proofs.LawfulFits.{reading_fits}
 use Rattle.report_audit.specs.declared.finding.Finding.TheVariants as findings
 use Rattle.report_audit.specs.CountedFindings.{IsFindingBy}
 use Rattle.front_command.specs.CommandLine.{audit, recheck}
@@ -24,7 +26,9 @@ use Rattle.expresso.specs.MonitorFiles.{IsAccepted}
 use Rattle.expresso.specs.PlanFiles.{MayBeLawful}
 use Rattle.expresso.specs.ReportFiles.{IsRechecked}
 use Rattle.expresso.specs.Answers.{IsDoneText}
-use Rattle.expresso.specs.CheckedPlans.{IsLawfulBy, IsSafePlan, IsSafeReport, LosesNoWakeup}
+use Rattle.report_tally.specs.declared.report.CountedReport.{CountedReport}
+use Rattle.report_tally.specs.CountedVerdicts.{IsCountedAccepted}
+use Rattle.expresso.specs.CheckedPlans.{IsLawfulBy, IsSafePlan, IsSafeReport, LosesNoWakeup, counts_some}
 use Rattle.expresso.proofs.Telling.{holds_same}
 
 -- the laws of events and of code
@@ -68,6 +72,21 @@ lawful_reading : (count : Bool) (monitor : MonitorParts) (plan : Plan) → IsLaw
 lawful_reading false monitor plan lawful = lawful.reading
 lawful_reading true monitor plan lawful = lawful.reading
 
+-- ---- reports
+
+none_marked : (counted : List Bool) → counts_some counted ≡ false → All (λ mark. mark ≡ false) counted
+none_marked [] none = All-nil (λ mark. mark ≡ false)
+none_marked (true ∷ counted) none = absurd (true≢false none)
+none_marked (false ∷ counted) none = All-cons (λ mark. mark ≡ false) false counted refl (none_marked counted none)
+
+-- the plan of an accepted report is lawful, or where some condition is counted, by counting
+accepted_lawful : (monitor : MonitorParts) (report : CountedReport) → IsCountedAccepted monitor report → IsLawfulBy (counts_some report.counted) monitor report.plan
+accepted_lawful monitor report accepted = by_marks (counts_some report.counted) refl
+  where
+    by_marks : (some : Bool) → counts_some report.counted ≡ some → IsLawfulBy some monitor report.plan
+    by_marks true is = accepted.lawful
+    by_marks false is = accepted.plain (none_marked report.counted is)
+
 -- ---- files
 
 -- the monitor of a file keeps the rule of a monitor
@@ -90,8 +109,8 @@ safe_report laws held monitor_file report_file text monitor_bytes report_bytes m
       report = report;
       accepted = accepted;
       rechecked = rechecked;
-      safe = loses_none laws false done.monitor report.plan (accepted_is_monitor monitor_bytes done.tree done.monitor accepted)
-          (lawful_fits done.monitor report.plan rechecked.is.read.is.plan rechecked.accepted.lawful) rechecked.accepted.lawful;
+      safe = loses_none laws (counts_some report.counted) done.monitor report.plan (accepted_is_monitor monitor_bytes done.tree done.monitor accepted)
+          rechecked.accepted.fits (accepted_lawful done.monitor report rechecked.accepted);
     }
 
 pub safe_plan : WakeLaws → (held : List ℕ → Option (List ℕ)) (monitor_file plan_file text monitor_bytes plan_bytes : List ℕ) (count : Bool) → held monitor_file ≡ Some monitor_bytes → held plan_file ≡ Some plan_bytes

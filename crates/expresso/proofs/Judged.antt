@@ -1,31 +1,29 @@
 -- How `report` and `recheck` end.
-use Rattle.std.proofs.Common.{◌≡◌, ℕ, ◌<◌, ◌≤◌, true, false, List, [], ◌∷◌, length, Option, Some, None, map, refl, sym, ap, subst, ◌∙◌, inl, inr, arith}
-use Rattle.std.specs.Prelude.{All, IfSome, IsSomeAnd, slice_get}
-use Rattle.std.proofs.lemmas.Bool.{true≢false}
+use Rattle.std.proofs.Common.{◌≡◌, ℕ, ◌<◌, ◌≤◌, Bool, true, false, List, [], ◌∷◌, length, Option, Some, None, map, refl, sym, ap, subst, ◌∙◌, inl, inr, arith}
+use Rattle.std.specs.Prelude.{All, IfSome}
 use Rattle.base_io.specs.Outside.{FilesSeen, SinkSeen, IsRead}
 use Rattle.lang_tree.specs.declared.tree.MonitorTree.{MonitorTree}
 use Rattle.lang_monitor.specs.MonitorParts.{MonitorParts}
-use Rattle.lang_monitor.specs.Queries.{query_of}
-use Rattle.logic_cert.specs.declared.cert.Cert.{Cert}
-use Rattle.lang_monitor.specs.declared.claim.Claim.{Claim}
-use Rattle.lang_monitor.specs.declared.candidate.Candidate.{Candidate}
-use Rattle.logic_wp.specs.Limits.{is_query_within}
 use Rattle.plan_place.specs.declared.placed.PlacedPlan.{PlacedPlan}
 use Rattle.plan_place.specs.Backing.{AreProofs, backed_claims}
 use Rattle.report_text.specs.FaultText.{not_report_text, other_too_long_text}
-use Rattle.report_recheck.specs.declared.report.Report.{Report}
 use Rattle.report_recheck.specs.declared.report.Verdict.{Verdict}
 use Rattle.report_recheck.specs.declared.report.Verdict.TheVariants as verdicts
 use Rattle.logic_outline.specs.Outlines.{HasTypedNumbers}
-use Rattle.report_recheck.specs.Readings.{IsReportRead}
-use Rattle.report_recheck.specs.Reports.{IsReport, placed_text, proofs_of, report_of, report_text}
-use Rattle.report_recheck.specs.Verdicts.{AreChecked, IsOpen, IsProof, IsVerdict, verdict_text}
-use Rattle.report_recheck.specs.Verdicts.{IsAccepted as IsAcceptedReport}
-use Rattle.report_recheck.proofs.Pairs.{all_at}
+use Rattle.plan_counted.specs.declared.counted.CountedPlan.{CountedPlan}
+use Rattle.report_recheck.specs.Reports.{placed_text, report_of, report_text}
+use Rattle.report_recheck.specs.Verdicts.{verdict_text}
+use Rattle.plan_counted.specs.Counted.{IsCountedFrom}
+use Rattle.report_tally.specs.declared.report.CountedReport.{CountedReport}
+use Rattle.report_tally.specs.CountedReadings.{IsCountedRead}
+use Rattle.report_tally.specs.CountedReports.{IsCountedReport, counted_report_text}
+use Rattle.report_tally.specs.CountedTexts.{IsCountingOf, counted_report_of, counted_text}
+use Rattle.report_tally.specs.CountedVerdicts.{IsCountedAccepted, IsCountedVerdict}
+use Rattle.report_tally.proofs.PrintedCounts.{accepted_only}
 use Rattle.front_command.specs.CommandLine.{report, recheck}
 use Rattle.expresso.specs.declared.status.Status.{Status}
 use Rattle.expresso.specs.declared.status.Status.TheVariants as statuses
-use Rattle.expresso.specs.Placements.{IsPlacement}
+use Rattle.expresso.specs.Placements.{IsCounting, IsPlacement}
 use Rattle.expresso.specs.MonitorFiles.{IsAccepted}
 use Rattle.expresso.specs.ReportFiles.{IsAcceptance, IsAcceptanceLine, IsRechecked, IsRejectionLine, IsReportFile, IsReportRefusalLine}
 use Rattle.expresso.specs.Answers.{AcceptsMonitor, AcceptsReport, HoldsMonitor, RejectsReport}
@@ -48,11 +46,39 @@ PlacedTexts = (monitor : MonitorParts) (placed : PlacedPlan) → map (λ proof. 
 
 pub report_done : PlacedTexts → (file : List ℕ) (tree : MonitorTree) (monitor : MonitorParts) (placed : PlacedPlan) (files files_now : FilesSeen) (result : Status) (out out_now : SinkSeen)
     → HoldsMonitor files.held file tree monitor → IsPlacement monitor placed.plan → AreProofs monitor placed.plan.kept (backed_claims monitor placed.plan) placed.proofs
-    → All (λ proof. HasTypedNumbers proof.cert) placed.proofs → files_now.faults ≡ files.faults → IsWritten statuses.Done (placed_text monitor placed) result out out_now → CommandEnds (report file) files files_now result out out_now
+    → All (λ proof. HasTypedNumbers proof.cert) placed.proofs → files_now.faults ≡ files.faults → IsWritten statuses.Done (placed_text monitor placed) result out out_now → CommandEnds (report file false) files files_now result out out_now
 report_done texts file tree monitor placed files files_now result out out_now holds placement proofs typed steady written =
-    work_ended (report file) files files_now (placed_text monitor placed) result out out_now true
+    work_ended (report file false) files files_now (placed_text monitor placed) result out out_now true
     (record { tree = tree; monitor = monitor; placed = placed; holds = holds; placement = placement; proofs = proofs; typed = typed; printed = texts monitor placed proofs.claims })
     (no_rejection files.held file tree monitor holds) steady written
+
+-- what is written of a plan that was placed and then counted is the text of its report
+abbrev pub CountedTexts : Type 0
+CountedTexts = (monitor : MonitorParts) (placed : PlacedPlan) (counted : CountedPlan) → IsCountingOf monitor placed counted
+    → counted_text monitor placed counted ≡ counted_report_text monitor (counted_report_of placed counted)
+
+pub is_counting_of : (monitor : MonitorParts) (placed : PlacedPlan) (counted : CountedPlan) → IsCounting monitor placed counted → IsCountingOf monitor placed counted
+is_counting_of monitor placed counted is = record {
+  fits = is.placement.fits;
+  proofs = is.proofs.claims;
+  counted_fits = is.fits;
+  from = subst (IsCountedFrom monitor placed.plan) (sym is.by.made) is.by.table.counted;
+  plan = is.by.made;
+  backed = is.by.table.backed;
+}
+
+pub counted_report_done : CountedTexts → (file : List ℕ) (tree : MonitorTree) (monitor : MonitorParts) (placed : PlacedPlan) (counted : CountedPlan) (files files_now : FilesSeen) (result : Status) (out out_now : SinkSeen)
+    → HoldsMonitor files.held file tree monitor → IsCounting monitor placed counted → files_now.faults ≡ files.faults
+    → IsWritten statuses.Done (counted_text monitor placed counted) result out out_now → CommandEnds (report file true) files files_now result out out_now
+counted_report_done texts file tree monitor placed counted files files_now result out out_now holds counting steady written =
+    work_ended (report file true) files files_now (counted_text monitor placed counted) result out out_now true
+    (record { tree = tree; monitor = monitor; placed = placed; counted = counted; holds = holds; counting = counting; printed = texts monitor placed counted (is_counting_of monitor placed counted counting) })
+    (no_rejection files.held file tree monitor holds) steady written
+
+-- with `--count` or without
+pub report_ended : (file : List ℕ) (count used : Bool) (files files_now : FilesSeen) (result : Status) (out out_now : SinkSeen) → count ≡ used
+    → CommandEnds (report file used) files files_now result out out_now → CommandEnds (report file count) files files_now result out out_now
+report_ended file count used files files_now result out out_now is ends = subst (λ (one : Bool). CommandEnds (report file one) files files_now result out out_now) (sym is) ends
 
 -- ---- `recheck`
 
@@ -62,35 +88,23 @@ recheck_works monitor report_file = record { files = refl; refused = λ held tex
     monitor_accepted : (held : List ℕ → Option (List ℕ)) → AcceptsReport held monitor report_file → AcceptsMonitor held monitor
     monitor_accepted held (mb, rb, tree, parts, own, monitor_tells, report_tells, accepted, is) = (mb, tree, parts, monitor_tells, accepted)
 
--- bytes that were read as a report are one of the monitor, which has a certificate for each claim
-pub read_report_is : (monitor : MonitorParts) (bytes : List ℕ) (own : Report) → IsReportRead monitor bytes (Some own) → IsReport monitor own
-read_report_is monitor bytes own read = read.is
+-- bytes that were read as a report are one of the monitor, with a certificate for each claim and question
+pub read_report_is : (monitor : MonitorParts) (bytes : List ℕ) (own : CountedReport) → IsCountedRead monitor bytes (Some own) → IsCountedReport monitor own
+read_report_is monitor bytes own read = read.is.is
 
 -- and are not read as none
-not_none : (monitor : MonitorParts) (bytes : List ℕ) (own : Report) → IsReportRead monitor bytes (Some own) → IsReportRead monitor bytes None → ⊥
-not_none monitor bytes own read none = none own read.is read.readable read.text
+not_none : (monitor : MonitorParts) (bytes : List ℕ) (own : CountedReport) → IsCountedRead monitor bytes (Some own) → IsCountedRead monitor bytes None → ⊥
+not_none monitor bytes own read none = none own read.is read.text
 
 -- bytes are the text of one report at most
-one_report : (monitor : MonitorParts) (bytes : List ℕ) (own any : Report) → IsReportFile bytes monitor own → IsReportFile bytes monitor any → any ≡ own
-one_report monitor bytes own any file other = file.read.only any other.read.is other.read.readable other.read.text
-
--- no claim of an accepted report is open
-no_open : (monitor : MonitorParts) (kept : List Candidate) (proofs : List (Claim × Cert)) (place : ℕ) → AreChecked monitor kept proofs → IsSomeAnd (slice_get proofs place) (IsOpen monitor kept) → ⊥
-no_open monitor kept proofs place all here = by_found (slice_get proofs place) refl here
-  where
-    by_found : (found : Option (Claim × Cert)) → slice_get proofs place ≡ found → IsSomeAnd found (IsOpen monitor kept) → ⊥
-    by_found None is here = here
-    by_found (Some one) is (inl unproved) =
-        unproved (all_at (λ one. IsProof monitor kept one × (is_query_within monitor (query_of monitor kept one.0) ≡ true)) proofs place one is all).0
-    by_found (Some one) is (inr beyond) =
-        true≢false (sym (all_at (λ one. IsProof monitor kept one × (is_query_within monitor (query_of monitor kept one.0) ≡ true)) proofs place one is all).1 ∙ beyond)
+one_report : (monitor : MonitorParts) (bytes : List ℕ) (own any : CountedReport) → IsReportFile bytes monitor own → IsReportFile bytes monitor any → any ≡ own
+one_report monitor bytes own any file other = file.read.only any other.read.is other.read.text
 
 -- an accepted report has no other verdict
-no_other : (monitor : MonitorParts) (own : Report) (verdict : Verdict) → IsAcceptedReport monitor own → IsVerdict monitor own verdict → (IsAcceptance verdict → ⊥) → ⊥
-no_other monitor own (verdicts.Accepted claims) accepted is rejected = rejected tt
-no_other monitor own verdicts.Unlawful accepted is rejected =
-    is (record { starts = accepted.lawful.inductive.starts; reading = accepted.lawful.reading; broadcasts = accepted.lawful.broadcasts })
-no_other monitor own (verdicts.Unproved line) accepted is rejected = no_open monitor own.plan.kept (proofs_of monitor own) is.place accepted.proofs is.here
+no_other : (monitor : MonitorParts) (own : CountedReport) (verdict : Verdict) → IsCountedAccepted monitor own → IsCountedVerdict monitor own verdict → (IsAcceptance verdict → ⊥) → ⊥
+no_other monitor own verdict accepted is rejected =
+    rejected (subst IsAcceptance (sym (accepted_only monitor own verdict
+    (record { starts = accepted.lawful.inductive.starts; reading = accepted.lawful.reading; broadcasts = accepted.lawful.broadcasts }) accepted.proofs accepted.answers is)) tt)
 
 -- what is said of a verdict
 verdict_judged : (monitor : MonitorParts) (file bytes : List ℕ) (verdict : Verdict) (result : Status) (out out_now : SinkSeen) → length bytes ≤ 16777216 → IsFinding monitor bytes (Some verdict)
@@ -143,7 +157,7 @@ module _ (one_spelling : OneSpelling) (one_tree : OneTree) (monitor_file report_
   short_held short = read_short 16777216 (files.held report_file) slice read short
 
   -- what is said of the bytes that were read is said of those that are held
-  rechecked_held : (own : Report) → IsRechecked slice monitor own → IsRechecked held monitor own
+  rechecked_held : (own : CountedReport) → IsRechecked slice monitor own → IsRechecked held monitor own
   rechecked_held own is = subst (λ (b : List ℕ). IsRechecked b monitor own) (short_held is.is.short) is
 
   line_held : (text : List ℕ) → IsReportRefusalLine monitor report_file slice text → IsReportRefusalLine monitor report_file held text
@@ -163,11 +177,11 @@ module _ (one_spelling : OneSpelling) (one_tree : OneTree) (monitor_file report_
   same_report rb tells = holds_same files.held report_file rb (told (files.held report_file) slice) tells (is_told (files.held report_file) slice)
 
   -- a file that a line refuses is not accepted
-  line_no_report : (text : List ℕ) (own : Report) → IsReportRefusalLine monitor report_file held text → IsRechecked held monitor own → ⊥
+  line_no_report : (text : List ℕ) (own : CountedReport) → IsReportRefusalLine monitor report_file held text → IsRechecked held monitor own → ⊥
   line_no_report text own (inl (long, is)) file = omega (arith, long, file.is.short)
   line_no_report text own (inr (inl (short, none, is))) file = not_none monitor held own file.is.read none
   line_no_report text own (inr (inr line)) file =
-      no_other monitor line.report line.verdict (subst (IsAcceptedReport monitor) (sym (one_report monitor held own line.report file.is line.is)) file.accepted) line.found line.rejected
+      no_other monitor line.report line.verdict (subst (IsCountedAccepted monitor) (sym (one_report monitor held own line.report file.is line.is)) file.accepted) line.found line.rejected
 
   no_report : (text : List ℕ) → IsReportRefusalLine monitor report_file held text → AcceptsReport files.held monitor_file report_file → ⊥
   no_report text line (mb, rb, other, also, own, monitor_tells, report_tells, accepted, is) =

@@ -8,7 +8,7 @@ use Rattle.lang_monitor.specs.Inputs.{reads_inputs}
 use Rattle.lang_monitor.specs.MonitorParts.{MonitorParts}
 use Rattle.machine_events.specs.declared.plan.Note.{Note}
 use Rattle.machine_events.specs.declared.plan.Plan.{Plan}
-use Rattle.machine_events.specs.Plans.{FitsNote, FitsNotes, FitsPlan, IsCondition, IsLawful, IsUntestedBroadcast, WakesAll}
+use Rattle.machine_events.specs.Plans.{FitsNote, FitsNotes, FitsPlan, IsCondition, IsUntestedBroadcast, WakesAll}
 use Rattle.report_recheck.specs.Reports.{AreNotesOf, IsOnCondition, IsPlanOf}
 
 -- a note on the condition, if it is on this one, is an untested broadcast
@@ -63,6 +63,3 @@ reading_fits monitor plan is reading = record {
   notes = is.notes;
   each = All-from_get_or (FitsNotes monitor) plan.notes [] (fits_at monitor plan is reading);
 }
-
-pub lawful_fits : (monitor : MonitorParts) (plan : Plan) → IsPlanOf monitor plan → IsLawful monitor plan → FitsPlan monitor plan
-lawful_fits monitor plan is lawful = reading_fits monitor plan is lawful.reading

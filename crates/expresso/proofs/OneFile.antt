@@ -46,8 +46,8 @@ check_works file = record { files = refl; refused = λ held text is. is; accepte
 pub compile_works : (file : List ℕ) (choice : PlanChoice) → WorksOn (compile file choice) file []
 compile_works file choice = record { files = refl; refused = λ held text is. is; accepted = λ held is. is }
 
-pub report_works : (file : List ℕ) → WorksOn (report file) file []
-report_works file = record { files = refl; refused = λ held text is. is; accepted = λ held is. is }
+pub report_works : (file : List ℕ) (count : Bool) → WorksOn (report file count) file []
+report_works file count = record { files = refl; refused = λ held text is. is; accepted = λ held is. is }
 
 pub explain_works : (file : List ℕ) (count : Bool) → WorksOn (explain file count) file []
 explain_works file count = record { files = refl; refused = λ held text is. is; accepted = λ held is. is }

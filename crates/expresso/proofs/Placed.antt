@@ -12,6 +12,11 @@ use Rattle.machine_events.specs.Counts.{IsLawfulByCounting}
 use Rattle.machine_events.proofs.Counting.{lawful_by_counting}
 use Rattle.machine_events.specs.Logs.{IsLegal, IsClosed, commits_of}
 use Rattle.machine_explicit.specs.Sections.{FreeMachine, HoldsAlways, HasEnded, opened_free}
+use Rattle.plan_place.specs.declared.placed.PlacedPlan.{PlacedPlan}
+use Rattle.plan_place.specs.Backing.{AreProofs, backed_claims}
+use Rattle.logic_outline.specs.Outlines.{HasTypedNumbers}
+use Rattle.report_tally.specs.CountedTexts.{HasTypedColumn}
+use Rattle.plan_counted.specs.declared.counted.CountedPlan.{CountedPlan}
 use Rattle.plan_place.specs.Relayed.{RelayedPlansAreLawful, RelayedPlansFit, RelayedPlansOmitNoMore, relay_of}
 use Rattle.front_command.specs.declared.plan_choice.PlanChoice.{PlanChoice}
 use Rattle.front_command.specs.declared.plan_choice.PlanChoice.TheVariants.{Placed, Relayed, Counted, CountedAndRelayed}
@@ -19,7 +24,7 @@ use Rattle.plan_counted.specs.declared.counted.Told.{Told}
 use Rattle.plan_counted.specs.Counted.{AreBacked, IsCountedFrom, counted_of}
 use Rattle.plan_counted.specs.CountedAndRelayed.{IsCountedAndRelayed, OmitsNoMore, counted_and_relayed}
 use Rattle.plan_counted.specs.Exact.{HasNoOpenQuestion, IsExactlyCounted}
-use Rattle.expresso.specs.Placements.{IsChosen, IsCountTable, IsLawfulChoice, IsPlacement}
+use Rattle.expresso.specs.Placements.{IsChosen, IsCountTable, IsCounting, IsLawfulChoice, IsPlacement}
 use Rattle.expresso.specs.PlacedRuns.{IsPlacedRun}
 use Rattle.expresso.specs.inner.Explaining.{IsCountExplained}
 use Rattle.plan_needs.specs.declared.broadcasts.BroadcastReason.{BroadcastReason}
@@ -130,6 +135,22 @@ choice_counts Placed monitor plan lawful = lawful_by_counting monitor plan lawfu
 choice_counts Relayed monitor plan lawful = lawful_by_counting monitor plan lawful
 choice_counts Counted monitor plan lawful = lawful
 choice_counts CountedAndRelayed monitor plan lawful = lawful
+
+-- that plan counted, with its proofs and certificates
+pub counting_is : (monitor : MonitorParts) (placed : PlacedPlan) (counted : CountedPlan) → IsPlacement monitor placed.plan
+    → AreProofs monitor placed.plan.kept (backed_claims monitor placed.plan) placed.proofs → counted.plan ≡ counted_of placed.plan counted.columns → IsCountedFrom monitor placed.plan counted.plan
+    → (HasNoOpenQuestion monitor placed.plan.kept → IsExactlyCounted monitor placed.plan counted.plan) → AreBacked monitor placed.plan counted.columns
+    → FitsPlan monitor counted.plan → IsLawfulByCounting monitor counted.plan → All (λ proof. HasTypedNumbers proof.cert) placed.proofs → All HasTypedColumn counted.columns
+    → IsCounting monitor placed counted
+counting_is monitor placed counted placement proofs made from exact backed fits lawful typed typed_columns = record {
+  placement = placement;
+  proofs = proofs;
+  by = record { table = count_table monitor placed.plan counted.plan counted.columns made from exact backed; made = made };
+  fits = fits;
+  lawful = lawful;
+  typed = typed;
+  typed_columns = typed_columns;
+}
 
 -- ---- runs
 

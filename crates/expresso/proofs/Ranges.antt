@@ -23,7 +23,7 @@ pub in_range : (words : List (List ℕ)) (command : Command) → Takes words com
 in_range words (check monitor) taken = tt
 in_range words (turns monitor clients) taken = tt
 in_range words (compile monitor choice) taken = tt
-in_range words (report monitor) taken = tt
+in_range words (report monitor count) taken = tt
 in_range words (recheck monitor report_file) taken = tt
 in_range words (block monitor clients choice) taken = tt
 in_range words (audit monitor plan_file count) taken = tt

@@ -27,7 +27,7 @@ use Rattle.front_command.specs.CommandLine.{Command, check, turns, compile, simu
 use Rattle.front_command.specs.CommandLine.{report, recheck, block, audit, explain, emit}
 use Rattle.front_command.specs.CommandLine.{Takes, TakesNone, files_of}
 use Rattle.machine_stress.specs.LargeInput.{buffer_of, capacity_of, producers_and_consumers}
-use Rattle.expresso.specs.Placements.{IsChosen, IsPlacement}
+use Rattle.expresso.specs.Placements.{IsChosen, IsCounting, IsPlacement}
 use Rattle.expresso.specs.PlacedRuns.{IsPlacedRun}
 use Rattle.expresso.specs.Simulations.{IsSimulation}
 use Rattle.machine_events.specs.Configurations.{system_under}
@@ -41,7 +41,10 @@ use Rattle.expresso.specs.ReportFiles.{IsReportRefusalLine}
 use Rattle.expresso.specs.PlanFiles.{IsAudited, IsLawfulLine, IsPlanRefusalLine, MayBeLawful}
 use Rattle.plan_place.specs.declared.placed.PlacedPlan.{PlacedPlan}
 use Rattle.plan_place.specs.Backing.{AreProofs, backed_claims}
-use Rattle.report_recheck.specs.declared.report.Report.{Report}
+use Rattle.plan_counted.specs.declared.counted.CountedPlan.{CountedPlan}
+use Rattle.report_tally.specs.declared.report.CountedReport.{CountedReport}
+use Rattle.report_tally.specs.CountedReports.{counted_report_text}
+use Rattle.report_tally.specs.CountedTexts.{counted_report_of}
 use Rattle.logic_outline.specs.Outlines.{HasTypedNumbers}
 use Rattle.report_recheck.specs.Reports.{report_of, report_text}
 use Rattle.plan_needs.specs.declared.broadcasts.BroadcastReason.{BroadcastReason}
@@ -171,6 +174,23 @@ pub record IsReportText (held : List ℕ → Option (List ℕ)) (file text : Lis
   pub typed : All (λ proof. HasTypedNumbers proof.cert) placed.proofs
   pub printed : text ≡ report_text monitor (report_of placed)
 
+-- the text of the report of such a plan that was counted, which has one certificate for each claim
+-- and each question that the counted plan rests on
+pub record IsCountedReportText (held : List ℕ → Option (List ℕ)) (file text : List ℕ) : Type 0
+  where
+    pub tree : MonitorTree
+    pub monitor : MonitorParts
+    pub placed : PlacedPlan
+    pub counted : CountedPlan
+    pub holds : HoldsMonitor held file tree monitor
+    pub counting : IsCounting monitor placed counted
+    pub printed : text ≡ counted_report_text monitor (counted_report_of placed counted)
+
+-- with `--count`, of the counted plan
+abbrev pub IsReportTextBy : (List ℕ → Option (List ℕ)) → Bool → List ℕ → List ℕ → Type 0
+IsReportTextBy held false file text = IsReportText held file text
+IsReportTextBy held true file text = IsCountedReportText held file text
+
 -- the line that accepts the report of the second file, of the monitor of the first
 pub record IsRecheckText (held : List ℕ
     → Option (List ℕ)) (monitor_file report_file text : List ℕ) : Type 0 where
@@ -248,7 +268,7 @@ IsDoneText held (simulate monitor clients schedule choice) text =
 IsDoneText held (run monitor clients workers choice) text =
     IsFinishedRunText held monitor clients choice text
 IsDoneText held (stress number workers) text = IsStressText number text
-IsDoneText held (report file) text = IsReportText held file text
+IsDoneText held (report file count) text = IsReportTextBy held count file text
 IsDoneText held (recheck monitor report_file) text = IsRecheckText held monitor report_file text
 IsDoneText held (block monitor clients choice) text =
     IsFinishedRunText held monitor clients choice text
@@ -273,7 +293,7 @@ IsStalledText held (simulate monitor clients schedule choice) text =
 IsStalledText held (run monitor clients workers choice) text =
     IsStalledRunText held monitor clients choice text
 IsStalledText held (stress number workers) text = ⊥
-IsStalledText held (report file) text = ⊥
+IsStalledText held (report file count) text = ⊥
 IsStalledText held (recheck monitor report_file) text = ⊥
 IsStalledText held (block monitor clients choice) text =
     IsStalledRunText held monitor clients choice text
@@ -346,7 +366,7 @@ IsRefusedText held (simulate monitor clients schedule choice) text =
 IsRefusedText held (run monitor clients workers choice) text =
     IsRunRefusal held monitor clients text
 IsRefusedText held (stress number workers) text = ⊥
-IsRefusedText held (report file) text = IsMonitorRefusal held file text
+IsRefusedText held (report file count) text = IsMonitorRefusal held file text
 IsRefusedText held (recheck monitor report_file) text =
     IsRecheckRefusal held monitor report_file text
 IsRefusedText held (block monitor clients choice) text = IsRunRefusal held monitor clients text
@@ -429,7 +449,7 @@ RejectsRun held monitor_file clients_file =
 abbrev pub AcceptsReport : (List ℕ → Option (List ℕ)) → List ℕ → List ℕ → Type 0
 AcceptsReport held monitor_file report_file =
     (monitor_bytes : List ℕ) × (report_bytes : List ℕ) × (tree : MonitorTree)
-    × (monitor : MonitorParts) × (own : Report)
+    × (monitor : MonitorParts) × (own : CountedReport)
     × (held monitor_file ≡ Some monitor_bytes) × (held report_file ≡ Some report_bytes)
     × IsAccepted monitor_bytes tree monitor × IsRechecked report_bytes monitor own
 
@@ -438,7 +458,7 @@ abbrev pub RejectsReport : (List ℕ → Option (List ℕ)) → List ℕ → Lis
 RejectsReport held monitor_file report_file =
     (monitor_bytes : List ℕ) × (report_bytes : List ℕ) × (held monitor_file ≡ Some monitor_bytes)
     × (held report_file ≡ Some report_bytes)
-    × ((tree : MonitorTree) (monitor : MonitorParts) (own : Report)
+    × ((tree : MonitorTree) (monitor : MonitorParts) (own : CountedReport)
     → IsAccepted monitor_bytes tree monitor → IsRechecked report_bytes monitor own → ⊥)
 
 -- the two files tell their bytes: a monitor's, and those of a plan of which nothing may be found
@@ -466,7 +486,7 @@ AcceptsFiles held (compile file choice) = AcceptsMonitor held file
 AcceptsFiles held (simulate monitor clients schedule choice) = AcceptsRun held monitor clients
 AcceptsFiles held (run monitor clients workers choice) = AcceptsRun held monitor clients
 AcceptsFiles held (stress number workers) = Unit {0}
-AcceptsFiles held (report file) = AcceptsMonitor held file
+AcceptsFiles held (report file count) = AcceptsMonitor held file
 AcceptsFiles held (recheck monitor report_file) = AcceptsReport held monitor report_file
 AcceptsFiles held (block monitor clients choice) = AcceptsRun held monitor clients
 AcceptsFiles held (audit monitor plan_file count) = AcceptsPlan held count monitor plan_file
@@ -481,7 +501,7 @@ RejectsFiles held (compile file choice) = RejectsMonitor held file
 RejectsFiles held (simulate monitor clients schedule choice) = RejectsRun held monitor clients
 RejectsFiles held (run monitor clients workers choice) = RejectsRun held monitor clients
 RejectsFiles held (stress number workers) = ⊥
-RejectsFiles held (report file) = RejectsMonitor held file
+RejectsFiles held (report file count) = RejectsMonitor held file
 RejectsFiles held (recheck monitor report_file) = RejectsReport held monitor report_file
 RejectsFiles held (block monitor clients choice) = RejectsRun held monitor clients
 RejectsFiles held (audit monitor plan_file count) = RejectsPlan held count monitor plan_file

@@ -1,5 +1,6 @@
 -- What is true of the plans that `recheck` accepts and `audit` calls lawful.
 use Rattle.std.specs.Prelude.{ℕ, Bool, true, false, List}
+use Rattle.std.specs.List.{list_any}
 use Rattle.lang_tree.specs.declared.tree.MonitorTree.{MonitorTree}
 use Rattle.lang_monitor.specs.MonitorParts.{MonitorParts, IsMonitor}
 use Rattle.machine_implicit.specs.declared.script.Client.{Client}
@@ -14,7 +15,7 @@ use Rattle.machine_events.specs.Configurations.{Configuration, situation_of, sys
 use Rattle.machine_events.specs.Events.{AreEvents}
 use Rattle.machine_events.specs.Logs.{IsLegal, IsClosed}
 use Rattle.machine_events.specs.Pending.{WakePending, IsStuck}
-use Rattle.report_recheck.specs.declared.report.Report.{Report}
+use Rattle.report_tally.specs.declared.report.CountedReport.{CountedReport}
 use Rattle.expresso.specs.MonitorFiles.{IsAccepted}
 use Rattle.expresso.specs.PlanFiles.{MayBeLawful}
 use Rattle.expresso.specs.PrintedPrograms.{ThreadsLoseNone}
@@ -49,16 +50,21 @@ pub record LosesNoWakeup (count : Bool) (monitor : MonitorParts) (plan : Plan) :
   -- And threads lose none by the code of the plan.
   pub threads : ThreadsLoseNone monitor plan
 
+-- some condition is counted
+abbrev pub counts_some : List Bool → Bool
+counts_some counted = list_any (λ mark. mark) counted
+
 -- The bytes are a monitor's, and those of a report of it: its certificates refute what they should,
--- and its plan loses no wake-up. (No other monitor has these bytes, and no other report of it: the
--- law `accepts_one_monitor`, and `only` of `IsTextOfReport`.)
+-- and its plan loses no wake-up: it is lawful, or where some condition is counted, by counting. (No
+-- other monitor has these bytes, and no other report of it: the law `accepts_one_monitor`, and
+-- `only` of `IsTextOfCounted`.)
 pub record IsSafeReport (monitor_bytes report_bytes : List ℕ) : Type 0 where
   pub tree : MonitorTree
   pub monitor : MonitorParts
-  pub report : Report
+  pub report : CountedReport
   pub accepted : IsAccepted monitor_bytes tree monitor
   pub rechecked : IsRechecked report_bytes monitor report
-  pub safe : LosesNoWakeup false monitor report.plan
+  pub safe : LosesNoWakeup (counts_some report.counted) monitor report.plan
 
 -- The bytes are a monitor's, and those of a plan of it that loses no wake-up. (No other plan of it
 -- has these bytes: `only` of `IsTextOfPlan`.)

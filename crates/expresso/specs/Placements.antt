@@ -1,5 +1,5 @@
 -- Plans that a monitor may be compiled to, and those that its clients run under.
-use Rattle.std.specs.Prelude.{◌≡◌, ℕ, false, List, Option}
+use Rattle.std.specs.Prelude.{◌≡◌, ℕ, false, List, All, Option}
 use Rattle.front_command.specs.declared.plan_choice.PlanChoice.{PlanChoice}
 use Rattle.front_command.specs.declared.plan_choice.PlanChoice.TheVariants.{Placed, Relayed}
 use Rattle.front_command.specs.declared.plan_choice.PlanChoice.TheVariants.{Counted}
@@ -9,13 +9,17 @@ use Rattle.machine_events.specs.declared.plan.Plan.{Plan}
 use Rattle.machine_events.specs.Plans.{FitsPlan, IsLawful, has_note, notes_at}
 use Rattle.machine_events.specs.Counts.{IsLawfulByCounting}
 use Rattle.plan_prune.specs.Hardness.{HasNoHardClaim}
-use Rattle.plan_place.specs.Backing.{IsBacked}
+use Rattle.logic_outline.specs.Outlines.{HasTypedNumbers}
+use Rattle.plan_place.specs.declared.placed.PlacedPlan.{PlacedPlan}
+use Rattle.plan_place.specs.Backing.{AreProofs, IsBacked, backed_claims}
 use Rattle.plan_place.specs.Exact.{IsExact, IsLicensed}
 use Rattle.plan_place.specs.Relayed.{relay_of}
+use Rattle.plan_counted.specs.declared.counted.CountedPlan.{CountedPlan}
 use Rattle.plan_counted.specs.declared.counted.Told.{Told}
 use Rattle.plan_counted.specs.Counted.{AreBacked, IsCountedFrom, counted_of}
 use Rattle.plan_counted.specs.CountedAndRelayed.{IsCountedAndRelayed, counted_and_relayed}
 use Rattle.plan_counted.specs.Exact.{HasNoOpenQuestion, IsExactlyCounted}
+use Rattle.report_tally.specs.CountedTexts.{HasTypedColumn}
 
 pub record IsPlacement (monitor : MonitorParts) (plan : Plan) : Type 0 where
   pub is : IsMonitor monitor
@@ -55,6 +59,18 @@ pub record IsCountedAndRelayedBy (monitor : MonitorParts) (placed plan : Plan)
   pub table : IsCountTable monitor placed columns
   pub made : plan ≡ counted_and_relayed monitor placed columns
   pub mixed : IsCountedAndRelayed monitor placed (counted_of placed columns) plan
+
+-- a plan that the monitor may be compiled to, with a proof of each claim that it rests on, and that
+-- plan counted; the numbers of certificates are of their types
+pub record IsCounting (monitor : MonitorParts) (placed : PlacedPlan) (counted : CountedPlan) :
+    Type 0 where
+  pub placement : IsPlacement monitor placed.plan
+  pub proofs : AreProofs monitor placed.plan.kept (backed_claims monitor placed.plan) placed.proofs
+  pub by : IsCountedBy monitor placed.plan counted.plan counted.columns
+  pub fits : FitsPlan monitor counted.plan
+  pub lawful : IsLawfulByCounting monitor counted.plan
+  pub typed : All (λ proof. HasTypedNumbers proof.cert) placed.proofs
+  pub typed_columns : All HasTypedColumn counted.columns
 
 -- ---- choices
 

@@ -1,9 +1,13 @@
 -- Files that hold what `report` printed, and what `report` and `run` print of one file.
-use Rattle.std.specs.Prelude.{◌≡◌, ◌≤◌, ℕ, List, Option, Some, length}
+use Rattle.std.specs.Prelude.{◌≡◌, ◌≤◌, ℕ, ◌+◌, List, Option, Some, length}
 use Rattle.plan_prune.specs.Hardness.{HasNoHardClaim}
 use Rattle.front_command.specs.declared.plan_choice.PlanChoice.{PlanChoice}
 use Rattle.expresso.specs.declared.status.Status.{Status}
-use Rattle.expresso.specs.Answers.{IsReportText}
+use Rattle.plan_place.specs.declared.placed.PlacedPlan.{PlacedPlan}
+use Rattle.plan_counted.specs.declared.counted.CountedPlan.{CountedPlan}
+use Rattle.plan_counted.specs.Exact.{HasNoOpenQuestion}
+use Rattle.report_tally.specs.CountedTexts.{counted_report_of}
+use Rattle.expresso.specs.Answers.{IsCountedReportText, IsReportText}
 use Rattle.expresso.specs.Headline.{IsHeadlineText}
 use Rattle.expresso.specs.ReportFiles.{OTHER_BYTES}
 
@@ -13,6 +17,23 @@ pub record IsPrintedReport (held later : List ℕ
     → Option (List ℕ)) (file report_file text : List ℕ) : Type 0 where
   pub printed : IsReportText held file text
   pub easy : HasNoHardClaim printed.monitor
+  pub short : length text ≤ OTHER_BYTES
+  pub same : later file ≡ Some printed.holds.bytes
+  pub there : later report_file ≡ Some text
+
+-- how many certificates the report of a counted plan has
+abbrev pub counted_many : PlacedPlan → CountedPlan → ℕ
+counted_many placed counted =
+    length (counted_report_of placed counted).proofs
+    + length (counted_report_of placed counted).answers
+
+-- The text is what `report --count` printed of such a file, and with what its plan keeps no question
+-- of the monitor may stay open; the files as before.
+pub record IsPrintedCountedReport (held later : List ℕ
+    → Option (List ℕ)) (file report_file text : List ℕ) : Type 0 where
+  pub printed : IsCountedReportText held file text
+  pub easy : HasNoHardClaim printed.monitor
+  pub asked : HasNoOpenQuestion printed.monitor printed.placed.plan.kept
   pub short : length text ≤ OTHER_BYTES
   pub same : later file ≡ Some printed.holds.bytes
   pub there : later report_file ≡ Some text

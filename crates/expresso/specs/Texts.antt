@@ -21,7 +21,7 @@ usage_text =
     ++ codes "expresso simulate FILE CLIENTS [--seed N] [--spurious K] [--count] [--relay]\n"
     ++ codes "expresso run FILE CLIENTS [--workers N] [--count] [--relay]\n"
     ++ codes "expresso stress N [--workers N]\n"
-    ++ codes "expresso report FILE\n"
+    ++ codes "expresso report FILE [--count]\n"
     ++ codes "expresso recheck FILE REPORT\n"
     ++ codes "expresso block FILE CLIENTS [--count]\n"
     ++ codes "expresso audit FILE PLAN [--count]\n"

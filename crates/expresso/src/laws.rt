@@ -21,7 +21,8 @@ ghost use Rattle.expresso.specs.CheckedPlans.{IsSafePlan, IsSafeReport};
 ghost use Rattle.expresso.specs.MonitorFiles.{IsAccepted};
 ghost use Rattle.expresso.specs.ClientFiles.{AreAccepted};
 ghost use Rattle.expresso.specs.Placements.{CountsNothing, IsPlacement};
-ghost use Rattle.expresso.specs.PrintedReports.{AreRunAndReport, IsPrintedReport};
+ghost use Rattle.expresso.specs.PrintedReports.{AreRunAndReport, IsPrintedCountedReport};
+ghost use Rattle.expresso.specs.PrintedReports.{IsPrintedReport, counted_many};
 ghost use Rattle.expresso.specs.Simulations.{IsSimulation};
 
 use emit_code::counted_code_loses_none;
@@ -30,7 +31,11 @@ use lang_tokens::one_spelling;
 use machine_events::counting_loses_no_wakeup;
 use machine_simulate::{one_drawn_log, one_log_by_rounds};
 use plan_place::one_exact_plan;
-use report_recheck::printed_reports_are_accepted;
+use plan_prune::easy_monitors_have_no_open_claim;
+use report_recheck::easy_reports_are_accepted;
+use report_tally::{
+    counted_text_is_report_text, printed_counted_reports_are_accepted, reports_are_uncounted,
+};
 
 /// Bytes are accepted as one tree at most, and as one monitor.
 pub fn accepts_one_monitor()
@@ -103,7 +108,30 @@ pub fn printed_reports_are_rechecked()
 {
     one_spelling();
     derives_one_tree();
-    printed_reports_are_accepted();
+    easy_reports_are_accepted();
+    reports_are_uncounted();
+}
+
+/// What `report --count` printed of a monitor without a hard claim, where no question that may be
+/// asked of it may stay open, is never refused by `recheck`, which prints that it accepts as many
+/// claims and questions as have certificates.
+pub fn printed_counted_reports_are_rechecked()
+    ensures refusals { (held later : List ℕ → Option (List ℕ))
+        (file report_file text line : List ℕ)
+        → IsPrintedCountedReport held later file report_file text
+        → IsRefusedText later (recheck file report_file) line → ⊥ }
+    ensures lines { (held later : List ℕ → Option (List ℕ))
+        (file report_file text line : List ℕ)
+        (is : IsPrintedCountedReport held later file report_file text)
+        → IsDoneText later (recheck file report_file) line
+        → line ≡ verdict_text (Accepted
+        (counted_many is.printed.placed is.printed.counted)) }
+{
+    one_spelling();
+    derives_one_tree();
+    easy_monitors_have_no_open_claim();
+    counted_text_is_report_text();
+    printed_counted_reports_are_accepted();
 }
 
 /// Where no claim of a monitor is hard, `report` prints the certificates of the very plan that

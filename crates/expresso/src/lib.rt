@@ -12,7 +12,8 @@
 //! stands in it that costs something. `emit` prints a monitor under the counted plan as a module of
 //! Rust, for threads of any program to call.
 //!
-//! `--relay` asks for the plan with its signals relayed, and `--count` for the counted plan.
+//! `--relay` asks for the plan with its signals relayed, and `--count` for the counted plan; of
+//! both the placed and the counted one `report` prints the certificates.
 //!
 //! Its clause `headline` is `specs/Headline`: what `run` and `block` promise. `specs/ProgramEnds`
 //! says what every call promises, `specs/Answers` what each command prints, and `specs/Exit` which
@@ -49,7 +50,8 @@ mod work;
 
 pub use laws::{
     accepts_one_client_list, accepts_one_monitor, checked_plans_lose_no_wakeup, one_simulated_text,
-    one_simulation, printed_reports_are_rechecked, runs_are_reported,
+    one_simulation, printed_counted_reports_are_rechecked, printed_reports_are_rechecked,
+    runs_are_reported,
 };
 pub use program::{expresso, without_threads};
 pub use status::{Status, exit_status};

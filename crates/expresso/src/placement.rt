@@ -2,13 +2,15 @@
 
 ghost use Rattle.std.specs.Prelude.{IfOk};
 ghost use Rattle.plan_place.specs.Backing.{AreProofs, backed_claims};
-ghost use Rattle.expresso.specs.Placements.{IsChosen, IsPlacement};
+ghost use Rattle.expresso.specs.Placements.{IsChosen, IsCounting, IsPlacement};
 
 use front_command::PlanChoice;
 use lang_monitor::Monitor;
 use machine_events::Plan;
-use plan_counted::{count_plan, relay_uncounted};
+use plan_counted::{CountedPlan, count_plan, relay_uncounted};
 use plan_place::{PlacedPlan, place, relay, relayed_plans_are_lawful};
+use report_recheck::read_numbers;
+use report_tally::read_column_numbers;
 use std::alloc::{AllocError, Global};
 
 /// A plan that the monitor is compiled to, with a proof of each claim that it rests on. It fails
@@ -22,6 +24,25 @@ pub(crate) fn placed_of(alloc: Global, monitor: &Monitor) -> Result<PlacedPlan, 
     let _blocks = monitor.blocks();
     let placed = place(alloc, monitor)?;
     Ok(placed)
+}
+
+/// A plan that a monitor is compiled to, with its proofs, and that plan counted.
+#[derive(Debug, Drop)]
+pub(crate) struct Counting {
+    pub placed: PlacedPlan,
+    pub counted: CountedPlan,
+}
+
+/// A plan that the monitor is compiled to, with a proof of each claim that it rests on, and that
+/// plan counted. It fails only for want of memory.
+pub(crate) fn counting_of(alloc: Global, monitor: &Monitor) -> Result<Counting, AllocError>
+    ensures { IfOk result (λ it. IsCounting monitor.now it.placed it.counted) }
+{
+    let placed = placed_of(alloc, monitor)?;
+    let counted = count_plan(alloc, monitor, &placed.plan)?;
+    read_numbers(&placed);
+    read_column_numbers(counted.columns.items());
+    Ok(Counting { placed, counted })
 }
 
 /// The plan that is asked for: one that the monitor is compiled to, or that one counted, or with

@@ -26,12 +26,12 @@ use threads_pool::Gate;
 /// writes as `run`; `stress N [--workers N]` has workers run a large input that is made of a
 /// number, and writes a summary; `block FILE CLIENTS` has a caller for each client run it in a
 /// thread of its own, and writes as `run`. `report FILE` writes the plan and, for each claim that
-/// it rests on, a line with a certificate; `recheck FILE REPORT` checks such a report again, by its
-/// certificates alone, and writes whether it is accepted. `audit FILE PLAN` writes whether a plan
-/// that was written by hand is lawful, with `--count` also by counting, or what it lacks. `explain
-/// FILE` writes the plan, with `--count` the counted one, and, for each thing in it that costs
-/// something, a state that shows why it stands. `emit FILE` writes a Rust module of the monitor
-/// under the plan, whose methods threads call.
+/// it rests on, a line with a certificate, with `--count` of the counted plan; `recheck FILE
+/// REPORT` checks such a report again, by its certificates alone, and writes whether it is
+/// accepted. `audit FILE PLAN` writes whether a plan that was written by hand is lawful, with
+/// `--count` also by counting, or what it lacks. `explain FILE` writes the plan, with `--count` the
+/// counted one, and, for each thing in it that costs something, a state that shows why it stands.
+/// `emit FILE` writes a Rust module of the monitor under the plan, whose methods threads call.
 ///
 /// With `--relay` beside `run`, `compile` or `simulate` the plan is that one with its signals
 /// relayed.

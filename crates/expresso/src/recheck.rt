@@ -14,7 +14,8 @@ use base_io::{Files, Sink};
 use lang_monitor::Monitor;
 use lang_syntax::derives_one_tree;
 use lang_tokens::one_spelling;
-use report_recheck::{Verdict, read_report, recheck};
+use report_recheck::Verdict;
+use report_tally::{read_counted_report, recheck_counted};
 use report_text::Fault;
 use std::alloc::{AllocError, Global};
 
@@ -71,9 +72,9 @@ fn show_finding<S: Sink>(file: &str, found: Option<Verdict>, out: &mut S) -> Sta
 fn finding(alloc: Global, monitor: &Monitor, bytes: &[u8]) -> Result<Option<Verdict>, AllocError>
     ensures { IfOk result (IsFinding monitor.now bytes.now) }
 {
-    let Some(report) = read_report(alloc, monitor, bytes)? else {
+    let Some(report) = read_counted_report(alloc, monitor, bytes)? else {
         return Ok(None);
     };
-    let verdict = recheck(alloc, monitor, &report)?;
+    let verdict = recheck_counted(alloc, monitor, &report)?;
     Ok(Some(verdict))
 }

@@ -13,7 +13,9 @@ ghost use Rattle.report_text.specs.LogText.{are_done};
 ghost use Rattle.report_text.specs.TurnsText.{turns_text};
 ghost use Rattle.report_text.specs.Laws.{plan_and_log_text};
 ghost use Rattle.report_text.specs.SummaryText.{summary_text};
+ghost use Rattle.plan_counted.specs.Counted.{AreBacked};
 ghost use Rattle.report_recheck.specs.Reports.{placed_text};
+ghost use Rattle.report_tally.specs.CountedTexts.{counted_text};
 ghost use Rattle.report_recheck.specs.Verdicts.{verdict_text};
 ghost use Rattle.report_audit.specs.FindingText.{finding_text};
 ghost use Rattle.emit_module.specs.Modules.{rust_text};
@@ -23,6 +25,7 @@ ghost use Rattle.expresso.specs.inner.Ending.{IsWritten, ended, fault_status};
 ghost use Rattle.expresso.specs.inner.Judging.{verdict_status};
 
 use crate::explain::{CountExplanation, Explanation};
+use crate::placement::Counting;
 use crate::status::Status;
 use base_io::{Sink, SinkFailed, write_pieces};
 use emit_module::write_rust;
@@ -36,6 +39,7 @@ use plan_place::PlacedPlan;
 use report_audit::{Finding, write_finding};
 use report_reasons::{write_broadcast_reasons, write_reasons};
 use report_recheck::{Verdict, write_report, write_verdict};
+use report_tally::write_counted_report;
 use report_text::{
     Fault, are_done, write_fault, write_log, write_plan, write_summary, write_turns,
 };
@@ -68,7 +72,7 @@ pub(crate) fn show_usage<S: Sink>(out: &mut S) -> Status
             b"expresso simulate FILE CLIENTS [--seed N] [--spurious K] [--count] [--relay]\n",
             b"expresso run FILE CLIENTS [--workers N] [--count] [--relay]\n",
             b"expresso stress N [--workers N]\n",
-            b"expresso report FILE\n",
+            b"expresso report FILE [--count]\n",
             b"expresso recheck FILE REPORT\n",
             b"expresso block FILE CLIENTS [--count]\n",
             b"expresso audit FILE PLAN [--count]\n",
@@ -127,6 +131,21 @@ pub(crate) fn show_report<S: Sink>(monitor: &Monitor, placed: &PlacedPlan, out: 
         (S.seen out.old) (S.seen out.new) }
 {
     let outcome = write_report(monitor, placed, out);
+    finish(Status::Done, outcome, out)
+}
+
+/// Writes the report of a plan that was placed and then counted.
+pub(crate) fn show_counted_report<S: Sink>(
+    monitor: &Monitor,
+    counting: &Counting,
+    out: &mut S,
+) -> Status
+    requires { AreBacked monitor.now counting.now.placed.plan counting.now.counted.columns }
+    ensures { IsWritten Status.Done
+        (counted_text monitor.now counting.now.placed counting.now.counted) result
+        (S.seen out.old) (S.seen out.new) }
+{
+    let outcome = write_counted_report(monitor, &counting.placed, &counting.counted, out);
     finish(Status::Done, outcome, out)
 }
 

@@ -58,7 +58,7 @@ pub(crate) fn work<'a, F: Files, S: Sink>(
             schedule,
             choice,
         } => Ok(simulate_files(alloc, monitor, clients, schedule, choice, files, out)),
-        Command::Report { monitor } => Ok(report_file(alloc, monitor, files, out)),
+        Command::Report { monitor, count } => Ok(report_file(alloc, monitor, count, files, out)),
         Command::Recheck { monitor, report } => {
             Ok(recheck_files(alloc, monitor, report, files, out))
         }

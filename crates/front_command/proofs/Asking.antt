@@ -103,17 +103,12 @@ block_found given monitor clients choice rounds no_workers no_relay chosen_is =
     let unused = schedule_unused given rounds in
     λ i. cond ((unused i || is_some (no_workers i)) || no_relay i) None (Some (block monitor clients (chosen_is i)))
 
-audit_found : (given : Given) (monitor plan_file : Text) (count : Bool) → HasNoSchedule given → given.workers ≡ None → given.relay ≡ false → given.count ≡ count
-    → counted_if given (audit monitor plan_file given.count) ≡ Some (audit monitor plan_file count)
-audit_found given monitor plan_file count rounds no_workers no_relay count_is =
+-- a command that says whether `--count` is used
+counted_found : (given : Given) (command : Bool → Command) (count : Bool) → HasNoSchedule given → given.workers ≡ None → given.relay ≡ false → given.count ≡ count
+    → counted_if given (command given.count) ≡ Some (command count)
+counted_found given command count rounds no_workers no_relay count_is =
     let unused = schedule_unused given rounds in
-    λ i. cond ((unused i || is_some (no_workers i)) || no_relay i) None (Some (audit monitor plan_file (count_is i)))
-
-explain_found : (given : Given) (monitor : Text) (count : Bool) → HasNoSchedule given → given.workers ≡ None → given.relay ≡ false → given.count ≡ count
-    → counted_if given (explain monitor given.count) ≡ Some (explain monitor count)
-explain_found given monitor count rounds no_workers no_relay count_is =
-    let unused = schedule_unused given rounds in
-    λ i. cond ((unused i || is_some (no_workers i)) || no_relay i) None (Some (explain monitor (count_is i)))
+    λ i. cond ((unused i || is_some (no_workers i)) || no_relay i) None (Some (command (count_is i)))
 
 compile_found : (given : Given) (monitor : Text) (choice : PlanChoice) → HasNoSchedule given → given.workers ≡ None → choice_in given ≡ choice
     → compile_if given monitor ≡ Some (compile monitor choice)
@@ -148,7 +143,7 @@ single_named name given value =
     cond (bytes_eq name (codes "check")) (plain_if given (check value))
     (cond (bytes_eq name (codes "compile")) (compile_if given value)
     (cond (bytes_eq name (codes "stress")) (stress_if given value)
-    (cond (bytes_eq name (codes "report")) (plain_if given (report value))
+    (cond (bytes_eq name (codes "report")) (counted_if given (report value given.count))
     (cond (bytes_eq name (codes "explain")) (counted_if given (explain value given.count))
     (cond (bytes_eq name (codes "emit")) (plain_if given (emit value)) None)))))
 
@@ -177,10 +172,12 @@ command_found given (check m) asks = single_found given (codes "check") m (check
 command_found given (compile m p) asks =
     let (rounds, no_workers, chosen_is) = asks.has_options in
     single_found given (codes "compile") m (compile m p) asks.name asks.has_values (compile_found given m p rounds no_workers chosen_is)
-command_found given (report m) asks = single_found given (codes "report") m (report m) asks.name asks.has_values (plain_found given (report m) asks.has_options)
+command_found given (report m n) asks =
+    let (rounds, no_workers, no_relay, count_is) = asks.has_options in
+    single_found given (codes "report") m (report m n) asks.name asks.has_values (counted_found given (report m) n rounds no_workers no_relay count_is)
 command_found given (explain m n) asks =
     let (rounds, no_workers, no_relay, count_is) = asks.has_options in
-    single_found given (codes "explain") m (explain m n) asks.name asks.has_values (explain_found given m n rounds no_workers no_relay count_is)
+    single_found given (codes "explain") m (explain m n) asks.name asks.has_values (counted_found given (explain m) n rounds no_workers no_relay count_is)
 command_found given (emit m) asks = single_found given (codes "emit") m (emit m) asks.name asks.has_values (plain_found given (emit m) asks.has_options)
 command_found given (recheck m r) asks = pair_found given (codes "recheck") m r (recheck m r) asks.name asks.has_values (plain_found given (recheck m r) asks.has_options)
 command_found given (block m c p) asks =
@@ -188,7 +185,7 @@ command_found given (block m c p) asks =
     pair_found given (codes "block") m c (block m c p) asks.name asks.has_values (block_found given m c p rounds no_workers no_relay chosen_is)
 command_found given (audit m p n) asks =
     let (rounds, no_workers, no_relay, count_is) = asks.has_options in
-    pair_found given (codes "audit") m p (audit m p n) asks.name asks.has_values (audit_found given m p n rounds no_workers no_relay count_is)
+    pair_found given (codes "audit") m p (audit m p n) asks.name asks.has_values (counted_found given (audit m p) n rounds no_workers no_relay count_is)
 command_found given (turns m c) asks = pair_found given (codes "turns") m c (turns m c) asks.name asks.has_values (plain_found given (turns m c) asks.has_options)
 command_found given (simulate m c s p) asks =
     let (is, no_workers, chosen_is) = asks.has_options in
@@ -214,41 +211,25 @@ plain_is given command found e =
     let (rounds, no_workers) = neither (has_schedule given) (is_some given.workers) settings in
     ((no_schedule given rounds, none_given given.workers no_workers, (no_relay, no_count)), same_Some command found same)
 
+counted_is : (given : Given) (command found : Command) → counted_if given command ≡ Some found
+    → HasNoSchedule given × (given.workers ≡ None) × (given.relay ≡ false) × (command ≡ found)
+counted_is given command found e =
+    let (unused, same) = cond_second (has_settings given || given.relay) (Some command) found e in
+    let (settings, no_relay) = neither (has_settings given) given.relay unused in
+    let (rounds, no_workers) = neither (has_schedule given) (is_some given.workers) settings in
+    (no_schedule given rounds, none_given given.workers no_workers, no_relay, same_Some command found same)
+
 block_asks : (given : Given) (monitor clients : Text) (found : Command) → given.command ≡ codes "block" → given.values ≡ monitor ∷ clients ∷ []
     → counted_if given (block monitor clients (choice_in given)) ≡ Some found → Asks given found
 block_asks given monitor clients found name values e =
-    let (unused, same) = cond_second (has_settings given || given.relay) (Some (block monitor clients (choice_in given))) found e in
-    let (settings, no_relay) = neither (has_settings given) given.relay unused in
-    let (rounds, no_workers) = neither (has_schedule given) (is_some given.workers) settings in
-    subst (Asks given) (same_Some (block monitor clients (choice_in given)) found same) (record {
-      name = name;
-      has_values = values;
-      has_options = (no_schedule given rounds, none_given given.workers no_workers, no_relay, refl);
-    })
+    let (rounds, no_workers, no_relay, same) = counted_is given (block monitor clients (choice_in given)) found e in
+    subst (Asks given) same (record { name = name; has_values = values; has_options = (rounds, no_workers, no_relay, refl) })
 
 audit_asks : (given : Given) (monitor plan_file : Text) (found : Command) → given.command ≡ codes "audit" → given.values ≡ monitor ∷ plan_file ∷ []
     → counted_if given (audit monitor plan_file given.count) ≡ Some found → Asks given found
 audit_asks given monitor plan_file found name values e =
-    let (unused, same) = cond_second (has_settings given || given.relay) (Some (audit monitor plan_file given.count)) found e in
-    let (settings, no_relay) = neither (has_settings given) given.relay unused in
-    let (rounds, no_workers) = neither (has_schedule given) (is_some given.workers) settings in
-    subst (Asks given) (same_Some (audit monitor plan_file given.count) found same) (record {
-      name = name;
-      has_values = values;
-      has_options = (no_schedule given rounds, none_given given.workers no_workers, no_relay, refl);
-    })
-
-explain_asks : (given : Given) (monitor : Text) (found : Command) → given.command ≡ codes "explain" → given.values ≡ monitor ∷ []
-    → counted_if given (explain monitor given.count) ≡ Some found → Asks given found
-explain_asks given monitor found name values e =
-    let (unused, same) = cond_second (has_settings given || given.relay) (Some (explain monitor given.count)) found e in
-    let (settings, no_relay) = neither (has_settings given) given.relay unused in
-    let (rounds, no_workers) = neither (has_schedule given) (is_some given.workers) settings in
-    subst (Asks given) (same_Some (explain monitor given.count) found same) (record {
-      name = name;
-      has_values = values;
-      has_options = (no_schedule given rounds, none_given given.workers no_workers, no_relay, refl);
-    })
+    let (rounds, no_workers, no_relay, same) = counted_is given (audit monitor plan_file given.count) found e in
+    subst (Asks given) same (record { name = name; has_values = values; has_options = (rounds, no_workers, no_relay, refl) })
 
 compile_asks : (given : Given) (monitor : Text) (found : Command) → given.command ≡ codes "compile" → given.values ≡ monitor ∷ []
     → compile_if given monitor ≡ Some found → Asks given found
@@ -309,10 +290,12 @@ single_asks given value found values e =
     (λ is made. stress_asks given value found (named given (codes "stress") is) values made)
     (λ no_stress others. chosen (bytes_eq given.command (codes "report")) _ _ found others
     (λ is made.
-    let (unused, same) = plain_is given (report value) found made in
-    subst (Asks given) same (record { name = named given (codes "report") is; has_values = values; has_options = unused }))
+    let (rounds, no_workers, no_relay, same) = counted_is given (report value given.count) found made in
+    subst (Asks given) same (record { name = named given (codes "report") is; has_values = values; has_options = (rounds, no_workers, no_relay, refl) }))
     (λ no_report later. chosen (bytes_eq given.command (codes "explain")) _ _ found later
-    (λ is made. explain_asks given value found (named given (codes "explain") is) values made)
+    (λ is made.
+    let (rounds, no_workers, no_relay, same) = counted_is given (explain value given.count) found made in
+    subst (Asks given) same (record { name = named given (codes "explain") is; has_values = values; has_options = (rounds, no_workers, no_relay, refl) }))
     (λ no_explain last. chosen (bytes_eq given.command (codes "emit")) _ _ found last
     (λ is made.
     let (unused, same) = plain_is given (emit value) found made in

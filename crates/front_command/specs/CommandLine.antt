@@ -29,8 +29,8 @@ pub data Command : Type 0 where
   run : List ℕ → List ℕ → ℕ → PlanChoice → Command
   -- runs the large input of this number in so many workers
   stress : ℕ → ℕ → Command
-  -- compiles a monitor to a plan with its certificates
-  report : List ℕ → Command
+  -- compiles a monitor to a plan with its certificates, or with `--count` to a counted plan
+  report : List ℕ → Bool → Command
   -- checks such a report, the second file, of the monitor of the first
   recheck : List ℕ → List ℕ → Command
   -- runs the clients of the second file on the monitor of the first, under such a plan, by a caller
@@ -164,7 +164,7 @@ name_of (compile monitor choice) = codes "compile"
 name_of (simulate monitor clients schedule choice) = codes "simulate"
 name_of (run monitor clients workers choice) = codes "run"
 name_of (stress number workers) = codes "stress"
-name_of (report monitor) = codes "report"
+name_of (report monitor count) = codes "report"
 name_of (recheck monitor report_file) = codes "recheck"
 name_of (block monitor clients choice) = codes "block"
 name_of (audit monitor plan_file count) = codes "audit"
@@ -180,7 +180,7 @@ HasValues values (simulate monitor clients schedule choice) = values ≡ monitor
 HasValues values (run monitor clients workers choice) = values ≡ monitor ∷ clients ∷ []
 HasValues values (stress number workers) =
     (word : Text) × (values ≡ word ∷ []) × IsNumber GREATEST_UNSIGNED word number
-HasValues values (report monitor) = values ≡ monitor ∷ []
+HasValues values (report monitor count) = values ≡ monitor ∷ []
 HasValues values (recheck monitor report_file) = values ≡ monitor ∷ report_file ∷ []
 HasValues values (block monitor clients choice) = values ≡ monitor ∷ clients ∷ []
 HasValues values (audit monitor plan_file count) = values ≡ monitor ∷ plan_file ∷ []
@@ -197,8 +197,8 @@ abbrev pub HasNoOptions : Given → Type 0
 HasNoOptions given = HasNoSchedule given × (given.workers ≡ None) × HasNoChoice given
 
 -- the options are the command's own: a schedule for `simulate`, workers for `run` and `stress`,
--- `--relay` for `compile`, `simulate` and `run`, and `--count` for these, `block`, `audit` and
--- `explain`
+-- `--relay` for `compile`, `simulate` and `run`, and `--count` for these, `report`, `block`, `audit`
+-- and `explain`
 abbrev pub HasOptions : Given → Command → Type 0
 HasOptions given (check monitor) = HasNoOptions given
 HasOptions given (turns monitor clients) = HasNoOptions given
@@ -211,7 +211,8 @@ HasOptions given (run monitor clients workers choice) =
     HasNoSchedule given × IsWorkers given.workers workers × (choice_in given ≡ choice)
 HasOptions given (stress number workers) =
     HasNoSchedule given × IsWorkers given.workers workers × HasNoChoice given
-HasOptions given (report monitor) = HasNoOptions given
+HasOptions given (report monitor count) =
+    HasNoSchedule given × (given.workers ≡ None) × (given.relay ≡ false) × (given.count ≡ count)
 HasOptions given (recheck monitor report_file) = HasNoOptions given
 HasOptions given (block monitor clients choice) =
     HasNoSchedule given × (given.workers ≡ None) × (given.relay ≡ false)
@@ -246,7 +247,7 @@ files_of (compile monitor choice) = monitor ∷ []
 files_of (simulate monitor clients schedule choice) = monitor ∷ clients ∷ []
 files_of (run monitor clients workers choice) = monitor ∷ clients ∷ []
 files_of (stress number workers) = []
-files_of (report monitor) = monitor ∷ []
+files_of (report monitor count) = monitor ∷ []
 files_of (recheck monitor report_file) = monitor ∷ report_file ∷ []
 files_of (block monitor clients choice) = monitor ∷ clients ∷ []
 files_of (audit monitor plan_file count) = monitor ∷ plan_file ∷ []

@@ -41,7 +41,13 @@ fn single_asked<'a>(given: &Given<'a>, value: &'a str) -> Option<Command<'a>>
     } else if given.command == "stress" {
         stress_asked(given, value)
     } else if given.command == "report" {
-        plain_asked(given, Command::Report { monitor: value })
+        counted_asked(
+            given,
+            Command::Report {
+                monitor: value,
+                count: given.count,
+            },
+        )
     } else if given.command == "explain" {
         counted_asked(
             given,

@@ -49,9 +49,11 @@ pub enum Command<'a> {
         number: u64,
         workers: u32,
     },
-    /// Compiles a monitor to a plan, with a certificate for each claim that the plan rests on.
+    /// Compiles a monitor to a plan, or to that one counted, with a certificate for each claim that
+    /// the plan rests on.
     Report {
         monitor: &'a str,
+        count: bool,
     },
     /// Checks such a report of the monitor of another file again.
     Recheck {

@@ -42,7 +42,7 @@ expresso compile FILE [--count] [--relay]
 expresso simulate FILE CLIENTS [--seed N] [--spurious K] [--count] [--relay]
 expresso run FILE CLIENTS [--workers N] [--count] [--relay]
 expresso stress N [--workers N]
-expresso report FILE
+expresso report FILE [--count]
 expresso recheck FILE REPORT
 expresso block FILE CLIENTS [--count]
 expresso audit FILE PLAN [--count]

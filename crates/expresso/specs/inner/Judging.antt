@@ -2,11 +2,12 @@
 use Rattle.std.specs.Prelude.{◌≡◌, ◌⊎◌, ℕ, List, Option, Some, None}
 use Rattle.base_io.specs.Outside.{SinkSeen}
 use Rattle.lang_monitor.specs.MonitorParts.{MonitorParts}
-use Rattle.report_recheck.specs.declared.report.Report.{Report}
 use Rattle.report_recheck.specs.declared.report.Verdict.{Verdict}
 use Rattle.report_recheck.specs.declared.report.Verdict.TheVariants as verdicts
-use Rattle.report_recheck.specs.Readings.{IsReportRead}
-use Rattle.report_recheck.specs.Verdicts.{IsVerdict, verdict_text}
+use Rattle.report_recheck.specs.Verdicts.{verdict_text}
+use Rattle.report_tally.specs.declared.report.CountedReport.{CountedReport}
+use Rattle.report_tally.specs.CountedReadings.{IsCountedRead}
+use Rattle.report_tally.specs.CountedVerdicts.{IsCountedVerdict}
 use Rattle.report_text.specs.FaultText.{not_report_text}
 use Rattle.expresso.specs.declared.status.Status.{Status}
 use Rattle.expresso.specs.declared.status.Status.TheVariants as statuses
@@ -16,9 +17,9 @@ use Rattle.expresso.specs.inner.Ending.{IsTurnedAway, IsWritten}
 -- the verdict on the report that the bytes are; they are none
 abbrev pub IsFinding : MonitorParts → List ℕ → Option Verdict → Type 0
 IsFinding monitor bytes (Some verdict) =
-    (report : Report) × IsReportRead monitor bytes (Some report)
-    × IsVerdict monitor report verdict
-IsFinding monitor bytes None = IsReportRead monitor bytes None
+    (report : CountedReport) × IsCountedRead monitor bytes (Some report)
+    × IsCountedVerdict monitor report verdict
+IsFinding monitor bytes None = IsCountedRead monitor bytes None
 
 -- the status of a verdict
 abbrev pub verdict_status : Verdict → Status

@@ -89,8 +89,10 @@ single_if given value =
     cond (bytes_eq given.command (codes "check")) (plain_if given (check value))
     (cond (bytes_eq given.command (codes "compile")) (compile_if given value)
     (cond (bytes_eq given.command (codes "stress")) (stress_if given value)
-    (cond (bytes_eq given.command (codes "report")) (plain_if given (report value))
-    (cond (bytes_eq given.command (codes "explain")) (counted_if given (explain value given.count))
+    (cond (bytes_eq given.command (codes "report"))
+    (counted_if given (report value given.count))
+    (cond (bytes_eq given.command (codes "explain"))
+    (counted_if given (explain value given.count))
     (cond (bytes_eq given.command (codes "emit")) (plain_if given (emit value)) None)))))
 
 -- the command of two values

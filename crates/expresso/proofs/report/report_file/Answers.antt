@@ -1,19 +1,9 @@
-use Rattle.report_recheck.specs.Reports.{placed_text}
-use Rattle.expresso.specs.declared.status.Status.TheVariants.{Done}
-use Rattle.front_command.specs.CommandLine.{report}
-use Rattle.expresso.proofs.OneFile.{report_works}
-use Rattle.expresso.proofs.Judged.{report_done}
-use Rattle.expresso.proofs.Outcomes.{written_since}
+use Rattle.std.proofs.Common.{true, false}
+use Rattle.expresso.proofs.Judged.{report_ended}
 use Rattle.expresso.proofs.report.report_file.Goals as goal
 
-pub returns-in-Err-clause-ended : goal.returns-in-Err-clause-ended
-returns-in-Err-clause-ended g c = c.in-Err.ensures.ended (report c.args.file.now) (report_works c.args.file.now)
+pub returns-then-count-clause-ended : goal.returns-then-count-clause-ended
+returns-then-count-clause-ended g c = report_ended c.args.file.now c.args.count true _ _ _ _ _ c.if-count.true c.report_counted.ensures.ended
 
-pub returns-in-Ok-placed_of-clause-ended : goal.returns-in-Ok-placed_of-clause-ended
-returns-in-Ok-placed_of-clause-ended g c =
-    let found = c.in-Ok.found in
-    let placed = c.in-Ok-placed_of.placed in
-    report_done c.placed_text_is_report_text.ensures.text c.args.file.now found.tree found.monitor placed
-    (g.F.Files.seen c.args.files.now) (g.F.Files.seen c.monitor_of.new.files) _ (g.S.Sink.seen c.args.out.now) _ c.in-Ok.ensures.holds c.in-Ok-placed_of.ensures.placement c.in-Ok-placed_of.ensures.proofs c.read_numbers.ensures
-    c.in-Ok.ensures.quiet.steady
-    (written_since Done (placed_text found.monitor placed) _ _ _ _ c.in-Ok.ensures.quiet.silent c.show_report.ensures)
+pub returns-else-count-clause-ended : goal.returns-else-count-clause-ended
+returns-else-count-clause-ended g c = report_ended c.args.file.now c.args.count false _ _ _ _ _ c.if-count.false c.report_placed.ensures.ended
