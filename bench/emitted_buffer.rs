@@ -30,10 +30,10 @@ fn run(buffer: &Buffer) -> u64 {
     thread::scope(|scope| {
         let mut clients = Vec::new();
         for _ in 0..CLIENTS_A_SIDE {
-            clients.push(scope.spawn(|| make_calls(|| buffer.put().unwrap())));
+            clients.push(scope.spawn(|| make_calls(|| buffer.put())));
         }
         for _ in 0..CLIENTS_A_SIDE {
-            clients.push(scope.spawn(|| make_calls(|| buffer.get().unwrap())));
+            clients.push(scope.spawn(|| make_calls(|| buffer.get())));
         }
         clients
             .into_iter()

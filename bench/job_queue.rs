@@ -91,7 +91,7 @@ impl Queue for Emitted {
     }
 
     fn pop(&self) -> Option<Job> {
-        if !self.gate.claim().unwrap() {
+        if !self.gate.claim() {
             return None;
         }
         let job = self.jobs.lock().unwrap().pop_front();

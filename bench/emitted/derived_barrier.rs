@@ -61,21 +61,14 @@ impl Barrier {
     }
 
     /// Waits until `!open && waiting < PARTIES`.
-    ///
-    /// # Errors
-    ///
-    /// [`Overflow`] where a number would leave 64 bits. Then nothing changes.
-    pub fn arrive(&self) -> Result<i64, Overflow> {
+    pub fn arrive(&self) -> i64 {
         let mut inner = lock(&self.inner);
         while !inner.state.can_arrive() {
             inner.asleep_arrive += 1;
             inner = wait(&self.can_arrive, inner);
             inner.asleep_arrive -= 1;
         }
-        let Ok(answer) = inner.state.run_arrive() else {
-            self.can_arrive.notify_one();
-            return Err(Overflow);
-        };
+        let answer = inner.state.run_arrive();
         let copy = *inner;
         drop(inner);
         if copy.asleep_leave > 0 && copy.state.can_leave() {
@@ -84,25 +77,20 @@ impl Barrier {
         if copy.asleep_dismiss > 0 && copy.state.can_dismiss() {
             self.can_dismiss.notify_one();
         }
-        Ok(answer)
+        answer
     }
 
     /// As [`arrive`](Self::arrive), but does not wait until `!open && waiting < PARTIES`.
     ///
     /// # Errors
     ///
-    /// [`Failed::Refused`] where `!open && waiting < PARTIES` is false. Then nothing changes.
-    ///
-    /// [`Failed::Overflow`] where a number would leave 64 bits. Then nothing changes.
-    pub fn try_arrive(&self) -> Result<i64, Failed> {
+    /// [`Refused`] where `!open && waiting < PARTIES` is false. Then nothing changes.
+    pub fn try_arrive(&self) -> Result<i64, Refused> {
         let mut inner = lock(&self.inner);
         if !inner.state.can_arrive() {
-            return Err(Failed::Refused);
+            return Err(Refused);
         }
-        let Ok(answer) = inner.state.run_arrive() else {
-            self.can_arrive.notify_one();
-            return Err(Failed::Overflow);
-        };
+        let answer = inner.state.run_arrive();
         let copy = *inner;
         drop(inner);
         if copy.asleep_leave > 0 && copy.state.can_leave() {
@@ -115,21 +103,14 @@ impl Barrier {
     }
 
     /// Waits until `open && waiting > 0`.
-    ///
-    /// # Errors
-    ///
-    /// [`Overflow`] where a number would leave 64 bits. Then nothing changes.
-    pub fn leave(&self) -> Result<i64, Overflow> {
+    pub fn leave(&self) -> i64 {
         let mut inner = lock(&self.inner);
         while !inner.state.can_leave() {
             inner.asleep_leave += 1;
             inner = wait(&self.can_leave, inner);
             inner.asleep_leave -= 1;
         }
-        let Ok(answer) = inner.state.run_leave() else {
-            self.can_leave.notify_one();
-            return Err(Overflow);
-        };
+        let answer = inner.state.run_leave();
         let copy = *inner;
         drop(inner);
         if copy.asleep_arrive > 0 && copy.state.can_arrive() {
@@ -138,25 +119,20 @@ impl Barrier {
         if copy.asleep_watch > 0 && copy.state.can_watch() {
             self.can_watch.notify_all();
         }
-        Ok(answer)
+        answer
     }
 
     /// As [`leave`](Self::leave), but does not wait until `open && waiting > 0`.
     ///
     /// # Errors
     ///
-    /// [`Failed::Refused`] where `open && waiting > 0` is false. Then nothing changes.
-    ///
-    /// [`Failed::Overflow`] where a number would leave 64 bits. Then nothing changes.
-    pub fn try_leave(&self) -> Result<i64, Failed> {
+    /// [`Refused`] where `open && waiting > 0` is false. Then nothing changes.
+    pub fn try_leave(&self) -> Result<i64, Refused> {
         let mut inner = lock(&self.inner);
         if !inner.state.can_leave() {
-            return Err(Failed::Refused);
+            return Err(Refused);
         }
-        let Ok(answer) = inner.state.run_leave() else {
-            self.can_leave.notify_one();
-            return Err(Failed::Overflow);
-        };
+        let answer = inner.state.run_leave();
         let copy = *inner;
         drop(inner);
         if copy.asleep_arrive > 0 && copy.state.can_arrive() {
@@ -291,22 +267,22 @@ impl State {
         !self.open && self.waiting < Barrier::PARTIES
     }
 
-    fn run_arrive(&mut self) -> Result<i64, Overflow> {
-        self.waiting = narrow(i128::from(self.waiting) + 1)?;
+    fn run_arrive(&mut self) -> i64 {
+        self.waiting = self.waiting + 1;
         if self.waiting == Barrier::PARTIES {
             self.open = true;
         }
-        Ok(self.waiting)
+        self.waiting
     }
 
     fn can_leave(&self) -> bool {
         self.open && self.waiting > 0
     }
 
-    fn run_leave(&mut self) -> Result<i64, Overflow> {
-        self.waiting = narrow(i128::from(self.waiting) - 1)?;
+    fn run_leave(&mut self) -> i64 {
+        self.waiting = self.waiting - 1;
         self.open = self.waiting > 0;
-        Ok(self.waiting)
+        self.waiting
     }
 
     fn can_dismiss(&self) -> bool {
@@ -337,23 +313,6 @@ fn wait<'a>(condition: &Condvar, inner: MutexGuard<'a, Inner>) -> MutexGuard<'a,
         .unwrap_or_else(PoisonError::into_inner)
 }
 
-/// A number would have left 64 bits.
-#[derive(Clone, Copy, Debug, PartialEq, Eq)]
-pub struct Overflow;
-
-impl std::fmt::Display for Overflow {
-    fn fmt(&self, f: &mut std::fmt::Formatter<'_>) -> std::fmt::Result {
-        f.write_str("a number would leave 64 bits")
-    }
-}
-
-impl std::error::Error for Overflow {}
-
-/// The number, where it has 64 bits.
-fn narrow(number: i128) -> Result<i64, Overflow> {
-    i64::try_from(number).map_err(|_| Overflow)
-}
-
 /// The guard was false, and the call did not wait. Nothing changed.
 #[derive(Clone, Copy, Debug, PartialEq, Eq)]
 pub struct Refused;
@@ -365,29 +324,3 @@ impl std::fmt::Display for Refused {
 }
 
 impl std::error::Error for Refused {}
-
-/// Why a call that tries has no answer.
-#[derive(Clone, Copy, Debug, PartialEq, Eq)]
-pub enum Failed {
-    /// The guard was false, and the call did not wait. Nothing changed.
-    Refused,
-    /// A number would have left 64 bits.
-    Overflow,
-}
-
-impl From<Overflow> for Failed {
-    fn from(_: Overflow) -> Self {
-        Self::Overflow
-    }
-}
-
-impl std::fmt::Display for Failed {
-    fn fmt(&self, f: &mut std::fmt::Formatter<'_>) -> std::fmt::Result {
-        f.write_str(match self {
-            Self::Refused => "the guard is false",
-            Self::Overflow => "a number would leave 64 bits",
-        })
-    }
-}
-
-impl std::error::Error for Failed {}

@@ -71,45 +71,32 @@ impl ReadersWriters {
     }
 
     /// Waits until `!writing && queued == 0 && readers < MOST`.
-    ///
-    /// # Errors
-    ///
-    /// [`Overflow`] where a number would leave 64 bits. Then nothing changes.
-    pub fn start_read(&self) -> Result<(), Overflow> {
+    pub fn start_read(&self) {
         let mut inner = lock(&self.inner);
         while !inner.state.can_start_read() {
             inner.asleep_start_read += 1;
             inner = wait(&self.can_start_read, inner);
             inner.asleep_start_read -= 1;
         }
-        let Ok(()) = inner.state.run_start_read() else {
-            self.can_start_read.notify_one();
-            return Err(Overflow);
-        };
+        inner.state.run_start_read();
         let copy = *inner;
         drop(inner);
         if copy.asleep_end_read > 0 {
             self.can_end_read.notify_one();
         }
-        Ok(())
     }
 
     /// As [`start_read`](Self::start_read), but does not wait until `!writing && queued == 0 && readers < MOST`.
     ///
     /// # Errors
     ///
-    /// [`Failed::Refused`] where `!writing && queued == 0 && readers < MOST` is false. Then nothing changes.
-    ///
-    /// [`Failed::Overflow`] where a number would leave 64 bits. Then nothing changes.
-    pub fn try_start_read(&self) -> Result<(), Failed> {
+    /// [`Refused`] where `!writing && queued == 0 && readers < MOST` is false. Then nothing changes.
+    pub fn try_start_read(&self) -> Result<(), Refused> {
         let mut inner = lock(&self.inner);
         if !inner.state.can_start_read() {
-            return Err(Failed::Refused);
+            return Err(Refused);
         }
-        let Ok(()) = inner.state.run_start_read() else {
-            self.can_start_read.notify_one();
-            return Err(Failed::Overflow);
-        };
+        inner.state.run_start_read();
         let copy = *inner;
         drop(inner);
         if copy.asleep_end_read > 0 {
@@ -119,21 +106,14 @@ impl ReadersWriters {
     }
 
     /// Waits until `readers > 0`.
-    ///
-    /// # Errors
-    ///
-    /// [`Overflow`] where a number would leave 64 bits. Then nothing changes.
-    pub fn end_read(&self) -> Result<(), Overflow> {
+    pub fn end_read(&self) {
         let mut inner = lock(&self.inner);
         while !inner.state.can_end_read() {
             inner.asleep_end_read += 1;
             inner = wait(&self.can_end_read, inner);
             inner.asleep_end_read -= 1;
         }
-        let Ok(()) = inner.state.run_end_read() else {
-            self.can_end_read.notify_one();
-            return Err(Overflow);
-        };
+        inner.state.run_end_read();
         let copy = *inner;
         drop(inner);
         if copy.asleep_start_read > 0 && copy.state.can_start_read() {
@@ -142,25 +122,19 @@ impl ReadersWriters {
         if copy.asleep_start_write > 0 && copy.state.can_start_write() {
             self.can_start_write.notify_one();
         }
-        Ok(())
     }
 
     /// As [`end_read`](Self::end_read), but does not wait until `readers > 0`.
     ///
     /// # Errors
     ///
-    /// [`Failed::Refused`] where `readers > 0` is false. Then nothing changes.
-    ///
-    /// [`Failed::Overflow`] where a number would leave 64 bits. Then nothing changes.
-    pub fn try_end_read(&self) -> Result<(), Failed> {
+    /// [`Refused`] where `readers > 0` is false. Then nothing changes.
+    pub fn try_end_read(&self) -> Result<(), Refused> {
         let mut inner = lock(&self.inner);
         if !inner.state.can_end_read() {
-            return Err(Failed::Refused);
+            return Err(Refused);
         }
-        let Ok(()) = inner.state.run_end_read() else {
-            self.can_end_read.notify_one();
-            return Err(Failed::Overflow);
-        };
+        inner.state.run_end_read();
         let copy = *inner;
         drop(inner);
         if copy.asleep_start_read > 0 && copy.state.can_start_read() {
@@ -192,45 +166,32 @@ impl ReadersWriters {
     }
 
     /// Waits until `readers == 0 && !writing && queued > 0`.
-    ///
-    /// # Errors
-    ///
-    /// [`Overflow`] where a number would leave 64 bits. Then nothing changes.
-    pub fn start_write(&self) -> Result<(), Overflow> {
+    pub fn start_write(&self) {
         let mut inner = lock(&self.inner);
         while !inner.state.can_start_write() {
             inner.asleep_start_write += 1;
             inner = wait(&self.can_start_write, inner);
             inner.asleep_start_write -= 1;
         }
-        let Ok(()) = inner.state.run_start_write() else {
-            self.can_start_write.notify_one();
-            return Err(Overflow);
-        };
+        inner.state.run_start_write();
         let copy = *inner;
         drop(inner);
         if copy.asleep_end_write > 0 {
             self.can_end_write.notify_one();
         }
-        Ok(())
     }
 
     /// As [`start_write`](Self::start_write), but does not wait until `readers == 0 && !writing && queued > 0`.
     ///
     /// # Errors
     ///
-    /// [`Failed::Refused`] where `readers == 0 && !writing && queued > 0` is false. Then nothing changes.
-    ///
-    /// [`Failed::Overflow`] where a number would leave 64 bits. Then nothing changes.
-    pub fn try_start_write(&self) -> Result<(), Failed> {
+    /// [`Refused`] where `readers == 0 && !writing && queued > 0` is false. Then nothing changes.
+    pub fn try_start_write(&self) -> Result<(), Refused> {
         let mut inner = lock(&self.inner);
         if !inner.state.can_start_write() {
-            return Err(Failed::Refused);
+            return Err(Refused);
         }
-        let Ok(()) = inner.state.run_start_write() else {
-            self.can_start_write.notify_one();
-            return Err(Failed::Overflow);
-        };
+        inner.state.run_start_write();
         let copy = *inner;
         drop(inner);
         if copy.asleep_end_write > 0 {
@@ -281,45 +242,32 @@ impl ReadersWriters {
     }
 
     /// Waits until `queued != 0`.
-    ///
-    /// # Errors
-    ///
-    /// [`Overflow`] where a number would leave 64 bits. Then nothing changes.
-    pub fn cancel(&self) -> Result<(), Overflow> {
+    pub fn cancel(&self) {
         let mut inner = lock(&self.inner);
         while !inner.state.can_cancel() {
             inner.asleep_cancel += 1;
             inner = wait(&self.can_cancel, inner);
             inner.asleep_cancel -= 1;
         }
-        let Ok(()) = inner.state.run_cancel() else {
-            self.can_cancel.notify_one();
-            return Err(Overflow);
-        };
+        inner.state.run_cancel();
         let copy = *inner;
         drop(inner);
         if copy.asleep_start_read > 0 && copy.state.can_start_read() {
             self.can_start_read.notify_all();
         }
-        Ok(())
     }
 
     /// As [`cancel`](Self::cancel), but does not wait until `queued != 0`.
     ///
     /// # Errors
     ///
-    /// [`Failed::Refused`] where `queued != 0` is false. Then nothing changes.
-    ///
-    /// [`Failed::Overflow`] where a number would leave 64 bits. Then nothing changes.
-    pub fn try_cancel(&self) -> Result<(), Failed> {
+    /// [`Refused`] where `queued != 0` is false. Then nothing changes.
+    pub fn try_cancel(&self) -> Result<(), Refused> {
         let mut inner = lock(&self.inner);
         if !inner.state.can_cancel() {
-            return Err(Failed::Refused);
+            return Err(Refused);
         }
-        let Ok(()) = inner.state.run_cancel() else {
-            self.can_cancel.notify_one();
-            return Err(Failed::Overflow);
-        };
+        inner.state.run_cancel();
         let copy = *inner;
         drop(inner);
         if copy.asleep_start_read > 0 && copy.state.can_start_read() {
@@ -386,18 +334,16 @@ impl State {
         !self.writing && self.queued == 0 && self.readers < ReadersWriters::MOST
     }
 
-    fn run_start_read(&mut self) -> Result<(), Overflow> {
-        self.readers = narrow(i128::from(self.readers) + 1)?;
-        Ok(())
+    fn run_start_read(&mut self) {
+        self.readers = self.readers + 1;
     }
 
     fn can_end_read(&self) -> bool {
         self.readers > 0
     }
 
-    fn run_end_read(&mut self) -> Result<(), Overflow> {
-        self.readers = narrow(i128::from(self.readers) - 1)?;
-        Ok(())
+    fn run_end_read(&mut self) {
+        self.readers = self.readers - 1;
     }
 
     fn run_ask(&mut self) -> Result<(), Overflow> {
@@ -409,12 +355,9 @@ impl State {
         self.readers == 0 && !self.writing && self.queued > 0
     }
 
-    fn run_start_write(&mut self) -> Result<(), Overflow> {
-        let mut next = *self;
-        next.writing = true;
-        next.queued = narrow(i128::from(next.queued) - 1)?;
-        *self = next;
-        Ok(())
+    fn run_start_write(&mut self) {
+        self.writing = true;
+        self.queued = self.queued - 1;
     }
 
     fn can_end_write(&self) -> bool {
@@ -429,9 +372,8 @@ impl State {
         self.queued != 0
     }
 
-    fn run_cancel(&mut self) -> Result<(), Overflow> {
-        self.queued = narrow(i128::from(self.queued) - 1)?;
-        Ok(())
+    fn run_cancel(&mut self) {
+        self.queued = self.queued - 1;
     }
 }
 
@@ -475,29 +417,3 @@ impl std::fmt::Display for Refused {
 }
 
 impl std::error::Error for Refused {}
-
-/// Why a call that tries has no answer.
-#[derive(Clone, Copy, Debug, PartialEq, Eq)]
-pub enum Failed {
-    /// The guard was false, and the call did not wait. Nothing changed.
-    Refused,
-    /// A number would have left 64 bits.
-    Overflow,
-}
-
-impl From<Overflow> for Failed {
-    fn from(_: Overflow) -> Self {
-        Self::Overflow
-    }
-}
-
-impl std::fmt::Display for Failed {
-    fn fmt(&self, f: &mut std::fmt::Formatter<'_>) -> std::fmt::Result {
-        f.write_str(match self {
-            Self::Refused => "the guard is false",
-            Self::Overflow => "a number would leave 64 bits",
-        })
-    }
-}
-
-impl std::error::Error for Failed {}

@@ -89,45 +89,32 @@ impl Semaphore {
     }
 
     /// Waits until `free >= 1`.
-    ///
-    /// # Errors
-    ///
-    /// [`Overflow`] where a number would leave 64 bits. Then nothing changes.
-    pub fn take(&self) -> Result<(), Overflow> {
+    pub fn take(&self) {
         let mut inner = lock(&self.inner);
         while !inner.state.can_take_all() {
             inner.asleep_take_all += 1;
             inner = wait(&self.can_take_all, inner);
             inner.asleep_take_all -= 1;
         }
-        let Ok(()) = inner.state.run_take() else {
-            self.can_take_all.notify_one();
-            return Err(Overflow);
-        };
+        inner.state.run_take();
         let copy = *inner;
         drop(inner);
         if copy.asleep_give > 0 {
             self.can_give.notify_one();
         }
-        Ok(())
     }
 
     /// As [`take`](Self::take), but does not wait until `free >= 1`.
     ///
     /// # Errors
     ///
-    /// [`Failed::Refused`] where `free >= 1` is false. Then nothing changes.
-    ///
-    /// [`Failed::Overflow`] where a number would leave 64 bits. Then nothing changes.
-    pub fn try_take(&self) -> Result<(), Failed> {
+    /// [`Refused`] where `free >= 1` is false. Then nothing changes.
+    pub fn try_take(&self) -> Result<(), Refused> {
         let mut inner = lock(&self.inner);
         if !inner.state.can_take_all() {
-            return Err(Failed::Refused);
+            return Err(Refused);
         }
-        let Ok(()) = inner.state.run_take() else {
-            self.can_take_all.notify_one();
-            return Err(Failed::Overflow);
-        };
+        inner.state.run_take();
         let copy = *inner;
         drop(inner);
         if copy.asleep_give > 0 {
@@ -137,45 +124,32 @@ impl Semaphore {
     }
 
     /// Waits until `free >= 2`.
-    ///
-    /// # Errors
-    ///
-    /// [`Overflow`] where a number would leave 64 bits. Then nothing changes.
-    pub fn take_two(&self) -> Result<(), Overflow> {
+    pub fn take_two(&self) {
         let mut inner = lock(&self.inner);
         while !inner.state.can_take_two() {
             inner.asleep_take_two += 1;
             inner = wait(&self.can_take_two, inner);
             inner.asleep_take_two -= 1;
         }
-        let Ok(()) = inner.state.run_take_two() else {
-            self.can_take_two.notify_one();
-            return Err(Overflow);
-        };
+        inner.state.run_take_two();
         let copy = *inner;
         drop(inner);
         if copy.asleep_give > 0 {
             self.can_give.notify_all();
         }
-        Ok(())
     }
 
     /// As [`take_two`](Self::take_two), but does not wait until `free >= 2`.
     ///
     /// # Errors
     ///
-    /// [`Failed::Refused`] where `free >= 2` is false. Then nothing changes.
-    ///
-    /// [`Failed::Overflow`] where a number would leave 64 bits. Then nothing changes.
-    pub fn try_take_two(&self) -> Result<(), Failed> {
+    /// [`Refused`] where `free >= 2` is false. Then nothing changes.
+    pub fn try_take_two(&self) -> Result<(), Refused> {
         let mut inner = lock(&self.inner);
         if !inner.state.can_take_two() {
-            return Err(Failed::Refused);
+            return Err(Refused);
         }
-        let Ok(()) = inner.state.run_take_two() else {
-            self.can_take_two.notify_one();
-            return Err(Failed::Overflow);
-        };
+        inner.state.run_take_two();
         let copy = *inner;
         drop(inner);
         if copy.asleep_give > 0 {
@@ -185,21 +159,14 @@ impl Semaphore {
     }
 
     /// Waits until `free < LIMIT`.
-    ///
-    /// # Errors
-    ///
-    /// [`Overflow`] where a number would leave 64 bits. Then nothing changes.
-    pub fn give(&self) -> Result<(), Overflow> {
+    pub fn give(&self) {
         let mut inner = lock(&self.inner);
         while !inner.state.can_give() {
             inner.asleep_give += 1;
             inner = wait(&self.can_give, inner);
             inner.asleep_give -= 1;
         }
-        let Ok(()) = inner.state.run_give() else {
-            self.can_give.notify_one();
-            return Err(Overflow);
-        };
+        inner.state.run_give();
         let copy = *inner;
         drop(inner);
         if copy.asleep_take_all > 0 {
@@ -208,25 +175,19 @@ impl Semaphore {
         if copy.asleep_take_two > 0 && copy.state.can_take_two() {
             self.can_take_two.notify_one();
         }
-        Ok(())
     }
 
     /// As [`give`](Self::give), but does not wait until `free < LIMIT`.
     ///
     /// # Errors
     ///
-    /// [`Failed::Refused`] where `free < LIMIT` is false. Then nothing changes.
-    ///
-    /// [`Failed::Overflow`] where a number would leave 64 bits. Then nothing changes.
-    pub fn try_give(&self) -> Result<(), Failed> {
+    /// [`Refused`] where `free < LIMIT` is false. Then nothing changes.
+    pub fn try_give(&self) -> Result<(), Refused> {
         let mut inner = lock(&self.inner);
         if !inner.state.can_give() {
-            return Err(Failed::Refused);
+            return Err(Refused);
         }
-        let Ok(()) = inner.state.run_give() else {
-            self.can_give.notify_one();
-            return Err(Failed::Overflow);
-        };
+        inner.state.run_give();
         let copy = *inner;
         drop(inner);
         if copy.asleep_take_all > 0 {
@@ -294,27 +255,24 @@ impl State {
         self.free = 0;
     }
 
-    fn run_take(&mut self) -> Result<(), Overflow> {
-        self.free = narrow(i128::from(self.free) - 1)?;
-        Ok(())
+    fn run_take(&mut self) {
+        self.free = self.free - 1;
     }
 
     fn can_take_two(&self) -> bool {
         self.free >= 2
     }
 
-    fn run_take_two(&mut self) -> Result<(), Overflow> {
-        self.free = narrow(i128::from(self.free) - 2)?;
-        Ok(())
+    fn run_take_two(&mut self) {
+        self.free = self.free - 2;
     }
 
     fn can_give(&self) -> bool {
         self.free < Semaphore::LIMIT
     }
 
-    fn run_give(&mut self) -> Result<(), Overflow> {
-        self.free = narrow(i128::from(self.free) + 1)?;
-        Ok(())
+    fn run_give(&mut self) {
+        self.free = self.free + 1;
     }
 }
 
@@ -330,23 +288,6 @@ fn wait<'a>(condition: &Condvar, inner: MutexGuard<'a, Inner>) -> MutexGuard<'a,
         .unwrap_or_else(PoisonError::into_inner)
 }
 
-/// A number would have left 64 bits.
-#[derive(Clone, Copy, Debug, PartialEq, Eq)]
-pub struct Overflow;
-
-impl std::fmt::Display for Overflow {
-    fn fmt(&self, f: &mut std::fmt::Formatter<'_>) -> std::fmt::Result {
-        f.write_str("a number would leave 64 bits")
-    }
-}
-
-impl std::error::Error for Overflow {}
-
-/// The number, where it has 64 bits.
-fn narrow(number: i128) -> Result<i64, Overflow> {
-    i64::try_from(number).map_err(|_| Overflow)
-}
-
 /// The guard was false, and the call did not wait. Nothing changed.
 #[derive(Clone, Copy, Debug, PartialEq, Eq)]
 pub struct Refused;
@@ -358,29 +299,3 @@ impl std::fmt::Display for Refused {
 }
 
 impl std::error::Error for Refused {}
-
-/// Why a call that tries has no answer.
-#[derive(Clone, Copy, Debug, PartialEq, Eq)]
-pub enum Failed {
-    /// The guard was false, and the call did not wait. Nothing changed.
-    Refused,
-    /// A number would have left 64 bits.
-    Overflow,
-}
-
-impl From<Overflow> for Failed {
-    fn from(_: Overflow) -> Self {
-        Self::Overflow
-    }
-}
-
-impl std::fmt::Display for Failed {
-    fn fmt(&self, f: &mut std::fmt::Formatter<'_>) -> std::fmt::Result {
-        f.write_str(match self {
-            Self::Refused => "the guard is false",
-            Self::Overflow => "a number would leave 64 bits",
-        })
-    }
-}
-
-impl std::error::Error for Failed {}

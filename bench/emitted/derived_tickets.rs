@@ -77,45 +77,32 @@ impl Tickets {
     }
 
     /// Waits until `ticket == serving && serving < next && !busy`.
-    ///
-    /// # Errors
-    ///
-    /// [`Overflow`] where a number would leave 64 bits. Then nothing changes.
-    pub fn enter(&self, ticket: i64) -> Result<(), Overflow> {
+    pub fn enter(&self, ticket: i64) {
         let mut inner = lock(&self.inner);
         while !inner.state.can_enter(ticket) {
             inner.asleep_enter += 1;
             inner = wait(&self.can_enter, inner);
             inner.asleep_enter -= 1;
         }
-        let Ok(()) = inner.state.run_enter(ticket) else {
-            self.can_enter.notify_one();
-            return Err(Overflow);
-        };
+        inner.state.run_enter(ticket);
         let copy = *inner;
         drop(inner);
         if copy.asleep_leave > 0 {
             self.can_leave.notify_one();
         }
-        Ok(())
     }
 
     /// As [`enter`](Self::enter), but does not wait until `ticket == serving && serving < next && !busy`.
     ///
     /// # Errors
     ///
-    /// [`Failed::Refused`] where `ticket == serving && serving < next && !busy` is false. Then nothing changes.
-    ///
-    /// [`Failed::Overflow`] where a number would leave 64 bits. Then nothing changes.
-    pub fn try_enter(&self, ticket: i64) -> Result<(), Failed> {
+    /// [`Refused`] where `ticket == serving && serving < next && !busy` is false. Then nothing changes.
+    pub fn try_enter(&self, ticket: i64) -> Result<(), Refused> {
         let mut inner = lock(&self.inner);
         if !inner.state.can_enter(ticket) {
-            return Err(Failed::Refused);
+            return Err(Refused);
         }
-        let Ok(()) = inner.state.run_enter(ticket) else {
-            self.can_enter.notify_one();
-            return Err(Failed::Overflow);
-        };
+        inner.state.run_enter(ticket);
         let copy = *inner;
         drop(inner);
         if copy.asleep_leave > 0 {
@@ -125,21 +112,14 @@ impl Tickets {
     }
 
     /// Waits until `turn == serving && serving < next && !busy`.
-    ///
-    /// # Errors
-    ///
-    /// [`Overflow`] where a number would leave 64 bits. Then nothing changes.
-    pub fn give_up(&self, turn: i64) -> Result<(), Overflow> {
+    pub fn give_up(&self, turn: i64) {
         let mut inner = lock(&self.inner);
         while !inner.state.can_give_up(turn) {
             inner.asleep_enter += 1;
             inner = wait(&self.can_enter, inner);
             inner.asleep_enter -= 1;
         }
-        let Ok(()) = inner.state.run_give_up(turn) else {
-            self.can_enter.notify_one();
-            return Err(Overflow);
-        };
+        inner.state.run_give_up(turn);
         let copy = *inner;
         drop(inner);
         if copy.asleep_enter > 0 {
@@ -148,25 +128,19 @@ impl Tickets {
         if copy.asleep_rest > 0 && copy.state.can_rest() {
             self.can_rest.notify_all();
         }
-        Ok(())
     }
 
     /// As [`give_up`](Self::give_up), but does not wait until `turn == serving && serving < next && !busy`.
     ///
     /// # Errors
     ///
-    /// [`Failed::Refused`] where `turn == serving && serving < next && !busy` is false. Then nothing changes.
-    ///
-    /// [`Failed::Overflow`] where a number would leave 64 bits. Then nothing changes.
-    pub fn try_give_up(&self, turn: i64) -> Result<(), Failed> {
+    /// [`Refused`] where `turn == serving && serving < next && !busy` is false. Then nothing changes.
+    pub fn try_give_up(&self, turn: i64) -> Result<(), Refused> {
         let mut inner = lock(&self.inner);
         if !inner.state.can_give_up(turn) {
-            return Err(Failed::Refused);
+            return Err(Refused);
         }
-        let Ok(()) = inner.state.run_give_up(turn) else {
-            self.can_enter.notify_one();
-            return Err(Failed::Overflow);
-        };
+        inner.state.run_give_up(turn);
         let copy = *inner;
         drop(inner);
         if copy.asleep_enter > 0 {
@@ -340,19 +314,17 @@ impl State {
         ticket == self.serving && self.serving < self.next && !self.busy
     }
 
-    fn run_enter(&mut self, ticket: i64) -> Result<(), Overflow> {
-        self.serving = narrow(i128::from(self.serving) + 1)?;
+    fn run_enter(&mut self, ticket: i64) {
+        self.serving = self.serving + 1;
         self.busy = true;
-        Ok(())
     }
 
     fn can_give_up(&self, turn: i64) -> bool {
         turn == self.serving && self.serving < self.next && !self.busy
     }
 
-    fn run_give_up(&mut self, turn: i64) -> Result<(), Overflow> {
-        self.serving = narrow(i128::from(self.serving) + 1)?;
-        Ok(())
+    fn run_give_up(&mut self, turn: i64) {
+        self.serving = self.serving + 1;
     }
 
     fn can_leave(&self) -> bool {
@@ -418,29 +390,3 @@ impl std::fmt::Display for Refused {
 }
 
 impl std::error::Error for Refused {}
-
-/// Why a call that tries has no answer.
-#[derive(Clone, Copy, Debug, PartialEq, Eq)]
-pub enum Failed {
-    /// The guard was false, and the call did not wait. Nothing changed.
-    Refused,
-    /// A number would have left 64 bits.
-    Overflow,
-}
-
-impl From<Overflow> for Failed {
-    fn from(_: Overflow) -> Self {
-        Self::Overflow
-    }
-}
-
-impl std::fmt::Display for Failed {
-    fn fmt(&self, f: &mut std::fmt::Formatter<'_>) -> std::fmt::Result {
-        f.write_str(match self {
-            Self::Refused => "the guard is false",
-            Self::Overflow => "a number would leave 64 bits",
-        })
-    }
-}
-
-impl std::error::Error for Failed {}

@@ -65,21 +65,14 @@ impl TwoKinds {
     }
 
     /// Waits until `total < ROOM`.
-    ///
-    /// # Errors
-    ///
-    /// [`Overflow`] where a number would leave 64 bits. Then nothing changes.
-    pub fn put_red(&self) -> Result<(), Overflow> {
+    pub fn put_red(&self) {
         let mut inner = lock(&self.inner);
         while !inner.state.can_put_red() {
             inner.asleep_put_red += 1;
             inner = wait(&self.can_put_red, inner);
             inner.asleep_put_red -= 1;
         }
-        let Ok(()) = inner.state.run_put_red() else {
-            self.can_put_red.notify_one();
-            return Err(Overflow);
-        };
+        inner.state.run_put_red();
         let copy = *inner;
         drop(inner);
         if copy.asleep_get_red > 0 {
@@ -88,25 +81,19 @@ impl TwoKinds {
         if copy.asleep_drain > 0 && copy.state.can_drain() {
             self.can_drain.notify_one();
         }
-        Ok(())
     }
 
     /// As [`put_red`](Self::put_red), but does not wait until `total < ROOM`.
     ///
     /// # Errors
     ///
-    /// [`Failed::Refused`] where `total < ROOM` is false. Then nothing changes.
-    ///
-    /// [`Failed::Overflow`] where a number would leave 64 bits. Then nothing changes.
-    pub fn try_put_red(&self) -> Result<(), Failed> {
+    /// [`Refused`] where `total < ROOM` is false. Then nothing changes.
+    pub fn try_put_red(&self) -> Result<(), Refused> {
         let mut inner = lock(&self.inner);
         if !inner.state.can_put_red() {
-            return Err(Failed::Refused);
+            return Err(Refused);
         }
-        let Ok(()) = inner.state.run_put_red() else {
-            self.can_put_red.notify_one();
-            return Err(Failed::Overflow);
-        };
+        inner.state.run_put_red();
         let copy = *inner;
         drop(inner);
         if copy.asleep_get_red > 0 {
@@ -119,21 +106,14 @@ impl TwoKinds {
     }
 
     /// Waits until `total < ROOM`.
-    ///
-    /// # Errors
-    ///
-    /// [`Overflow`] where a number would leave 64 bits. Then nothing changes.
-    pub fn put_blue(&self) -> Result<(), Overflow> {
+    pub fn put_blue(&self) {
         let mut inner = lock(&self.inner);
         while !inner.state.can_put_red() {
             inner.asleep_put_red += 1;
             inner = wait(&self.can_put_red, inner);
             inner.asleep_put_red -= 1;
         }
-        let Ok(()) = inner.state.run_put_blue() else {
-            self.can_put_red.notify_one();
-            return Err(Overflow);
-        };
+        inner.state.run_put_blue();
         let copy = *inner;
         drop(inner);
         if copy.asleep_get_blue > 0 {
@@ -142,25 +122,19 @@ impl TwoKinds {
         if copy.asleep_drain > 0 && copy.state.can_drain() {
             self.can_drain.notify_one();
         }
-        Ok(())
     }
 
     /// As [`put_blue`](Self::put_blue), but does not wait until `total < ROOM`.
     ///
     /// # Errors
     ///
-    /// [`Failed::Refused`] where `total < ROOM` is false. Then nothing changes.
-    ///
-    /// [`Failed::Overflow`] where a number would leave 64 bits. Then nothing changes.
-    pub fn try_put_blue(&self) -> Result<(), Failed> {
+    /// [`Refused`] where `total < ROOM` is false. Then nothing changes.
+    pub fn try_put_blue(&self) -> Result<(), Refused> {
         let mut inner = lock(&self.inner);
         if !inner.state.can_put_red() {
-            return Err(Failed::Refused);
+            return Err(Refused);
         }
-        let Ok(()) = inner.state.run_put_blue() else {
-            self.can_put_red.notify_one();
-            return Err(Failed::Overflow);
-        };
+        inner.state.run_put_blue();
         let copy = *inner;
         drop(inner);
         if copy.asleep_get_blue > 0 {
@@ -173,21 +147,14 @@ impl TwoKinds {
     }
 
     /// Waits until `total < ROOM`.
-    ///
-    /// # Errors
-    ///
-    /// [`Overflow`] where a number would leave 64 bits. Then nothing changes.
-    pub fn put(&self, is_red: bool) -> Result<(), Overflow> {
+    pub fn put(&self, is_red: bool) {
         let mut inner = lock(&self.inner);
         while !inner.state.can_put_red() {
             inner.asleep_put_red += 1;
             inner = wait(&self.can_put_red, inner);
             inner.asleep_put_red -= 1;
         }
-        let Ok(()) = inner.state.run_put(is_red) else {
-            self.can_put_red.notify_one();
-            return Err(Overflow);
-        };
+        inner.state.run_put(is_red);
         let copy = *inner;
         drop(inner);
         if copy.asleep_get_red > 0 && copy.state.can_get_red() {
@@ -199,25 +166,19 @@ impl TwoKinds {
         if copy.asleep_drain > 0 && copy.state.can_drain() {
             self.can_drain.notify_one();
         }
-        Ok(())
     }
 
     /// As [`put`](Self::put), but does not wait until `total < ROOM`.
     ///
     /// # Errors
     ///
-    /// [`Failed::Refused`] where `total < ROOM` is false. Then nothing changes.
-    ///
-    /// [`Failed::Overflow`] where a number would leave 64 bits. Then nothing changes.
-    pub fn try_put(&self, is_red: bool) -> Result<(), Failed> {
+    /// [`Refused`] where `total < ROOM` is false. Then nothing changes.
+    pub fn try_put(&self, is_red: bool) -> Result<(), Refused> {
         let mut inner = lock(&self.inner);
         if !inner.state.can_put_red() {
-            return Err(Failed::Refused);
+            return Err(Refused);
         }
-        let Ok(()) = inner.state.run_put(is_red) else {
-            self.can_put_red.notify_one();
-            return Err(Failed::Overflow);
-        };
+        inner.state.run_put(is_red);
         let copy = *inner;
         drop(inner);
         if copy.asleep_get_red > 0 && copy.state.can_get_red() {
@@ -233,45 +194,32 @@ impl TwoKinds {
     }
 
     /// Waits until `red > 0`.
-    ///
-    /// # Errors
-    ///
-    /// [`Overflow`] where a number would leave 64 bits. Then nothing changes.
-    pub fn get_red(&self) -> Result<(), Overflow> {
+    pub fn get_red(&self) {
         let mut inner = lock(&self.inner);
         while !inner.state.can_get_red() {
             inner.asleep_get_red += 1;
             inner = wait(&self.can_get_red, inner);
             inner.asleep_get_red -= 1;
         }
-        let Ok(()) = inner.state.run_get_red() else {
-            self.can_get_red.notify_one();
-            return Err(Overflow);
-        };
+        inner.state.run_get_red();
         let copy = *inner;
         drop(inner);
         if copy.asleep_put_red > 0 {
             self.can_put_red.notify_one();
         }
-        Ok(())
     }
 
     /// As [`get_red`](Self::get_red), but does not wait until `red > 0`.
     ///
     /// # Errors
     ///
-    /// [`Failed::Refused`] where `red > 0` is false. Then nothing changes.
-    ///
-    /// [`Failed::Overflow`] where a number would leave 64 bits. Then nothing changes.
-    pub fn try_get_red(&self) -> Result<(), Failed> {
+    /// [`Refused`] where `red > 0` is false. Then nothing changes.
+    pub fn try_get_red(&self) -> Result<(), Refused> {
         let mut inner = lock(&self.inner);
         if !inner.state.can_get_red() {
-            return Err(Failed::Refused);
+            return Err(Refused);
         }
-        let Ok(()) = inner.state.run_get_red() else {
-            self.can_get_red.notify_one();
-            return Err(Failed::Overflow);
-        };
+        inner.state.run_get_red();
         let copy = *inner;
         drop(inner);
         if copy.asleep_put_red > 0 {
@@ -281,45 +229,32 @@ impl TwoKinds {
     }
 
     /// Waits until `red < total`.
-    ///
-    /// # Errors
-    ///
-    /// [`Overflow`] where a number would leave 64 bits. Then nothing changes.
-    pub fn get_blue(&self) -> Result<(), Overflow> {
+    pub fn get_blue(&self) {
         let mut inner = lock(&self.inner);
         while !inner.state.can_get_blue() {
             inner.asleep_get_blue += 1;
             inner = wait(&self.can_get_blue, inner);
             inner.asleep_get_blue -= 1;
         }
-        let Ok(()) = inner.state.run_get_blue() else {
-            self.can_get_blue.notify_one();
-            return Err(Overflow);
-        };
+        inner.state.run_get_blue();
         let copy = *inner;
         drop(inner);
         if copy.asleep_put_red > 0 {
             self.can_put_red.notify_one();
         }
-        Ok(())
     }
 
     /// As [`get_blue`](Self::get_blue), but does not wait until `red < total`.
     ///
     /// # Errors
     ///
-    /// [`Failed::Refused`] where `red < total` is false. Then nothing changes.
-    ///
-    /// [`Failed::Overflow`] where a number would leave 64 bits. Then nothing changes.
-    pub fn try_get_blue(&self) -> Result<(), Failed> {
+    /// [`Refused`] where `red < total` is false. Then nothing changes.
+    pub fn try_get_blue(&self) -> Result<(), Refused> {
         let mut inner = lock(&self.inner);
         if !inner.state.can_get_blue() {
-            return Err(Failed::Refused);
+            return Err(Refused);
         }
-        let Ok(()) = inner.state.run_get_blue() else {
-            self.can_get_blue.notify_one();
-            return Err(Failed::Overflow);
-        };
+        inner.state.run_get_blue();
         let copy = *inner;
         drop(inner);
         if copy.asleep_put_red > 0 {
@@ -418,48 +353,37 @@ impl State {
         self.total < TwoKinds::ROOM
     }
 
-    fn run_put_red(&mut self) -> Result<(), Overflow> {
-        let mut next = *self;
-        next.total = narrow(i128::from(next.total) + 1)?;
-        next.red = narrow(i128::from(next.red) + 1)?;
-        *self = next;
-        Ok(())
+    fn run_put_red(&mut self) {
+        self.total = self.total + 1;
+        self.red = self.red + 1;
     }
 
-    fn run_put_blue(&mut self) -> Result<(), Overflow> {
-        self.total = narrow(i128::from(self.total) + 1)?;
-        Ok(())
+    fn run_put_blue(&mut self) {
+        self.total = self.total + 1;
     }
 
-    fn run_put(&mut self, is_red: bool) -> Result<(), Overflow> {
-        let mut next = *self;
-        next.total = narrow(i128::from(next.total) + 1)?;
+    fn run_put(&mut self, is_red: bool) {
+        self.total = self.total + 1;
         if is_red {
-            next.red = narrow(i128::from(next.red) + 1)?;
+            self.red = self.red + 1;
         }
-        *self = next;
-        Ok(())
     }
 
     fn can_get_red(&self) -> bool {
         self.red > 0
     }
 
-    fn run_get_red(&mut self) -> Result<(), Overflow> {
-        let mut next = *self;
-        next.red = narrow(i128::from(next.red) - 1)?;
-        next.total = narrow(i128::from(next.total) - 1)?;
-        *self = next;
-        Ok(())
+    fn run_get_red(&mut self) {
+        self.red = self.red - 1;
+        self.total = self.total - 1;
     }
 
     fn can_get_blue(&self) -> bool {
         self.red < self.total
     }
 
-    fn run_get_blue(&mut self) -> Result<(), Overflow> {
-        self.total = narrow(i128::from(self.total) - 1)?;
-        Ok(())
+    fn run_get_blue(&mut self) {
+        self.total = self.total - 1;
     }
 
     fn can_drain(&self) -> bool {
@@ -484,23 +408,6 @@ fn wait<'a>(condition: &Condvar, inner: MutexGuard<'a, Inner>) -> MutexGuard<'a,
         .unwrap_or_else(PoisonError::into_inner)
 }
 
-/// A number would have left 64 bits.
-#[derive(Clone, Copy, Debug, PartialEq, Eq)]
-pub struct Overflow;
-
-impl std::fmt::Display for Overflow {
-    fn fmt(&self, f: &mut std::fmt::Formatter<'_>) -> std::fmt::Result {
-        f.write_str("a number would leave 64 bits")
-    }
-}
-
-impl std::error::Error for Overflow {}
-
-/// The number, where it has 64 bits.
-fn narrow(number: i128) -> Result<i64, Overflow> {
-    i64::try_from(number).map_err(|_| Overflow)
-}
-
 /// The guard was false, and the call did not wait. Nothing changed.
 #[derive(Clone, Copy, Debug, PartialEq, Eq)]
 pub struct Refused;
@@ -512,29 +419,3 @@ impl std::fmt::Display for Refused {
 }
 
 impl std::error::Error for Refused {}
-
-/// Why a call that tries has no answer.
-#[derive(Clone, Copy, Debug, PartialEq, Eq)]
-pub enum Failed {
-    /// The guard was false, and the call did not wait. Nothing changed.
-    Refused,
-    /// A number would have left 64 bits.
-    Overflow,
-}
-
-impl From<Overflow> for Failed {
-    fn from(_: Overflow) -> Self {
-        Self::Overflow
-    }
-}
-
-impl std::fmt::Display for Failed {
-    fn fmt(&self, f: &mut std::fmt::Formatter<'_>) -> std::fmt::Result {
-        f.write_str(match self {
-            Self::Refused => "the guard is false",
-            Self::Overflow => "a number would leave 64 bits",
-        })
-    }
-}
-
-impl std::error::Error for Failed {}

@@ -58,45 +58,32 @@ impl Weights {
     }
 
     /// Waits until `free >= 5`.
-    ///
-    /// # Errors
-    ///
-    /// [`Overflow`] where a number would leave 64 bits. Then nothing changes.
-    pub fn take5(&self) -> Result<(), Overflow> {
+    pub fn take5(&self) {
         let mut inner = lock(&self.inner);
         while !inner.state.can_take5() {
             inner.asleep_take5 += 1;
             inner = wait(&self.can_take5, inner);
             inner.asleep_take5 -= 1;
         }
-        let Ok(()) = inner.state.run_take5() else {
-            self.can_take5.notify_one();
-            return Err(Overflow);
-        };
+        inner.state.run_take5();
         let copy = *inner;
         drop(inner);
         if copy.asleep_give > 0 && copy.state.can_give() {
             self.can_give.notify_all();
         }
-        Ok(())
     }
 
     /// As [`take5`](Self::take5), but does not wait until `free >= 5`.
     ///
     /// # Errors
     ///
-    /// [`Failed::Refused`] where `free >= 5` is false. Then nothing changes.
-    ///
-    /// [`Failed::Overflow`] where a number would leave 64 bits. Then nothing changes.
-    pub fn try_take5(&self) -> Result<(), Failed> {
+    /// [`Refused`] where `free >= 5` is false. Then nothing changes.
+    pub fn try_take5(&self) -> Result<(), Refused> {
         let mut inner = lock(&self.inner);
         if !inner.state.can_take5() {
-            return Err(Failed::Refused);
+            return Err(Refused);
         }
-        let Ok(()) = inner.state.run_take5() else {
-            self.can_take5.notify_one();
-            return Err(Failed::Overflow);
-        };
+        inner.state.run_take5();
         let copy = *inner;
         drop(inner);
         if copy.asleep_give > 0 && copy.state.can_give() {
@@ -106,45 +93,32 @@ impl Weights {
     }
 
     /// Waits until `free >= 10`.
-    ///
-    /// # Errors
-    ///
-    /// [`Overflow`] where a number would leave 64 bits. Then nothing changes.
-    pub fn take10(&self) -> Result<(), Overflow> {
+    pub fn take10(&self) {
         let mut inner = lock(&self.inner);
         while !inner.state.can_take10() {
             inner.asleep_take10 += 1;
             inner = wait(&self.can_take10, inner);
             inner.asleep_take10 -= 1;
         }
-        let Ok(()) = inner.state.run_take10() else {
-            self.can_take10.notify_one();
-            return Err(Overflow);
-        };
+        inner.state.run_take10();
         let copy = *inner;
         drop(inner);
         if copy.asleep_give > 0 && copy.state.can_give() {
             self.can_give.notify_all();
         }
-        Ok(())
     }
 
     /// As [`take10`](Self::take10), but does not wait until `free >= 10`.
     ///
     /// # Errors
     ///
-    /// [`Failed::Refused`] where `free >= 10` is false. Then nothing changes.
-    ///
-    /// [`Failed::Overflow`] where a number would leave 64 bits. Then nothing changes.
-    pub fn try_take10(&self) -> Result<(), Failed> {
+    /// [`Refused`] where `free >= 10` is false. Then nothing changes.
+    pub fn try_take10(&self) -> Result<(), Refused> {
         let mut inner = lock(&self.inner);
         if !inner.state.can_take10() {
-            return Err(Failed::Refused);
+            return Err(Refused);
         }
-        let Ok(()) = inner.state.run_take10() else {
-            self.can_take10.notify_one();
-            return Err(Failed::Overflow);
-        };
+        inner.state.run_take10();
         let copy = *inner;
         drop(inner);
         if copy.asleep_give > 0 && copy.state.can_give() {
@@ -154,45 +128,32 @@ impl Weights {
     }
 
     /// Waits until `free >= 15`.
-    ///
-    /// # Errors
-    ///
-    /// [`Overflow`] where a number would leave 64 bits. Then nothing changes.
-    pub fn take15(&self) -> Result<(), Overflow> {
+    pub fn take15(&self) {
         let mut inner = lock(&self.inner);
         while !inner.state.can_take15() {
             inner.asleep_take15 += 1;
             inner = wait(&self.can_take15, inner);
             inner.asleep_take15 -= 1;
         }
-        let Ok(()) = inner.state.run_take15() else {
-            self.can_take15.notify_one();
-            return Err(Overflow);
-        };
+        inner.state.run_take15();
         let copy = *inner;
         drop(inner);
         if copy.asleep_give > 0 && copy.state.can_give() {
             self.can_give.notify_all();
         }
-        Ok(())
     }
 
     /// As [`take15`](Self::take15), but does not wait until `free >= 15`.
     ///
     /// # Errors
     ///
-    /// [`Failed::Refused`] where `free >= 15` is false. Then nothing changes.
-    ///
-    /// [`Failed::Overflow`] where a number would leave 64 bits. Then nothing changes.
-    pub fn try_take15(&self) -> Result<(), Failed> {
+    /// [`Refused`] where `free >= 15` is false. Then nothing changes.
+    pub fn try_take15(&self) -> Result<(), Refused> {
         let mut inner = lock(&self.inner);
         if !inner.state.can_take15() {
-            return Err(Failed::Refused);
+            return Err(Refused);
         }
-        let Ok(()) = inner.state.run_take15() else {
-            self.can_take15.notify_one();
-            return Err(Failed::Overflow);
-        };
+        inner.state.run_take15();
         let copy = *inner;
         drop(inner);
         if copy.asleep_give > 0 && copy.state.can_give() {
@@ -202,21 +163,14 @@ impl Weights {
     }
 
     /// Waits until `free < LIMIT`.
-    ///
-    /// # Errors
-    ///
-    /// [`Overflow`] where a number would leave 64 bits. Then nothing changes.
-    pub fn give(&self) -> Result<(), Overflow> {
+    pub fn give(&self) {
         let mut inner = lock(&self.inner);
         while !inner.state.can_give() {
             inner.asleep_give += 1;
             inner = wait(&self.can_give, inner);
             inner.asleep_give -= 1;
         }
-        let Ok(()) = inner.state.run_give() else {
-            self.can_give.notify_one();
-            return Err(Overflow);
-        };
+        inner.state.run_give();
         let copy = *inner;
         drop(inner);
         if copy.asleep_take5 > 0 && copy.state.can_take5() {
@@ -228,25 +182,19 @@ impl Weights {
         if copy.asleep_take15 > 0 && copy.state.can_take15() {
             self.can_take15.notify_one();
         }
-        Ok(())
     }
 
     /// As [`give`](Self::give), but does not wait until `free < LIMIT`.
     ///
     /// # Errors
     ///
-    /// [`Failed::Refused`] where `free < LIMIT` is false. Then nothing changes.
-    ///
-    /// [`Failed::Overflow`] where a number would leave 64 bits. Then nothing changes.
-    pub fn try_give(&self) -> Result<(), Failed> {
+    /// [`Refused`] where `free < LIMIT` is false. Then nothing changes.
+    pub fn try_give(&self) -> Result<(), Refused> {
         let mut inner = lock(&self.inner);
         if !inner.state.can_give() {
-            return Err(Failed::Refused);
+            return Err(Refused);
         }
-        let Ok(()) = inner.state.run_give() else {
-            self.can_give.notify_one();
-            return Err(Failed::Overflow);
-        };
+        inner.state.run_give();
         let copy = *inner;
         drop(inner);
         if copy.asleep_take5 > 0 && copy.state.can_take5() {
@@ -314,36 +262,32 @@ impl State {
         self.free >= 5
     }
 
-    fn run_take5(&mut self) -> Result<(), Overflow> {
-        self.free = narrow(i128::from(self.free) - 5)?;
-        Ok(())
+    fn run_take5(&mut self) {
+        self.free = self.free - 5;
     }
 
     fn can_take10(&self) -> bool {
         self.free >= 10
     }
 
-    fn run_take10(&mut self) -> Result<(), Overflow> {
-        self.free = narrow(i128::from(self.free) - 10)?;
-        Ok(())
+    fn run_take10(&mut self) {
+        self.free = self.free - 10;
     }
 
     fn can_take15(&self) -> bool {
         self.free >= 15
     }
 
-    fn run_take15(&mut self) -> Result<(), Overflow> {
-        self.free = narrow(i128::from(self.free) - 15)?;
-        Ok(())
+    fn run_take15(&mut self) {
+        self.free = self.free - 15;
     }
 
     fn can_give(&self) -> bool {
         self.free < Weights::LIMIT
     }
 
-    fn run_give(&mut self) -> Result<(), Overflow> {
-        self.free = narrow(i128::from(self.free) + 1)?;
-        Ok(())
+    fn run_give(&mut self) {
+        self.free = self.free + 1;
     }
 }
 
@@ -359,45 +303,14 @@ fn wait<'a>(condition: &Condvar, inner: MutexGuard<'a, Inner>) -> MutexGuard<'a,
         .unwrap_or_else(PoisonError::into_inner)
 }
 
-/// A number would have left 64 bits.
+/// The guard was false, and the call did not wait. Nothing changed.
 #[derive(Clone, Copy, Debug, PartialEq, Eq)]
-pub struct Overflow;
+pub struct Refused;
 
-impl std::fmt::Display for Overflow {
+impl std::fmt::Display for Refused {
     fn fmt(&self, f: &mut std::fmt::Formatter<'_>) -> std::fmt::Result {
-        f.write_str("a number would leave 64 bits")
+        f.write_str("the guard is false")
     }
 }
 
-impl std::error::Error for Overflow {}
-
-/// The number, where it has 64 bits.
-fn narrow(number: i128) -> Result<i64, Overflow> {
-    i64::try_from(number).map_err(|_| Overflow)
-}
-
-/// Why a call that tries has no answer.
-#[derive(Clone, Copy, Debug, PartialEq, Eq)]
-pub enum Failed {
-    /// The guard was false, and the call did not wait. Nothing changed.
-    Refused,
-    /// A number would have left 64 bits.
-    Overflow,
-}
-
-impl From<Overflow> for Failed {
-    fn from(_: Overflow) -> Self {
-        Self::Overflow
-    }
-}
-
-impl std::fmt::Display for Failed {
-    fn fmt(&self, f: &mut std::fmt::Formatter<'_>) -> std::fmt::Result {
-        f.write_str(match self {
-            Self::Refused => "the guard is false",
-            Self::Overflow => "a number would leave 64 bits",
-        })
-    }
-}
-
-impl std::error::Error for Failed {}
+impl std::error::Error for Refused {}

@@ -4,7 +4,7 @@
 mod buffer;
 mod common;
 
-use buffer::{Buffer, Failed};
+use buffer::{Buffer, Refused};
 use common::{assert_state, in_threads};
 
 static BUFFER: Buffer = Buffer::new();
@@ -13,15 +13,15 @@ fn main() {
     in_threads(32, |thread| {
         for _ in 0..512 {
             if thread % 2 == 0 {
-                BUFFER.put().unwrap();
+                BUFFER.put();
             } else {
-                BUFFER.get().unwrap();
+                BUFFER.get();
             }
         }
     });
     assert_state(&BUFFER, "count: 0");
-    assert_eq!(BUFFER.try_get(), Err(Failed::Refused));
+    assert_eq!(BUFFER.try_get(), Err(Refused));
     assert_eq!(BUFFER.try_put(), Ok(()));
-    assert_eq!(BUFFER.try_put(), Err(Failed::Refused));
+    assert_eq!(BUFFER.try_put(), Err(Refused));
     assert_state(&BUFFER, "count: 1");
 }

@@ -5,23 +5,23 @@ mod common;
 mod semaphore;
 
 use common::{assert_state, in_threads};
-use semaphore::{Failed, Semaphore};
+use semaphore::{Refused, Semaphore};
 
 fn main() {
     let semaphore = Semaphore::new();
     in_threads(32, |thread| {
         for _ in 0..256 {
             if thread % 2 == 0 {
-                semaphore.take().unwrap();
+                semaphore.take();
             } else {
-                semaphore.take_two().unwrap();
-                semaphore.give().unwrap();
+                semaphore.take_two();
+                semaphore.give();
             }
-            semaphore.give().unwrap();
+            semaphore.give();
         }
     });
-    assert_eq!(semaphore.try_give(), Err(Failed::Refused));
+    assert_eq!(semaphore.try_give(), Err(Refused));
     semaphore.take_all();
-    in_threads(3, |_| semaphore.give().unwrap());
+    in_threads(3, |_| semaphore.give());
     assert_state(&semaphore, "free: 3");
 }

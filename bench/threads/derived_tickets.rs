@@ -5,7 +5,7 @@ mod common;
 mod tickets;
 
 use common::{assert_state, in_threads};
-use tickets::{Failed, Refused, Tickets};
+use tickets::{Refused, Tickets};
 
 fn main() {
     let tickets = Tickets::new();
@@ -13,9 +13,9 @@ fn main() {
         for _ in 0..128 {
             let ticket = tickets.draw().unwrap();
             if thread % 4 == 0 {
-                tickets.give_up(ticket).unwrap();
+                tickets.give_up(ticket);
             } else {
-                tickets.enter(ticket).unwrap();
+                tickets.enter(ticket);
                 tickets.leave();
             }
         }
@@ -25,6 +25,6 @@ fn main() {
         &tickets,
         "next: 4096, serving: 4096, busy: false, broken: false",
     );
-    assert_eq!(tickets.try_enter(4096), Err(Failed::Refused));
+    assert_eq!(tickets.try_enter(4096), Err(Refused));
     assert_eq!(tickets.try_fail(), Err(Refused));
 }

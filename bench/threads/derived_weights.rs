@@ -5,23 +5,23 @@ mod common;
 mod weights;
 
 use common::{assert_state, in_threads};
-use weights::{Failed, Weights};
+use weights::{Refused, Weights};
 
 fn main() {
     let weights = Weights::new();
     in_threads(28, |thread| {
         if thread < 16 {
-            (0..480).for_each(|_| weights.give().unwrap());
+            (0..480).for_each(|_| weights.give());
             return;
         }
         for _ in 0..64 {
             match thread % 3 {
-                0 => weights.take5().unwrap(),
-                1 => weights.take10().unwrap(),
-                _ => weights.take15().unwrap(),
+                0 => weights.take5(),
+                1 => weights.take10(),
+                _ => weights.take15(),
             }
         }
     });
     assert_state(&weights, "free: 0");
-    assert_eq!(weights.try_take5(), Err(Failed::Refused));
+    assert_eq!(weights.try_take5(), Err(Refused));
 }

@@ -13,10 +13,10 @@ fn main() {
         for _ in 0..200 {
             if thread < 24 {
                 monitor.start_read().unwrap();
-                monitor.end_read().unwrap();
+                monitor.end_read();
             } else {
                 monitor.ask().unwrap();
-                monitor.start_write().unwrap();
+                monitor.start_write();
                 monitor.end_write();
             }
         }

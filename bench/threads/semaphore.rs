@@ -11,7 +11,7 @@ fn main() {
     let semaphore = Semaphore::new();
     in_threads(32, |_| {
         for _ in 0..256 {
-            semaphore.acquire().unwrap();
+            semaphore.acquire();
             semaphore.release().unwrap();
         }
     });

@@ -28,4 +28,3 @@ pub mod Rechecked
 pub mod LawfulFits
 pub mod CheckedPlans
 pub mod OneReport
-pub mod ShortMoments

@@ -12,6 +12,8 @@ use Rattle.machine_events.specs.PlanText.{plan_text}
 use Rattle.report_text.specs.FaultText.{unread_text}
 use Rattle.emit_code.specs.Laws.{CountedCodeLosesNone}
 use Rattle.emit_code.specs.LivePlans.{printed_program}
+use Rattle.emit_fits.specs.Laws.{FittingBlocksNeverOverflow, FittingCallsNeverOverflow, MomentsStayIn64}
+use Rattle.plan_fits.specs.Answers.{AreWhole}
 use Rattle.emit_numbers.specs.Laws.{PrintedBodiesStep, PrintedNumbersAreWide, PrintedTestsHold, SharedTestsHold, StartsAreShort}
 use Rattle.emit_module.specs.Modules.{rust_text}
 use Rattle.expresso.specs.declared.status.Status.{Status}
@@ -24,7 +26,7 @@ use Rattle.plan_needs.specs.declared.broadcasts.BroadcastReason.{BroadcastReason
 use Rattle.plan_why.specs.declared.reason.Reason.{Reason}
 use Rattle.expresso.specs.Placements.{IsChosen, IsPlacement}
 use Rattle.expresso.specs.MonitorFiles.{IsAccepted}
-use Rattle.expresso.specs.PrintedPrograms.{BodiesStep, IsAsPromised, MomentsStayShort, NumbersStayWide, StartIsShort, TestsAreShared, TestsHold, ThreadsLoseNone}
+use Rattle.expresso.specs.PrintedPrograms.{BodiesStep, IsAsPromised, MomentsStayShort, NumbersStayWide, StartIsShort, TestsAreShared, TestsHold, ThreadsLoseNone, WholeBlocksNeverOverflow, WholeCallsNeverOverflow}
 use Rattle.expresso.specs.Texts.{count_explained_text, explained_text}
 use Rattle.expresso.specs.inner.Explaining.{IsCountExplained, IsExplained}
 use Rattle.expresso.specs.FirstFaults.{IsRefusalLine}
@@ -35,7 +37,6 @@ use Rattle.expresso.specs.inner.Input.{CommandsEndOn, WorksOn}
 use Rattle.expresso.proofs.Telling.{told, is_told, accepted_told, line_told, holds_same}
 use Rattle.expresso.proofs.FirstFaults.{OneSpelling, NoSpelling, OneTree, no_line}
 use Rattle.expresso.proofs.Outcomes.{written_since}
-use Rattle.expresso.proofs.ShortMoments.{moments_short}
 use Rattle.expresso.proofs.Ending.{memory_ended, no_bytes_ended, refused_ended, work_ended}
 
 -- ---- the commands that work on one file
@@ -172,10 +173,13 @@ pub record PrintedLaws : Type 0 where
   pub shared : SharedTestsHold
   pub wide : PrintedNumbersAreWide
   pub starts : StartsAreShort
+  pub stays : MomentsStayIn64
+  pub never : FittingBlocksNeverOverflow
+  pub calls : FittingCallsNeverOverflow
 
-bodies_step : PrintedBodiesStep → (bytes : List ℕ) (tree : MonitorTree) (monitor : MonitorParts) → IsAccepted bytes tree monitor → BodiesStep tree monitor
-bodies_step law bytes tree monitor accepted = λ index placed block state inputs at held short short_arguments short_locals.
-    law tree monitor index placed false block state inputs accepted.unbroken accepted.typed at held short short_arguments short_locals (λ is over. true≢false (sym is))
+bodies_step : PrintedBodiesStep → (bytes : List ℕ) (tree : MonitorTree) (monitor : MonitorParts) (whole : List Bool) → IsAccepted bytes tree monitor → BodiesStep tree monitor whole
+bodies_step law bytes tree monitor whole accepted = λ index placed is block state inputs at held told short short_arguments short_locals may.
+    law tree monitor index placed is block state inputs accepted.unbroken accepted.typed at held short short_arguments short_locals may
 
 tests_hold : PrintedTestsHold → (bytes : List ℕ) (tree : MonitorTree) (monitor : MonitorParts) → IsAccepted bytes tree monitor → TestsHold tree monitor
 tests_hold law bytes tree monitor accepted = λ index placed block state inputs at held.
@@ -194,25 +198,44 @@ numbers_stay_wide law bytes tree monitor accepted = λ index placed arguments me
 start_is_short : StartsAreShort → (bytes : List ℕ) (tree : MonitorTree) (monitor : MonitorParts) → IsAccepted bytes tree monitor → StartIsShort monitor
 start_is_short law bytes tree monitor accepted = law tree monitor accepted.unbroken accepted.typed
 
-moments_stay_short : PrintedBodiesStep → StartsAreShort → (bytes : List ℕ) (tree : MonitorTree) (monitor : MonitorParts) (plan : Plan) → IsAccepted bytes tree monitor → MomentsStayShort monitor plan
-moments_stay_short bodies starts bytes tree monitor plan accepted = λ clients last pass leads.
-    moments_short tree (printed_program monitor plan clients) accepted.typed.blocks (bodies_step bodies bytes tree monitor accepted) (start_is_short starts bytes tree monitor accepted) pass last leads
+moments_stay_short : MomentsStayIn64 → StartsAreShort → (bytes : List ℕ) (tree : MonitorTree) (monitor : MonitorParts) (plan : Plan) → IsAccepted bytes tree monitor → MomentsStayShort monitor plan
+moments_stay_short stays starts bytes tree monitor plan accepted = λ clients last pass leads.
+    let start = start_is_short starts bytes tree monitor accepted in
+    let is = stays (printed_program monitor plan clients) last (record { state = start.0; locals = start.1 }) pass leads in
+    record { state = is.state; locals = is.locals }
 
-is_as_promised : PrintedLaws → (bytes : List ℕ) (tree : MonitorTree) (monitor : MonitorParts) (plan : Plan) → IsAccepted bytes tree monitor → IsChosen Counted monitor plan → IsAsPromised tree monitor plan
-is_as_promised laws bytes tree monitor plan accepted chosen = record {
+whole_never : FittingBlocksNeverOverflow → StartsAreShort → (bytes : List ℕ) (tree : MonitorTree) (monitor : MonitorParts) (plan : Plan) (whole : List Bool) → IsAccepted bytes tree monitor → IsChosen Counted monitor plan
+    → AreWhole monitor plan.kept whole → WholeBlocksNeverOverflow monitor plan whole
+whole_never never starts bytes tree monitor plan whole accepted chosen are = λ clients before next thread frame scripts pass leads move told over.
+    let start = start_is_short starts bytes tree monitor accepted in
+    never monitor plan clients before next thread frame chosen.placement.is scripts chosen.fits chosen.lawful (record { state = start.0; locals = start.1 }) pass leads move (are.each move.block true told) over
+
+whole_calls : FittingCallsNeverOverflow → StartsAreShort → (bytes : List ℕ) (tree : MonitorTree) (monitor : MonitorParts) (plan : Plan) (whole : List Bool) → IsAccepted bytes tree monitor → IsChosen Counted monitor plan
+    → AreWhole monitor plan.kept whole → WholeCallsNeverOverflow monitor plan whole
+whole_calls calls starts bytes tree monitor plan whole accepted chosen are = λ clients last thread frame rest call scripts pass leads at is each over.
+    let start = start_is_short starts bytes tree monitor accepted in
+    calls monitor plan clients last thread frame rest call chosen.placement.is scripts chosen.fits chosen.lawful (record { state = start.0; locals = start.1 }) pass leads at is
+    (λ number low high. are.each number true (each number low high)) over
+
+is_as_promised : PrintedLaws → (bytes : List ℕ) (tree : MonitorTree) (monitor : MonitorParts) (plan : Plan) (whole : List Bool) → IsAccepted bytes tree monitor → IsChosen Counted monitor plan
+    → AreWhole monitor plan.kept whole → IsAsPromised tree monitor plan whole
+is_as_promised laws bytes tree monitor plan whole accepted chosen are = record {
   threads = threads_lose_none laws.threads monitor plan chosen;
-  bodies = bodies_step laws.bodies bytes tree monitor accepted;
+  bodies = bodies_step laws.bodies bytes tree monitor whole accepted;
   tests = tests_hold laws.tests bytes tree monitor accepted;
   shared = tests_are_shared laws.shared bytes tree monitor accepted;
   wide = numbers_stay_wide laws.wide bytes tree monitor accepted;
   starts = start_is_short laws.starts bytes tree monitor accepted;
-  moments = moments_stay_short laws.bodies laws.starts bytes tree monitor plan accepted;
+  moments = moments_stay_short laws.stays laws.starts bytes tree monitor plan accepted;
+  fits = are;
+  never = whole_never laws.never laws.starts bytes tree monitor plan whole accepted chosen are;
+  calls = whole_calls laws.calls laws.starts bytes tree monitor plan whole accepted chosen are;
 }
 
-pub emit_done : PrintedLaws → (file : List ℕ) (tree : MonitorTree) (monitor : MonitorParts) (plan : Plan) (files files_now : FilesSeen) (result : Status) (out out_now : SinkSeen)
-    → HoldsMonitor files.held file tree monitor → IsChosen Counted monitor plan → files_now.faults ≡ files.faults
-    → IsWritten statuses.Done (rust_text tree monitor plan []) result out out_now → CommandEnds (emit file) files files_now result out out_now
-emit_done laws file tree monitor plan files files_now result out out_now holds chosen steady written =
-    work_ended (emit file) files files_now (rust_text tree monitor plan []) result out out_now true
-    (record { tree = tree; monitor = monitor; plan = plan; holds = holds; chosen = chosen; promised = is_as_promised laws holds.bytes tree monitor plan holds.accepted chosen; printed = refl })
+pub emit_done : PrintedLaws → (file : List ℕ) (tree : MonitorTree) (monitor : MonitorParts) (plan : Plan) (whole : List Bool) (files files_now : FilesSeen) (result : Status) (out out_now : SinkSeen)
+    → HoldsMonitor files.held file tree monitor → IsChosen Counted monitor plan → AreWhole monitor plan.kept whole → files_now.faults ≡ files.faults
+    → IsWritten statuses.Done (rust_text tree monitor plan whole) result out out_now → CommandEnds (emit file) files files_now result out out_now
+emit_done laws file tree monitor plan whole files files_now result out out_now holds chosen are steady written =
+    work_ended (emit file) files files_now (rust_text tree monitor plan whole) result out out_now true
+    (record { tree = tree; monitor = monitor; plan = plan; whole = whole; holds = holds; chosen = chosen; promised = is_as_promised laws holds.bytes tree monitor plan whole holds.accepted chosen are; printed = refl })
     (no_rejection files.held file tree monitor holds) steady written

@@ -1,6 +1,6 @@
 -- What the program answers.
-use Rattle.std.specs.Prelude.{◌≡◌, ◌<◌, ◌⊎◌, ℕ, Bool, true, false, List, [], All, Any, map}
-use Rattle.std.specs.Prelude.{Option, Some, IfSome, codes}
+use Rattle.std.specs.Prelude.{◌≡◌, ◌<◌, ◌⊎◌, ℕ, Bool, true, false, List, All, Any, map, Option}
+use Rattle.std.specs.Prelude.{Some, IfSome, codes}
 use Rattle.std.specs.Io.KnownBytes.{Appends}
 use Rattle.base_io.specs.Outside.{FilesSeen, SinkSeen, AppendsFront, Rises}
 use Rattle.lang_tree.specs.declared.tree.MonitorTree.{MonitorTree}
@@ -243,15 +243,16 @@ pub record IsCountExplainText (held : List ℕ → Option (List ℕ)) (file text
 
 -- the text of the Rust module of the monitor of the file, under a counted plan: what threads do by
 -- the code of that plan is a run of the monitor, no wake-up is lost, and each printed body does the
--- step of its block
+-- step of its block, without tests of 64 bits where the block is whole
 pub record IsEmitText (held : List ℕ → Option (List ℕ)) (file text : List ℕ) : Type 0 where
   pub tree : MonitorTree
   pub monitor : MonitorParts
   pub plan : Plan
+  pub whole : List Bool
   pub holds : HoldsMonitor held file tree monitor
   pub chosen : IsChosen Counted monitor plan
-  pub promised : IsAsPromised tree monitor plan
-  pub printed : text ≡ rust_text tree monitor plan []
+  pub promised : IsAsPromised tree monitor plan whole
+  pub printed : text ≡ rust_text tree monitor plan whole
 
 -- the text of a command whose work is done; of `turns`, `simulate`, `run` and `block`, that no
 -- client has a call left

@@ -1,23 +1,29 @@
 -- What threads do by the code that is printed of a monitor under its plan, what the printed bodies
 -- and tests do, and how large the numbers are that are kept and made on the way.
-use Rattle.std.specs.Prelude.{◌≡◌, ℕ, false, List, ◌∷◌, All, Some, slice_get}
+use Rattle.std.specs.Prelude.{◌≡◌, ℕ, ◌+◌, ◌<◌, ◌≤◌, Bool, false, true, List, ◌∷◌, All, Some}
+use Rattle.std.specs.Prelude.{slice_get}
 use Rattle.lang_base.specs.declared.value.Value.{Value}
 use Rattle.lang_tree.specs.declared.tree.MonitorTree.{MonitorTree}
 use Rattle.lang_monitor.specs.declared.monitor.Block.{Block}
 use Rattle.lang_monitor.specs.Bodies.{Inputs, Memory}
 use Rattle.lang_monitor.specs.Inputs.{reads_inputs}
-use Rattle.lang_monitor.specs.MonitorParts.{MonitorParts, locals_in, start_of}
+use Rattle.lang_monitor.specs.MonitorParts.{MonitorParts, count_in, first_in, locals_in, start_of}
 use Rattle.lang_types.specs.KeptMeaning.{expressions_in}
 use Rattle.lang_types.specs.Typed.{PlacedBlock, blocks_from}
+use Rattle.machine_implicit.specs.declared.commit.Reply.TheVariants as replies
+use Rattle.machine_implicit.specs.declared.script.Call.{Call}
 use Rattle.machine_implicit.specs.declared.script.Client.{Client}
 use Rattle.machine_implicit.specs.Scripted.{FitsScripts}
 use Rattle.machine_implicit.specs.Steps.{condition_truth, guard_truth}
 use Rattle.machine_events.specs.declared.plan.Plan.{Plan}
-use Rattle.emit_code.specs.Executions.{Frame, IsThread, Moment, Position}
+use Rattle.emit_code.specs.Code.{Op}
+use Rattle.emit_code.specs.Executions.{Frame, IsThread, Moment, Position, RunsBody, call_of}
+use Rattle.emit_code.specs.Executions.Position.{At}
 use Rattle.emit_code.specs.Laws.{Leads, LosesNone}
 use Rattle.emit_code.specs.LivePlans.{printed_program}
-use Rattle.emit_numbers.specs.Laws.{AreShort, CallSteps, StaysWide, scope_in}
+use Rattle.emit_numbers.specs.Laws.{AreShort, CallSteps, MayRun, StaysWide, scope_in}
 use Rattle.emit_numbers.specs.Tests.{printed_test}
+use Rattle.plan_fits.specs.Answers.{AreWhole}
 
 -- Any number of threads call the methods, each as often as it does, with arguments that fit. Then
 -- at each moment of each execution all that `LosesNone` lists is so: what ran is a run of the
@@ -32,14 +38,17 @@ ThreadsLoseNone monitor plan =
 -- From each state within 64 bits, with such arguments and locals, a call of the function that is
 -- printed of a block's body is a step of the block: it answers an overflow just where a value
 -- leaves 64 bits, and the state is then as before. This is the law `printed_bodies_step` of
--- `emit_numbers` for one monitor.
-abbrev pub BodiesStep : MonitorTree → MonitorParts → Type 0
-BodiesStep tree monitor =
-    (index : ℕ) (placed : PlacedBlock) (block : Block) (state : List Value) (inputs : Inputs)
+-- `emit_numbers` for one monitor. A block that is printed whole has no tests of 64 bits, and may
+-- run where it does not overflow.
+abbrev pub BodiesStep : MonitorTree → MonitorParts → List Bool → Type 0
+BodiesStep tree monitor whole =
+    (index : ℕ) (placed : PlacedBlock) (is : Bool) (block : Block) (state : List Value)
+    (inputs : Inputs)
     → slice_get (blocks_from 0 tree.methods) index ≡ Some placed
     → slice_get monitor.blocks index ≡ Some block
+    → slice_get whole index ≡ Some is
     → AreShort state → AreShort inputs.arguments → AreShort inputs.locals
-    → CallSteps tree placed false block state inputs
+    → MayRun is block state inputs → CallSteps tree placed is block state inputs
 
 -- A call of the function that is printed of a block's guard answers whether the guard is true: with
 -- the inputs where the guard reads any, and else without them. This is the law `printed_tests_hold`
@@ -103,14 +112,53 @@ MomentsStayShort monitor plan =
     (clients : List Client) (last : Moment) → PassShort clients
     → Leads (printed_program monitor plan clients) last → IsShortMoment last
 
+-- ---- blocks that are printed whole
+
+-- No move of an execution overflows that runs the body of a block which is printed whole, where
+-- threads pass such arguments: so there its printed function does the step. This is the law
+-- `fitting_blocks_never_overflow` of `emit_fits` for one plan.
+abbrev pub WholeBlocksNeverOverflow : MonitorParts → Plan → List Bool → Type 0
+WholeBlocksNeverOverflow monitor plan whole =
+    (clients : List Client) (before next : Moment) (thread : ℕ) (frame : Frame)
+    → FitsScripts monitor clients → PassShort clients
+    → Leads (printed_program monitor plan clients) before
+    → (move : RunsBody (printed_program monitor plan clients) thread frame before next)
+    → slice_get whole move.block ≡ Some true → move.reply ≡ replies.Overflow → ⊥
+
+-- each block of the method is printed whole
+abbrev pub AllAreWhole : MonitorParts → List Bool → ℕ → Type 0
+AllAreWhole monitor whole method =
+    (number : ℕ) → first_in (slice_get monitor.methods method) ≤ number
+    → number < first_in (slice_get monitor.methods method)
+    + count_in (slice_get monitor.methods method)
+    → slice_get whole number ≡ Some true
+
+-- So no call of a method has an overflow for its answer all of whose blocks are printed whole: its
+-- printed function answers its value itself. This is that law's other part.
+abbrev pub WholeCallsNeverOverflow : MonitorParts → Plan → List Bool → Type 0
+WholeCallsNeverOverflow monitor plan whole =
+    (clients : List Client) (last : Moment) (thread : ℕ) (frame : Frame) (rest : List Op)
+    (call : Call)
+    → FitsScripts monitor clients → PassShort clients
+    → Leads (printed_program monitor plan clients) last
+    → IsThread last.threads thread frame (At rest)
+    → call_of (printed_program monitor plan clients) thread frame ≡ Some call
+    → AllAreWhole monitor whole call.method → frame.answer ≡ replies.Overflow → ⊥
+
 -- ---- what is promised
 
--- What is promised of the module that is printed of a monitor under a plan, beside its text.
-pub record IsAsPromised (tree : MonitorTree) (monitor : MonitorParts) (plan : Plan) : Type 0 where
+-- What is promised of the module that is printed of a monitor under a plan, with these of its
+-- blocks whole, beside its text.
+pub record IsAsPromised (tree : MonitorTree) (monitor : MonitorParts) (plan : Plan)
+    (whole : List Bool) : Type 0 where
   pub threads : ThreadsLoseNone monitor plan
-  pub bodies : BodiesStep tree monitor
+  pub bodies : BodiesStep tree monitor whole
   pub tests : TestsHold tree monitor
   pub shared : TestsAreShared tree monitor
   pub wide : NumbersStayWide tree
   pub starts : StartIsShort monitor
   pub moments : MomentsStayShort monitor plan
+  -- the blocks that are whole fit under what the plan keeps
+  pub fits : AreWhole monitor plan.kept whole
+  pub never : WholeBlocksNeverOverflow monitor plan whole
+  pub calls : WholeCallsNeverOverflow monitor plan whole

@@ -27,8 +27,8 @@ counted_many placed counted =
     length (counted_report_of placed counted).proofs
     + length (counted_report_of placed counted).answers
 
--- The text is what `report --count` printed of such a file, and with what its plan keeps no question
--- of the monitor may stay open; the files as before.
+-- The text is what `report --count` printed of such a file, and with what its plan keeps no
+-- question of the monitor may stay open; the files as before.
 pub record IsPrintedCountedReport (held later : List ℕ
     → Option (List ℕ)) (file report_file text : List ℕ) : Type 0 where
   pub printed : IsCountedReportText held file text

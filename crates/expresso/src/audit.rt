@@ -111,7 +111,8 @@ fn audited(
     Ok(Some(Found { plan, finding }))
 }
 
-/// What is found of the plan, whose signals may be counted or not. It fails only for want of memory.
+/// What is found of the plan, whose signals may be counted or not. It fails only for want of
+/// memory.
 fn finding_by(
     alloc: Global,
     monitor: &Monitor,

@@ -10,12 +10,14 @@ use crate::status::Status;
 use crate::text::show_module;
 use base_io::{Files, Sink};
 use emit_code::counted_code_loses_none;
+use emit_fits::{fitting_blocks_never_overflow, moments_stay_in_64};
 use emit_numbers::{printed_bodies_step, printed_numbers_are_wide, printed_tests_hold};
 use front_command::PlanChoice;
+use plan_fits::whole_blocks;
 use std::alloc::{AllocError, Global};
 
 /// Compiles a monitor file and writes its Rust module under the counted plan, or the line of its
-/// first fault.
+/// first fault. Blocks that are proved to keep 64 bits are printed whole.
 pub(crate) fn emit_file<F: Files, S: Sink>(
     alloc: Global,
     file: &str,
@@ -32,12 +34,18 @@ pub(crate) fn emit_file<F: Files, S: Sink>(
     printed_bodies_step();
     printed_tests_hold();
     printed_numbers_are_wide();
+    moments_stay_in_64();
+    fitting_blocks_never_overflow();
     let found = match monitor_of(alloc, file, files, out) {
         Ok(found) => found,
         Err(status) => return status,
     };
-    match plan_of(alloc, &found.monitor, PlanChoice::Counted) {
-        Ok(plan) => show_module(&found.tree, &found.monitor, &plan, out),
+    let plan = match plan_of(alloc, &found.monitor, PlanChoice::Counted) {
+        Ok(plan) => plan,
+        Err(AllocError) => return Status::OutOfMemory,
+    };
+    match whole_blocks(alloc, &found.monitor, plan.kept.items()) {
+        Ok(whole) => show_module(&found.tree, &found.monitor, &plan, whole.as_slice(), out),
         Err(AllocError) => Status::OutOfMemory,
     }
 }

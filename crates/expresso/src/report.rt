@@ -36,7 +36,8 @@ pub(crate) fn report_file<F: Files, S: Sink>(
     }
 }
 
-/// Writes the report of the plan that a monitor file is compiled to, or the line of its first fault.
+/// Writes the report of the plan that a monitor file is compiled to, or the line of its first
+/// fault.
 fn report_placed<F: Files, S: Sink>(alloc: Global, file: &str, files: &mut F, out: &mut S) -> Status
     requires { F.may_read files.old file.now }
     ensures ended { CommandEnds (report file.now false)

@@ -1,7 +1,7 @@
 //! What the program itself prints, written whole to a sink and handed on, with the status that it
 //! comes to. No writer takes memory.
 
-ghost use Rattle.std.specs.Prelude.{◌≡◌, ℕ, List, []};
+ghost use Rattle.std.specs.Prelude.{◌≡◌, ℕ, List};
 ghost use Rattle.base_io.specs.Outside.{SinkSeen};
 ghost use Rattle.base_io.specs.Writing.{Wrote};
 ghost use Rattle.machine_events.specs.Configurations.{situation_of};
@@ -207,17 +207,18 @@ fn write_count_explanation<S: Sink>(
     write_broadcast_reasons(tree, monitor, explanation.broadcasts.as_slice(), out)
 }
 
-/// Writes the Rust module of a monitor under a plan.
+/// Writes the Rust module of a monitor under a plan, with these of its blocks whole.
 pub(crate) fn show_module<S: Sink>(
     tree: &MonitorTree,
     monitor: &Monitor,
     plan: &Plan,
+    whole: &[bool],
     out: &mut S,
 ) -> Status
-    ensures { IsWritten Status.Done (rust_text tree.now monitor.now plan.now []) result
+    ensures { IsWritten Status.Done (rust_text tree.now monitor.now plan.now whole.now) result
         (S.seen out.old) (S.seen out.new) }
 {
-    let outcome = write_rust(tree, monitor, plan, &[], out);
+    let outcome = write_rust(tree, monitor, plan, whole, out);
     finish(Status::Done, outcome, out)
 }
 

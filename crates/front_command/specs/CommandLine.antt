@@ -197,8 +197,8 @@ abbrev pub HasNoOptions : Given → Type 0
 HasNoOptions given = HasNoSchedule given × (given.workers ≡ None) × HasNoChoice given
 
 -- the options are the command's own: a schedule for `simulate`, workers for `run` and `stress`,
--- `--relay` for `compile`, `simulate` and `run`, and `--count` for these, `report`, `block`, `audit`
--- and `explain`
+-- `--relay` for `compile`, `simulate` and `run`, and `--count` for these, `report`, `block`,
+-- `audit` and `explain`
 abbrev pub HasOptions : Given → Command → Type 0
 HasOptions given (check monitor) = HasNoOptions given
 HasOptions given (turns monitor clients) = HasNoOptions given

@@ -89,19 +89,14 @@ impl MapGate {
     }
 
     /// Does not wait.
-    ///
-    /// # Errors
-    ///
-    /// [`Overflow`] where a number would leave 64 bits. Then nothing changes.
-    pub fn end_read(&self) -> Result<(), Overflow> {
+    pub fn end_read(&self) {
         let mut inner = lock(&self.inner);
-        inner.state.run_end_read()?;
+        inner.state.run_end_read();
         let copy = *inner;
         drop(inner);
         if copy.asleep2_start_write > 0 && copy.state.can2_start_write() {
             self.can2_start_write.notify_one();
         }
-        Ok(())
     }
 
     /// Does not wait.
@@ -121,10 +116,7 @@ impl MapGate {
             inner = wait(&self.can2_start_write, inner);
             inner.asleep2_start_write -= 1;
         }
-        let Ok(()) = inner.state.run2_start_write() else {
-            self.can2_start_write.notify_one();
-            return Err(Overflow);
-        };
+        inner.state.run2_start_write();
         drop(inner);
         Ok(())
     }
@@ -201,11 +193,10 @@ impl State {
         Ok(())
     }
 
-    fn run_end_read(&mut self) -> Result<(), Overflow> {
+    fn run_end_read(&mut self) {
         if self.state > 0 {
-            self.state = narrow(i128::from(self.state) - 1)?;
+            self.state = self.state - 1;
         }
-        Ok(())
     }
 
     fn run_start_write(&mut self) -> Result<(), Overflow> {
@@ -217,14 +208,11 @@ impl State {
         self.state == 0
     }
 
-    fn run2_start_write(&mut self) -> Result<(), Overflow> {
-        let mut next = *self;
-        next.state = -1;
-        if next.queued > 0 {
-            next.queued = narrow(i128::from(next.queued) - 1)?;
+    fn run2_start_write(&mut self) {
+        self.state = -1;
+        if self.queued > 0 {
+            self.queued = self.queued - 1;
         }
-        *self = next;
-        Ok(())
     }
 
     fn run_end_write(&mut self) {

@@ -71,7 +71,7 @@ impl<'a, K, V> WriteGuard<'a, K, V> {
 
 impl Drop for ReadLeave<'_> {
     fn drop(&mut self) {
-        self.0.end_read().expect(SMALL);
+        self.0.end_read();
     }
 }
 

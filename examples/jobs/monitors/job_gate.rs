@@ -107,11 +107,7 @@ impl JobGate {
     }
 
     /// Waits until `ready > 0 || !open && filling == 0`.
-    ///
-    /// # Errors
-    ///
-    /// [`Overflow`] where a number would leave 64 bits. Then nothing changes.
-    pub fn claim(&self) -> Result<bool, Overflow> {
+    pub fn claim(&self) -> bool {
         let mut found: bool = false;
         let mut inner = lock(&self.inner);
         while !inner.state.can_claim() {
@@ -119,31 +115,23 @@ impl JobGate {
             inner = wait(&self.can_claim, inner);
             inner.asleep_claim -= 1;
         }
-        let Ok(answer) = inner.state.run_claim(&mut found) else {
-            self.can_claim.notify_one();
-            return Err(Overflow);
-        };
+        let answer = inner.state.run_claim(&mut found);
         drop(inner);
-        Ok(answer)
+        answer
     }
 
     /// As [`claim`](Self::claim), but does not wait until `ready > 0 || !open && filling == 0`.
     ///
     /// # Errors
     ///
-    /// [`Failed::Refused`] where `ready > 0 || !open && filling == 0` is false. Then nothing changes.
-    ///
-    /// [`Failed::Overflow`] where a number would leave 64 bits. Then nothing changes.
-    pub fn try_claim(&self) -> Result<bool, Failed> {
+    /// [`Refused`] where `ready > 0 || !open && filling == 0` is false. Then nothing changes.
+    pub fn try_claim(&self) -> Result<bool, Refused> {
         let mut found: bool = false;
         let mut inner = lock(&self.inner);
         if !inner.state.can_claim() {
-            return Err(Failed::Refused);
+            return Err(Refused);
         }
-        let Ok(answer) = inner.state.run_claim(&mut found) else {
-            self.can_claim.notify_one();
-            return Err(Failed::Overflow);
-        };
+        let answer = inner.state.run_claim(&mut found);
         drop(inner);
         Ok(answer)
     }
@@ -257,12 +245,12 @@ impl State {
         self.ready > 0 || !self.open && self.filling == 0
     }
 
-    fn run_claim(&mut self, found: &mut bool) -> Result<bool, Overflow> {
+    fn run_claim(&mut self, found: &mut bool) -> bool {
         *found = self.ready > 0;
         if *found {
-            self.ready = narrow(i128::from(self.ready) - 1)?;
+            self.ready = self.ready - 1;
         }
-        Ok(*found)
+        *found
     }
 
     fn run_release(&mut self) -> Result<(), Overflow> {
@@ -303,6 +291,18 @@ impl std::error::Error for Overflow {}
 fn narrow(number: i128) -> Result<i64, Overflow> {
     i64::try_from(number).map_err(|_| Overflow)
 }
+
+/// The guard was false, and the call did not wait. Nothing changed.
+#[derive(Clone, Copy, Debug, PartialEq, Eq)]
+pub struct Refused;
+
+impl std::fmt::Display for Refused {
+    fn fmt(&self, f: &mut std::fmt::Formatter<'_>) -> std::fmt::Result {
+        f.write_str("the guard is false")
+    }
+}
+
+impl std::error::Error for Refused {}
 
 /// Why a call that tries has no answer.
 #[derive(Clone, Copy, Debug, PartialEq, Eq)]

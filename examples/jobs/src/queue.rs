@@ -65,7 +65,7 @@ impl<T> JobQueue<T> {
     ///
     /// `None` says that the queue is closed and that its last job is gone.
     pub fn pop(&self) -> Option<T> {
-        self.gate.claim().expect(SMALL).then(|| self.take())
+        self.gate.claim().then(|| self.take())
     }
 
     /// Takes jobs, and waits for them, until the queue is closed and its last job is gone.
@@ -170,6 +170,7 @@ impl<T> Error for TryPushError<T> {}
 #[cfg(test)]
 mod tests {
     use super::*;
+    use crate::job_gate::Refused;
 
     /// What goes wrong where a job is published before it is stored: another thread claims it and
     /// finds nothing. The two threads are played by one here, in the order that harms.
@@ -180,12 +181,12 @@ mod tests {
         assert_eq!(queue.gate.reserve(), Ok(true));
         assert_eq!(queue.gate.publish(), Ok(()));
         // Thread B: it is let in, and there is no job.
-        assert_eq!(queue.gate.claim(), Ok(true));
+        assert!(queue.gate.claim());
         assert_eq!(queue.jobs().pop_front(), None);
         // Thread A goes on, too late.
         queue.jobs().push_back("a job that nobody comes for");
         assert_eq!(queue.len(), 1);
-        assert_eq!(queue.gate.try_claim(), Err(Failed::Refused));
+        assert_eq!(queue.gate.try_claim(), Err(Refused));
     }
 
     /// A thread that was let in before the close is waited for, so that its job is done.
@@ -196,7 +197,7 @@ mod tests {
         assert_eq!(queue.gate.reserve(), Ok(true));
         queue.close();
         // Thread B: neither a job nor the end.
-        assert_eq!(queue.gate.try_claim(), Err(Failed::Refused));
+        assert_eq!(queue.gate.try_claim(), Err(Refused));
         // Thread A goes on.
         queue.store("the last job");
         assert_eq!(queue.pop(), Some("the last job"));
@@ -212,7 +213,7 @@ mod tests {
             queue.push(job).unwrap();
         }
         // Thread A, wrongly: release, and be held up before the pop.
-        assert_eq!(queue.gate.claim(), Ok(true));
+        assert!(queue.gate.claim());
         assert_eq!(queue.gate.release(), Ok(()));
         // Thread B: it is let in, and there is no room.
         assert_eq!(queue.gate.try_reserve(), Ok(true));

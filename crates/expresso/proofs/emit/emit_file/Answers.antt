@@ -1,4 +1,7 @@
-use Rattle.std.proofs.Common.{[]}
+use Rattle.std.proofs.Common.{Bool, List, subst, sym}
+use Rattle.lang_monitor.specs.declared.candidate.Candidate.{Candidate}
+use Rattle.lang_monitor.specs.Candidates.{AreSomeOf, candidates_of}
+use Rattle.plan_fits.specs.Answers.{AreWhole}
 use Rattle.emit_module.specs.Modules.{rust_text}
 use Rattle.expresso.specs.declared.status.Status.TheVariants.{Done}
 use Rattle.front_command.specs.CommandLine.{emit}
@@ -9,10 +12,15 @@ use Rattle.expresso.proofs.emit.emit_file.Goals as goal
 pub returns-in-Err-clause-ended : goal.returns-in-Err-clause-ended
 returns-in-Err-clause-ended g c = c.in-Err.ensures.ended (emit c.args.file.now) (emit_works c.args.file.now)
 
-pub returns-in-Ok-plan_of-clause-ended : goal.returns-in-Ok-plan_of-clause-ended
-returns-in-Ok-plan_of-clause-ended g c =
+pub whole_blocks-requires : goal.whole_blocks-requires
+whole_blocks-requires g c =
+    subst (λ (kept : List Candidate). AreSomeOf kept (candidates_of c.in-Ok.found.monitor)) (sym c.items.ensures) c.in-Ok-plan_of.ensures.fits.kept
+
+pub returns-in-Ok-whole_blocks-clause-ended : goal.returns-in-Ok-whole_blocks-clause-ended
+returns-in-Ok-whole_blocks-clause-ended g c =
     let found = c.in-Ok.found in
     let plan = c.in-Ok-plan_of.plan in
+    let whole = c.in-Ok-whole_blocks.whole in
     let laws : PrintedLaws = record {
       threads = c.counted_code_loses_none.ensures.printed;
       bodies = c.printed_bodies_step.ensures.steps;
@@ -20,7 +28,13 @@ returns-in-Ok-plan_of-clause-ended g c =
       shared = c.printed_tests_hold.ensures.shared;
       wide = c.printed_numbers_are_wide.ensures.wide;
       starts = c.printed_bodies_step.ensures.starts;
+      stays = c.moments_stay_in_64.ensures;
+      never = c.fitting_blocks_never_overflow.ensures.blocks;
+      calls = c.fitting_blocks_never_overflow.ensures.calls;
     } in
-    emit_done laws c.args.file.now found.tree found.monitor plan
-    (g.F.Files.seen c.args.files.now) (g.F.Files.seen c.monitor_of.new.files) _ (g.S.Sink.seen c.args.out.now) _ c.in-Ok.ensures.holds c.in-Ok-plan_of.ensures c.in-Ok.ensures.quiet.steady
-    (written_since Done (rust_text found.tree found.monitor plan []) _ _ _ _ c.in-Ok.ensures.quiet.silent c.show_module.ensures)
+    let fits = subst (λ (kept : List Candidate). AreWhole found.monitor kept whole.items) c.items.ensures c.in-Ok-whole_blocks.ensures in
+    let told = c.as_slice.result.now in
+    emit_done laws c.args.file.now found.tree found.monitor plan told
+    (g.F.Files.seen c.args.files.now) (g.F.Files.seen c.monitor_of.new.files) _ (g.S.Sink.seen c.args.out.now) _ c.in-Ok.ensures.holds c.in-Ok-plan_of.ensures
+    (subst (λ (all : List Bool). AreWhole found.monitor plan.kept all) (sym c.as_slice.ensures.value) fits) c.in-Ok.ensures.quiet.steady
+    (written_since Done (rust_text found.tree found.monitor plan told) _ _ _ _ c.in-Ok.ensures.quiet.silent c.show_module.ensures)

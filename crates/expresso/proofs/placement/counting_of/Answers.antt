@@ -1,3 +1,6 @@
+use Rattle.std.proofs.Common.{subst}
+use Rattle.std.specs.Prelude.{All}
+use Rattle.report_tally.specs.CountedTexts.{HasTypedColumn}
 use Rattle.expresso.proofs.Placed.{counting_is}
 use Rattle.expresso.proofs.placement.counting_of.Goals as goal
 
@@ -6,4 +9,4 @@ returns c =
     let placed = c.in_ok-placed in
     let counted = c.in_ok-counted in
     counting_is c.args.monitor.now placed.placed counted.counted placed.ensures.placement placed.ensures.proofs counted.ensures.plan counted.ensures.counted counted.ensures.exact counted.ensures.backed
-    counted.ensures.fits counted.ensures.lawful c.read_numbers.ensures c.read_column_numbers.ensures
+    counted.ensures.fits counted.ensures.lawful c.read_numbers.ensures (subst (All HasTypedColumn) c.items.ensures c.read_column_numbers.ensures)
