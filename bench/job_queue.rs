@@ -85,7 +85,7 @@ struct Emitted {
 
 impl Queue for Emitted {
     fn push(&self, job: Job) {
-        self.gate.reserve().unwrap();
+        self.gate.reserve();
         self.jobs.lock().unwrap().push_back(job);
         self.gate.publish().unwrap();
     }
