@@ -5,11 +5,15 @@
   measure.py pair ROUNDS OURS PEER                    prints: ours_ms peer_ms ratio ours_kib peer_kib
   measure.py times ROUNDS OURS.. PEER                 prints: ours_ms.. peer_ms ratio..
   measure.py rates ROUNDS OURS.. PEER                 prints: ours_a_second.. peer_a_second ratio..
+  measure.py spans ROUNDS OURS PEER..                 prints: ours_ms spread peer_ms spread .. ratio
   measure.py late ROUNDS COMMAND                      prints: median_us ninety_ninth_us sections
 
-A command is one word for the shell's quoting, as 'out/expresso_cli check a.mon'. Each number is the median of the
-rounds. The runs of a row are interleaved (ours, peer, ours, ..), so that what else the machine does hits both alike.
-A command that fails, or two of a `pair` that print different texts, end the program with a message.
+A command is one word for the shell's quoting, as 'out/expresso_cli check a.mon'. Each number is the
+median of the rounds. The runs of a row are interleaved (ours, peer, ours, ..), so that what else
+the machine does hits both alike. The commands of `spans` print how long they took; the ratio is to
+the first peer, and a spread is half the distance between the quartiles, in percent of the median.
+A command that fails, or two of a `pair` that print different texts, or of `spans` that make
+different calls, end the program with a message.
 """
 
 import bisect
@@ -25,6 +29,9 @@ import time
 
 # What a command prints for `rates`.
 RATE = re.compile(r"sections (\d+) nanoseconds (\d+)")
+
+# What a command prints for `spans`.
+SPAN = re.compile(r"calls (\d+) nanoseconds (\d+)\n")
 
 # What a command prints for `late`: a section was over, or the log was seen to have grown.
 MOMENT = re.compile(r"(returned|grown) (\d+) (\d+)")
@@ -130,6 +137,33 @@ def rates(rounds, *commands):
     return " ".join([f"{median:.0f}" for median in medians] + [f"{ratio:.2f}" for ratio in ratios])
 
 
+def span(output):
+    """How many calls a command made, and in how many milliseconds."""
+    found = SPAN.fullmatch(output)
+    if found is None:
+        fail(f"no line `calls N nanoseconds N` alone in {output!r}")
+    return int(found.group(1)), int(found.group(2)) / 1e6
+
+
+def spread(column):
+    """Half the distance between the quartiles, in percent of the median."""
+    if len(column) < 2:
+        return "-"
+    low, middle, high = statistics.quantiles(column, method="inclusive")
+    return f"{(high - low) / 2 / middle:.0%}"
+
+
+def spans(rounds, *commands):
+    """The row of commands that make the same calls and print how long they took. Ours is first."""
+    runs = [[span(one[2]) for one in row] for row in interleaved(rounds, *commands)]
+    if len({calls for row in runs for calls, _ in row}) > 1:
+        fail(f"{'; '.join(map(shlex.join, commands))} make different calls")
+    columns = [[milliseconds for _, milliseconds in column] for column in zip(*runs)]
+    medians = [statistics.median(column) for column in columns]
+    figures = [f"{median:.1f} {spread(column)}" for median, column in zip(medians, columns)]
+    return " ".join([*figures, f"{medians[0] / medians[1]:.2f}"])
+
+
 def latenesses(output):
     """For each section of an output how many nanoseconds after its entry was seen in the log its call returned."""
     moments = [(kind, int(entries), int(spent)) for kind, entries, spent in MOMENT.findall(output)]
@@ -161,6 +195,8 @@ def main(words):
             print(times(int(rounds), *map(shlex.split, words[2:])))
         case ["rates", rounds, _, _, *_]:
             print(rates(int(rounds), *map(shlex.split, words[2:])))
+        case ["spans", rounds, _, _, *_]:
+            print(spans(int(rounds), *map(shlex.split, words[2:])))
         case ["late", rounds, command]:
             print(late(int(rounds), shlex.split(command)))
         case _:
