@@ -22,19 +22,26 @@ row='%-8s %7s %10s %11s %6s %19s %20s\n'
 
 # wakes COMMAND: how often clients waited and were woken in one run of it
 wakes() {
-  $1 >"$work/log"
-  printf '%d/%d' "$(grep -c ' waits$' "$work/log" || true)" "$(sed -n 's/.* wakes //p' "$work/log" | wc -w)"
+  $1 >"$work/log" || return
+  local woken
+  woken=$(sed -n 's/.* wakes //p' "$work/log" | wc -w)
+  printf '%d/%d' "$(grep -c ' waits$' "$work/log" || true)" "$woken"
 }
 
 # measure NAME WORKERS COMMAND: a row of the table
 measure() {
-  local counted placed ratio
-  read -r counted placed ratio <<<"$("$here/measure.py" times "$rounds" "$3 --count" "$3")"
-  printf "$row" "$1" "$2" "$placed" "$counted" "$ratio" "$(wakes "$3")" "$(wakes "$3 --count")"
+  local figures counted placed ratio placed_wakes counted_wakes
+  figures=$("$here/measure.py" times "$rounds" "$3 --count" "$3")
+  read -r counted placed ratio <<<"$figures"
+  placed_wakes=$(wakes "$3")
+  counted_wakes=$(wakes "$3 --count")
+  printf "$row" "$1" "$2" "$placed" "$counted" "$ratio" "$placed_wakes" "$counted_wakes"
 }
 
-echo "count: 32 clients, 16384 calls; medians of $rounds runs; load $(cut -d ' ' -f 1 /proc/loadavg)"
-printf "$row" command workers 'placed ms' 'counted ms' ratio 'placed waits/woken' 'counted waits/woken'
+load=$(cut -d ' ' -f 1 /proc/loadavg)
+echo "count: 32 clients, 16384 calls; medians of $rounds runs; load $load"
+printf "$row" command workers 'placed ms' 'counted ms' ratio \
+  'placed waits/woken' 'counted waits/woken'
 for workers in 1 4 16; do
   measure run "$workers" "$EXPRESSO run $work/buffer.mon $work/sides.cl --workers $workers"
 done
