@@ -1,4 +1,5 @@
-ghost use Rattle.std.specs.Prelude.{◌≡◌, ◌≤◌, ◌+◌, ◌↔◌, ℕ, List, Option, IfOk, IsOk, IsErrOf, length};
+ghost use Rattle.std.specs.Prelude.{◌≡◌, ◌≤◌, ◌+◌, ◌↔◌, ℕ, List, Option, IfOk, IsOk, IsErrOf};
+ghost use Rattle.std.specs.Prelude.{length};
 ghost use Rattle.base_io.specs.declared.files.FileFault.TheVariants.{OutOfMemory};
 ghost use Rattle.base_io.specs.Outside.{FilesSeen, IsRead, Rises, most_faults};
 

@@ -1,6 +1,7 @@
 //! Bytes on their way to an output.
 
-ghost use Rattle.std.specs.Prelude.{◌≡◌, ◌<◌, ◌≤◌, ◌+◌, ◌-◌, ◌++◌, OnErr, OnOk, length, min, slice_range, take};
+ghost use Rattle.std.specs.Prelude.{◌≡◌, ◌<◌, ◌≤◌, ◌+◌, ◌-◌, ◌++◌, OnErr, OnOk, length, min};
+ghost use Rattle.std.specs.Prelude.{slice_range, take};
 ghost use Rattle.std.specs.Io.KnownBytes.{Keeps, append_known};
 ghost use Rattle.base_io.specs.Outside.{Rises, most_faults};
 ghost use Rattle.base_io.specs.inner.Gathering.{GATHERED_BYTES};

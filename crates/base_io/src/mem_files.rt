@@ -1,4 +1,6 @@
-ghost use Rattle.std.specs.Prelude.{◌≡◌, ◌≤◌, ◌+◌, ◌⊎◌, ◌↔◌, ℕ, List, [], Option, IfOk, IsOk, IsErrOf, IsNone, Contains, length, take, option_map, option_copied, OnSome};
+ghost use Rattle.std.specs.Prelude.{◌≡◌, ◌≤◌, ◌+◌, ◌⊎◌, ◌↔◌, ℕ, List, [], Option, IfOk, IsOk};
+ghost use Rattle.std.specs.Prelude.{IsErrOf, IsNone, Contains, length, take, option_map};
+ghost use Rattle.std.specs.Prelude.{option_copied, OnSome};
 ghost use Rattle.base_io.specs.FilesInMemory.{IsFailing, bytes_named};
 ghost use Rattle.base_io.specs.Outside.{IsRead, Rises, most_faults, next_count};
 

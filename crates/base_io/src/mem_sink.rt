@@ -1,4 +1,5 @@
-ghost use Rattle.std.specs.Prelude.{◌≡◌, ◌<◌, ◌≤◌, ◌-◌, ◌↔◌, min, [], Some, IfOk, IsErr, IsOk, OnOk, OnErr, length, take};
+ghost use Rattle.std.specs.Prelude.{◌≡◌, ◌<◌, ◌≤◌, ◌-◌, ◌↔◌, min, [], Some, IfOk, IsErr, IsOk};
+ghost use Rattle.std.specs.Prelude.{OnOk, OnErr, length, take};
 ghost use Rattle.std.specs.Io.KnownBytes.{Appends, Keeps};
 ghost use Rattle.base_io.specs.Outside.{Rises, most_faults, next_count};
 ghost use Rattle.base_io.specs.SinkInMemory.{IsRefusing};

@@ -31,8 +31,8 @@ pub fn late_notes_lose_none()
 {}
 
 /// Whatever the plan and the order, at each moment of each execution: the count of a condition is
-/// how many threads sleep on it or are notified and not yet back; where it is 0 nobody sleeps on the
-/// condition; and a note there would do nothing, so who leaves it out has made it.
+/// how many threads sleep on it or are notified and not yet back; where it is 0 nobody sleeps on
+/// the condition; and a note there would do nothing, so who leaves it out has made it.
 pub fn counts_are_kept()
     ensures kept { LateSleepersAreCounted }
     ensures nobody { LateUncountedSleepNot }

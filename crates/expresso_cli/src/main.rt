@@ -1,8 +1,8 @@
 //! `expresso`: monitors with implicit signals.
 //!
-//! `main` hands the runtime, the words, the files of the system, standard output, standard error for
-//! hints, and a gate that holds nobody to the top call, [`expresso_hints::expresso_with_hints`], and
-//! gives the number of its status.
+//! `main` hands the runtime, the words, the files of the system, standard output, standard error
+//! for hints, and a gate that holds nobody to the top call,
+//! [`expresso_hints::expresso_with_hints`], and gives the number of its status.
 #![tactic(auto)]
 
 mod outside;

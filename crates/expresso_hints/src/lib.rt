@@ -1,7 +1,7 @@
 //! The top call with a second output, for hints.
 //!
-//! [`expresso_with_hints`] is the call [`expresso::expresso`], and promises the same of files and of
-//! the first output. Where words or files are refused it writes to the second one what is likely
+//! [`expresso_with_hints`] is the call [`expresso::expresso`], and promises the same of files and
+//! of the first output. Where words or files are refused it writes to the second one what is likely
 //! wrong (`front_hint`): of words ahead of the usage, of files after the line that refuses them.
 #![tactic(auto)]
 

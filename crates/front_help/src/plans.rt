@@ -11,8 +11,8 @@ use plan_prune::candidates;
 use report_text::{write_candidate, write_plan};
 use std::alloc::{AllocError, Global};
 
-/// The lines of the plan that wakes everyone, all lines of facts that a plan may keep, in order, and
-/// how many conditions there are.
+/// The lines of the plan that wakes everyone, all lines of facts that a plan may keep, in order,
+/// and how many conditions there are.
 #[derive(Debug, Drop)]
 pub(crate) struct Model {
     plan: Vec<u8>,

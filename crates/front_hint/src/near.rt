@@ -6,8 +6,8 @@ pub fn is(word: &[u8], text: &str) -> bool {
 }
 
 /// Whether two words differ in one letter that is another, lacking, added, or in the other place,
-/// and are three letters long at least; or whether they differ in capitals alone. Hints go by it, so
-/// nothing is promised of it.
+/// and are three letters long at least; or whether they differ in capitals alone. Hints go by it,
+/// so nothing is promised of it.
 pub fn is_near(left: &[u8], right: &[u8]) -> bool {
     if left == right {
         return false;

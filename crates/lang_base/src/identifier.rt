@@ -3,7 +3,8 @@
 ghost use Rattle.std.specs.Prelude.{◌≡◌, ◌↔◌, IsTrue};
 ghost use Rattle.std.specs.List.{list_all, list_any};
 ghost use Rattle.std.specs.Str.{bytes_eq};
-ghost use Rattle.lang_base.specs.Identifiers.{IsIdentifier, is_digit, is_keyword, is_letter, is_spelled, is_word_byte};
+ghost use Rattle.lang_base.specs.Identifiers.{IsIdentifier, is_digit, is_keyword, is_letter};
+ghost use Rattle.lang_base.specs.Identifiers.{is_spelled, is_word_byte};
 
 use super::limits::WORD_BYTES;
 

@@ -1,6 +1,7 @@
 //! Names that stand twice.
 
-ghost use Rattle.std.specs.Prelude.{◌≡◌, ◌≢◌, ◌↔◌, ◌<◌, AllPairs, Contains, IfSome, IsNone, IsTrue, length, map};
+ghost use Rattle.std.specs.Prelude.{◌≡◌, ◌≢◌, ◌↔◌, ◌<◌, AllPairs, Contains, IfSome, IsNone, IsTrue};
+ghost use Rattle.std.specs.Prelude.{length, map};
 ghost use Rattle.std.specs.List.{list_any};
 ghost use Rattle.std.specs.Str.{bytes_eq};
 ghost use Rattle.lang_base.specs.Names.{IsFirstRepeat, IsRepeated};

@@ -6,7 +6,9 @@ ghost use Rattle.lang_base.specs.SourceFaults.{least};
 ghost use Rattle.lang_forms.specs.Making.{has_small_numbers};
 ghost use Rattle.lang_forms.specs.Scope.{entry_named};
 ghost use Rattle.lang_forms.specs.Sense.{faults_in, large_number, unknown};
-ghost use Rattle.lang_forms.specs.inner.Parts.{IsFirstOfBoth, IsFirstOfEither, IsFirstOfNot, faults_in_addends, faults_in_factors, faults_in_parts};
+ghost use Rattle.lang_forms.specs.inner.Parts.{IsFirstOfBoth, IsFirstOfEither, IsFirstOfNot};
+ghost use Rattle.lang_forms.specs.inner.Parts.{faults_in_addends, faults_in_factors};
+ghost use Rattle.lang_forms.specs.inner.Parts.{faults_in_parts};
 
 use crate::scope::{Entry, find};
 use crate::whole_fault::{

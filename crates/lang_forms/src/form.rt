@@ -1,9 +1,12 @@
 //! Flattened forms, as the code makes them.
 
-ghost use Rattle.std.specs.Prelude.{◌≡◌, ◌<◌, ◌^◌, ℕ, pos, ◌*ℤ◌, true, IfOk, length, map, if◌then◌else◌};
+ghost use Rattle.std.specs.Prelude.{◌≡◌, ◌<◌, ◌^◌, ℕ, pos, ◌*ℤ◌, true, IfOk, length, map};
+ghost use Rattle.std.specs.Prelude.{if◌then◌else◌};
 ghost use Rattle.std.specs.List.{list_all};
 ghost use Rattle.lang_forms.specs.Scope.{signed};
-ghost use Rattle.lang_forms.specs.Forms.{IsOrdered, added, is_constant, is_limited, linear_of, meaning_form, name_form, no_times, number_form, once, opposite, plus, raised, scaled, terms_of};
+ghost use Rattle.lang_forms.specs.Forms.{IsOrdered, added, is_constant, is_limited, linear_of};
+ghost use Rattle.lang_forms.specs.Forms.{meaning_form, name_form, no_times, number_form, once};
+ghost use Rattle.lang_forms.specs.Forms.{opposite, plus, raised, scaled, terms_of};
 ghost use Rattle.lang_forms.specs.inner.FormBounds.{AreTimesWithin, HasRoom, IsFormOf, FitsLinear};
 ghost use Rattle.lang_base.specs.Limits.{GREATEST_CONSTANT, MOST_TIMES};
 ghost use Rattle.lang_base.specs.Numbers.{is_within};

@@ -4,10 +4,13 @@ ghost use Rattle.std.specs.Prelude.{◌≡◌, ℕ, true, false, [], IfOk, IsTru
 ghost use Rattle.lang_base.specs.declared.kind.Kind.TheVariants as kinds;
 ghost use Rattle.lang_forms.specs.Scope.{entry_named};
 ghost use Rattle.lang_forms.specs.Forms.{IsOrdered, is_limited, linear_of, product};
-ghost use Rattle.lang_forms.specs.Sense.{entry_formula, faults_in, form_in, formula_in, is_other, kind_in, meaning_formula, truth_formula};
+ghost use Rattle.lang_forms.specs.Sense.{entry_formula, faults_in, form_in, formula_in, is_other};
+ghost use Rattle.lang_forms.specs.Sense.{kind_in, meaning_formula, truth_formula};
 ghost use Rattle.lang_forms.specs.Making.{IsBool, IsInt, has_small_numbers};
 ghost use Rattle.lang_forms.specs.inner.FormBounds.{IsFormOf};
-ghost use Rattle.lang_forms.specs.inner.Parts.{at_most_formula, broken_from, compared_formula, difference, formulas_in, less_formula, product_from, sum_from};
+ghost use Rattle.lang_forms.specs.inner.Parts.{at_most_formula, broken_from, compared_formula};
+ghost use Rattle.lang_forms.specs.inner.Parts.{difference, formulas_in, less_formula, product_from};
+ghost use Rattle.lang_forms.specs.inner.Parts.{sum_from};
 
 use crate::form::Flat;
 use crate::scope::{Entry, Meaning, find};

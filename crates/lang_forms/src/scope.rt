@@ -4,7 +4,8 @@ ghost use Rattle.std.specs.Prelude.{◌≡◌, ◌++◌, ◌≤◌, [], ◌∷�
 ghost use Rattle.std.specs.Str.{bytes_eq};
 ghost use Rattle.lang_base.specs.Limits.{FILE_BYTES, FIRST_LOCAL};
 ghost use Rattle.lang_forms.specs.Forms.{meaning_place};
-ghost use Rattle.lang_forms.specs.Scope.{constant_value, declared_from, index_of, input_entries, input_meaning, scope_of};
+ghost use Rattle.lang_forms.specs.Scope.{constant_value, declared_from, index_of, input_entries};
+ghost use Rattle.lang_forms.specs.Scope.{input_meaning, scope_of};
 
 use base_list::Seq;
 use lang_base::{Kind, Name, limits};

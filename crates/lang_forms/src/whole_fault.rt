@@ -6,7 +6,10 @@ ghost use Rattle.lang_base.specs.SourceFaults.{least};
 ghost use Rattle.lang_forms.specs.Forms.{is_constant, is_limited};
 ghost use Rattle.lang_forms.specs.Making.{IsInt, has_small_numbers};
 ghost use Rattle.lang_forms.specs.Sense.{faults_in, large_form, sense, wrong_type};
-ghost use Rattle.lang_forms.specs.inner.Parts.{IsFirstOfBoth, IsFirstOfComparison, IsFirstOfEither, IsFirstOfNot, IsFirstOfProduct, IsFirstOfSum, broken_from, faults_in_parts, first_in_product, first_in_sides, first_in_sum};
+ghost use Rattle.lang_forms.specs.inner.Parts.{IsFirstOfBoth, IsFirstOfComparison, IsFirstOfEither};
+ghost use Rattle.lang_forms.specs.inner.Parts.{IsFirstOfNot, IsFirstOfProduct, IsFirstOfSum};
+ghost use Rattle.lang_forms.specs.inner.Parts.{broken_from, faults_in_parts, first_in_product};
+ghost use Rattle.lang_forms.specs.inner.Parts.{first_in_sides, first_in_sum};
 
 use crate::finding::{first_place, is_other, kind_of};
 use crate::form::Flat;

@@ -2,7 +2,9 @@
 
 ghost use Rattle.std.specs.Prelude.{◌≡◌, ◌++◌, codes};
 ghost use Rattle.std.specs.List.{flat_map};
-ghost use Rattle.lang_printer.specs.Canonical.{tree_text, declared_text, guarded_text, lines_text, blocks_text, method_text, input_texts, kind_text, literal_text, minus_text, joined};
+ghost use Rattle.lang_printer.specs.Canonical.{tree_text, declared_text, guarded_text, lines_text};
+ghost use Rattle.lang_printer.specs.Canonical.{blocks_text, method_text, input_texts, kind_text};
+ghost use Rattle.lang_printer.specs.Canonical.{literal_text, minus_text, joined};
 ghost use Rattle.lang_printer.specs.Depths.{levels};
 ghost use Rattle.base_io.specs.Writing.{Wrote};
 

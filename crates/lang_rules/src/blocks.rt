@@ -5,7 +5,8 @@ ghost use Rattle.std.specs.List.{flat_map};
 ghost use Rattle.lang_base.specs.SourceFaults.{least};
 ghost use Rattle.lang_forms.specs.declared.scope.Entry.{Entry};
 ghost use Rattle.lang_forms.specs.Making.{has_small_numbers};
-ghost use Rattle.lang_rules.specs.Rules.{block_faults, early_in_blocks, faults_in_blocks, return_faults};
+ghost use Rattle.lang_rules.specs.Rules.{block_faults, early_in_blocks, faults_in_blocks};
+ghost use Rattle.lang_rules.specs.Rules.{return_faults};
 
 use crate::limits::over_statements;
 use crate::statements::{any_return, early_return, fault_in_each, fault_in_expected};

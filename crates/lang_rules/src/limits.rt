@@ -3,11 +3,15 @@
 
 ghost use Rattle.std.specs.Prelude.{◌≡◌, map, slice_get};
 ghost use Rattle.std.specs.List.{flat_map};
-ghost use Rattle.lang_base.specs.Limits.{CONSTANTS, FIELDS, INPUTS, LOCALS, METHODS, METHOD_BLOCKS, STATEMENTS};
+ghost use Rattle.lang_base.specs.Limits.{CONSTANTS, FIELDS, INPUTS, LOCALS, METHODS, METHOD_BLOCKS};
+ghost use Rattle.lang_base.specs.Limits.{STATEMENTS};
 ghost use Rattle.lang_tree.specs.declared.tree.StmtTree.{out-StmtTree};
-ghost use Rattle.lang_base.specs.declared.counted.Counted.TheVariants.{Blocks, Constants, Fields, Locals, Methods, Parameters, Statements};
+ghost use Rattle.lang_base.specs.declared.counted.Counted.TheVariants.{Blocks, Constants, Fields};
+ghost use Rattle.lang_base.specs.declared.counted.Counted.TheVariants.{Locals, Methods, Parameters};
+ghost use Rattle.lang_base.specs.declared.counted.Counted.TheVariants.{Statements};
 ghost use Rattle.lang_base.specs.SourceFaults.{least};
-ghost use Rattle.lang_rules.specs.Rules.{constant_place, declared_at, field_place, over, over_at, places_in, statement_places};
+ghost use Rattle.lang_rules.specs.Rules.{constant_place, declared_at, field_place, over, over_at};
+ghost use Rattle.lang_rules.specs.Rules.{places_in, statement_places};
 ghost use Rattle.lang_rules.specs.inner.Counting.{counted, declares_constant, statement_place};
 
 use crate::names::place_of_name;

@@ -1,10 +1,12 @@
 //! Names that are those of earlier declarations, methods, inputs or locals.
 
-ghost use Rattle.std.specs.Prelude.{◌≡◌, ◌↔◌, ◌<◌, [], ◌++◌, Contains, IsTrue, Some, None, if◌then◌else◌, length, map, slice_get, take};
+ghost use Rattle.std.specs.Prelude.{◌≡◌, ◌↔◌, ◌<◌, [], ◌++◌, Contains, IsTrue, Some, None};
+ghost use Rattle.std.specs.Prelude.{if◌then◌else◌, length, map, slice_get, take};
 ghost use Rattle.lang_tree.specs.Names.{declared_name as bare_name};
 ghost use Rattle.lang_base.specs.declared.source_fault.Refusal.TheVariants as refusals;
 ghost use Rattle.lang_base.specs.SourceFaults.{fault_at, least};
-ghost use Rattle.lang_rules.specs.Rules.{declared_name, declared_names, input_names, method_names, repeated};
+ghost use Rattle.lang_rules.specs.Rules.{declared_name, declared_names, input_names, method_names};
+ghost use Rattle.lang_rules.specs.Rules.{repeated};
 
 use lang_base::{Named, Refusal, SourceFault, earlier_of, is_among, is_repeated};
 use lang_tree::{Decl, InputTree, MethodTree};

@@ -6,7 +6,8 @@ ghost use Rattle.lang_base.specs.SourceFaults.{least};
 ghost use Rattle.lang_forms.specs.Making.{has_small_numbers};
 ghost use Rattle.lang_forms.specs.Scope.{entry_named};
 ghost use Rattle.lang_forms.specs.Sense.{sense};
-ghost use Rattle.lang_rules.specs.Rules.{early_faults, expected, faults_in_each, finding, return_faults, target_faults};
+ghost use Rattle.lang_rules.specs.Rules.{early_faults, expected, faults_in_each, finding};
+ghost use Rattle.lang_rules.specs.Rules.{return_faults, target_faults};
 ghost use Rattle.lang_rules.specs.inner.Parts.{branch_faults, misplaced_in, set_faults, unwanted};
 
 use lang_base::{Kind, Refusal, SourceFault, earlier_of};

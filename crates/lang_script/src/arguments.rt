@@ -4,7 +4,8 @@ ghost use Rattle.std.specs.Prelude.{◌≡◌, ◌≤◌, length, zip};
 ghost use Rattle.std.specs.List.{flat_map};
 ghost use Rattle.lang_base.specs.Limits.{GREATEST_NUMBER};
 ghost use Rattle.lang_base.specs.SourceFaults.{least};
-ghost use Rattle.lang_script.specs.Faults.{argument_faults, argument_place, is_for, number_faults, type_faults};
+ghost use Rattle.lang_script.specs.Faults.{argument_faults, argument_place, is_for, number_faults};
+ghost use Rattle.lang_script.specs.Faults.{type_faults};
 ghost use Rattle.lang_script.specs.Scripts.{number_of, value_of};
 ghost use Rattle.lang_script.specs.inner.Making.{IsSmallArgument};
 

@@ -4,7 +4,8 @@ ghost use Rattle.std.specs.Prelude.{◌≡◌, ◌<◌, IfSome, length, position
 ghost use Rattle.std.specs.List.{flat_map};
 ghost use Rattle.std.specs.Str.{bytes_eq};
 ghost use Rattle.lang_base.specs.SourceFaults.{least};
-ghost use Rattle.lang_script.specs.Faults.{PlacedCall, call_faults, item_faults, items_in, method_faults};
+ghost use Rattle.lang_script.specs.Faults.{PlacedCall, call_faults, item_faults, items_in};
+ghost use Rattle.lang_script.specs.Faults.{method_faults};
 ghost use Rattle.lang_script.specs.Scripts.{method_named};
 
 use crate::arguments::{argument_fault, large_number};

@@ -7,7 +7,8 @@ ghost use Rattle.lang_tokens.specs.Words.{words};
 ghost use Rattle.lang_syntax.specs.ClientGrammar.{IsClientFile, DerivesClients};
 ghost use Rattle.lang_syntax.specs.Fault.{AnswersEach, IsFault};
 ghost use Rattle.lang_syntax.specs.inner.Takes.{Takes};
-ghost use Rattle.lang_syntax.specs.inner.Reading.{Gives, AreTokens, client_at, clients_at, client_file};
+ghost use Rattle.lang_syntax.specs.inner.Reading.{Gives, AreTokens, client_at, clients_at};
+ghost use Rattle.lang_syntax.specs.inner.Reading.{client_file};
 
 use super::cursor::Cursor;
 use super::fault::{Stop, fault_of};

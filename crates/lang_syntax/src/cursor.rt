@@ -2,7 +2,10 @@
 
 ghost use Rattle.std.specs.Prelude.{◌≡◌, ◌==◌, ℕ, List, length};
 ghost use Rattle.lang_tokens.specs.Words.{words};
-ghost use Rattle.lang_syntax.specs.inner.Reading.{AreTokens, IsMarkKind, atom_at, begins, begins_ident, begins_listed, ident_at, kind_of, listed_at, mark_at, minus_of, numeral_at, op_of, placed_at, plain_argument_at, truth_of};
+ghost use Rattle.lang_syntax.specs.inner.Reading.{AreTokens, IsMarkKind, atom_at, begins};
+ghost use Rattle.lang_syntax.specs.inner.Reading.{begins_ident, begins_listed, ident_at, kind_of};
+ghost use Rattle.lang_syntax.specs.inner.Reading.{listed_at, mark_at, minus_of, numeral_at, op_of};
+ghost use Rattle.lang_syntax.specs.inner.Reading.{placed_at, plain_argument_at, truth_of};
 ghost use Rattle.lang_syntax.specs.inner.Takes.{Takes};
 
 use super::fault::{Stop, stop_before};

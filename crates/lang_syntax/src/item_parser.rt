@@ -1,7 +1,11 @@
 //! The parser of a client's items. The recursion is as deep as the levels that are left.
 
 ghost use Rattle.std.specs.Prelude.{◌≡◌, ◌<◌, ◌-◌, ℕ, List};
-ghost use Rattle.lang_syntax.specs.inner.Reading.{argument_at, arguments_at, begins_item, call_at, called_at, each_at, item_at, items_at, later_argument_at, later_arguments_at, negative_argument_at, repeat_at, some_arguments_at, tried_at};
+ghost use Rattle.lang_syntax.specs.inner.Reading.{argument_at, arguments_at, begins_item, call_at};
+ghost use Rattle.lang_syntax.specs.inner.Reading.{called_at, each_at, item_at, items_at};
+ghost use Rattle.lang_syntax.specs.inner.Reading.{later_argument_at, later_arguments_at};
+ghost use Rattle.lang_syntax.specs.inner.Reading.{negative_argument_at, repeat_at};
+ghost use Rattle.lang_syntax.specs.inner.Reading.{some_arguments_at, tried_at};
 ghost use Rattle.lang_syntax.specs.inner.Takes.{Takes};
 
 use super::cursor::Cursor;

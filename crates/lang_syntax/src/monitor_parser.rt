@@ -6,7 +6,14 @@ ghost use Rattle.lang_tokens.specs.Spelling.{Spells};
 ghost use Rattle.lang_tokens.specs.Words.{words};
 ghost use Rattle.lang_syntax.specs.Grammar.{IsMonitorFile, Derives};
 ghost use Rattle.lang_syntax.specs.Fault.{AnswersEach, IsFault};
-ghost use Rattle.lang_syntax.specs.inner.Reading.{AreTokens, Gives, begins_declaration, blocks_at, constant_at, declaration_at, declarations_at, flag_at, guarded_at, head_at, input_at, inputs_at, int_at, later_blocks_at, later_input_at, later_inputs_at, literal_at, local_at, locals_at, method_at, methods_at, monitor_at, monitor_file, some_inputs_at, variable_at};
+ghost use Rattle.lang_syntax.specs.inner.Reading.{AreTokens, Gives, begins_declaration, blocks_at};
+ghost use Rattle.lang_syntax.specs.inner.Reading.{constant_at, declaration_at, declarations_at};
+ghost use Rattle.lang_syntax.specs.inner.Reading.{flag_at, guarded_at, head_at, input_at};
+ghost use Rattle.lang_syntax.specs.inner.Reading.{inputs_at, int_at, later_blocks_at};
+ghost use Rattle.lang_syntax.specs.inner.Reading.{later_input_at, later_inputs_at, literal_at};
+ghost use Rattle.lang_syntax.specs.inner.Reading.{local_at, locals_at, method_at, methods_at};
+ghost use Rattle.lang_syntax.specs.inner.Reading.{monitor_at, monitor_file, some_inputs_at};
+ghost use Rattle.lang_syntax.specs.inner.Reading.{variable_at};
 ghost use Rattle.lang_syntax.specs.inner.Takes.{Takes};
 
 use super::cursor::Cursor;

@@ -1,7 +1,9 @@
 //! The parser of statements and blocks. The recursion is as deep as the levels that are left.
 
 ghost use Rattle.std.specs.Prelude.{◌≡◌, ◌<◌, ◌-◌, ℕ, List};
-ghost use Rattle.lang_syntax.specs.inner.Reading.{begins_statement, each_at, condition_at, block_at, else_at, set_at, return_at, if_at, simple_at, statement_at};
+ghost use Rattle.lang_syntax.specs.inner.Reading.{begins_statement, each_at, condition_at};
+ghost use Rattle.lang_syntax.specs.inner.Reading.{block_at, else_at, set_at, return_at, if_at};
+ghost use Rattle.lang_syntax.specs.inner.Reading.{simple_at, statement_at};
 ghost use Rattle.lang_syntax.specs.inner.Takes.{Takes};
 
 use super::cursor::Cursor;

@@ -1,11 +1,14 @@
 //! The piece at the front of the bytes: a blank, a comment or a token.
 
-ghost use Rattle.std.specs.Prelude.{◌≡◌, ℕ, List, length, IfSome, nat_eq, find, option_map, ◌≤◌, ◌<◌, ◌+◌};
+ghost use Rattle.std.specs.Prelude.{◌≡◌, ℕ, List, length, IfSome, nat_eq, find, option_map, ◌≤◌};
+ghost use Rattle.std.specs.Prelude.{◌<◌, ◌+◌};
 ghost use Rattle.std.specs.List.{position, prefix_len, starts_with};
 ghost use Rattle.std.specs.Str.{bytes_eq};
-ghost use Rattle.lang_tokens.specs.Spelling.{is_word_byte, is_digit, is_blank, is_in_line, kind_of_word};
+ghost use Rattle.lang_tokens.specs.Spelling.{is_word_byte, is_digit, is_blank, is_in_line};
+ghost use Rattle.lang_tokens.specs.Spelling.{kind_of_word};
 ghost use Rattle.lang_base.specs.Limits.{FILE_BYTES};
-ghost use Rattle.lang_tokens.specs.inner.Pieces.{class_of, is_run, other_at, by_class, longest_at, limited, sign_at};
+ghost use Rattle.lang_tokens.specs.inner.Pieces.{class_of, is_run, other_at, by_class, longest_at};
+ghost use Rattle.lang_tokens.specs.inner.Pieces.{limited, sign_at};
 
 use super::token::{KEYWORD_KINDS, SIGNS, TokenKind};
 use lang_base::limits::WORD_BYTES;

@@ -3,8 +3,10 @@
 ghost use Rattle.std.specs.Prelude.{◌≡◌, ◌+◌, ◌↔◌, IfOk, OnOk, IsTrue, false};
 ghost use Rattle.logic_linear.specs.Truth.{Valuation, truth_of};
 ghost use Rattle.logic_cert.specs.Refutes.{Refutes};
-ghost use Rattle.logic_cert.specs.inner.Branches.{branch_refutes, branches_size, put_before, sizes_of};
-ghost use Rattle.logic_cert.specs.inner.Branches.{stack_of, IsGathered, Outweighs, PutsFirst, Replaces};
+ghost use Rattle.logic_cert.specs.inner.Branches.{branch_refutes, branches_size, put_before};
+ghost use Rattle.logic_cert.specs.inner.Branches.{sizes_of};
+ghost use Rattle.logic_cert.specs.inner.Branches.{stack_of, IsGathered, Outweighs, PutsFirst};
+ghost use Rattle.logic_cert.specs.inner.Branches.{Replaces};
 ghost use Rattle.logic_cert.specs.inner.Branches.{Shrinks, Splits};
 ghost use Rattle.logic_cert.specs.inner.Deciding.{refutes};
 

@@ -1,6 +1,7 @@
 //! The decision of a light cube.
 
-ghost use Rattle.std.specs.Prelude.{◌≡◌, ◌∷◌, [], ◌≤◌, ◌↔◌, IfOk, IfSome, None, Some, length, map, true};
+ghost use Rattle.std.specs.Prelude.{◌≡◌, ◌∷◌, [], ◌≤◌, ◌↔◌, IfOk, IfSome, None, Some, length, map};
+ghost use Rattle.std.specs.Prelude.{true};
 ghost use Rattle.logic_linear.specs.Linear.{IsLinear};
 ghost use Rattle.logic_cert.specs.Refutes.{chain_closes, is_absurd};
 ghost use Rattle.logic_linear.specs.Fractions.{HasFractionalSolution};

@@ -3,7 +3,8 @@
 ghost use Rattle.std.specs.Prelude.{◌≡◌, ◌++◌, ◌∷◌, [], IfOk, OnOk};
 ghost use Rattle.std.specs.List.{filter};
 ghost use Rattle.logic_elim.specs.Chains.{KeepsSound, state_of};
-ghost use Rattle.logic_elim.specs.Steps.{is_free_row, is_lower_row, is_upper_row, AddsLowers, AddsSides, Cancels, Eliminates, IsAdded, Pushes, SumAdded};
+ghost use Rattle.logic_elim.specs.Steps.{is_free_row, is_lower_row, is_upper_row, AddsLowers};
+ghost use Rattle.logic_elim.specs.Steps.{AddsSides, Cancels, Eliminates, IsAdded, Pushes, SumAdded};
 
 use super::rows::{Numbered, Rows, says_nothing, side_for, times_at};
 use logic_cert::{Combine, WideRow, sum_of_rows};

@@ -4,7 +4,8 @@ ghost use Rattle.std.specs.Prelude.{◌≡◌, ◌↔◌, ◌^◌, IfOk, IsTrue}
 ghost use Rattle.std.specs.List.{list_all};
 ghost use Rattle.logic_linear.specs.LightCubes.{IsLightCube};
 ghost use Rattle.logic_elim.specs.Chains.{rows_in};
-ghost use Rattle.logic_elim.specs.inner.Light.{has_light_numbers, has_light_times, is_light_row, is_within};
+ghost use Rattle.logic_elim.specs.inner.Light.{has_light_numbers, has_light_times, is_light_row};
+ghost use Rattle.logic_elim.specs.inner.Light.{is_within};
 
 use super::places::places_of;
 use super::rows::{Numbered, Rows};

@@ -1,6 +1,7 @@
 //! The rows of a cube: of those with the same terms only the tightest.
 
-ghost use Rattle.std.specs.Prelude.{◌≡◌, ◌∷◌, ◌++◌, ◌+◌, ◌*◌, ◌%◌, ◌<◌, [], IfOk, OnErr, if◌then◌else◌, length, nat_le, slice_get};
+ghost use Rattle.std.specs.Prelude.{◌≡◌, ◌∷◌, ◌++◌, ◌+◌, ◌*◌, ◌%◌, ◌<◌, [], IfOk, OnErr};
+ghost use Rattle.std.specs.Prelude.{if◌then◌else◌, length, nat_le, slice_get};
 ghost use Rattle.std.specs.List.{find, list_any, AllByRecursion as Each};
 ghost use Rattle.logic_linear.specs.Substitution.{times_at};
 ghost use Rattle.logic_elim.specs.Rows.{is_as_tight, same_terms, says_nothing, with_row};

@@ -3,7 +3,8 @@
 ghost use Rattle.std.specs.Prelude.{◌≡◌, ◌↔◌, IfOk, IsTrue, map, true};
 ghost use Rattle.std.specs.List.{list_all};
 ghost use Rattle.logic_linear.specs.Negation.{can_negate, negation};
-ghost use Rattle.logic_linear.specs.Substitution.{are_in_range, is_formula_in_range, is_linear_in_range};
+ghost use Rattle.logic_linear.specs.Substitution.{are_in_range, is_formula_in_range};
+ghost use Rattle.logic_linear.specs.Substitution.{is_linear_in_range};
 
 use super::form::Lin;
 use base_list::Seq;

@@ -5,9 +5,12 @@ ghost use Rattle.std.specs.List.{list_all, filter};
 ghost use Rattle.logic_linear.specs.Linear.{IsTerm};
 ghost use Rattle.logic_linear.specs.Measures.{nodes_of, MOST_NODES};
 ghost use Rattle.logic_linear.specs.Negation.{negation, negative_term, one_less};
-ghost use Rattle.logic_linear.specs.Substitution.{has_term_in_range, is_in_range, is_other, put_in_flag};
-ghost use Rattle.logic_linear.specs.Substitution.{put_in_row, replaced, substituted, times_at, within_limits};
-ghost use Rattle.logic_linear.specs.inner.Limited.{all_in_range, form_in_range, in_range, nodes_of_all};
+ghost use Rattle.logic_linear.specs.Substitution.{has_term_in_range, is_in_range, is_other};
+ghost use Rattle.logic_linear.specs.Substitution.{put_in_flag};
+ghost use Rattle.logic_linear.specs.Substitution.{put_in_row, replaced, substituted, times_at};
+ghost use Rattle.logic_linear.specs.Substitution.{within_limits};
+ghost use Rattle.logic_linear.specs.inner.Limited.{all_in_range, form_in_range, in_range};
+ghost use Rattle.logic_linear.specs.inner.Limited.{nodes_of_all};
 ghost use Rattle.logic_linear.specs.inner.Merging.{Passes};
 
 use super::form::{Lin, Term, negatives};

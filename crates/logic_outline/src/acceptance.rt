@@ -28,8 +28,8 @@ struct Branch<'a> {
 ///
 /// It goes over the nodes once and follows one branch after the other from a list of its own, so
 /// the depth of its calls is the same for every formula and certificate, and none is too deep for
-/// it. A clash or a chain is checked by [`accepts`], over the rows and flags that were met. It fails
-/// only for want of memory.
+/// it. A clash or a chain is checked by [`accepts`], over the rows and flags that were met. It
+/// fails only for want of memory.
 pub fn is_refuted(alloc: Global, formula: &Formula, outline: &Outline) -> Result<bool, AllocError>
     ensures { IfOk result (λ refuted. IsTrue refuted ↔ Refutes formula.now outline.now) }
 {

@@ -7,7 +7,10 @@ ghost use Rattle.logic_elim.specs.Begins.{IsBegin};
 ghost use Rattle.logic_elim.specs.Chains.{state_of};
 ghost use Rattle.logic_linear.specs.Measures.{MOST_NODES};
 ghost use Rattle.logic_solve.specs.Cubes.{is_general, HasGeneral};
-ghost use Rattle.logic_solve.specs.inner.Literals.{is_absurd_literal, noted, terms_in_literal, terms_in_literals, Closes, EndsLight, HasAbsurd, IsClosing, IsGathered, FitsLiteral, FindsChain, HaveNoAbsurd, IsStart, LeavesLight};
+ghost use Rattle.logic_solve.specs.inner.Literals.{is_absurd_literal, noted, terms_in_literal};
+ghost use Rattle.logic_solve.specs.inner.Literals.{terms_in_literals, Closes, EndsLight, HasAbsurd};
+ghost use Rattle.logic_solve.specs.inner.Literals.{IsClosing, IsGathered, FitsLiteral, FindsChain};
+ghost use Rattle.logic_solve.specs.inner.Literals.{HaveNoAbsurd, IsStart, LeavesLight};
 
 use super::differences::{chain_of, edges_of};
 use super::elimination::{MOST_ROWS, eliminate_all};

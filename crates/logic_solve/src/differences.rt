@@ -4,7 +4,8 @@ ghost use Rattle.std.specs.Prelude.{◌≡◌, ◌++◌, ◌+◌, ◌<◌, ◌�
 ghost use Rattle.std.specs.List.{list_any};
 ghost use Rattle.logic_elim.specs.Rows.{has_terms};
 ghost use Rattle.logic_linear.specs.Measures.{MOST_NODES};
-ghost use Rattle.logic_solve.specs.inner.Differences.{chain_along, chain_of, edges_with, sum_with, lower_vertex, upper_vertex, AreEdgesOf};
+ghost use Rattle.logic_solve.specs.inner.Differences.{chain_along, chain_of, edges_with, sum_with};
+ghost use Rattle.logic_solve.specs.inner.Differences.{lower_vertex, upper_vertex, AreEdgesOf};
 ghost use Rattle.logic_solve.specs.Cubes.{is_general};
 ghost use Rattle.logic_solve.specs.inner.Literals.{FitsLiteral};
 

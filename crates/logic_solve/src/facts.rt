@@ -4,7 +4,9 @@ ghost use Rattle.std.specs.Prelude.{◌≡◌, ◌-◌, ◌≤◌, [], drop, IfO
 ghost use Rattle.std.specs.List.{list_any};
 ghost use Rattle.logic_cert.specs.declared.cert.Cert.{out-Cert};
 ghost use Rattle.logic_linear.specs.Measures.{MOST_NODES};
-ghost use Rattle.logic_solve.specs.inner.Facts.{is_flag, moved, moved_sum, AreFacts, AreFactsOf, AreMore, IsCutBack, IsMarked, IsNoted, IsMoved, IsMovedClash};
+ghost use Rattle.logic_solve.specs.inner.Facts.{is_flag, moved, moved_sum, AreFacts, AreFactsOf};
+ghost use Rattle.logic_solve.specs.inner.Facts.{AreMore, IsCutBack, IsMarked, IsNoted, IsMoved};
+ghost use Rattle.logic_solve.specs.inner.Facts.{IsMovedClash};
 ghost use Rattle.logic_solve.specs.inner.Literals.{IsClosing};
 
 use super::closing::closing_over;

@@ -4,7 +4,9 @@ ghost use Rattle.std.specs.Prelude.{◌≡◌, [], ◌∷◌, ◌^◌, ◌+ℤ�
 ghost use Rattle.std.specs.List.{position};
 ghost use Rattle.logic_linear.specs.LightCubes.{IsWithin};
 ghost use Rattle.logic_solve.specs.inner.Different.{Among};
-ghost use Rattle.logic_solve.specs.inner.Paths.{comes_from, is_of, height_at, path_at, with_reached, AreEdges, IsReached, Passes, Relaxes, EndsSearch};
+ghost use Rattle.logic_solve.specs.inner.Paths.{comes_from, is_of, height_at, path_at};
+ghost use Rattle.logic_solve.specs.inner.Paths.{with_reached, AreEdges, IsReached, Passes, Relaxes};
+ghost use Rattle.logic_solve.specs.inner.Paths.{EndsSearch};
 
 use std::alloc::{AllocError, Global};
 

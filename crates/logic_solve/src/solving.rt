@@ -7,7 +7,8 @@ ghost use Rattle.logic_linear.specs.Measures.{nodes_of, MOST_NODES};
 ghost use Rattle.logic_solve.specs.Cubes.{HasNoClash};
 ghost use Rattle.logic_solve.specs.Solutions.{IsSolution};
 ghost use Rattle.logic_solve.specs.inner.Paths.{height_at};
-ghost use Rattle.logic_solve.specs.inner.Solving.{number_in, true_places, AreNear, IsSolved, StandsSo};
+ghost use Rattle.logic_solve.specs.inner.Solving.{number_in, true_places, AreNear, IsSolved};
+ghost use Rattle.logic_solve.specs.inner.Solving.{StandsSo};
 
 use super::closing::{absurd_sum, has_general_row, places_of};
 use super::differences::edges_of;

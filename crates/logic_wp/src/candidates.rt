@@ -1,6 +1,7 @@
 //! The formulas of candidates.
 
-ghost use Rattle.std.specs.Prelude.{◌≡◌, ◌≢◌, ◌^◌, ◌++◌, ℤ, pos, neg_ℤ, IfOk, IsTrue, true, map, [], ◌∷◌};
+ghost use Rattle.std.specs.Prelude.{◌≡◌, ◌≢◌, ◌^◌, ◌++◌, ℤ, pos, neg_ℤ, IfOk, IsTrue, true, map};
+ghost use Rattle.std.specs.Prelude.{[], ◌∷◌};
 ghost use Rattle.std.specs.List.{list_all};
 ghost use Rattle.lang_base.specs.Numbers.{is_within};
 ghost use Rattle.logic_linear.specs.Negation.{can_negate};

@@ -3,7 +3,8 @@
 ghost use Rattle.std.specs.Prelude.{◌≡◌, ◌<◌, ◌≤◌, IfOk, IsTrue, true, length, [], ◌∷◌};
 ghost use Rattle.std.specs.List.{list_all};
 ghost use Rattle.logic_linear.specs.Negation.{can_negate, negation};
-ghost use Rattle.lang_monitor.specs.Queries.{block_guard, hypotheses, keeps_query, no_test_query, none_needed_query, one_enough_query, query_of};
+ghost use Rattle.lang_monitor.specs.Queries.{block_guard, hypotheses, keeps_query, no_test_query};
+ghost use Rattle.lang_monitor.specs.Queries.{none_needed_query, one_enough_query, query_of};
 ghost use Rattle.logic_wp.specs.Expressible.{is_expressible};
 ghost use Rattle.logic_wp.specs.PlainClaims.{MayAsk};
 

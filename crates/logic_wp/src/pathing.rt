@@ -3,7 +3,8 @@
 ghost use Rattle.std.specs.Prelude.{◌≡◌, ◌++◌, IfOk, IsTrue, true, [], ◌∷◌};
 ghost use Rattle.std.specs.List.{flat_map};
 ghost use Rattle.logic_linear.specs.Negation.{can_negate};
-ghost use Rattle.logic_wp.specs.Paths.{assuming, body_paths, branch_paths, continued, statement_paths};
+ghost use Rattle.logic_wp.specs.Paths.{assuming, body_paths, branch_paths, continued};
+ghost use Rattle.logic_wp.specs.Paths.{statement_paths};
 ghost use Rattle.logic_wp.specs.inner.Negatable.{negates_body, negates_statement};
 
 use super::path::Path;

@@ -2,7 +2,8 @@
 
 ghost use Rattle.std.specs.Prelude.{◌≡◌, map, true};
 ghost use Rattle.std.specs.List.{list_all};
-ghost use Rattle.logic_linear.specs.Substitution.{is_formula_in_range, is_formula_within, is_linear_in_range};
+ghost use Rattle.logic_linear.specs.Substitution.{is_formula_in_range, is_formula_within};
+ghost use Rattle.logic_linear.specs.Substitution.{is_linear_in_range};
 ghost use Rattle.logic_wp.specs.Limits.{has_few_nodes};
 ghost use Rattle.logic_wp.specs.inner.Choices.{formula_within};
 

@@ -3,7 +3,8 @@
 ghost use Rattle.std.specs.Prelude.{◌≡◌, ◌≤◌, ◌-◌, IfOk, IsTrue, true, map, length};
 ghost use Rattle.std.specs.List.{list_all};
 ghost use Rattle.logic_linear.specs.Negation.{can_negate, negation};
-ghost use Rattle.lang_monitor.specs.Queries.{for_waiting, waiting_form, waiting_guard, waiting_place, waiting_term};
+ghost use Rattle.lang_monitor.specs.Queries.{for_waiting, waiting_form, waiting_guard};
+ghost use Rattle.lang_monitor.specs.Queries.{waiting_place, waiting_term};
 ghost use Rattle.logic_wp.specs.inner.Movable.{is_movable, is_movable_place, is_movable_term};
 
 use base_list::Seq;

@@ -1,6 +1,7 @@
 //! The event machine.
 
-ghost use Rattle.std.specs.Prelude.{◌≡◌, ◌<◌, ◌↔◌, false, true, IfOk, IsSomeAnd, IsTrue, MatchOption, MatchResult, None, Some};
+ghost use Rattle.std.specs.Prelude.{◌≡◌, ◌<◌, ◌↔◌, false, true, IfOk, IsSomeAnd, IsTrue};
+ghost use Rattle.std.specs.Prelude.{MatchOption, MatchResult, None, Some};
 ghost use Rattle.std.specs.Prelude.{length, map};
 ghost use Rattle.std.specs.Prelude.{slice_get};
 ghost use Rattle.machine_implicit.specs.declared.place.Place.{Place};
@@ -14,8 +15,10 @@ ghost use Rattle.machine_explicit.specs.Machines.{Happened, IsMachine, KeepsWake
 ghost use Rattle.machine_explicit.specs.Machines.{opened, stage_of};
 ghost use Rattle.machine_explicit.specs.inner.Positions.{idle_position};
 ghost use Rattle.machine_explicit.specs.Sections.{can_start};
-ghost use Rattle.machine_explicit.specs.inner.Waiting.{CanUnlock, Comes, CountsNotes, EachRests, Goes, HasRun, HasWaited};
-ghost use Rattle.machine_explicit.specs.inner.Waiting.{IsComing, IsInside, IsSettled, NoneComes, NotStarted, Passes};
+ghost use Rattle.machine_explicit.specs.inner.Waiting.{CanUnlock, Comes, CountsNotes, EachRests};
+ghost use Rattle.machine_explicit.specs.inner.Waiting.{Goes, HasRun, HasWaited};
+ghost use Rattle.machine_explicit.specs.inner.Waiting.{IsComing, IsInside, IsSettled, NoneComes};
+ghost use Rattle.machine_explicit.specs.inner.Waiting.{NotStarted, Passes};
 ghost use Rattle.machine_explicit.specs.inner.Waiting.{Started, WaitsOn, WasRefused, WentIn};
 
 use super::calls::{all_blocks, calls, condition_of, is_first_try};

@@ -1,6 +1,7 @@
 //! Who waits on each condition, in the order in which they began to wait.
 
-ghost use Rattle.std.specs.Prelude.{◌≡◌, ◌<◌, ◌≤◌, ◌∷◌, ◌++◌, [], All, Contains, IfOk, Some, drop, length, replicate};
+ghost use Rattle.std.specs.Prelude.{◌≡◌, ◌<◌, ◌≤◌, ◌∷◌, ◌++◌, [], All, Contains, IfOk, Some, drop};
+ghost use Rattle.std.specs.Prelude.{length, replicate};
 ghost use Rattle.std.specs.Prelude.{slice_get, slice_set, take};
 ghost use Rattle.circular_buffer.specs.Buffer.{buffer};
 ghost use Rattle.lang_base.specs.Limits.{CLIENTS};

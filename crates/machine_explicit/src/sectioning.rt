@@ -3,7 +3,8 @@
 ghost use Rattle.std.specs.Prelude.{◌≡◌, ◌<◌, MatchOption, length};
 ghost use Rattle.machine_explicit.specs.inner.Rings.{HaveLines};
 ghost use Rattle.machine_explicit.specs.inner.Waiting.{HasNote, IsInside, IsNotifying};
-ghost use Rattle.machine_explicit.specs.inner.Waiting.{IsSettled, MadeNoteOf, MadeNotesOf, MakesSectionOf};
+ghost use Rattle.machine_explicit.specs.inner.Waiting.{IsSettled, MadeNoteOf, MadeNotesOf};
+ghost use Rattle.machine_explicit.specs.inner.Waiting.{MakesSectionOf};
 ghost use Rattle.machine_explicit.specs.inner.Waiting.{NotStarted, WentOnOf};
 
 use super::clients::Clients;

@@ -5,7 +5,8 @@ ghost use Rattle.std.specs.Prelude.{slice_get};
 ghost use Rattle.lang_base.specs.Limits.{CALLS, METHOD_BLOCKS};
 ghost use Rattle.machine_implicit.specs.Steps.{guard_truth, FitsBlock, FitsState};
 ghost use Rattle.machine_implicit.specs.Scripted.{calls_of, FitsCall, FitsScripts};
-ghost use Rattle.machine_implicit.specs.Places.{block_at, first_place, inputs_at, is_last, gives_up, next_place};
+ghost use Rattle.machine_implicit.specs.Places.{block_at, first_place, inputs_at, is_last};
+ghost use Rattle.machine_implicit.specs.Places.{gives_up, next_place};
 ghost use Rattle.machine_implicit.specs.Places.{may_step, FitsPlace, FitsPlaceAt, IsStep};
 
 use super::commit::Reply;

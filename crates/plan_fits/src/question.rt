@@ -1,6 +1,7 @@
 //! The question whether a block may leave 64 bits.
 
-ghost use Rattle.std.specs.Prelude.{◌≡◌, ◌<◌, ◌≤◌, IfOk, IfSome, Some, length, map, slice_get, true};
+ghost use Rattle.std.specs.Prelude.{◌≡◌, ◌<◌, ◌≤◌, IfOk, IfSome, Some, length, map, slice_get};
+ghost use Rattle.std.specs.Prelude.{true};
 ghost use Rattle.std.specs.List.{list_all};
 ghost use Rattle.lang_monitor.specs.Candidates.{AreSomeOf, candidates_of};
 ghost use Rattle.logic_linear.specs.Measures.{nodes_of, MOST_NODES};

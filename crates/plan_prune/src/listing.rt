@@ -1,12 +1,14 @@
 //! The candidates of a monitor.
 
-ghost use Rattle.std.specs.Prelude.{◌≡◌, ◌++◌, ◌∷◌, ◌==◌, ◌≤◌, not, map, length, [], IfOk, OnOk, true, false, if◌then◌else◌};
+ghost use Rattle.std.specs.Prelude.{◌≡◌, ◌++◌, ◌∷◌, ◌==◌, ◌≤◌, not, map, length, [], IfOk, OnOk};
+ghost use Rattle.std.specs.Prelude.{true, false, if◌then◌else◌};
 ghost use Rattle.std.specs.List.{filter, flat_map};
 ghost use Rattle.lang_base.specs.Limits.{FIELDS};
 ghost use Rattle.lang_monitor.specs.declared.candidate.Candidate.TheVariants.{Below};
 ghost use Rattle.lang_monitor.specs.Bodies.{number_of_value};
 ghost use Rattle.lang_monitor.specs.Candidates.{bounded, candidates_of, field_candidates};
-ghost use Rattle.lang_monitor.specs.Candidates.{int_fields, int_number, kind_candidates, pair_candidates};
+ghost use Rattle.lang_monitor.specs.Candidates.{int_fields, int_number, kind_candidates};
+ghost use Rattle.lang_monitor.specs.Candidates.{pair_candidates};
 
 use super::pool::pool;
 use lang_base::{Kind, Value};

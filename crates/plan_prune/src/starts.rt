@@ -1,10 +1,12 @@
 //! What is true at the start.
 
-ghost use Rattle.std.specs.Prelude.{◌≡◌, ◌≤◌, ◌∷◌, ◌++◌, ◌↔◌, true, [], All, IfOk, IsTrue, OnOk, length};
+ghost use Rattle.std.specs.Prelude.{◌≡◌, ◌≤◌, ◌∷◌, ◌++◌, ◌↔◌, true, [], All, IfOk, IsTrue, OnOk};
+ghost use Rattle.std.specs.Prelude.{length};
 ghost use Rattle.std.specs.Prelude.{if◌then◌else◌};
 ghost use Rattle.std.specs.List.{filter, list_all};
 ghost use Rattle.lang_base.specs.Limits.{FIELDS};
-ghost use Rattle.lang_monitor.specs.Bodies.{fits_64, no_inputs, number_of_value, truth_of_value, value_at};
+ghost use Rattle.lang_monitor.specs.Bodies.{fits_64, no_inputs, number_of_value, truth_of_value};
+ghost use Rattle.lang_monitor.specs.Bodies.{value_at};
 ghost use Rattle.lang_monitor.specs.Candidates.{AllHold, candidate_truth, candidates_of};
 ghost use Rattle.lang_monitor.specs.MonitorParts.{start_of};
 ghost use Rattle.logic_wp.specs.Expressible.{is_expressible};

@@ -4,10 +4,12 @@ ghost use Rattle.std.specs.Prelude.{◌≡◌, ◌&&◌, ◌↔◌, IfOk, IsTrue
 ghost use Rattle.logic_linear.specs.Differences.{has_difference_rows};
 ghost use Rattle.lang_monitor.specs.Candidates.{candidates_of};
 ghost use Rattle.lang_monitor.specs.Queries.{query_of};
-ghost use Rattle.logic_wp.specs.PlainClaims.{has_few_cubes, is_plain, IsBlockNumber, IsConditionNumber, MayAsk};
+ghost use Rattle.logic_wp.specs.PlainClaims.{has_few_cubes, is_plain, IsBlockNumber};
+ghost use Rattle.logic_wp.specs.PlainClaims.{IsConditionNumber, MayAsk};
 ghost use Rattle.plan_prune.specs.Hardness.{IsSmall};
 ghost use Rattle.plan_small.specs.Plain.{IsPlain};
-ghost use Rattle.plan_small.specs.inner.Smallness.{AreCandidates, ArePlainBelow, ArePlainToKeep, IsPlainBlock, IsPlainPair};
+ghost use Rattle.plan_small.specs.inner.Smallness.{AreCandidates, ArePlainBelow, ArePlainToKeep};
+ghost use Rattle.plan_small.specs.inner.Smallness.{IsPlainBlock, IsPlainPair};
 
 use super::simple::{are_simple_blocks, has_difference_rows};
 use lang_monitor::{Candidate, Claim, Monitor};

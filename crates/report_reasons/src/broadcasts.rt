@@ -13,9 +13,9 @@ use lang_tree::MonitorTree;
 use plan_needs::{BlockBroadcast, BroadcastReason};
 use plan_why::Failure;
 
-/// Writes a line for each reason: `why releaseTwo 1 broadcast: free=1 to free=3`, or `why releaseTwo
-/// 1 broadcast: not decided`, with fields, inputs and locals as `write_reasons` has them. It takes
-/// no memory.
+/// Writes a line for each reason: `why releaseTwo 1 broadcast: free=1 to free=3`, or `why
+/// releaseTwo 1 broadcast: not decided`, with fields, inputs and locals as `write_reasons` has
+/// them. It takes no memory.
 ///
 /// After `SinkFailed` the first bytes of the text were taken, fewer than all and maybe none.
 pub fn write_broadcast_reasons<S: Sink>(

@@ -1,6 +1,7 @@
 //! The claims that a plan rests on.
 
-ghost use Rattle.std.specs.Prelude.{◌≡◌, ◌++◌, ◌∷◌, ◌≤◌, [], IfOk, OnOk, length, map, if◌then◌else◌};
+ghost use Rattle.std.specs.Prelude.{◌≡◌, ◌++◌, ◌∷◌, ◌≤◌, [], IfOk, OnOk, length, map};
+ghost use Rattle.std.specs.Prelude.{if◌then◌else◌};
 ghost use Rattle.std.specs.List.{enumerate_from, flat_map};
 ghost use Rattle.lang_base.specs.Limits.{BLOCKS, CONDITIONS};
 ghost use Rattle.machine_events.specs.Plans.{has_note};

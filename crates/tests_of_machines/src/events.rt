@@ -90,8 +90,8 @@ fn notes_to(client: u32, target: Option<u32>) -> Event {
     Event::Notify { client, target }
 }
 
-/// A monitor and its clients, and a plan: the kinds of its conditions, and one note or none for each
-/// block.
+/// A monitor and its clients, and a plan: the kinds of its conditions, and one note or none for
+/// each block.
 #[derive(Clone, Copy)]
 struct Start<'a> {
     monitor: &'a [u8],

@@ -1,5 +1,5 @@
-//! Pools: as many workers as there may be run as many clients, and a worker that finds nothing to do
-//! while the gate holds the other. How many sections workers make, that the work of each counts
+//! Pools: as many workers as there may be run as many clients, and a worker that finds nothing to
+//! do while the gate holds the other. How many sections workers make, that the work of each counts
 //! once, and how often they look for work, no clause of the pool says.
 
 use super::opening::opened;

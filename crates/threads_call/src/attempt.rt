@@ -65,8 +65,8 @@ fn make_section<R: Wait>(
     reply_of(made)
 }
 
-/// Unparks the clients that a section woke, or parks the caller of a client that waits, and that was
-/// unparked so often before the section, unless all rest.
+/// Unparks the clients that a section woke, or parks the caller of a client that waits, and that
+/// was unparked so often before the section, unless all rest.
 fn tell_made<R: Wait>(rt: &R, parkers: &Parkers, made: Result<Receipt, NotReady>, unparked: u64) {
     let Ok(receipt) = made else { return };
     match receipt.entry.outcome {

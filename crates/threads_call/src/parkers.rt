@@ -1,11 +1,12 @@
 //! Parkers: a caller whose client waits sleeps until someone says that the client was woken.
 //!
-//! How often a client was woken is only a hint: what a caller answers comes from the lock alone, and
-//! no clause rests on it. No caller is left parked. A caller reads how often its client was woken
-//! *before* it makes a section or looks, and sleeps only as long as that is unchanged; and whoever
-//! wakes a client counts it *after* the section that woke it. So a caller that saw its client wait
-//! before that section finds another count when it parks, or is woken; and one that looked after it
-//! saw the client woken. Nobody takes back what was counted, so all callers of one client find it.
+//! How often a client was woken is only a hint: what a caller answers comes from the lock alone,
+//! and no clause rests on it. No caller is left parked. A caller reads how often its client was
+//! woken *before* it makes a section or looks, and sleeps only as long as that is unchanged; and
+//! whoever wakes a client counts it *after* the section that woke it. So a caller that saw its
+//! client wait before that section finds another count when it parks, or is woken; and one that
+//! looked after it saw the client woken. Nobody takes back what was counted, so all callers of one
+//! client find it.
 //!
 //! Whether all clients rest is known behind the door, by a bit for each. A bit is set where its
 //! client waits, and may be set where it is in its last call. So a caller whose client waits need
@@ -132,7 +133,8 @@ impl Parkers {
         }
     }
 
-    /// How often a client was unparked, for `park`: read before the caller makes a section or looks.
+    /// How often a client was unparked, for `park`: read before the caller makes a section or
+    /// looks.
     pub fn unparked(&self, client: u32) -> u64 {
         match self.clients.get(client as usize) {
             Some(parker) => parker.unparked.load(Ordering::SeqCst),

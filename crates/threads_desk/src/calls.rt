@@ -5,7 +5,8 @@ ghost use Rattle.threads_desk.specs.declared.letter.Sheet.{Sheet};
 ghost use Rattle.threads_desk.specs.declared.letter.Sheet.TheVariants.{Told};
 ghost use Rattle.threads_desk.specs.declared.letter.Part.TheVariants.{Writing, Reading};
 ghost use Rattle.threads_desk.specs.declared.rule.TheConstants.{ASKED, FREE, TOLD};
-ghost use Rattle.threads_desk.specs.Letters.{IsDoneOf, IsFreeOf, IsKeptIn, IsMailOf, IsMissOf, IsTaskOf};
+ghost use Rattle.threads_desk.specs.Letters.{IsDoneOf, IsFreeOf, IsKeptIn, IsMailOf, IsMissOf};
+ghost use Rattle.threads_desk.specs.Letters.{IsTaskOf};
 ghost use Rattle.threads_desk.specs.Letters.{about_of};
 
 use crate::cell::Cell;

@@ -121,8 +121,8 @@ impl Lock {
         made
     }
 
-    /// Answers the letters that are posted for the tickets from this one on, and looks for none where
-    /// this one isn't drawn. After many it wakes who is next instead.
+    /// Answers the letters that are posted for the tickets from this one on, and looks for none
+    /// where this one isn't drawn. After many it wakes who is next instead.
     fn serve(&self, first: u64) {
         if self.board.shared.peek(NEXT) == first {
             return;

@@ -1,6 +1,7 @@
 //! The lock: a queue by tickets, a slot for the monitor, and the log's length.
 
-ghost use Rattle.std.specs.Prelude.{◌≡◌, ◌==◌, ◌<◌, ◌≤◌, ◌%◌, ◌^◌, ◌∷◌, [], ◌↔◌, ℕ, IsTrue, MatchResult, length};
+ghost use Rattle.std.specs.Prelude.{◌≡◌, ◌==◌, ◌<◌, ◌≤◌, ◌%◌, ◌^◌, ◌∷◌, [], ◌↔◌, ℕ, IsTrue};
+ghost use Rattle.std.specs.Prelude.{MatchResult, length};
 ghost use Rattle.machine_events.specs.Logs.{IsClosed};
 ghost use Rattle.machine_explicit.specs.Sections.{FreeMachine, HasEnded, HoldsAlways};
 ghost use Rattle.machine_explicit.specs.Sections.{MadeSection};

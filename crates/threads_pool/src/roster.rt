@@ -6,8 +6,9 @@
 //! done is never left to those that doze.
 //!
 //! A worker is counted from when it begins, since one whose thread the system refused may begin
-//! after others have ended. One that is to stay awake and finds nothing to do, as where a gate holds
-//! the others, naps for a short time: it is still counted as awake, since it looks again by itself.
+//! after others have ended. One that is to stay awake and finds nothing to do, as where a gate
+//! holds the others, naps for a short time: it is still counted as awake, since it looks again by
+//! itself.
 
 use std::sync::Wait;
 use std::sync::atomic::{AtomicU64, Ordering};

@@ -1,5 +1,5 @@
-//! A worker, and what it does at its turns. Where it is alone it goes round the clients itself; else
-//! it takes their tickets from the ready queue.
+//! A worker, and what it does at its turns. Where it is alone it goes round the clients itself;
+//! else it takes their tickets from the ready queue.
 
 ghost use Rattle.std.specs.Prelude.{◌≡◌, ◌<◌, IfSome, IsTrue};
 ghost use Rattle.threads_queue.specs.Tickets.{new_pass};
@@ -104,8 +104,8 @@ pub fn work<R: Threads + Wait + Sync, G: Gate>(rt: &R, shop: &Shop, gate: &G, wo
     unreachable!()
 }
 
-/// A worker that went round all clients in vain, and has to stay awake, waits: for moments at first,
-/// and then it naps.
+/// A worker that went round all clients in vain, and has to stay awake, waits: for moments at
+/// first, and then it naps.
 fn pause<R: Wait>(rt: &R, shop: &Shop, backoff: &Backoff) {
     if backoff.is_completed() {
         shop.roster.nap(rt);

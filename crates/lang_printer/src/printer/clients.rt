@@ -3,7 +3,8 @@
 ghost use Rattle.std.specs.Prelude.{◌≡◌, ◌++◌, codes, decimal};
 ghost use Rattle.std.specs.List.{flat_map};
 ghost use Rattle.lang_printer.specs.Canonical.{indent, literal_text};
-ghost use Rattle.lang_printer.specs.CanonicalClients.{argument_text, arguments_text, client_text, clients_text, item_text, try_text};
+ghost use Rattle.lang_printer.specs.CanonicalClients.{argument_text, arguments_text, client_text};
+ghost use Rattle.lang_printer.specs.CanonicalClients.{clients_text, item_text, try_text};
 ghost use Rattle.lang_printer.specs.Printing.{body_text, items_text};
 ghost use Rattle.lang_printer.specs.Depths.{levels};
 ghost use Rattle.base_io.specs.Writing.{Wrote};

@@ -2,7 +2,8 @@
 
 ghost use Rattle.std.specs.Prelude.{◌≡◌, ◌++◌, decimal};
 ghost use Rattle.std.specs.List.{flat_map};
-ghost use Rattle.lang_printer.specs.Canonical.{printed, expression_text, truth_text, op_text, addend_sign};
+ghost use Rattle.lang_printer.specs.Canonical.{printed, expression_text, truth_text, op_text};
+ghost use Rattle.lang_printer.specs.Canonical.{addend_sign};
 ghost use Rattle.lang_printer.specs.Printing.{part_text, later_factor, later_addend, joined_parts};
 ghost use Rattle.base_io.specs.Writing.{Wrote, pieces_text};
 
