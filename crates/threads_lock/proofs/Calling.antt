@@ -15,7 +15,7 @@ use Rattle.threads_lock.specs.declared.view.View.{View}
 use Rattle.threads_lock.specs.Passes.{IsKnown, Looks, Reaches, SectionsShared}
 use Rattle.threads_lock.specs.inner.Queueing.{holds}
 use Rattle.threads_lock.specs.inner.Steps.{HasTurn, has_at, receipt_at, told}
-use Rattle.threads_lock.specs.inner.Turns.{HasMonitor, IsHolding, IsMade, IsNotMade, IsWaiting, MakesOne, MakesShared, TurnComes, TurnIsHere}
+use Rattle.threads_lock.specs.inner.Turns.{HasMonitor, IsHolding, IsMade, IsNotMade, IsWaiting, MakesOne, MakesShared, TurnComes, TurnGives, TurnIsHere}
 use Rattle.threads_lock.proofs.Readiness.{made_works, section_follows}
 use Rattle.threads_lock.proofs.Knowing.{known_looked, known_receipted}
 
@@ -28,13 +28,6 @@ pub turn_comes : (ticket found distance t : ℕ) (m n : Me FreeMachine View) →
 turn_comes ticket found distance t m n is near told = dite (ℕ_discrete distance 0)
     (λ none. subst (TurnComes ticket m n) (sym (eq-eqb distance 0 none)) (t, is, told.0 (near.0 none ∙ is)))
     (λ some. subst (TurnComes ticket m n) (sym (ne_eqb distance 0 some)) (told.1 (λ same. some (near.1 (same ∙ sym is)))))
-
--- what is so once the turn has come
-pub record TurnGives (number : ℕ) (me next : Me FreeMachine View) : Type 0 where
-  pub holding : IsHolding number next
-  pub parts : next.0.parts ≡ me.0.parts
-  pub looks : Looks me.0.known next.0.known
-  pub known : IsKnown next.0.known
 
 pub turn_gives : (number : ℕ) (me mid next : Me FreeMachine View) → me.1 ≡ [] → IsKnown me.0.known → IsWaiting number me mid → TurnIsHere number mid next → TurnGives number me next
 turn_gives number me mid next empty known w h = subst (TurnGives number me) (sym next_is) record {

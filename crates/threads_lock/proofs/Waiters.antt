@@ -1,5 +1,5 @@
 -- Seats that are lent.
-use Rattle.std.proofs.Common.{◌≡◌, ◌≢◌, ◌↔◌, ◌==◌, ℕ, ◌<◌, None, IsTrue, eq-eqb, ne_eqb, length, refl, sym, ap, ◌∙◌, subst}
+use Rattle.std.proofs.Common.{◌≡◌, ◌≢◌, ◌↔◌, ◌==◌, ℕ, ◌<◌, [], None, IsTrue, eq-eqb, ne_eqb, length, refl, sym, ap, ◌∙◌, subst}
 use Rattle.std.specs.Prelude.{Result}
 use Rattle.atomic_table.specs.Table.{Me}
 use Rattle.atomic_table.specs.declared.shared.Seat.{Seat}
@@ -17,12 +17,12 @@ use Rattle.threads_lock.specs.declared.lent.Wish.TheVariants as wishes
 use Rattle.threads_lock.specs.declared.receipt.Receipt.{Receipt}
 use Rattle.threads_lock.specs.declared.view.Knowledge.{Knowledge}
 use Rattle.threads_lock.specs.declared.view.View.{View}
-use Rattle.threads_lock.specs.Passes.{IsKnown, Looks, SectionsShared}
+use Rattle.threads_lock.specs.Passes.{IsKnown, Looks}
 use Rattle.threads_lock.specs.Standings.{StandsAs}
-use Rattle.threads_lock.specs.inner.Lending.{ComesBack, FindsEnd, FindsStand, IsAnswerTo, IsMadeFor, MayLend, MayWish}
+use Rattle.threads_lock.specs.inner.Lending.{ComesBack, FindsEnd, FindsStand, IsAnswerTo, IsMadeFor, MayLend, MayWish, WaitsFor}
 use Rattle.threads_lock.specs.inner.Queueing.{IsIdle, view}
-use Rattle.threads_lock.specs.inner.Turns.{HasMonitor, IsHolding, IsWaiting, MakesShared, TurnComes, TurnIsHere}
-use Rattle.threads_lock.proofs.Calling.{TurnGives, holding_has, looks_clients, looks_seen, sections_shared, turn_gives}
+use Rattle.threads_lock.specs.inner.Turns.{HasMonitor, IsHolding, IsWaiting, MakesShared, TurnComes, TurnGives, TurnIsHere}
+use Rattle.threads_lock.proofs.Calling.{holding_has, looks_clients, looks_seen, sections_shared, turn_gives}
 
 -- the turn of a seat that may be lent has come
 pub lent_here : (wish : Wish) (number : ℕ) (me next : Me FreeMachine View) → MayLend wish number me → TurnIsHere number me next → TurnGives number me next
@@ -91,16 +91,62 @@ drawn_made wish number me mid next answer w made = record {
   known = made.known;
 }
 
--- ---- an answer is that to its wish
+pub waiting_ticket : (number : ℕ) (me mid : Me FreeMachine View) → IsWaiting number me mid → WaitsFor number mid
+waiting_ticket number me mid w = (w.0, w.1, ap (λ (m : Me FreeMachine View). m.0.stage) w.2)
 
-pub section_had : (client : ℕ) (before after : Knowledge) (answer : Answer) (result : Result Receipt NotReady) → answer ≡ answers.Section result → IsAnswerTo (wishes.Section client) before after answer → SectionsShared client before after result
-section_had client before after answer result is told = subst (IsAnswerTo (wishes.Section client) before after) is told
+pub waiting_live : (number : ℕ) (me mid : Me FreeMachine View) → IsWaiting number me mid → 0 < me.0.parts → 0 < mid.0.parts
+waiting_live number me mid w live = subst (λ (m : Me FreeMachine View). 0 < m.0.parts) (sym w.2) live
 
-pub stand_had : (client : ℕ) (before after : Knowledge) (answer : Answer) (stand : Stand) → answer ≡ answers.Standing stand → IsAnswerTo (wishes.Standing client) before after answer → FindsStand client before after stand
-stand_had client before after answer stand is told = subst (IsAnswerTo (wishes.Standing client) before after) is told
+-- it is not served yet, or it is
+pub come_waits : (number distance : ℕ) (me mid next : Me FreeMachine View) → IsWaiting number me mid → TurnComes number mid next (distance == 0) → distance ≢ 0 → IsWaiting number me next
+come_waits number distance me mid next w comes far = subst (IsWaiting number me) (sym (lent_waits number distance mid next comes far)) w
 
-pub look_had : (before after : Knowledge) (answer : Answer) (look : Look) → answer ≡ answers.Closed look → IsAnswerTo wishes.Closed before after answer → FindsEnd before after look
-look_had before after answer look is told = subst (IsAnswerTo wishes.Closed before after) is told
+pub come_here : (number distance : ℕ) (me mid next : Me FreeMachine View) → me.1 ≡ [] → IsKnown me.0.known → IsWaiting number me mid → TurnComes number mid next (distance == 0) → distance ≡ 0
+    → TurnGives number me next
+come_here number distance me mid next empty known w comes here = turn_gives number me mid next empty known w (subst (TurnComes number mid next) (eq-eqb distance 0 here) comes)
+
+-- ---- a wish is done at once
+
+pub now_made : (wish : Wish) (number : ℕ) (me mid held next : Me FreeMachine View) (answer : Answer) → TurnGives number me mid → held.0.parts ≡ mid.0.parts → IsAnswerTo wish me.0.known held.0.known answer
+    → IsKnown held.0.known → IsIdle next → next.0.parts ≡ held.0.parts → next.0.known ≡ held.0.known → IsMadeFor wish me next answer
+now_made wish number me mid held next answer gives parts told known idle parts_still still = record {
+  idle = idle;
+  parts = parts_still ∙ (parts ∙ gives.parts);
+  told = subst (λ k. IsAnswerTo wish me.0.known k answer) (sym still) told;
+  known = subst IsKnown (sym still) known;
+}
+
+pub section_now : (number client : ℕ) (me mid held next : Me FreeMachine View) (result : Result Receipt NotReady) → TurnGives number me mid → held.0.parts ≡ mid.0.parts
+    → MakesShared client mid.0.known held.0.known result → IsKnown held.0.known → IsIdle next → next.0.parts ≡ held.0.parts → next.0.known ≡ held.0.known
+    → IsMadeFor (wishes.Section client) me next (answers.Section result)
+section_now number client me mid held next result gives parts made known idle parts_still still =
+    now_made (wishes.Section client) number me mid held next (answers.Section result) gives parts (sections_shared client me.0.known mid.0.known held.0.known result gives.looks made) known idle parts_still still
+
+pub stand_now_made : (number client : ℕ) (me mid held next : Me FreeMachine View) (stand : Stand) → TurnGives number me mid → held ≡ mid → StandsAs mid.0.known.front client stand.standing
+    → stand.entries ≡ length mid.0.known.front.log → IsIdle next → next.0.parts ≡ held.0.parts → next.0.known ≡ held.0.known → IsMadeFor (wishes.Standing client) me next (answers.Standing stand)
+stand_now_made number client me mid held next stand gives same standing entries idle parts_still still =
+    now_made (wishes.Standing client) number me mid held next (answers.Standing stand) gives (ap (λ (m : Me FreeMachine View). m.0.parts) same)
+    (stand_told (wishes.Standing client) client mid held stand refl same standing entries me.0.known gives.looks) (subst (λ (m : Me FreeMachine View). IsKnown m.0.known) (sym same) gives.known) idle parts_still still
+
+pub look_now_made : (number : ℕ) (me mid held next : Me FreeMachine View) (look : Look) → TurnGives number me mid → held ≡ mid → IsTrue look.closed ↔ IsClosed mid.0.known.front.system mid.0.known.front.now
+    → (IsTrue look.closed → HasEnded mid.0.known.front) → look.entries ≡ length mid.0.known.front.log → IsIdle next → next.0.parts ≡ held.0.parts → next.0.known ≡ held.0.known
+    → IsMadeFor wishes.Closed me next (answers.Closed look)
+look_now_made number me mid held next look gives same closed ends entries idle parts_still still =
+    now_made wishes.Closed number me mid held next (answers.Closed look) gives (ap (λ (m : Me FreeMachine View). m.0.parts) same)
+    (look_told wishes.Closed mid held look refl same closed ends entries me.0.known gives.looks) (subst (λ (m : Me FreeMachine View). IsKnown m.0.known) (sym same) gives.known) idle parts_still still
+
+-- ---- an answer that is known to be one of this kind
+
+pub section_had : (client : ℕ) (me next : Me FreeMachine View) (answer : Answer) (result : Result Receipt NotReady) → answer ≡ answers.Section result
+    → IsMadeFor (wishes.Section client) me next answer → IsMadeFor (wishes.Section client) me next (answers.Section result)
+section_had client me next answer result is made = subst (IsMadeFor (wishes.Section client) me next) is made
+
+pub stand_had : (client : ℕ) (me next : Me FreeMachine View) (answer : Answer) (stand : Stand) → answer ≡ answers.Standing stand
+    → IsMadeFor (wishes.Standing client) me next answer → IsMadeFor (wishes.Standing client) me next (answers.Standing stand)
+stand_had client me next answer stand is made = subst (IsMadeFor (wishes.Standing client) me next) is made
+
+pub look_had : (me next : Me FreeMachine View) (answer : Answer) (look : Look) → answer ≡ answers.Closed look → IsMadeFor wishes.Closed me next answer → IsMadeFor wishes.Closed me next (answers.Closed look)
+look_had me next answer look is made = subst (IsMadeFor wishes.Closed me next) is made
 
 -- ---- a letter comes back
 

@@ -9,16 +9,21 @@
 ghost use Rattle.std.specs.Prelude.{◌≡◌, ◌<◌, MatchResult};
 ghost use Rattle.threads_desk.specs.Letters.{IsMailOf, IsTaskOf, about_of};
 ghost use Rattle.threads_lock.specs.declared.lent.Lent.{Lent};
+ghost use Rattle.threads_lock.specs.declared.lent.Wish.TheVariants.{Section, Standing, Closed};
 ghost use Rattle.threads_lock.specs.declared.view.Knowledge.{Knowledge};
 ghost use Rattle.threads_lock.specs.Passes.{IsKnown, Looks};
 ghost use Rattle.threads_lock.specs.inner.Lending.{ComesBack, IsAnswerTo, IsLent, IsMadeFor};
 ghost use Rattle.threads_lock.specs.inner.Lending.{IsReturned, MayLend, MayWish};
+ghost use Rattle.threads_lock.specs.inner.Lending.{closed, section, standing};
 ghost use Rattle.threads_lock.specs.inner.Queueing.{IsIdle};
 ghost use Rattle.threads_lock.specs.inner.Turns.{HasMonitor, IsHolding};
 
+use super::found::{Look, Stand};
 use super::lent::{Answer, Debt, Lent, Letter, Place, Returned, Wish};
 use super::lock::Lock;
-use super::rule::{NEXT, SERVING, Seat, Spare};
+use super::receipt::Receipt;
+use super::rule::{SERVING, Seat, Spare};
+use machine_explicit::NotReady;
 use std::sync::Wait;
 use std::time::Duration;
 use std::{hint, mem};
@@ -121,12 +126,9 @@ impl Lock {
         made
     }
 
-    /// Answers the letters that are posted for the tickets from this one on, and looks for none
-    /// where this one isn't drawn. After many it wakes who is next instead.
+    /// Answers the letters that are posted for the tickets from this one on, which is drawn. After
+    /// many it wakes who is next instead.
     fn serve(&self, first: u64) {
-        if self.board.shared.peek(NEXT) == first {
-            return;
-        }
         let mut ticket = first;
         for _ in 0..MOST_ANSWERED {
             if !self.answer(ticket) {
@@ -135,6 +137,21 @@ impl Lock {
             ticket = ticket.wrapping_add(1);
         }
         self.letters.cell(ticket).wake();
+    }
+
+    /// Gives the monitor back, which the seat has by this ticket, and answers the letters for the
+    /// tickets after it.
+    pub fn pass_on(&self, seat: &mut Seat, ticket: u64)
+        requires own { seat.old.table_id ≡ self.now.board.shared.table_id }
+        requires turn { HasMonitor seat.old.me }
+        ensures own { seat.new.table_id ≡ seat.old.table_id }
+        ensures idle { IsIdle seat.new.me }
+        ensures parts { seat.new.me.0.parts ≡ seat.old.me.0.parts }
+        ensures known { seat.new.me.0.known ≡ seat.old.me.0.known }
+    {
+        if self.unlock(seat) {
+            self.serve(ticket.wrapping_add(1));
+        }
     }
 
     /// Waits with the seat, does what it wishes, and then answers the letters for the tickets after
@@ -146,8 +163,8 @@ impl Lock {
         ensures made { IsMadeFor wish seat.old.me seat.new.me result }
     {
         self.wait(rt, seat, ticket);
-        let answer = self.finish(seat, wish, ticket);
-        self.serve(ticket.wrapping_add(1));
+        let answer = self.grant(seat, wish, ticket);
+        self.pass_on(seat, ticket);
         answer
     }
 
@@ -253,24 +270,48 @@ impl Lock {
         answer
     }
 
-    /// What is wished: at once if the ticket that is drawn is served, and then the letters for the
-    /// tickets after it are answered; else with the seat lent.
-    pub fn request<R: Wait>(&self, rt: &R, seat: &mut Seat, wish: Wish) -> Answer
+    /// A section of a seat that waits for this ticket.
+    pub fn visit_late<R: Wait>(
+        &self,
+        rt: &R,
+        seat: &mut Seat,
+        client: u32,
+        ticket: u64,
+    ) -> Result<Receipt, NotReady>
         requires own { seat.old.table_id ≡ self.now.board.shared.table_id }
-        requires idle { IsIdle seat.old.me }
-        requires live { 0 < seat.old.me.0.parts }
-        requires known { IsKnown seat.old.me.0.known }
-        requires client { MayWish wish seat.old.me.0.known.front.system }
+        requires lent { MayLend (Section client) ticket seat.old.me }
         ensures own { seat.new.table_id ≡ seat.old.table_id }
-        ensures made { IsMadeFor wish seat.old.me seat.new.me result }
+        ensures made { IsMadeFor (Section client) seat.old.me seat.new.me (section result) }
     {
-        let ticket = self.draw(seat);
-        match self.try_for(seat, wish, ticket) {
-            Some(answer) => {
-                self.serve(ticket.wrapping_add(1));
-                answer
-            }
-            None => self.lend(rt, seat, wish, ticket),
-        }
+        let Answer::Section(result) = self.lend(rt, seat, Wish::Section(client), ticket) else {
+            unreachable!()
+        };
+        result
+    }
+
+    /// A look of a seat that waits for this ticket.
+    pub fn look_late<R: Wait>(&self, rt: &R, seat: &mut Seat, ticket: u64) -> Look
+        requires own { seat.old.table_id ≡ self.now.board.shared.table_id }
+        requires lent { MayLend Closed ticket seat.old.me }
+        ensures own { seat.new.table_id ≡ seat.old.table_id }
+        ensures made { IsMadeFor Closed seat.old.me seat.new.me (closed result) }
+    {
+        let Answer::Closed(look) = self.lend(rt, seat, Wish::Closed, ticket) else {
+            unreachable!()
+        };
+        look
+    }
+
+    /// A look at how a client stands of a seat that waits for this ticket.
+    pub fn stand_late<R: Wait>(&self, rt: &R, seat: &mut Seat, client: u32, ticket: u64) -> Stand
+        requires own { seat.old.table_id ≡ self.now.board.shared.table_id }
+        requires lent { MayLend (Standing client) ticket seat.old.me }
+        ensures own { seat.new.table_id ≡ seat.old.table_id }
+        ensures made { IsMadeFor (Standing client) seat.old.me seat.new.me (standing result) }
+    {
+        let Answer::Standing(stand) = self.lend(rt, seat, Wish::Standing(client), ticket) else {
+            unreachable!()
+        };
+        stand
     }
 }

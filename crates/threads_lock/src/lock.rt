@@ -11,11 +11,12 @@ ghost use Rattle.threads_lock.specs.Standings.{StandsAs};
 ghost use Rattle.threads_lock.specs.inner.Queueing.{IsIdle, one_less, one_part, together, view};
 ghost use Rattle.threads_lock.specs.inner.Steps.{told};
 ghost use Rattle.threads_lock.specs.inner.Turns.{HasMonitor, IsHolding, IsMade, IsNotMade};
-ghost use Rattle.threads_lock.specs.inner.Turns.{IsWaiting, MakesShared, TurnComes, TurnIsHere};
+ghost use Rattle.threads_lock.specs.inner.Turns.{IsWaiting, MakesShared, TurnComes, TurnGives};
+ghost use Rattle.threads_lock.specs.inner.Turns.{TurnIsHere};
 
 use super::bell::Bells;
 use super::found::{Look, Stand, look_of, stand_of};
-use super::lent::{Answer, Letters, Wish};
+use super::lent::Letters;
 use super::patience::{NEAR, Patience};
 use super::receipt::Receipt;
 use super::rule::{
@@ -156,9 +157,9 @@ impl Lock {
         }
     }
 
-    /// Gives the monitor back, serves the next ticket, and rings its bell, and that of the ticket
-    /// which comes near: so who has it is awake when it is served.
-    pub fn unlock(&self, seat: &mut Seat)
+    /// Gives the monitor back, and serves the next ticket. Whether that is drawn; then its bell is
+    /// rung, and that of the ticket which comes near.
+    pub fn unlock(&self, seat: &mut Seat) -> bool
         requires own { seat.old.table_id ≡ self.now.board.shared.table_id }
         requires turn { HasMonitor seat.old.me }
         ensures own { seat.new.table_id ≡ seat.old.table_id }
@@ -167,8 +168,38 @@ impl Lock {
         ensures known { seat.new.me.0.known ≡ seat.old.me.0.known }
     {
         let served = self.board.shared.fetch_add::<Release>(seat, SERVING, 1);
-        self.bells.ring(served.wrapping_add(1));
-        self.bells.ring(served.wrapping_add(1 + NEAR));
+        self.tell(served.wrapping_add(1))
+    }
+
+    /// Rings the bell of a ticket that is served now, and that of the ticket which comes near: so
+    /// who has it is awake when it is served. Where the ticket is not drawn nobody waits: who draws
+    /// it later finds it served. Whether it is drawn.
+    fn tell(&self, ticket: u64) -> bool {
+        if self.board.shared.peek(NEXT) == ticket {
+            return false;
+        }
+        self.bells.ring(ticket);
+        self.bells.ring(ticket.wrapping_add(NEAR));
+        true
+    }
+
+    /// Draws a ticket, and has the turn where that is served at once; else it waits.
+    fn come(&self, seat: &mut Seat) -> Result<u64, u64>
+        requires own { seat.old.table_id ≡ self.now.board.shared.table_id }
+        requires idle { IsIdle seat.old.me }
+        requires live { 0 < seat.old.me.0.parts }
+        requires known { IsKnown seat.old.me.0.known }
+        ensures own { seat.new.table_id ≡ seat.old.table_id }
+        ensures comes { MatchResult result
+            (λ ticket. TurnGives ticket seat.old.me seat.new.me)
+            (λ ticket. IsWaiting ticket seat.old.me seat.new.me) }
+    {
+        let ticket = self.draw(seat);
+        let distance = self.call(seat, ticket);
+        if distance != 0 {
+            return Err(ticket);
+        }
+        Ok(ticket)
     }
 
     /// A section, from no ticket to no ticket.
@@ -184,10 +215,14 @@ impl Lock {
         ensures made { SectionsShared client seat.old.me.0.known seat.new.me.0.known result }
         ensures known { IsKnown seat.new.me.0.known }
     {
-        let Answer::Section(result) = self.request(rt, seat, Wish::Section(client)) else {
-            unreachable!()
-        };
-        result
+        match self.come(seat) {
+            Ok(ticket) => {
+                let result = self.make(seat, client, ticket);
+                self.pass_on(seat, ticket);
+                result
+            }
+            Err(ticket) => self.visit_late(rt, seat, client, ticket),
+        }
     }
 
     /// A look at the monitor that the seat has.
@@ -233,10 +268,14 @@ impl Lock {
         ensures entries { result.entries ≡ seat.new.me.0.known.seen }
         ensures known { IsKnown seat.new.me.0.known }
     {
-        let Answer::Closed(look) = self.request(rt, seat, Wish::Closed) else {
-            unreachable!()
-        };
-        look
+        match self.come(seat) {
+            Ok(ticket) => {
+                let look = self.look_now(seat);
+                self.pass_on(seat, ticket);
+                look
+            }
+            Err(ticket) => self.look_late(rt, seat, ticket),
+        }
     }
 
     /// A look at how a client stands, from no ticket to no ticket.
@@ -254,10 +293,14 @@ impl Lock {
         ensures entries { result.entries ≡ seat.new.me.0.known.seen }
         ensures known { IsKnown seat.new.me.0.known }
     {
-        let Answer::Standing(stand) = self.request(rt, seat, Wish::Standing(client)) else {
-            unreachable!()
-        };
-        stand
+        match self.come(seat) {
+            Ok(ticket) => {
+                let stand = self.stand_now(seat, client);
+                self.pass_on(seat, ticket);
+                stand
+            }
+            Err(ticket) => self.stand_late(rt, seat, client, ticket),
+        }
     }
 
     /// How long the log is, with no wait.

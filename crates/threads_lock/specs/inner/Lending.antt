@@ -1,9 +1,11 @@
 -- What a waiting seat may ask of whoever has the monitor, and what it is told.
-use Rattle.std.specs.Prelude.{◌≡◌, ◌↔◌, ℕ, ◌%◌, ◌^◌, ◌<◌, [], Option, Some, None, IsTrue, length}
+use Rattle.std.specs.Prelude.{◌≡◌, ◌↔◌, ℕ, ◌%◌, ◌^◌, ◌<◌, [], Option, Some, None, Result, IsTrue}
+use Rattle.std.specs.Prelude.{length}
 use Rattle.atomic_table.specs.Table.{Me}
 use Rattle.atomic_table.specs.declared.shared.Seat.{Seat}
 use Rattle.machine_events.specs.Configurations.{System}
 use Rattle.machine_events.specs.Logs.{IsClosed}
+use Rattle.machine_explicit.specs.declared.section.NotReady.{NotReady}
 use Rattle.machine_explicit.specs.Sections.{FreeMachine, HasEnded}
 use Rattle.threads_lock.specs.declared.found.Look.{Look}
 use Rattle.threads_lock.specs.declared.found.Stand.{Stand}
@@ -13,6 +15,7 @@ use Rattle.threads_lock.specs.declared.lent.Lent.{Lent}
 use Rattle.threads_lock.specs.declared.lent.Returned.{Returned}
 use Rattle.threads_lock.specs.declared.lent.Wish.{Wish}
 use Rattle.threads_lock.specs.declared.lent.Wish.TheVariants as wishes
+use Rattle.threads_lock.specs.declared.receipt.Receipt.{Receipt}
 use Rattle.threads_lock.specs.declared.view.Knowledge.{Knowledge}
 use Rattle.threads_lock.specs.declared.view.Stage.TheVariants.{Waiting}
 use Rattle.threads_lock.specs.declared.view.View.{View}
@@ -59,6 +62,16 @@ pub record FindsEnd (before after : Knowledge) (look : Look) : Type 0 where
   pub closed : IsTrue look.closed ↔ IsClosed after.front.system after.front.now
   pub ends : IsTrue look.closed → HasEnded after.front
   pub entries : look.entries ≡ after.seen
+
+-- what came of a section, of a look at whether the monitor is closed, and at how a client stands
+abbrev pub section : Result Receipt NotReady → Answer
+section result = answers.Section result
+
+abbrev pub closed : Look → Answer
+closed look = answers.Closed look
+
+abbrev pub standing : Stand → Answer
+standing stand = answers.Standing stand
 
 -- the answer is that to the wish, and to no other
 abbrev pub IsAnswerTo : Wish → Knowledge → Knowledge → Answer → Type 0

@@ -8,7 +8,7 @@ use Rattle.threads_lock.specs.declared.receipt.Receipt.{Receipt}
 use Rattle.threads_lock.specs.declared.view.Stage.TheVariants.{Waiting, Holding}
 use Rattle.threads_lock.specs.declared.view.View.{View}
 use Rattle.threads_lock.specs.declared.view.Knowledge.{Knowledge}
-use Rattle.threads_lock.specs.Passes.{IsReceipt, receipted}
+use Rattle.threads_lock.specs.Passes.{IsKnown, IsReceipt, Looks, receipted}
 use Rattle.threads_lock.specs.inner.Queueing.{holds}
 use Rattle.threads_lock.specs.inner.Steps.{HasTurn, staged}
 
@@ -35,6 +35,13 @@ abbrev pub IsHolding : ℕ → Me FreeMachine View → Type 0
 IsHolding number me =
     (ticket : ℕ) × (number ≡ ticket % 2 ^ 64) × (me.0.stage ≡ Holding ticket)
     × (me.1 ≡ (0, me.0.known.front) ∷ [])
+
+-- The turn has come by this ticket: a look at the monitor as it is then, with no section yet.
+pub record TurnGives (number : ℕ) (me next : Me FreeMachine View) : Type 0 where
+  pub holding : IsHolding number next
+  pub parts : next.0.parts ≡ me.0.parts
+  pub looks : Looks me.0.known next.0.known
+  pub known : IsKnown next.0.known
 
 -- it is made, and gives a receipt
 pub record MakesOne (client : ℕ) (before after : Knowledge) (told : Receipt) : Type 0 where
