@@ -1,5 +1,5 @@
 -- A condition is counted where the queries of each block are valid.
-use Rattle.std.proofs.Common.{◌≡◌, ◌==◌, ℕ, zero, suc, ◌+◌, ◌-◌, ◌≤◌, Bool, true, false, not, ◌&&◌, ◌||◌, ℤ, pos, negsuc, neg_ℤ, ◌+ℤ◌, ◌-ℤ◌, ◌*ℤ◌, List, [], ◌∷◌, Option, Some, length, refl, sym, ap, ◌∙◌, arith, inl, inr}
+use Rattle.std.proofs.Common.{◌≡◌, ◌==◌, ℕ, zero, suc, ◌+◌, ◌-◌, ◌≤◌, Bool, true, false, cond, not, ◌&&◌, ◌||◌, ℤ, pos, negsuc, neg_ℤ, ◌+ℤ◌, ◌-ℤ◌, ◌*ℤ◌, List, [], ◌∷◌, Option, Some, length, refl, sym, ap, ◌∙◌, arith, inl, inr}
 use Rattle.std.specs.Prelude.{int_le}
 use Rattle.std.proofs.lemmas.Int.{ints}
 use Rattle.std.proofs.lemmas.Option.{slice_get_within}
@@ -25,8 +25,8 @@ use Rattle.machine_events.specs.declared.plan.CondKind.TheVariants as kinds
 use Rattle.machine_events.specs.declared.plan.Plan.{Plan}
 use Rattle.machine_events.specs.Plans.{notes_at, condition_kind, has_note, IsCondition}
 use Rattle.machine_events.specs.Running.{MayRun}
-use Rattle.machine_events.specs.Counts.{Measure, below_zero, slack, is_free, zero_form, guard_measure, one_if, LeavesCounted, IsCounted, IsLawfulByCounting}
-use Rattle.machine_events.specs.CountClaims.{old_form, minus, more_by, net, where_open, ReadsFields, CountsBlock, AreNoted, CountsEach, IsLawfulByGuards}
+use Rattle.machine_events.specs.Counts.{Measure, below_zero, slack, is_free, zero_form, row_measure, one_if, LeavesCounted, IsCounted, IsLawfulByCounting}
+use Rattle.machine_events.specs.CountClaims.{is_turned, old_sign, old_form, minus, more_by, net, where_open, ReadsFields, CountsBlock, AreNoted, CountsEach, IsLawfulByGuards}
 use Rattle.machine_events.proofs.Places.{sum_agrees, agree_on, truth_all, truth_any, truth_row}
 use Rattle.machine_events.proofs.Valuations.{joint, inputs_after, fields_same}
 use Rattle.machine_events.proofs.Covered.{not_both}
@@ -36,16 +36,23 @@ use Rattle.machine_events.proofs.Applying.{meets, own_guard, waiting_truth, not_
 
 -- ---- whole numbers
 
--- the number that was noted, as inputs of a client that waits
-abbrev noted : ℤ → Inputs
-noted number = record { arguments = values.Int number ∷ []; locals = [] }
+-- what the form was worth, as inputs of a client that waits
+abbrev noted : Linear → ℤ → Inputs
+noted form number = record { arguments = values.Int (old_sign form.terms *ℤ number) ∷ []; locals = [] }
 
-old_value : (state : List Value) (inputs : Inputs) (number : ℤ)
-    → value_of (joint state inputs (noted number)) old_form ≡ number
-old_value state inputs number = plain number
+old_value : (form : Linear) (state : List Value) (inputs : Inputs) (number : ℤ)
+    → value_of (joint state inputs (noted form number)) (old_form form) ≡ number
+old_value form state inputs number = by (is_turned form.terms)
   where
-    plain : (x : ℤ) → (pos 1 *ℤ x +ℤ pos 0) +ℤ pos 0 ≡ x
+    plain : (x : ℤ) → (pos 1 *ℤ (pos 1 *ℤ x) +ℤ pos 0) +ℤ pos 0 ≡ x
     plain x = omega (arith, ints)
+
+    turned : (x : ℤ) → (neg_ℤ (pos 1) *ℤ (neg_ℤ (pos 1) *ℤ x) +ℤ pos 0) +ℤ pos 0 ≡ x
+    turned x = omega (arith, ints)
+
+    by : (test : Bool) → (cond test (neg_ℤ (pos 1)) (pos 1) *ℤ (cond test (neg_ℤ (pos 1)) (pos 1) *ℤ number) +ℤ pos 0) +ℤ pos 0 ≡ number
+    by true = turned number
+    by false = plain number
 
 difference : (v : Valuation) (left right : Linear) (a b : ℤ) → value_of v left ≡ a
     → value_of v right ≡ b → value_of v (minus left right) ≡ a -ℤ b
@@ -171,35 +178,35 @@ still_counts monitor plan condition which measure is plain fields number block c
     let given = inputs_after inputs (after inputs block.body state) in
     let old = value_of (valuation state no_inputs) measure.form in
     let new = value_of (valuation next no_inputs) measure.form in
-    let v = joint state inputs (noted old) in
-    let w = joint next given (noted old) in
+    let v = joint state inputs (noted measure.form old) in
+    let w = joint next given (noted measure.form old) in
     let takes = block.condition == condition in
     let gives = has_note (notes_at plan number) condition in
     let not_free : truth_of (valuation state no_inputs) measure.free ≡ false = sym (ap (λ (test : Bool). test && truth_of (valuation state no_inputs) measure.free) was) ∙ free in
-    let same_old = form_at state inputs (noted old) measure fields in
-    let noted_now = old_value state inputs old in
+    let same_old = form_at state inputs (noted measure.form old) measure fields in
+    let noted_now = old_value measure.form state inputs old in
     let hyps = five_true (truth_of v (block_guard monitor number)) (truth_of v (waiting_guard monitor condition)) (truth_of v (negation measure.free))
-    (truth_of v (formulas.Row (minus measure.form old_form))) (truth_of v (formulas.Row (minus old_form measure.form)))
-    (own_guard monitor plan.kept number block inputs state (noted old) run)
-    (waiting_truth monitor condition which state inputs (noted old) is ∙ sym (truth_at monitor state (noted old) condition which is plain) ∙ was)
-    (free_at state inputs (noted old) measure fields ∙ ap not not_free)
-    (at_most_zero v (minus measure.form old_form) (difference v measure.form old_form old old same_old noted_now ∙ nothing_left old))
-    (at_most_zero v (minus old_form measure.form) (difference v old_form measure.form old old noted_now same_old ∙ nothing_left old)) in
-    let post = meets monitor plan.kept number block inputs state (noted old)
-    (block_guard monitor number ∷ waiting_guard monitor condition ∷ negation measure.free ∷ formulas.Row (minus measure.form old_form) ∷ formulas.Row (minus old_form measure.form) ∷ [])
-    (where_open monitor measure condition (formulas.Row measure.form ∷ formulas.Row (more_by (net takes gives) (minus old_form measure.form)) ∷ [])) run counts.still hyps in
-    let rest = opened monitor measure condition which (formulas.Row measure.form ∷ formulas.Row (more_by (net takes gives) (minus old_form measure.form)) ∷ []) next given (noted old) is plain now post in
-    let parts = three_true (truth_of w (negation measure.free)) (truth_of w (formulas.Row measure.form)) (truth_of w (formulas.Row (more_by (net takes gives) (minus old_form measure.form))))
-    (sym (truth_all w (negation measure.free ∷ formulas.Row measure.form ∷ formulas.Row (more_by (net takes gives) (minus old_form measure.form)) ∷ [])) ∙ rest) in
-    let same_new = form_at next given (noted old) measure fields in
+    (truth_of v (formulas.Row (minus measure.form (old_form measure.form)))) (truth_of v (formulas.Row (minus (old_form measure.form) measure.form)))
+    (own_guard monitor plan.kept number block inputs state (noted measure.form old) run)
+    (waiting_truth monitor condition which state inputs (noted measure.form old) is ∙ sym (truth_at monitor state (noted measure.form old) condition which is plain) ∙ was)
+    (free_at state inputs (noted measure.form old) measure fields ∙ ap not not_free)
+    (at_most_zero v (minus measure.form (old_form measure.form)) (difference v measure.form (old_form measure.form) old old same_old noted_now ∙ nothing_left old))
+    (at_most_zero v (minus (old_form measure.form) measure.form) (difference v (old_form measure.form) measure.form old old noted_now same_old ∙ nothing_left old)) in
+    let post = meets monitor plan.kept number block inputs state (noted measure.form old)
+    (block_guard monitor number ∷ waiting_guard monitor condition ∷ negation measure.free ∷ formulas.Row (minus measure.form (old_form measure.form)) ∷ formulas.Row (minus (old_form measure.form) measure.form) ∷ [])
+    (where_open monitor measure condition (formulas.Row measure.form ∷ formulas.Row (more_by (net takes gives) (minus (old_form measure.form) measure.form)) ∷ [])) run counts.still hyps in
+    let rest = opened monitor measure condition which (formulas.Row measure.form ∷ formulas.Row (more_by (net takes gives) (minus (old_form measure.form) measure.form)) ∷ []) next given (noted measure.form old) is plain now post in
+    let parts = three_true (truth_of w (negation measure.free)) (truth_of w (formulas.Row measure.form)) (truth_of w (formulas.Row (more_by (net takes gives) (minus (old_form measure.form) measure.form))))
+    (sym (truth_all w (negation measure.free ∷ formulas.Row measure.form ∷ formulas.Row (more_by (net takes gives) (minus (old_form measure.form) measure.form)) ∷ [])) ∙ rest) in
+    let same_new = form_at next given (noted measure.form old) measure fields in
     let low : int_le new (pos 0) ≡ true = ap (λ (z : ℤ). int_le z (pos 0)) (sym same_new) ∙ sym (truth_row w measure.form) ∙ parts.second in
-    let fell_is : value_of w (more_by (net takes gives) (minus old_form measure.form)) ≡ (old -ℤ new) +ℤ net takes gives =
-    more_value w (minus old_form measure.form) (net takes gives)
-    ∙ ap (λ (z : ℤ). z +ℤ net takes gives) (difference w old_form measure.form old new (old_value next given old) same_new) in
+    let fell_is : value_of w (more_by (net takes gives) (minus (old_form measure.form) measure.form)) ≡ (old -ℤ new) +ℤ net takes gives =
+    more_value w (minus (old_form measure.form) measure.form) (net takes gives)
+    ∙ ap (λ (z : ℤ). z +ℤ net takes gives) (difference w (old_form measure.form) measure.form old new (old_value measure.form next given old) same_new) in
     let fell : int_le ((old -ℤ new) +ℤ net takes gives) (pos 0) ≡ true =
-    ap (λ (z : ℤ). int_le z (pos 0)) (sym fell_is) ∙ sym (truth_row w (more_by (net takes gives) (minus old_form measure.form))) ∙ parts.third in
+    ap (λ (z : ℤ). int_le z (pos 0)) (sym fell_is) ∙ sym (truth_row w (more_by (net takes gives) (minus (old_form measure.form) measure.form))) ∙ parts.third in
     record {
-      bounded = ap (λ (test : Bool). condition_truth monitor next condition && test) (from_not (truth_of (valuation next no_inputs) measure.free) (sym (free_at next given (noted old) measure fields) ∙ parts.first)) ∙ and_false (condition_truth monitor next condition);
+      bounded = ap (λ (test : Bool). condition_truth monitor next condition && test) (from_not (truth_of (valuation next no_inputs) measure.free) (sym (free_at next given (noted measure.form old) measure fields) ∙ parts.first)) ∙ and_false (condition_truth monitor next condition);
       many = at_slacks (slack monitor measure next condition) (1 + below_zero new) (slack monitor measure state condition) (1 + below_zero old) (one_if takes) (one_if gives)
           (slack_true monitor measure next condition now) (slack_true monitor measure state condition was) (falls old new takes gives low fell);
     }
@@ -354,6 +361,6 @@ guards_count monitor plan lawful = record {
   broadcasts = lawful.broadcasts;
   signals = λ number which is kind. elim (lawful.signals number which is kind) [
     | inl passed ↦ inl passed
-    | inr counted ↦ inr (guard_measure which.guard, counting_applies monitor plan number which (guard_measure which.guard) is (reads_none monitor plan lawful number which is kind) counted.fields lawful.noted counted.each)
+    | inr counted ↦ inr (row_measure which.guard counted.row, counting_applies monitor plan number which (row_measure which.guard counted.row) is (reads_none monitor plan lawful number which is kind) counted.fields lawful.noted counted.each)
   ];
 }

@@ -1,10 +1,12 @@
 -- Valid triples by which a condition is counted.
 use Rattle.std.specs.Prelude.{◌≡◌, ◌==◌, ◌⊎◌, ℕ, ◌+◌, ◌<◌, ◌≤◌, ℤ, pos, neg_ℤ, ◌+ℤ◌, ◌-ℤ◌}
-use Rattle.std.specs.Prelude.{Bool, true, false}
+use Rattle.std.specs.Prelude.{Bool, true, false, int_lt, if◌then◌else◌}
 use Rattle.std.specs.Prelude.{List, [], ◌∷◌, Some, slice_get, length}
 use Rattle.std.specs.List.{list_any}
 use Rattle.lang_base.specs.Limits.{FIRST_INPUT}
+use Rattle.logic_linear.specs.declared.form.Term.{Term}
 use Rattle.logic_linear.specs.Linear.{Linear}
+use Rattle.logic_linear.specs.Places.{rows_of}
 use Rattle.logic_linear.specs.Sums.{sum_of_multiples}
 use Rattle.logic_linear.specs.Negation.{negation}
 use Rattle.logic_linear.specs.declared.formula.Formula.{Formula}
@@ -22,18 +24,32 @@ use Rattle.machine_events.specs.declared.plan.Plan.{Plan}
 use Rattle.machine_events.specs.Plans.{notes_at, condition_kind, has_note}
 use Rattle.machine_events.specs.Plans.{has_broadcast, IsCondition}
 use Rattle.machine_events.specs.Plans.{EachNoteOn, WakesAll}
-use Rattle.machine_events.specs.Counts.{Measure, zero_form, guard_measure, one_if, IsCounted}
+use Rattle.machine_events.specs.Counts.{Measure, zero_form, row_measure, one_if, IsCounted}
 use Rattle.machine_events.specs.Counts.{IsPassedOn, IsLawfulByCounting}
 
 -- ---- forms
 
--- The place of what the form of a measure was worth before the block. It is that of the first input
--- of a client that waits, which no counted guard reads, and which no block changes.
+-- The place of what the form of a measure was worth before the block, or of that with its sign
+-- turned. It is that of the first input of a client that waits, which no counted guard reads, and
+-- which no block changes.
 abbrev pub OLD : ℕ
 OLD = FIRST_INPUT + FIRST_INPUT
 
-abbrev pub old_form : Linear
-old_form = record { terms = record { place = OLD; times = pos 1 } ∷ []; constant = pos 0 }
+-- of a form whose first term counts less than 0 the sign is turned: so a form of one variable is
+-- tied to that place by rows of differences
+abbrev pub is_turned : List Term → Bool
+is_turned [] = false
+is_turned (term ∷ terms) = int_lt term.times (pos 0)
+
+abbrev pub old_sign : List Term → ℤ
+old_sign terms = if is_turned terms then neg_ℤ (pos 1) else pos 1
+
+-- what the form was worth before the block
+abbrev pub old_form : Linear → Linear
+old_form form = record {
+  terms = record { place = OLD; times = old_sign form.terms } ∷ [];
+  constant = pos 0;
+}
 
 abbrev pub minus : Linear → Linear → Linear
 minus left right = sum_of_multiples (pos 1) left (neg_ℤ (pos 1)) right
@@ -60,13 +76,14 @@ still_query monitor kept measure condition block takes gives = record {
   hyps =
       hypotheses kept
       (block_guard monitor block ∷ waiting_guard monitor condition ∷ negation measure.free
-      ∷ formulas.Row (minus measure.form old_form)
-      ∷ formulas.Row (minus old_form measure.form) ∷ []);
+      ∷ formulas.Row (minus measure.form (old_form measure.form))
+      ∷ formulas.Row (minus (old_form measure.form) measure.form) ∷ []);
   block = block;
   post =
       where_open monitor measure condition
       (formulas.Row measure.form
-      ∷ formulas.Row (more_by (net takes gives) (minus old_form measure.form)) ∷ []);
+      ∷ formulas.Row (more_by (net takes gives) (minus (old_form measure.form) measure.form))
+      ∷ []);
 }
 
 -- where the guard was false, and is true after the block: the form is at least 0
@@ -111,14 +128,21 @@ AreNoted monitor plan =
     → has_note (notes_at plan block) condition ≡ false
     → NoneNeeded monitor plan.kept block condition
 
--- counted by the measure of its guard, as valid triples say
+-- a guard has a row of this number, from 1
+pub record HasRow (guard : Formula) (row : ℕ) : Type 0 where
+  pub first : 1 ≤ row
+  pub last : row ≤ length (rows_of guard)
+
+-- counted by a row of its guard, as valid triples say
 pub record IsCountedByGuard (monitor : MonitorParts) (plan : Plan) (number : ℕ) (guard : Formula) :
     Type 0 where
-  pub fields : ReadsFields (guard_measure guard)
-  pub each : CountsEach monitor plan number (guard_measure guard)
+  pub row : ℕ
+  pub has : HasRow guard row
+  pub fields : ReadsFields (row_measure guard row)
+  pub each : CountsEach monitor plan number (row_measure guard row)
 
--- lawful by valid triples alone, where a condition of kind signal may also be counted by the
--- measure of its guard
+-- lawful by valid triples alone, where a condition of kind signal may also be counted by a row of
+-- its guard
 pub record IsLawfulByGuards (monitor : MonitorParts) (plan : Plan) : Type 0 where
   pub inductive : IsInductive monitor plan.kept
   pub noted : AreNoted monitor plan

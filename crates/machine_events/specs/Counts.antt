@@ -1,12 +1,14 @@
 -- Conditions of kind signal whose wake-ups are counted, and the plans that are lawful by counting.
-use Rattle.std.specs.Prelude.{◌≡◌, ◌==◌, ◌⊎◌, ℕ, ◌+◌, ◌<◌, ◌≤◌, ℤ, pos, negsuc, Bool, true, false}
-use Rattle.std.specs.Prelude.{not, ◌&&◌, List, [], ◌∷◌, Some, slice_get, length, if◌then◌else◌}
+use Rattle.std.specs.Prelude.{◌≡◌, ◌==◌, ◌⊎◌, ℕ, ◌+◌, ◌-◌, ◌<◌, ◌≤◌, ℤ, pos, negsuc, Bool, true}
+use Rattle.std.specs.Prelude.{false, not, ◌&&◌, List, [], ◌∷◌, Some, slice_get, get_or, length}
+use Rattle.std.specs.Prelude.{if◌then◌else◌}
 use Rattle.logic_linear.specs.Linear.{Linear}
 use Rattle.logic_linear.specs.declared.formula.Formula.{Formula}
 use Rattle.logic_linear.specs.declared.formula.Formula.TheVariants as formulas
-use Rattle.logic_linear.specs.declared.formula.Formula.TheOpen.{Formula-F, Row, Any as Some_of}
+use Rattle.logic_linear.specs.declared.formula.Formula.TheOpen.{Formula-F, Row, Flag, All, Any as Some_of}
 use Rattle.logic_linear.specs.declared.formula.Formula.TheViews.{out-Formula}
-use Rattle.std.specs.List.{filter}
+use Rattle.logic_linear.specs.declared.formula.Formula.TheFolds.{fold-Formula}
+use Rattle.std.specs.List.{filter, flat_map, list_any}
 use Rattle.logic_linear.specs.Truth.{value_of, truth_of}
 use Rattle.logic_linear.specs.Places.{rows_of}
 use Rattle.lang_base.specs.declared.value.Value.{Value}
@@ -55,33 +57,70 @@ is_free monitor measure state condition =
 abbrev pub zero_form : Linear
 zero_form = record { terms = []; constant = pos 0 }
 
+-- true nowhere
+abbrev pub never : Formula
+never = formulas.Any []
+
 -- one client may pass where the guard is true
 abbrev pub one_passes : Measure
-one_passes = record { form = zero_form; free = formulas.Any [] }
+one_passes = record { form = zero_form; free = never }
 
-abbrev pub first_of_rows : List Linear → Linear
-first_of_rows [] = zero_form
-first_of_rows (form ∷ forms) = form
+abbrev pub is_never_layer : Formula-F Formula → Bool
+is_never_layer (Some_of []) = true
+is_never_layer layer = false
 
--- counted by the first row of a guard, which is a row or a conjunction in which one row is counted
-abbrev pub row_measure : Formula → Measure
-row_measure guard = record { form = first_of_rows (rows_of guard); free = formulas.Any [] }
+abbrev pub is_never : Formula → Bool
+is_never formula = is_never_layer (out-Formula formula)
 
-abbrev pub is_row_layer : Formula-F Formula → Bool
-is_row_layer (Row form) = true
-is_row_layer layer = false
+-- all of the parts: nowhere true where one of them is so
+abbrev pub every_of : List Formula → Formula
+every_of parts = if list_any is_never parts then never else formulas.All parts
 
--- of a guard that is a disjunction, any number may pass where a part is true that is no row
-abbrev pub layer_measure : Formula → Formula-F Formula → Measure
-layer_measure guard (Some_of parts) = record {
-  form = first_of_rows (rows_of guard);
-  free = formulas.Any (filter (λ part. not (is_row_layer (out-Formula part))) parts);
+-- some of the parts, without those that are nowhere true
+abbrev pub some_of : List Formula → Formula
+some_of parts = formulas.Any (filter (λ part. not (is_never part)) parts)
+
+-- The rows of a formula, and by a number that it is without the row of that number: it has the row
+-- taken for false, and the parts left out that are then true nowhere. Rows count from 1.
+pub record Cut : Type 0 where
+  pub rows : List Linear
+  pub without : ℕ → Formula
+
+-- each part without the row of this number among the rows of all
+abbrev pub parts_without : ℕ → List Cut → List Formula
+parts_without row [] = []
+parts_without row (part ∷ parts) =
+    part.without row ∷ parts_without (row - length part.rows) parts
+
+abbrev pub cut_layer : Formula-F Cut → Cut
+cut_layer (Row form) = record {
+  rows = form ∷ [];
+  without = λ row. if row == 1 then never else formulas.Row form;
 }
-layer_measure guard layer = row_measure guard
+cut_layer (Flag place is) = record { rows = []; without = λ row. formulas.Flag place is }
+cut_layer (All parts) = record {
+  rows = flat_map (λ part. part.rows) parts;
+  without = λ row. every_of (parts_without row parts);
+}
+cut_layer (Some_of parts) = record {
+  rows = flat_map (λ part. part.rows) parts;
+  without = λ row. some_of (parts_without row parts);
+}
 
--- the measure of a guard: its first row, beside the parts of a disjunction that are no rows
-abbrev pub guard_measure : Formula → Measure
-guard_measure guard = layer_measure guard (out-Formula guard)
+abbrev pub cut_of : Formula → Cut
+cut_of = fold-Formula Cut cut_layer
+
+-- the guard with its row of this number, from 1 in reading order, taken for false
+abbrev pub without_row : ℕ → Formula → Formula
+without_row row guard = (cut_of guard).without row
+
+-- the measure of a guard by its row of this number: any number may pass where the guard is true
+-- without that row
+abbrev pub row_measure : Formula → ℕ → Measure
+row_measure guard row = record {
+  form = get_or (rows_of guard) (row - 1) zero_form;
+  free = without_row row guard;
+}
 
 -- ---- conditions that are counted
 

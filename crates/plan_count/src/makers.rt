@@ -13,7 +13,7 @@ ghost use Rattle.plan_count.specs.inner.Rows.{IsCountable, IsMeasured};
 ghost use Rattle.plan_count.specs.inner.Rows.{fresh_post, still_post, tied};
 
 use super::forms::{less_old, old_less, turned};
-use super::measures::{measure_form, measure_free};
+use super::measures::{row_form, without_row};
 use super::question::Question;
 use base_list::Seq;
 use lang_monitor::{Candidate, Monitor, Query};
@@ -43,11 +43,12 @@ fn parts_of(
     monitor: &Monitor,
     kept: &[Candidate],
     condition: u32,
+    row: u32,
     block: u32,
 ) -> Result<Measured, AllocError>
     requires kept { list_all is_expressible kept.now ≡ true }
-    requires may { MayBeAsked monitor.now condition block }
-    ensures { IfOk result (λ it. IsMeasured monitor.now kept.now condition block
+    requires may { MayBeAsked monitor.now condition row block }
+    ensures { IfOk result (λ it. IsMeasured monitor.now kept.now condition row block
         it.hyps.items it.idle.items it.guard it.shut it.form it.bounded) }
 {
     let _conditions = monitor.conditions();
@@ -69,8 +70,8 @@ fn parts_of(
         block: _,
         post: guard,
     } = no_test(alloc, monitor, kept, block, condition)?;
-    let form = measure_form(alloc, &guard)?;
-    let free = measure_free(alloc, &guard)?;
+    let form = row_form(alloc, &guard, row)?;
+    let free = without_row(alloc, &guard, row)?;
     Ok(Measured {
         hyps: hyps.into_items(),
         idle: idle.into_items(),
@@ -176,13 +177,14 @@ fn leaves(
     monitor: &Monitor,
     kept: &[Candidate],
     condition: u32,
+    row: u32,
     block: u32,
     gives: bool,
 ) -> Result<Query, AllocError>
     requires kept { list_all is_expressible kept.now ≡ true }
-    requires may { MayBeAsked monitor.now condition block }
+    requires may { MayBeAsked monitor.now condition row block }
     ensures made { IfOk result (λ it.
-        it ≡ leaves_query monitor.now kept.now condition block gives) }
+        it ≡ leaves_query monitor.now kept.now condition row block gives) }
     ensures post { IfOk result (λ it. IsTrue (can_negate it.post)) }
 {
     let Measured {
@@ -192,7 +194,7 @@ fn leaves(
         shut,
         form,
         bounded,
-    } = parts_of(alloc, monitor, kept, condition, block)?;
+    } = parts_of(alloc, monitor, kept, condition, row, block)?;
     let copy = copy_formula(alloc, &bounded)?;
     let hyps = tied(alloc, hyps, guard, copy, &form)?;
     let net = net(takes_at(monitor, condition, block), gives);
@@ -210,11 +212,13 @@ fn first(
     monitor: &Monitor,
     kept: &[Candidate],
     condition: u32,
+    row: u32,
     block: u32,
 ) -> Result<Query, AllocError>
     requires kept { list_all is_expressible kept.now ≡ true }
-    requires may { MayBeAsked monitor.now condition block }
-    ensures made { IfOk result (λ it. it ≡ first_query monitor.now kept.now condition block) }
+    requires may { MayBeAsked monitor.now condition row block }
+    ensures made { IfOk result (λ it. it ≡
+        first_query monitor.now kept.now condition row block) }
     ensures post { IfOk result (λ it. IsTrue (can_negate it.post)) }
 {
     let Measured {
@@ -224,7 +228,7 @@ fn first(
         shut,
         form,
         bounded,
-    } = parts_of(alloc, monitor, kept, condition, block)?;
+    } = parts_of(alloc, monitor, kept, condition, row, block)?;
     let post = fresh_post(alloc, shut, bounded, &form)?;
     Ok(Query {
         hyps: Seq::of(idle),
@@ -248,12 +252,20 @@ pub fn question_query(
     ensures post { IfOk result (λ query. IsTrue (can_negate query.post)) }
 {
     match question {
-        Question::Counts { condition, block } => {
-            leaves(alloc, monitor, kept, condition, block, false)
-        }
-        Question::Gives { condition, block } => {
-            leaves(alloc, monitor, kept, condition, block, true)
-        }
-        Question::First { condition, block } => first(alloc, monitor, kept, condition, block),
+        Question::Counts {
+            condition,
+            row,
+            block,
+        } => leaves(alloc, monitor, kept, condition, row, block, false),
+        Question::Gives {
+            condition,
+            row,
+            block,
+        } => leaves(alloc, monitor, kept, condition, row, block, true),
+        Question::First {
+            condition,
+            row,
+            block,
+        } => first(alloc, monitor, kept, condition, row, block),
     }
 }
