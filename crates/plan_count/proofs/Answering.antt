@@ -13,12 +13,13 @@ use Rattle.lang_monitor.specs.Queries.{for_waiting, guard_in_condition, waiting_
 use Rattle.lang_monitor.specs.Triples.{IsValidQuery}
 use Rattle.machine_events.specs.declared.plan.Plan.{Plan}
 use Rattle.machine_events.specs.Plans.{notes_at, has_note, has_broadcast, IsCondition}
-use Rattle.machine_events.specs.Counts.{guard_measure}
+use Rattle.machine_events.specs.Counts.{row_measure}
 use Rattle.machine_events.specs.CountClaims.{still_query, fresh_query}
-use Rattle.machine_events.specs.CountClaims.{CountsBlock, IsCountedByGuard}
+use Rattle.machine_events.specs.CountClaims.{CountsBlock, HasRow, IsCountedByGuard}
 use Rattle.logic_wp.proofs.Fitting.{condition_fits}
 use Rattle.plan_count.specs.Questions.{takes_at, AnswersCount, AreToldRight, CountsWithNone, CountsWithOne, IsToldRight}
-use Rattle.plan_count.proofs.GuardRows.{form_reads, free_reads}
+use Rattle.plan_count.proofs.GuardCuts.{free_reads}
+use Rattle.plan_count.proofs.GuardRows.{form_reads}
 
 -- a guard that reads no inputs is the same for a client that waits
 abbrev pub GuardsStay : Type 0
@@ -36,45 +37,47 @@ takes_is : (monitor : MonitorParts) (condition number : ℕ) (block : Block)
 takes_is monitor condition number block is =
     ap (λ (found : Option Block). option_map_or (λ held. held.condition == condition) found false) is
 
-with_none : (monitor : MonitorParts) (plan : Plan) (condition : ℕ) (which : Condition) (number : ℕ) (block : Block)
+with_none : (monitor : MonitorParts) (plan : Plan) (condition row : ℕ) (which : Condition) (number : ℕ) (block : Block)
     → waiting_guard monitor condition ≡ which.guard → slice_get monitor.blocks number ≡ Some block
-    → CountsWithNone monitor plan condition number
-    → CountsBlock monitor plan condition (guard_measure which.guard) number block
-with_none monitor plan condition which number block guard is told =
+    → CountsWithNone monitor plan condition row number
+    → CountsBlock monitor plan condition (row_measure which.guard row) number block
+with_none monitor plan condition row which number block guard is told =
     let takes = takes_is monitor condition number block is in record {
       still = subst (IsValidQuery monitor)
-          (λ i. still_query monitor plan.kept (guard_measure (guard i)) condition number (takes i) (sym told.none i)) told.counts;
+          (λ i. still_query monitor plan.kept (row_measure (guard i) row) condition number (takes i) (sym told.none i)) told.counts;
       fresh = λ has other. absurd (true≢false (sym has ∙ told.none));
     }
 
-with_one : (monitor : MonitorParts) (plan : Plan) (condition : ℕ) (which : Condition) (number : ℕ) (block : Block)
+with_one : (monitor : MonitorParts) (plan : Plan) (condition row : ℕ) (which : Condition) (number : ℕ) (block : Block)
     → waiting_guard monitor condition ≡ which.guard → slice_get monitor.blocks number ≡ Some block
-    → CountsWithOne monitor plan condition number
-    → CountsBlock monitor plan condition (guard_measure which.guard) number block
-with_one monitor plan condition which number block guard is told =
+    → CountsWithOne monitor plan condition row number
+    → CountsBlock monitor plan condition (row_measure which.guard row) number block
+with_one monitor plan condition row which number block guard is told =
     let takes = takes_is monitor condition number block is in record {
       still = subst (IsValidQuery monitor)
-          (λ i. still_query monitor plan.kept (guard_measure (guard i)) condition number (takes i) (sym told.one i)) told.gives;
+          (λ i. still_query monitor plan.kept (row_measure (guard i) row) condition number (takes i) (sym told.one i)) told.gives;
       fresh = λ has other. subst (IsValidQuery monitor)
-          (λ i. fresh_query monitor plan.kept (guard_measure (guard i)) condition number) (told.first (takes ∙ other));
+          (λ i. fresh_query monitor plan.kept (row_measure (guard i) row) condition number) (told.first (takes ∙ other));
     }
 
 pub counted : GuardsStay → AnswersCount
-counted stay monitor plan condition which rule is plain told =
+counted stay monitor plan condition row which rule is plain has told =
     let fits = condition_fits monitor (condition - 1) which rule is.there in
     let guard = guard_at stay monitor condition which is plain in record {
+      row = row;
+      has = subst (λ (one : Formula). HasRow one row) guard has;
       fields = record {
-        form = form_reads fits.places which.guard fits.fits plain;
-        free = free_reads which.guard plain;
+        form = form_reads fits.places which.guard row fits.fits plain;
+        free = free_reads which.guard row plain;
       };
       each = λ number block there.
           by (told number (slice_get_within monitor.blocks number block there)) guard there;
     }
   where
-    by : {number : ℕ} {block : Block} → IsToldRight monitor plan condition number
+    by : {number : ℕ} {block : Block} → IsToldRight monitor plan condition row number
         → waiting_guard monitor condition ≡ which.guard → slice_get monitor.blocks number ≡ Some block
         → (has_broadcast (notes_at plan number) condition ≡ true)
-        ⊎ CountsBlock monitor plan condition (guard_measure which.guard) number block
+        ⊎ CountsBlock monitor plan condition (row_measure which.guard row) number block
     by (inl cast) guard there = inl cast
-    by {number} {block} (inr (inl none)) guard there = inr (with_none monitor plan condition which number block guard there none)
-    by {number} {block} (inr (inr one)) guard there = inr (with_one monitor plan condition which number block guard there one)
+    by {number} {block} (inr (inl none)) guard there = inr (with_none monitor plan condition row which number block guard there none)
+    by {number} {block} (inr (inr one)) guard there = inr (with_one monitor plan condition row which number block guard there one)

@@ -2,3 +2,4 @@ mod TiedForms
 pub mod GuardRows
 pub mod Answering
 mod Measured
+mod GuardCuts

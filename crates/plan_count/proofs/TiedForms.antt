@@ -1,5 +1,5 @@
 -- The rows that tie a form to what it was worth, written out, are forms.
-use Rattle.std.proofs.Common.{◌≡◌, ◌≢◌, ℕ, zero, suc, ◌+◌, ◌<◌, ◌≤◌, ◌^◌, ℤ, pos, negsuc, neg_ℤ, ◌+ℤ◌, ◌-ℤ◌, ◌*ℤ◌, ◌≤ℤ◌, ◌<ℤ◌, Bool, true, false, cond, List, [], ◌∷◌, ◌++◌, map, append-nil, sym, ap, ap₂, subst, refl, ◌∙◌, arith}
+use Rattle.std.proofs.Common.{◌≡◌, ◌≢◌, ℕ, zero, suc, ◌+◌, ◌<◌, ◌≤◌, ◌^◌, ℤ, pos, negsuc, neg_ℤ, ◌+ℤ◌, ◌-ℤ◌, ◌*ℤ◌, ◌≤ℤ◌, ◌<ℤ◌, Bool, true, false, not, cond, List, [], ◌∷◌, ◌++◌, map, append-nil, sym, ap, ap₂, subst, refl, ◌∙◌, arith}
 use Rattle.std.specs.Prelude.{All, nat_lt, ◌==◌}
 use Rattle.std.specs.List.Sorted.{IsStrictlyIncreasing}
 use Rattle.std.specs.List.{list_all}
@@ -17,8 +17,8 @@ use Rattle.logic_linear.specs.Sums.{term_of, with_term, plus_multiple}
 use Rattle.logic_linear.proofs.RisingLemmas.{RisesFrom, linear_rises, increasing_from_rises}
 use Rattle.lang_monitor.specs.Inputs.{reads_term}
 use Rattle.machine_events.specs.Counts.{zero_form}
-use Rattle.machine_events.specs.CountClaims.{OLD, minus, more_by, old_form}
-use Rattle.plan_count.specs.inner.Rows.{IsCountable, IsFieldTerm}
+use Rattle.machine_events.specs.CountClaims.{OLD, is_turned, minus, more_by, old_form}
+use Rattle.plan_count.specs.inner.Rows.{IsCountable, IsFieldTerm, last_term, old_number}
 
 -- ---- multiples written out
 
@@ -82,9 +82,6 @@ at_end place times low (term ∷ terms) rises below is =
 
 -- ---- a form whose terms are of fields
 
-abbrev pub last_term : ℤ → Term
-last_term times = record { place = OLD; times = times }
-
 rises_to_old : (times : ℤ) (low : ℕ) (terms : List Term) → low ≤ OLD → RisesFrom low terms
     → All IsFieldTerm terms → RisesFrom low (terms ++ last_term times ∷ [])
 rises_to_old times low [] below rises fields = (below, tt)
@@ -126,29 +123,48 @@ counted_turned terms each = All-weaker IsTerm (Counts (neg_ℤ (pos 1))) (λ ter
 
 -- ---- the three rows, written out
 
+abbrev old_by : Bool → Linear
+old_by turned = record { terms = last_term (old_number turned) ∷ []; constant = pos 0 }
+
+less_terms : (turned : Bool) (form : Linear) → IsLinear form → IsCountable form
+    → (minus form (old_by turned)).terms ≡ form.terms ++ last_term (old_number (not turned)) ∷ []
+less_terms turned form rule is = by turned
+  where
+    once : plus_multiple (pos 1) form.terms [] ≡ form.terms
+    once =
+        multiples (pos 1) 0 form.terms [] (subst (RisesFrom 0) (sym (append-nil form.terms)) (linear_rises form rule)) (counted_once form.terms rule.each)
+        ∙ append-nil (map (scaled (pos 1)) form.terms) ∙ nothing_scaled form.terms
+
+    by : (turned : Bool) → (minus form (old_by turned)).terms ≡ form.terms ++ last_term (old_number (not turned)) ∷ []
+    by false = ap (with_term OLD (neg_ℤ (pos 1) *ℤ pos 1)) once ∙ at_end OLD (neg_ℤ (pos 1)) 0 form.terms (linear_rises form rule) (before_old form.terms is.terms) refl
+    by true = ap (with_term OLD (neg_ℤ (pos 1) *ℤ neg_ℤ (pos 1))) once ∙ at_end OLD (pos 1) 0 form.terms (linear_rises form rule) (before_old form.terms is.terms) refl
+
 pub less_old_is : (form : Linear) → IsLinear form → IsCountable form
-    → minus form old_form ≡ record { terms = form.terms ++ last_term (neg_ℤ (pos 1)) ∷ []; constant = form.constant }
-less_old_is form rule is = λ i. record { terms = terms_are i; constant = plain form.constant i }
+    → minus form (old_form form) ≡ record { terms = form.terms ++ last_term (old_number (not (is_turned form.terms))) ∷ []; constant = form.constant }
+less_old_is form rule is = λ i. record { terms = less_terms (is_turned form.terms) form rule is i; constant = plain form.constant i }
   where
     plain : (z : ℤ) → pos 1 *ℤ z +ℤ neg_ℤ (pos 1) *ℤ pos 0 ≡ z
     plain z = omega (arith, ints)
 
-    terms_are : (minus form old_form).terms ≡ form.terms ++ last_term (neg_ℤ (pos 1)) ∷ []
-    terms_are =
-        ap (with_term OLD (neg_ℤ (pos 1) *ℤ pos 1)) (multiples (pos 1) 0 form.terms [] (subst (RisesFrom 0) (sym (append-nil form.terms)) (linear_rises form rule)) (counted_once form.terms rule.each) ∙ append-nil (map (scaled (pos 1)) form.terms) ∙ nothing_scaled form.terms)
-        ∙ at_end OLD (neg_ℤ (pos 1)) 0 form.terms (linear_rises form rule) (before_old form.terms is.terms) refl
+old_terms : (turned : Bool) (form : Linear) → IsLinear form → IsCountable form
+    → (minus (old_by turned) form).terms ≡ map negative_term form.terms ++ last_term (old_number turned) ∷ []
+old_terms turned form rule is = by turned
+  where
+    to : (times : ℤ) → plus_multiple (neg_ℤ (pos 1)) form.terms (last_term times ∷ []) ≡ map negative_term form.terms ++ last_term times ∷ []
+    to times =
+        multiples (neg_ℤ (pos 1)) 0 form.terms (last_term times ∷ []) (rises_to_old times 0 form.terms (omega arith) (linear_rises form rule) is.terms) (counted_turned form.terms rule.each)
+        ∙ ap (λ (all : List Term). all ++ last_term times ∷ []) (turned_scaled form.terms)
+
+    by : (turned : Bool) → (minus (old_by turned) form).terms ≡ map negative_term form.terms ++ last_term (old_number turned) ∷ []
+    by false = to (pos 1)
+    by true = to (neg_ℤ (pos 1))
 
 pub old_less_is : (form : Linear) (number : ℤ) → IsLinear form → IsCountable form
-    → more_by number (minus old_form form) ≡ record { terms = map negative_term form.terms ++ last_term (pos 1) ∷ []; constant = number -ℤ form.constant }
-old_less_is form number rule is = λ i. record { terms = terms_are i; constant = plain form.constant number i }
+    → more_by number (minus (old_form form) form) ≡ record { terms = map negative_term form.terms ++ last_term (old_number (is_turned form.terms)) ∷ []; constant = number -ℤ form.constant }
+old_less_is form number rule is = λ i. record { terms = old_terms (is_turned form.terms) form rule is i; constant = plain form.constant number i }
   where
     plain : (z number : ℤ) → (pos 1 *ℤ pos 0 +ℤ neg_ℤ (pos 1) *ℤ z) +ℤ number ≡ number -ℤ z
     plain z number = omega (arith, ints)
-
-    terms_are : (minus old_form form).terms ≡ map negative_term form.terms ++ last_term (pos 1) ∷ []
-    terms_are =
-        multiples (neg_ℤ (pos 1)) 0 form.terms (last_term (pos 1) ∷ []) (rises_to_old (pos 1) 0 form.terms (omega arith) (linear_rises form rule) is.terms) (counted_turned form.terms rule.each)
-        ∙ ap (λ (all : List Term). all ++ last_term (pos 1) ∷ []) (turned_scaled form.terms)
 
 pub turned_is : (form : Linear) → IsLinear form → IsCountable form
     → minus zero_form form ≡ record { terms = map negative_term form.terms; constant = neg_ℤ form.constant }
@@ -182,8 +198,9 @@ negative_is term is field =
     small_below : (z : ℤ) → is_within (2 ^ 31) z ≡ true → neg_ℤ z <ℤ pos (2 ^ 95)
     small_below z small = grind (arith, ints)
 
-last_is : (times : ℤ) → is_within 1 times ≡ true → times ≢ pos 0 → IsTerm (last_term times)
-last_is times small is = record { nonzero = is; above = grind (arith, ints); below = grind (arith, ints) }
+last_is : (turned : Bool) → IsTerm (last_term (old_number turned))
+last_is true = record { nonzero = λ same. cc same; above = grind (arith, ints); below = grind (arith, ints) }
+last_is false = record { nonzero = λ same. cc same; above = grind (arith, ints); below = grind (arith, ints) }
 
 negatives_are : (terms : List Term) → All IsTerm terms → All IsFieldTerm terms → All IsTerm (map negative_term terms)
 negatives_are [] each fields = All-nil IsTerm
@@ -197,21 +214,21 @@ negatives_rise : (low : ℕ) (terms tail : List Term) → RisesFrom low (terms +
 negatives_rise low [] tail rises = rises
 negatives_rise low (term ∷ terms) tail rises = (rises.0, negatives_rise (term.place + 1) terms tail rises.1)
 
-pub less_old_linear : (form : Linear) → IsLinear form → IsCountable form
-    → IsLinear (record { terms = form.terms ++ last_term (neg_ℤ (pos 1)) ∷ []; constant = form.constant })
-less_old_linear form rule is = record {
-  rising = increasing_from_rises 0 (form.terms ++ last_term (neg_ℤ (pos 1)) ∷ []) (rises_to_old (neg_ℤ (pos 1)) 0 form.terms (omega arith) (linear_rises form rule) is.terms);
-  each = All-push IsTerm form.terms (last_term (neg_ℤ (pos 1))) rule.each (last_is (neg_ℤ (pos 1)) refl (λ same. cc same));
+pub less_old_linear : (form : Linear) (turned : Bool) → IsLinear form → IsCountable form
+    → IsLinear (record { terms = form.terms ++ last_term (old_number turned) ∷ []; constant = form.constant })
+less_old_linear form turned rule is = record {
+  rising = increasing_from_rises 0 (form.terms ++ last_term (old_number turned) ∷ []) (rises_to_old (old_number turned) 0 form.terms (omega arith) (linear_rises form rule) is.terms);
+  each = All-push IsTerm form.terms (last_term (old_number turned)) rule.each (last_is turned);
   above = rule.above;
   below = rule.below;
 }
 
-pub old_less_linear : (form : Linear) (number : ℤ) → IsLinear form → IsCountable form → is_within 1 number ≡ true
-    → IsLinear (record { terms = map negative_term form.terms ++ last_term (pos 1) ∷ []; constant = number -ℤ form.constant })
-old_less_linear form number rule is small = record {
-  rising = increasing_from_rises 0 (map negative_term form.terms ++ last_term (pos 1) ∷ [])
-      (negatives_rise 0 form.terms (last_term (pos 1) ∷ []) (rises_to_old (pos 1) 0 form.terms (omega arith) (linear_rises form rule) is.terms));
-  each = All-push IsTerm (map negative_term form.terms) (last_term (pos 1)) (negatives_are form.terms rule.each is.terms) (last_is (pos 1) refl (λ same. cc same));
+pub old_less_linear : (form : Linear) (turned : Bool) (number : ℤ) → IsLinear form → IsCountable form → is_within 1 number ≡ true
+    → IsLinear (record { terms = map negative_term form.terms ++ last_term (old_number turned) ∷ []; constant = number -ℤ form.constant })
+old_less_linear form turned number rule is small = record {
+  rising = increasing_from_rises 0 (map negative_term form.terms ++ last_term (old_number turned) ∷ [])
+      (negatives_rise 0 form.terms (last_term (old_number turned) ∷ []) (rises_to_old (old_number turned) 0 form.terms (omega arith) (linear_rises form rule) is.terms));
+  each = All-push IsTerm (map negative_term form.terms) (last_term (old_number turned)) (negatives_are form.terms rule.each is.terms) (last_is turned);
   above = above form.constant number is.constant small;
   below = below form.constant number is.constant small;
 }
@@ -307,11 +324,15 @@ form_can form is =
     and_from (list_all can_negate_term form.terms) (can_negate_number form.constant) (can_terms form.terms is.terms) (can_constant form.constant is.constant)
 
 pub old_less_can : (form : Linear) (number : ℤ) → IsLinear form → IsCountable form → is_within 1 number ≡ true
-    → can_negate_linear (more_by number (minus old_form form)) ≡ true
+    → can_negate_linear (more_by number (minus (old_form form) form)) ≡ true
 old_less_can form number rule is small =
     ap can_negate_linear (old_less_is form number rule is)
-    ∙ and_from (list_all can_negate_term (map negative_term form.terms ++ last_term (pos 1) ∷ [])) (can_negate_number (number -ℤ form.constant))
-    (can_negatives form.terms (last_term (pos 1) ∷ []) is.terms refl) (can_less number form.constant small is.constant)
+    ∙ and_from (list_all can_negate_term (map negative_term form.terms ++ last_term (old_number (is_turned form.terms)) ∷ [])) (can_negate_number (number -ℤ form.constant))
+    (can_negatives form.terms (last_term (old_number (is_turned form.terms)) ∷ []) is.terms (last_can (is_turned form.terms))) (can_less number form.constant small is.constant)
+  where
+    last_can : (turned : Bool) → list_all can_negate_term (last_term (old_number turned) ∷ []) ≡ true
+    last_can true = refl
+    last_can false = refl
 
 pub turned_can : (form : Linear) → IsLinear form → IsCountable form → can_negate_linear (minus zero_form form) ≡ true
 turned_can form rule is =

@@ -1,8 +1,8 @@
--- Counted plans: as a placed plan, but conditions of kind broadcast that may be counted are of kind
--- signal, with a note of a block where its question with no note is open, and a broadcast where
+-- Counted plans: as a placed plan, but conditions of kind broadcast that may be counted by a row of
+-- their guards are of kind signal, with a note of a block where its question with no note is open, and a broadcast where
 -- those with one signal are.
-use Rattle.std.specs.Prelude.{◌≡◌, ◌⊎◌, ℕ, ◌-◌, Bool, true, false, List, map, Option, Some, None}
-use Rattle.std.specs.Prelude.{length, All, slice_get, unwrap_or}
+use Rattle.std.specs.Prelude.{◌≡◌, ◌⊎◌, ℕ, ◌-◌, ◌<◌, ◌≤◌, Bool, true, false, List, map, Option, Some}
+use Rattle.std.specs.Prelude.{None, length, All, slice_get, unwrap_or}
 use Rattle.std.specs.List.{flat_map, enumerate_from, range_with_len}
 use Rattle.std.specs.Option.{option_map_or, option_to_list}
 use Rattle.logic_cert.specs.declared.cert.Cert.{Cert}
@@ -21,7 +21,8 @@ use Rattle.plan_place.specs.Backing.{waits_at}
 use Rattle.plan_place.specs.Relayed.{note_on}
 use Rattle.plan_count.specs.declared.question.Question.{Question}
 use Rattle.plan_count.specs.declared.question.Question.TheVariants as questions
-use Rattle.plan_count.specs.Questions.{question_query, IsSo}
+use Rattle.plan_count.specs.Questions.{question_query, HasRowAt, IsSo}
+use Rattle.plan_counted.specs.declared.counted.Column.{Column}
 use Rattle.plan_counted.specs.declared.counted.Told.{Told}
 use Rattle.plan_counted.specs.declared.counted.Told.TheVariants as telling
 
@@ -31,38 +32,55 @@ use Rattle.plan_counted.specs.declared.counted.Told.TheVariants as telling
 abbrev pub IsOpen : MonitorParts → List Candidate → Question → Type 0
 IsOpen monitor kept question = MayStayOpen monitor (question_query monitor kept question)
 
--- ---- conditions that are left as they were
+-- ---- conditions that may be counted
 
--- the guard reads no inputs, and each block that waits at the condition leaves it counted with no
--- note, and has none
-pub record MayCount (monitor : MonitorParts) (plan : Plan) (condition : ℕ) : Type 0 where
+-- the most rows of a guard that are tried
+abbrev pub ROWS_TRIED : ℕ
+ROWS_TRIED = 8
+
+-- the guard of the condition has the row, and it is one of the first
+pub record IsTried (monitor : MonitorParts) (condition row : ℕ) : Type 0 where
+  pub has : HasRowAt monitor condition row
+  pub limit : row ≤ ROWS_TRIED
+
+-- the guard reads no inputs, and each block that waits at the condition leaves it counted by this
+-- row with no note, and has none
+pub record MayCount (monitor : MonitorParts) (plan : Plan) (condition row : ℕ) : Type 0 where
   pub reads_none : ReadsNone monitor condition
   pub unnoted : (block : ℕ) → WaitsAt monitor block condition
       → note_on (notes_at plan block) condition ≡ None
   pub counts : (block : ℕ) → WaitsAt monitor block condition
-      → IsSo monitor plan.kept (questions.Counts condition block)
+      → IsSo monitor plan.kept (questions.Counts condition row block)
 
 -- of some block that waits at the condition the prover may leave open whether it counts
-pub record HasOpenBlock (monitor : MonitorParts) (plan : Plan) (condition : ℕ) : Type 0 where
+pub record HasOpenBlock (monitor : MonitorParts) (plan : Plan) (condition row : ℕ) : Type 0 where
   pub block : ℕ
   pub waits : WaitsAt monitor block condition
-  pub may : IsOpen monitor plan.kept (questions.Counts condition block)
+  pub may : IsOpen monitor plan.kept (questions.Counts condition row block)
 
--- of the same kind, with the same notes; and of kind broadcast, though it may be counted, only
--- where a query may stay open
+-- by the row the condition may be counted only where a question may stay open
+abbrev pub IsBarred : MonitorParts → Plan → ℕ → ℕ → Type 0
+IsBarred monitor plan condition row =
+    MayCount monitor plan condition row → HasOpenBlock monitor plan condition row
+
+-- ---- conditions that are left as they were
+
+-- of the same kind, with the same notes; and of kind broadcast, though it may be counted by a row
+-- that is tried, only where a query may stay open
 pub record IsLeft (monitor : MonitorParts) (placed counted : Plan) (condition : ℕ) : Type 0 where
   pub kind : condition_kind counted condition ≡ condition_kind placed condition
   pub notes : (block : ℕ) → note_on (notes_at counted block) condition
       ≡ note_on (notes_at placed block) condition
   pub uncounted : condition_kind placed condition ≡ Some kinds.Broadcast
-      → MayCount monitor placed condition → HasOpenBlock monitor placed condition
+      → (row : ℕ) → IsTried monitor condition row → IsBarred monitor placed condition row
 
 -- ---- conditions that are counted
 
 -- no note: none was placed, and the block leaves the condition counted
-pub record IsUnnoted (monitor : MonitorParts) (placed : Plan) (condition block : ℕ) : Type 0 where
+pub record IsUnnoted (monitor : MonitorParts) (placed : Plan) (condition row block : ℕ) :
+    Type 0 where
   pub none : note_on (notes_at placed block) condition ≡ None
-  pub counts : IsSo monitor placed.kept (questions.Counts condition block)
+  pub counts : IsSo monitor placed.kept (questions.Counts condition row block)
 
 -- a note is tested where the placed one is, and where none was placed
 abbrev pub is_tested : Option Note → Bool
@@ -71,34 +89,39 @@ is_tested placed = option_map_or (λ note. note.tested) placed true
 -- A note of a block that does not wait at the condition: one was placed, or the question with no
 -- note may stay open. It is a broadcast only where a question with one signal fails or may stay
 -- open.
-pub record IsNoted (monitor : MonitorParts) (placed : Plan) (condition block : ℕ) (note : Note) :
-    Type 0 where
+pub record IsNoted (monitor : MonitorParts) (placed : Plan) (condition row block : ℕ)
+    (note : Note) : Type 0 where
   pub on : note.condition ≡ condition
   pub other : waits_at monitor condition block ≡ false
   pub needed : note_on (notes_at placed block) condition ≡ None
-      → IsSo monitor placed.kept (questions.Counts condition block)
-      → IsOpen monitor placed.kept (questions.Counts condition block)
+      → IsSo monitor placed.kept (questions.Counts condition row block)
+      → IsOpen monitor placed.kept (questions.Counts condition row block)
   pub tested : note.tested ≡ is_tested (note_on (notes_at placed block) condition)
-  pub gives : note.all ≡ false → IsSo monitor placed.kept (questions.Gives condition block)
-  pub first : note.all ≡ false → IsSo monitor placed.kept (questions.First condition block)
-  pub all : note.all ≡ true → IsSo monitor placed.kept (questions.Gives condition block)
-      → IsSo monitor placed.kept (questions.First condition block)
-      → IsOpen monitor placed.kept (questions.Gives condition block)
-      ⊎ IsOpen monitor placed.kept (questions.First condition block)
+  pub gives : note.all ≡ false → IsSo monitor placed.kept (questions.Gives condition row block)
+  pub first : note.all ≡ false → IsSo monitor placed.kept (questions.First condition row block)
+  pub all : note.all ≡ true → IsSo monitor placed.kept (questions.Gives condition row block)
+      → IsSo monitor placed.kept (questions.First condition row block)
+      → IsOpen monitor placed.kept (questions.Gives condition row block)
+      ⊎ IsOpen monitor placed.kept (questions.First condition row block)
 
 -- what a block has on a counted condition
-abbrev pub IsTold : MonitorParts → Plan → ℕ → ℕ → Option Note → Type 0
-IsTold monitor placed condition block None = IsUnnoted monitor placed condition block
-IsTold monitor placed condition block (Some note) = IsNoted monitor placed condition block note
+abbrev pub IsTold : MonitorParts → Plan → ℕ → ℕ → ℕ → Option Note → Type 0
+IsTold monitor placed condition row block None = IsUnnoted monitor placed condition row block
+IsTold monitor placed condition row block (Some note) =
+    IsNoted monitor placed condition row block note
 
--- was of kind broadcast, and is of kind signal and counted
+-- was of kind broadcast, and is of kind signal and counted: by the first row that is not barred
 pub record IsMadeSignal (monitor : MonitorParts) (placed counted : Plan) (condition : ℕ) : Type 0
   where
     pub was : condition_kind placed condition ≡ Some kinds.Broadcast
     pub kind : condition_kind counted condition ≡ Some kinds.Signal
     pub reads_none : ReadsNone monitor condition
+    pub row : ℕ
+    pub tried : IsTried monitor condition row
+    pub first : (earlier : ℕ) → 1 ≤ earlier → earlier < row
+        → IsBarred monitor placed condition earlier
     pub told : (block : ℕ) → IsBlockNumber monitor block
-        → IsTold monitor placed condition block (note_on (notes_at counted block) condition)
+        → IsTold monitor placed condition row block (note_on (notes_at counted block) condition)
 
 -- ---- plans
 
@@ -108,7 +131,7 @@ pub record IsCountedFrom (monitor : MonitorParts) (placed counted : Plan) : Type
   pub each : (condition : ℕ) → IsConditionNumber monitor condition
       → IsLeft monitor placed counted condition ⊎ IsMadeSignal monitor placed counted condition
 
--- ---- the plan that a table makes, which says of each counted condition what each block has on it
+-- ---- the plan that a table makes, which says how each counted condition is counted
 
 -- what a block has on a counted condition on which this note, or none, is placed
 abbrev pub told_note : ℕ → Told → Option Note → Option Note
@@ -123,32 +146,32 @@ told_by condition None placed = None
 told_by condition (Some told) placed = told_note condition told placed
 
 -- what a block has on a condition: the placed note, or what its column says
-abbrev pub told_on : ℕ → ℕ → Option (List Told) → Option Note → Option Note
+abbrev pub told_on : ℕ → ℕ → Option Column → Option Note → Option Note
 told_on condition block None placed = placed
-told_on condition block (Some column) placed = told_by condition (slice_get column block) placed
+told_on condition block (Some column) placed = told_by condition (slice_get column.told block) placed
 
 -- the column of a condition
-abbrev pub column_at : List (Option (List Told)) → ℕ → Option (List Told)
+abbrev pub column_at : List (Option Column) → ℕ → Option Column
 column_at columns condition = unwrap_or (slice_get columns (condition - 1)) None
 
-abbrev pub counted_kind : CondKind → Option (List Told) → CondKind
+abbrev pub counted_kind : CondKind → Option Column → CondKind
 counted_kind kind None = kind
 counted_kind kind (Some column) = kinds.Signal
 
 -- of each condition, the first of which has number 1
-abbrev pub counted_kinds : List CondKind → List (Option (List Told)) → List CondKind
+abbrev pub counted_kinds : List CondKind → List (Option Column) → List CondKind
 counted_kinds all_kinds columns =
     map (λ one. counted_kind one.1 (column_at columns one.0)) (enumerate_from 1 all_kinds)
 
 -- the notes of a block that had these, in rising order of conditions
-abbrev pub counted_notes : List (Option (List Told)) → ℕ → List Note → List Note
+abbrev pub counted_notes : List (Option Column) → ℕ → List Note → List Note
 counted_notes columns block notes =
     flat_map (λ condition. option_to_list
     (told_on condition block (column_at columns condition) (note_on notes condition)))
     (range_with_len 1 (length columns))
 
 -- the plan with what a table says of each counted condition and block
-abbrev pub counted_of : Plan → List (Option (List Told)) → Plan
+abbrev pub counted_of : Plan → List (Option Column) → Plan
 counted_of placed columns = record {
   kept = placed.kept;
   kinds = counted_kinds placed.kinds columns;
@@ -163,27 +186,29 @@ Certifies monitor kept question cert =
     Refutes (negated_query monitor (question_query monitor kept question)) cert
 
 -- what a block has on a condition is certified to be enough
-abbrev pub IsBacked : MonitorParts → List Candidate → ℕ → ℕ → Told → Type 0
-IsBacked monitor kept condition block (telling.Nothing counts) =
-    Certifies monitor kept (questions.Counts condition block) counts
-IsBacked monitor kept condition block (telling.Signal gives first) =
-    Certifies monitor kept (questions.Gives condition block) gives
-    × Certifies monitor kept (questions.First condition block) first
-IsBacked monitor kept condition block telling.Broadcast = Unit {0}
+abbrev pub IsBacked : MonitorParts → List Candidate → ℕ → ℕ → ℕ → Told → Type 0
+IsBacked monitor kept condition row block (telling.Nothing counts) =
+    Certifies monitor kept (questions.Counts condition row block) counts
+IsBacked monitor kept condition row block (telling.Signal gives first) =
+    Certifies monitor kept (questions.Gives condition row block) gives
+    × Certifies monitor kept (questions.First condition row block) first
+IsBacked monitor kept condition row block telling.Broadcast = Unit {0}
 
--- what each block of the monitor has on a condition that is counted
+-- a row of the guard of a condition that is counted, and what each block of the monitor has on it
 pub record IsWholeColumn (monitor : MonitorParts) (kept : List Candidate) (condition : ℕ)
-    (column : List Told) : Type 0 where
-  pub many : length column ≡ length monitor.blocks
-  pub each : All (λ one. IsBacked monitor kept condition one.0 one.1) (enumerate_from 0 column)
+    (column : Column) : Type 0 where
+  pub has_row : HasRowAt monitor condition column.row
+  pub many : length column.told ≡ length monitor.blocks
+  pub each : All (λ one. IsBacked monitor kept condition column.row one.0 one.1)
+      (enumerate_from 0 column.told)
 
-abbrev pub IsColumnBacked : MonitorParts → List Candidate → ℕ → Option (List Told) → Type 0
+abbrev pub IsColumnBacked : MonitorParts → List Candidate → ℕ → Option Column → Type 0
 IsColumnBacked monitor kept condition None = Unit {0}
 IsColumnBacked monitor kept condition (Some column) = IsWholeColumn monitor kept condition column
 
 -- of each condition of the monitor whether it is counted, and what each block then has on it; the
 -- first has number 1
-pub record AreBacked (monitor : MonitorParts) (plan : Plan) (columns : List (Option (List Told))) :
+pub record AreBacked (monitor : MonitorParts) (plan : Plan) (columns : List (Option Column)) :
     Type 0 where
   pub many : length columns ≡ length monitor.conditions
   pub each : All (λ one. IsColumnBacked monitor plan.kept one.0 one.1) (enumerate_from 1 columns)

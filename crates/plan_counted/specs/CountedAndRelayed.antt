@@ -6,12 +6,12 @@ use Rattle.machine_events.specs.declared.plan.Plan.{Plan}
 use Rattle.machine_events.specs.Plans.{FitsPlan, condition_kind, has_note, notes_at}
 use Rattle.logic_wp.specs.PlainClaims.{IsConditionNumber}
 use Rattle.plan_place.specs.Relayed.{relay_of}
-use Rattle.plan_counted.specs.declared.counted.Told.{Told}
+use Rattle.plan_counted.specs.declared.counted.Column.{Column}
 use Rattle.plan_counted.specs.Counted.{IsCountedFrom, column_at, counted_of}
 use Rattle.plan_counted.specs.Mixed.{HasAsIn}
 
 -- the relayed plan, with what a table says of each counted condition
-abbrev pub counted_and_relayed : MonitorParts → Plan → List (Option (List Told)) → Plan
+abbrev pub counted_and_relayed : MonitorParts → Plan → List (Option Column) → Plan
 counted_and_relayed monitor placed columns = counted_of (relay_of monitor placed) columns
 
 -- the condition is of kind broadcast as it was placed, and of kind signal as it is counted
@@ -29,7 +29,7 @@ pub record IsCountedAndRelayed (monitor : MonitorParts) (placed counted plan : P
       → HasAsIn plan (relay_of monitor placed) condition
 
 -- each condition that a table counts is of kind broadcast as it was placed
-abbrev pub CountsBroadcasts : MonitorParts → Plan → List (Option (List Told)) → Type 0
+abbrev pub CountsBroadcasts : MonitorParts → Plan → List (Option Column) → Type 0
 CountsBroadcasts monitor placed columns =
     (condition : ℕ) → IsConditionNumber monitor condition
     → is_some (column_at columns condition) ≡ true

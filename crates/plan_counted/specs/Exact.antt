@@ -1,6 +1,6 @@
 -- Exactly counted plans: what may be counted is, with no note but those that are placed or needed,
 -- and with no broadcast where a signal is enough.
-use Rattle.std.specs.Prelude.{◌≡◌, ◌↔◌, ℕ, false, List, Some, None}
+use Rattle.std.specs.Prelude.{◌≡◌, ◌↔◌, ℕ, ◌≤◌, false, List, Some, None}
 use Rattle.lang_monitor.specs.declared.candidate.Candidate.{Candidate}
 use Rattle.lang_monitor.specs.MonitorParts.{MonitorParts}
 use Rattle.machine_events.specs.declared.plan.CondKind.TheVariants as kinds
@@ -12,7 +12,7 @@ use Rattle.plan_place.specs.Relayed.{note_on}
 use Rattle.plan_count.specs.declared.question.Question.{Question}
 use Rattle.plan_count.specs.declared.question.Question.TheVariants as questions
 use Rattle.plan_count.specs.Questions.{IsSo, MayAskQuestion}
-use Rattle.plan_counted.specs.Counted.{IsCountedFrom, IsOpen, IsUnnoted, MayCount}
+use Rattle.plan_counted.specs.Counted.{IsCountedFrom, IsOpen, IsTried, IsUnnoted, MayCount}
 
 -- the prover may leave no question open
 abbrev pub HasNoOpenQuestion : MonitorParts → List Candidate → Type 0
@@ -21,19 +21,37 @@ HasNoOpenQuestion monitor kept =
 
 -- One signal is enough for the condition: the block leaves it counted with one, and lets in one at
 -- most where nobody could pass.
-pub record IsOneEnough (monitor : MonitorParts) (plan : Plan) (condition block : ℕ) : Type 0 where
-  pub gives : IsSo monitor plan.kept (questions.Gives condition block)
-  pub first : IsSo monitor plan.kept (questions.First condition block)
+pub record IsOneEnough (monitor : MonitorParts) (plan : Plan) (condition row block : ℕ) : Type 0
+  where
+    pub gives : IsSo monitor plan.kept (questions.Gives condition row block)
+    pub first : IsSo monitor plan.kept (questions.First condition row block)
 
 -- what a block has on a condition that was of kind broadcast and is of kind signal
-pub record IsExactlyTold (monitor : MonitorParts) (placed counted : Plan) (condition block : ℕ) :
+pub record IsExactlyTold (monitor : MonitorParts) (placed counted : Plan) (condition row block : ℕ) :
     Type 0 where
   -- no note exactly where none was placed, and the block leaves it counted with none
   pub unnoted : (note_on (notes_at counted block) condition
-      ≡ None) ↔ IsUnnoted monitor placed condition block
+      ≡ None) ↔ IsUnnoted monitor placed condition row block
   -- a signal exactly where one is enough
   pub signals : (note : Note) → note_on (notes_at counted block) condition ≡ Some note
-      → (note.all ≡ false) ↔ IsOneEnough monitor placed condition block
+      → (note.all ≡ false) ↔ IsOneEnough monitor placed condition row block
+
+-- by the row, which is tried, the condition may be counted
+pub record CountsBy (monitor : MonitorParts) (placed : Plan) (condition row : ℕ) : Type 0 where
+  pub tried : IsTried monitor condition row
+  pub may : MayCount monitor placed condition row
+
+abbrev pub MayCountBySome : MonitorParts → Plan → ℕ → Type 0
+MayCountBySome monitor placed condition = (row : ℕ) × CountsBy monitor placed condition row
+
+-- by the first row by which the condition may be counted each block has exactly what it needs
+pub record IsExactlyToldByFirst (monitor : MonitorParts) (placed counted : Plan) (condition : ℕ) :
+    Type 0 where
+  pub row : ℕ
+  pub counts : CountsBy monitor placed condition row
+  pub first : (earlier : ℕ) → CountsBy monitor placed condition earlier → row ≤ earlier
+  pub told : (block : ℕ) → IsBlockNumber monitor block
+      → IsExactlyTold monitor placed counted condition row block
 
 -- what may be counted is, with a note exactly where one is placed or needed, and a signal exactly
 -- where one is enough
@@ -41,11 +59,12 @@ pub record IsExactlyCounted (monitor : MonitorParts) (placed counted : Plan) : T
   -- a condition that was of kind broadcast is of kind signal exactly where it may be counted
   pub made_signal : (condition : ℕ) → IsConditionNumber monitor condition
       → condition_kind placed condition ≡ Some kinds.Broadcast
-      → (condition_kind counted condition ≡ Some kinds.Signal) ↔ MayCount monitor placed condition
-  pub told : (condition block : ℕ) → IsConditionNumber monitor condition
+      → (condition_kind counted condition ≡ Some kinds.Signal)
+      ↔ MayCountBySome monitor placed condition
+  pub told : (condition : ℕ) → IsConditionNumber monitor condition
       → condition_kind placed condition ≡ Some kinds.Broadcast
-      → condition_kind counted condition ≡ Some kinds.Signal → IsBlockNumber monitor block
-      → IsExactlyTold monitor placed counted condition block
+      → condition_kind counted condition ≡ Some kinds.Signal
+      → IsExactlyToldByFirst monitor placed counted condition
 
 -- where no question may stay open a plan that is counted is so exactly
 abbrev pub CountedIsExact : Type 0

@@ -6,15 +6,17 @@ ghost use Rattle.machine_events.specs.Plans.{FitsPlan, has_note};
 ghost use Rattle.plan_place.specs.Backing.{reads_none};
 ghost use Rattle.plan_place.specs.Relayed.{is_broadcast};
 ghost use Rattle.logic_wp.specs.Expressible.{is_expressible};
-ghost use Rattle.plan_count.specs.Questions.{MayBeAsked};
-ghost use Rattle.plan_counted.specs.inner.Answers.{AreColumns, IsColumn, IsOneAnswer, IsToldAnswer};
+ghost use Rattle.logic_wp.specs.PlainClaims.{ReadsNone};
+ghost use Rattle.plan_count.specs.Questions.{HasRowAt, MayBeAsked};
+ghost use Rattle.plan_counted.specs.inner.Answers.{AreColumns, IsColumn, IsOneAnswer, IsRowAnswer};
+ghost use Rattle.plan_counted.specs.inner.Answers.{IsToldAnswer};
 
 use super::asking::answer;
-use super::counted::Told;
+use super::counted::{Column, ROWS_TRIED, Told};
 use base_list::Seq;
 use lang_monitor::{Candidate, Monitor};
 use machine_events::{Note, Plan};
-use plan_count::Question;
+use plan_count::{Question, has_row};
 use plan_place::{is_broadcast_at, reads_none, waits_at};
 use std::alloc::{AllocError, Global};
 
@@ -24,17 +26,26 @@ fn signal_or_broadcast(
     monitor: &Monitor,
     kept: &[Candidate],
     condition: u32,
+    row: u32,
     block: u32,
 ) -> Result<Told, AllocError>
     requires kept { list_all is_expressible kept.now ≡ true }
-    requires may { MayBeAsked monitor.now condition block }
-    ensures { IfOk result (IsOneAnswer monitor.now kept.now condition block) }
+    requires may { MayBeAsked monitor.now condition row block }
+    ensures { IfOk result (IsOneAnswer monitor.now kept.now condition row block) }
 {
-    let question = Question::Gives { condition, block };
+    let question = Question::Gives {
+        condition,
+        row,
+        block,
+    };
     let Some(gives) = answer(alloc, monitor, kept, question)? else {
         return Ok(Told::Broadcast);
     };
-    let question = Question::First { condition, block };
+    let question = Question::First {
+        condition,
+        row,
+        block,
+    };
     match answer(alloc, monitor, kept, question)? {
         Some(first) => Ok(Told::Signal { gives, first }),
         None => Ok(Told::Broadcast),
@@ -48,15 +59,20 @@ fn told(
     monitor: &Monitor,
     kept: &[Candidate],
     condition: u32,
+    row: u32,
     block: u32,
     is_noted: bool,
 ) -> Result<Option<Told>, AllocError>
     requires kept { list_all is_expressible kept.now ≡ true }
-    requires may { MayBeAsked monitor.now condition block }
-    ensures { IfOk result (IsToldAnswer monitor.now kept.now condition block is_noted) }
+    requires may { MayBeAsked monitor.now condition row block }
+    ensures { IfOk result (IsToldAnswer monitor.now kept.now condition row block is_noted) }
 {
     if !is_noted {
-        let question = Question::Counts { condition, block };
+        let question = Question::Counts {
+            condition,
+            row,
+            block,
+        };
         match answer(alloc, monitor, kept, question)? {
             Some(counts) => return Ok(Some(Told::Nothing { counts })),
             None => {}
@@ -65,7 +81,7 @@ fn told(
     if waits_at(monitor, condition, block) {
         return Ok(None);
     }
-    let told = signal_or_broadcast(alloc, monitor, kept, condition, block)?;
+    let told = signal_or_broadcast(alloc, monitor, kept, condition, row, block)?;
     Ok(Some(told))
 }
 
@@ -76,27 +92,27 @@ fn has_note(notes: &[Note], condition: u32) -> bool
     notes.iter().any(|note| note.condition == condition)
 }
 
-/// What each block has on the condition, which was of kind broadcast and reads no inputs, or none
-/// where it can't be counted.
-fn column(
+/// What each block has on the condition, which reads no inputs, by this row, or none where it can't
+/// be counted by it.
+fn told_by(
     alloc: Global,
     monitor: &Monitor,
     plan: &Plan,
     condition: u32,
+    row: u32,
 ) -> Result<Option<Seq<Told>>, AllocError>
     requires fits { FitsPlan monitor.now plan.now }
     requires kept { list_all is_expressible plan.now.kept ≡ true }
-    requires first { 1 ≤ condition }
-    requires reads { reads_none monitor.now condition ≡ true }
-    requires kind { is_broadcast (slice_get plan.now.kinds (condition - 1)) ≡ true }
-    ensures { IfOk result (IsColumn monitor.now plan.now condition) }
+    requires reads { ReadsNone monitor.now condition }
+    requires row { HasRowAt monitor.now condition row }
+    ensures { IfOk result (IsRowAnswer monitor.now plan.now condition row) }
 {
     let kept = plan.kept.items();
     let lists = plan.notes.items();
     let mut column = Vec::new(alloc);
     for index in 0..monitor.blocks().len() {
         let is_noted = has_note(lists[index].notes(), condition);
-        match told(alloc, monitor, kept, condition, index as u32, is_noted)? {
+        match told(alloc, monitor, kept, condition, row, index as u32, is_noted)? {
             Some(told) => column.push(told)?,
             None => return Ok(None),
         }
@@ -104,13 +120,40 @@ fn column(
     Ok(Some(Seq::of(column)))
 }
 
-/// What each block has on the condition where it is counted.
+/// How the condition, which was of kind broadcast and reads no inputs, is counted: by the first row
+/// by which it can be.
+fn column(
+    alloc: Global,
+    monitor: &Monitor,
+    plan: &Plan,
+    condition: u32,
+) -> Result<Option<Column>, AllocError>
+    requires fits { FitsPlan monitor.now plan.now }
+    requires kept { list_all is_expressible plan.now.kept ≡ true }
+    requires reads { ReadsNone monitor.now condition }
+    requires kind { is_broadcast (slice_get plan.now.kinds (condition - 1)) ≡ true }
+    ensures { IfOk result (IsColumn monitor.now plan.now condition) }
+{
+    for index in 0..ROWS_TRIED {
+        let row = index + 1;
+        if !has_row(monitor, condition, row) {
+            return Ok(None);
+        }
+        match told_by(alloc, monitor, plan, condition, row)? {
+            Some(told) => return Ok(Some(Column { row, told })),
+            None => {}
+        }
+    }
+    Ok(None)
+}
+
+/// How the condition is counted, where it is.
 fn column_of(
     alloc: Global,
     monitor: &Monitor,
     plan: &Plan,
     condition: u32,
-) -> Result<Option<Seq<Told>>, AllocError>
+) -> Result<Option<Column>, AllocError>
     requires fits { FitsPlan monitor.now plan.now }
     requires kept { list_all is_expressible plan.now.kept ≡ true }
     requires first { 1 ≤ condition }
@@ -123,12 +166,12 @@ fn column_of(
     }
 }
 
-/// What each block has on each condition that is counted.
+/// How each condition is counted, where it is.
 pub(crate) fn columns_of(
     alloc: Global,
     monitor: &Monitor,
     plan: &Plan,
-) -> Result<Vec<Option<Seq<Told>>>, AllocError>
+) -> Result<Vec<Option<Column>>, AllocError>
     requires fits { FitsPlan monitor.now plan.now }
     requires kept { list_all is_expressible plan.now.kept ≡ true }
     ensures { IfOk result (λ all. AreColumns monitor.now plan.now all.items) }

@@ -16,10 +16,22 @@ pub enum Told {
     Broadcast,
 }
 
-/// A plan, and of each condition what each block has on it where the condition is counted, or none
-/// where it is as it was placed.
+/// The most rows of a guard that are tried, one after the other. A guard may have thousands of
+/// rows, and each may cost a question of each block.
+pub const ROWS_TRIED: u32 = 8;
+
+/// How a condition is counted.
+#[derive(Debug, Drop)]
+pub struct Column {
+    /// The number of the row of its guard by which it is counted, from 1 in reading order.
+    pub row: u32,
+    /// What each block has on it.
+    pub told: Seq<Told>,
+}
+
+/// A plan, and of each condition how it is counted, or none where it is as it was placed.
 #[derive(Debug, Drop)]
 pub struct CountedPlan {
     pub plan: Plan,
-    pub columns: Seq<Option<Seq<Told>>>,
+    pub columns: Seq<Option<Column>>,
 }

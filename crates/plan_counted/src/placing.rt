@@ -14,7 +14,7 @@ ghost use Rattle.plan_counted.specs.Counted.{counted_notes, counted_of};
 ghost use Rattle.plan_counted.specs.CountedAndRelayed.{CountsBroadcasts, OmitsNoMore};
 
 use super::columns::columns_of;
-use super::counted::{CountedPlan, Told};
+use super::counted::{Column, CountedPlan, Told};
 use super::laws::{answered_columns_count, counted_plans_are_exact, counted_plans_omit_no_more};
 use base_list::Seq;
 use lang_monitor::{Candidate, Monitor};
@@ -26,12 +26,12 @@ use std::alloc::{AllocError, Global};
 ///
 /// A condition of kind broadcast that reads no inputs is of kind signal where no note is placed on
 /// it in a block that waits at it, and a certificate is found of each of these that it leaves the
-/// condition counted with none. Then a block has a note on it where one is placed, or where no
-/// certificate is found that it leaves the condition counted with none: a signal where certificates
-/// are found that this is enough, else a broadcast. It is tested where the placed note is, and
-/// where none is placed. Every other condition stays as it is. So the plan is lawful by counting,
-/// and does more than it has to only where a query may stay open (`specs/Counted`,
-/// `IsCountedFrom`).
+/// condition counted with none, by one of the first rows of its guard: by the first one of which
+/// this is so. Then a block has a note on it where one is placed, or where no certificate is found
+/// that it leaves the condition counted with none: a signal where certificates are found that this
+/// is enough, else a broadcast. It is tested where the placed note is, and where none is placed.
+/// Every other condition stays as it is. So the plan is lawful by counting, and does more than it
+/// has to only where a query may stay open (`specs/Counted`, `IsCountedFrom`).
 pub fn count_plan(
     alloc: Global,
     monitor: &Monitor,
@@ -67,7 +67,7 @@ pub fn count_plan(
 pub(crate) fn counted_plan(
     alloc: Global,
     placed: &Plan,
-    columns: &[Option<Seq<Told>>],
+    columns: &[Option<Column>],
 ) -> Result<Plan, AllocError>
     requires kinds { length columns.now ≡ length placed.now.kinds }
     requires few_kinds { length placed.now.kinds ≤ CONDITIONS }
@@ -100,7 +100,7 @@ fn copied(alloc: Global, candidates: &[Candidate]) -> Result<Vec<Candidate>, All
 fn counted_kinds(
     alloc: Global,
     kinds: &[CondKind],
-    columns: &[Option<Seq<Told>>],
+    columns: &[Option<Column>],
 ) -> Result<Vec<CondKind>, AllocError>
     requires { length columns.now ≡ length kinds.now }
     ensures { IfOk result (λ made. made.items ≡ counted_kinds kinds.now columns.now) }
@@ -112,7 +112,7 @@ fn counted_kinds(
     Ok(made)
 }
 
-fn counted_kind(kind: CondKind, column: &Option<Seq<Told>>) -> CondKind
+fn counted_kind(kind: CondKind, column: &Option<Column>) -> CondKind
     ensures { result ≡ counted_kind kind column.now }
 {
     match column {
@@ -127,7 +127,7 @@ fn counted_kind(kind: CondKind, column: &Option<Seq<Told>>) -> CondKind
 fn counted_lists(
     alloc: Global,
     lists: &[NoteList],
-    columns: &[Option<Seq<Told>>],
+    columns: &[Option<Column>],
 ) -> Result<Vec<NoteList>, AllocError>
     requires few { length lists.now ≤ BLOCKS }
     requires columns { length columns.now ≤ CONDITIONS }
@@ -144,7 +144,7 @@ fn counted_lists(
 /// The notes of a block that had these.
 fn counted_list(
     alloc: Global,
-    columns: &[Option<Seq<Told>>],
+    columns: &[Option<Column>],
     block: usize,
     notes: &[Note],
 ) -> Result<NoteList, AllocError>
@@ -188,14 +188,14 @@ fn found_on(notes: &[Note], condition: u32) -> Option<&Note>
 fn told_on(
     condition: u32,
     block: usize,
-    column: &Option<Seq<Told>>,
+    column: &Option<Column>,
     placed: Option<Note>,
 ) -> Option<Note>
     ensures { result ≡ told_on condition block column.now placed }
 {
     match column {
         None => placed,
-        Some(column) => match column.items().get(block) {
+        Some(column) => match column.told.items().get(block) {
             None => None,
             Some(told) => told_note(condition, told, placed),
         },

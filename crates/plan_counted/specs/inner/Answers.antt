@@ -1,5 +1,5 @@
 -- What is known of the table of a counted plan once the prover has answered.
-use Rattle.std.specs.Prelude.{◌≡◌, ◌⊎◌, ℕ, Bool, true, false, List, Option, Some, None}
+use Rattle.std.specs.Prelude.{◌≡◌, ◌⊎◌, ℕ, ◌<◌, ◌≤◌, Bool, true, false, List, Option, Some, None}
 use Rattle.std.specs.Prelude.{length, All}
 use Rattle.std.specs.List.{enumerate_from}
 use Rattle.logic_cert.specs.declared.cert.Cert.{Cert}
@@ -14,9 +14,10 @@ use Rattle.plan_place.specs.Backing.{waits_at}
 use Rattle.plan_count.specs.declared.question.Question.{Question}
 use Rattle.plan_count.specs.declared.question.Question.TheVariants as questions
 use Rattle.plan_count.specs.Questions.{IsSo}
+use Rattle.plan_counted.specs.declared.counted.Column.{Column}
 use Rattle.plan_counted.specs.declared.counted.Told.{Told}
 use Rattle.plan_counted.specs.declared.counted.Told.TheVariants as telling
-use Rattle.plan_counted.specs.Counted.{IsOpen, MayCount, HasOpenBlock, IsCountedFrom, Certifies}
+use Rattle.plan_counted.specs.Counted.{Certifies, IsBarred, IsCountedFrom, IsOpen, IsTried}
 use Rattle.plan_counted.specs.Counted.{counted_of}
 
 -- ---- one question
@@ -37,70 +38,86 @@ IsAnswerTo monitor kept question None = IsUnanswered monitor kept question
 -- ---- one block
 
 -- a signal is proved to be enough, and a broadcast stands where some question is unanswered
-abbrev pub IsOneAnswer : MonitorParts → List Candidate → ℕ → ℕ → Told → Type 0
-IsOneAnswer monitor kept condition block (telling.Nothing counts) = ⊥
-IsOneAnswer monitor kept condition block (telling.Signal gives first) =
-    IsProved monitor kept (questions.Gives condition block) gives
-    × IsProved monitor kept (questions.First condition block) first
-IsOneAnswer monitor kept condition block telling.Broadcast =
-    IsUnanswered monitor kept (questions.Gives condition block)
-    ⊎ IsUnanswered monitor kept (questions.First condition block)
+abbrev pub IsOneAnswer : MonitorParts → List Candidate → ℕ → ℕ → ℕ → Told → Type 0
+IsOneAnswer monitor kept condition row block (telling.Nothing counts) = ⊥
+IsOneAnswer monitor kept condition row block (telling.Signal gives first) =
+    IsProved monitor kept (questions.Gives condition row block) gives
+    × IsProved monitor kept (questions.First condition row block) first
+IsOneAnswer monitor kept condition row block telling.Broadcast =
+    IsUnanswered monitor kept (questions.Gives condition row block)
+    ⊎ IsUnanswered monitor kept (questions.First condition row block)
 
 -- a note is placed, or it is unanswered whether none is needed
-abbrev pub NeedsNote : MonitorParts → List Candidate → ℕ → ℕ → Bool → Type 0
-NeedsNote monitor kept condition block is_noted =
-    is_noted ≡ false → IsUnanswered monitor kept (questions.Counts condition block)
+abbrev pub NeedsNote : MonitorParts → List Candidate → ℕ → ℕ → ℕ → Bool → Type 0
+NeedsNote monitor kept condition row block is_noted =
+    is_noted ≡ false → IsUnanswered monitor kept (questions.Counts condition row block)
 
 -- a note that the block needs, which waits elsewhere
-pub record IsNoteAnswer (monitor : MonitorParts) (kept : List Candidate) (condition block : ℕ)
+pub record IsNoteAnswer (monitor : MonitorParts) (kept : List Candidate) (condition row block : ℕ)
     (is_noted : Bool) (told : Told) : Type 0 where
   pub other : waits_at monitor condition block ≡ false
-  pub needed : NeedsNote monitor kept condition block is_noted
-  pub one : IsOneAnswer monitor kept condition block told
+  pub needed : NeedsNote monitor kept condition row block is_noted
+  pub one : IsOneAnswer monitor kept condition row block told
 
-abbrev pub IsToldOf : MonitorParts → List Candidate → ℕ → ℕ → Bool → Told → Type 0
-IsToldOf monitor kept condition block is_noted (telling.Nothing counts) =
-    (is_noted ≡ false) × IsProved monitor kept (questions.Counts condition block) counts
-IsToldOf monitor kept condition block is_noted (telling.Signal gives first) =
-    IsNoteAnswer monitor kept condition block is_noted (telling.Signal gives first)
-IsToldOf monitor kept condition block is_noted telling.Broadcast =
-    IsNoteAnswer monitor kept condition block is_noted telling.Broadcast
+abbrev pub IsToldOf : MonitorParts → List Candidate → ℕ → ℕ → ℕ → Bool → Told → Type 0
+IsToldOf monitor kept condition row block is_noted (telling.Nothing counts) =
+    (is_noted ≡ false) × IsProved monitor kept (questions.Counts condition row block) counts
+IsToldOf monitor kept condition row block is_noted (telling.Signal gives first) =
+    IsNoteAnswer monitor kept condition row block is_noted (telling.Signal gives first)
+IsToldOf monitor kept condition row block is_noted telling.Broadcast =
+    IsNoteAnswer monitor kept condition row block is_noted telling.Broadcast
 
 -- the block waits at the condition, and needs a note
-pub record IsChained (monitor : MonitorParts) (kept : List Candidate) (condition block : ℕ)
+pub record IsChained (monitor : MonitorParts) (kept : List Candidate) (condition row block : ℕ)
     (is_noted : Bool) : Type 0 where
   pub waits : waits_at monitor condition block ≡ true
-  pub needed : NeedsNote monitor kept condition block is_noted
+  pub needed : NeedsNote monitor kept condition row block is_noted
 
-abbrev pub IsToldAnswer : MonitorParts → List Candidate → ℕ → ℕ → Bool → Option Told → Type 0
-IsToldAnswer monitor kept condition block is_noted None =
-    IsChained monitor kept condition block is_noted
-IsToldAnswer monitor kept condition block is_noted (Some told) =
-    IsToldOf monitor kept condition block is_noted told
+abbrev pub IsToldAnswer : MonitorParts → List Candidate → ℕ → ℕ → ℕ → Bool → Option Told
+    → Type 0
+IsToldAnswer monitor kept condition row block is_noted None =
+    IsChained monitor kept condition row block is_noted
+IsToldAnswer monitor kept condition row block is_noted (Some told) =
+    IsToldOf monitor kept condition row block is_noted told
 
 -- ---- one condition
 
-abbrev pub IsToldAt : MonitorParts → Plan → ℕ → ℕ × Told → Type 0
-IsToldAt monitor plan condition one =
-    IsToldOf monitor plan.kept condition one.0 (has_note (notes_at plan one.0) condition) one.1
+abbrev pub IsToldAt : MonitorParts → Plan → ℕ → ℕ → ℕ × Told → Type 0
+IsToldAt monitor plan condition row one =
+    IsToldOf monitor plan.kept condition row one.0 (has_note (notes_at plan one.0) condition) one.1
+
+-- what each block has on the condition by a row
+pub record AreToldBy (monitor : MonitorParts) (plan : Plan) (condition row : ℕ) (told : List Told) :
+    Type 0 where
+  pub many : length told ≡ length monitor.blocks
+  pub each : All (IsToldAt monitor plan condition row) (enumerate_from 0 told)
+
+abbrev pub IsRowAnswer : MonitorParts → Plan → ℕ → ℕ → Option (List Told) → Type 0
+IsRowAnswer monitor plan condition row None = IsBarred monitor plan condition row
+IsRowAnswer monitor plan condition row (Some told) = AreToldBy monitor plan condition row told
+
+abbrev pub AreBarredBefore : MonitorParts → Plan → ℕ → ℕ → Type 0
+AreBarredBefore monitor plan condition row =
+    (earlier : ℕ) → 1 ≤ earlier → earlier < row → IsBarred monitor plan condition earlier
 
 -- a condition that was of kind broadcast and is counted, and what each block has on it
-pub record IsColumnOf (monitor : MonitorParts) (plan : Plan) (condition : ℕ) (column : List Told) :
+pub record IsColumnOf (monitor : MonitorParts) (plan : Plan) (condition : ℕ) (column : Column) :
     Type 0 where
   pub was : condition_kind plan condition ≡ Some kinds.Broadcast
   pub reads_none : ReadsNone monitor condition
-  pub many : length column ≡ length monitor.blocks
-  pub told : All (IsToldAt monitor plan condition) (enumerate_from 0 column)
+  pub tried : IsTried monitor condition column.row
+  pub first : AreBarredBefore monitor plan condition column.row
+  pub told : AreToldBy monitor plan condition column.row column.told
 
-abbrev pub IsColumn : MonitorParts → Plan → ℕ → Option (List Told) → Type 0
+abbrev pub IsColumn : MonitorParts → Plan → ℕ → Option Column → Type 0
 IsColumn monitor plan condition (Some column) = IsColumnOf monitor plan condition column
 IsColumn monitor plan condition None =
-    condition_kind plan condition ≡ Some kinds.Broadcast → MayCount monitor plan condition
-    → HasOpenBlock monitor plan condition
+    condition_kind plan condition ≡ Some kinds.Broadcast → (row : ℕ)
+    → IsTried monitor condition row → IsBarred monitor plan condition row
 
 -- ---- all conditions
 
-pub record AreColumns (monitor : MonitorParts) (plan : Plan) (columns : List (Option (List Told))) :
+pub record AreColumns (monitor : MonitorParts) (plan : Plan) (columns : List (Option Column)) :
     Type 0 where
   pub many : length columns ≡ length monitor.conditions
   pub each : All (λ one. IsColumn monitor plan one.0 one.1) (enumerate_from 1 columns)
@@ -109,18 +126,18 @@ pub record AreColumns (monitor : MonitorParts) (plan : Plan) (columns : List (Op
 
 abbrev pub AnsweredColumnsFit : Type 0
 AnsweredColumnsFit =
-    (monitor : MonitorParts) (plan : Plan) (columns : List (Option (List Told)))
+    (monitor : MonitorParts) (plan : Plan) (columns : List (Option Column))
     → IsMonitor monitor → FitsPlan monitor plan → AreColumns monitor plan columns
     → FitsPlan monitor (counted_of plan columns)
 
 abbrev pub AnsweredColumnsCount : Type 0
 AnsweredColumnsCount =
-    (monitor : MonitorParts) (plan : Plan) (columns : List (Option (List Told)))
+    (monitor : MonitorParts) (plan : Plan) (columns : List (Option Column))
     → IsMonitor monitor → FitsPlan monitor plan → IsLawful monitor plan
     → AreColumns monitor plan columns → IsLawfulByCounting monitor (counted_of plan columns)
 
 abbrev pub AnsweredColumnsLicense : Type 0
 AnsweredColumnsLicense =
-    (monitor : MonitorParts) (plan : Plan) (columns : List (Option (List Told)))
+    (monitor : MonitorParts) (plan : Plan) (columns : List (Option Column))
     → IsMonitor monitor → FitsPlan monitor plan → AreColumns monitor plan columns
     → IsCountedFrom monitor plan (counted_of plan columns)

@@ -1,19 +1,23 @@
-use Rattle.std.proofs.Common.{◌≡◌, ◌++◌, ◌∷◌, [], List, neg_ℤ, pos, sym, ap, subst, ◌∙◌}
+use Rattle.std.proofs.Common.{◌≡◌, ◌++◌, ◌∷◌, [], List, not, sym, ap, subst, ◌∙◌}
 use Rattle.logic_linear.specs.declared.form.Term.{Term}
 use Rattle.logic_linear.specs.Linear.{IsLinear}
-use Rattle.plan_count.proofs.TiedForms.{last_term, less_old_is, less_old_linear, read_is}
+use Rattle.machine_events.specs.CountClaims.{is_turned}
+use Rattle.plan_count.specs.inner.Rows.{last_term, old_number}
+use Rattle.plan_count.proofs.TiedForms.{less_old_is, less_old_linear, read_is}
 use Rattle.plan_count.proofs.forms.less_old.Goals as goal
 use Rattle.plan_count.proofs.forms.less_old.Goals.{After-constant}
 
-terms_are : (c : After-constant) → c.push.new.self.items ≡ c.args.form.now.terms ++ last_term (neg_ℤ (pos 1)) ∷ []
-terms_are c = c.in_ok-push.ensures.items ∙ ap (λ (all : List Term). all ++ last_term (neg_ℤ (pos 1)) ∷ []) (c.in_ok-terms.ensures.items ∙ c.terms.ensures.terms)
+terms_are : (c : After-constant) → c.push.new.self.items ≡ c.args.form.now.terms ++ last_term (old_number (not (is_turned c.args.form.now.terms))) ∷ []
+terms_are c =
+    c.in_ok-push.ensures.items
+    ∙ (λ i. (c.in_ok-terms.ensures.items ∙ c.terms.ensures.terms) i ++ (c.old_term.ensures ∙ ap (λ turned. last_term (old_number (not turned))) c.is_turned.ensures) i ∷ [])
 
 pub of-requires : goal.of-requires
 of-requires c =
     subst IsLinear (λ i. record {
       terms = sym (terms_are c) i;
       constant = sym (read_is c.constant.result c.args.form.now.constant c.constant.ensures.constant c.requires.constant) i;
-    }) (less_old_linear c.args.form.now c.terms.ensures.rule c.requires)
+    }) (less_old_linear c.args.form.now (not (is_turned c.args.form.now.terms)) c.terms.ensures.rule c.requires)
 
 pub returns : goal.returns
 returns c =

@@ -16,7 +16,7 @@ returns-clause-made c =
     let takes = c.takes_at.ensures in
     let told = c.net-net.ensures.net in
     let are = c.in_ok-hyps.field-0 in
-    leaves_made c.args.monitor.now c.args.kept.now c.args.condition c.args.block are.hyps.items are.idle.items are.guard are.shut are.form are.bounded c.args.gives _ c.of.result c.in_ok-post.post
+    leaves_made c.args.monitor.now c.args.kept.now c.args.condition c.args.row c.args.block are.hyps.items are.idle.items are.guard are.shut are.form are.bounded c.args.gives _ c.of.result c.in_ok-post.post
     c.in_ok-hyps.ensures
     (c.of.ensures ∙ c.in_ok-hyps-2.ensures ∙ ap (λ (one : Formula). are.hyps.items ++ tied are.guard one are.form) c.in_ok-copy.ensures)
     c.in_ok-post.ensures (cc)
