@@ -1,6 +1,6 @@
 -- What the answers make of a column, and of the table.
-use Rattle.std.proofs.Common.{◌≡◌, ◌==◌, inl, inr, ℕ, ◌-◌, ◌<◌, ◌≤◌, Bool, true, false, not, ◌&&◌, List, [], ◌∷◌, length, get_or, Option, Some, None, refl, sym, ap, subst, ◌∙◌}
-use Rattle.std.specs.Prelude.{slice_get, IsSomeAnd, unwrap_or, IfOk, IfSome, Result, Ok, Err}
+use Rattle.std.proofs.Common.{◌≡◌, ◌==◌, inl, inr, ℕ, ◌+◌, ◌-◌, ◌<◌, ◌≤◌, Bool, true, false, not, ◌&&◌, List, [], ◌∷◌, length, get_or, Option, Some, None, refl, sym, ap, subst, ◌∙◌, arith}
+use Rattle.std.specs.Prelude.{nat_lt, slice_get, IsSomeAnd, unwrap_or, IfOk, IfSome, Result, Ok, Err}
 use Rattle.std.specs.declared.alloc.AllocError.{AllocError}
 use Rattle.std.proofs.lemmas.Option.{none-some, slice_get-get_or}
 use Rattle.std.specs.List.{enumerate_from, list_all}
@@ -28,11 +28,12 @@ use Rattle.plan_prune.specs.Invariants.{IsDecision}
 use Rattle.plan_place.specs.Backing.{reads_none, waits_at}
 use Rattle.plan_place.specs.Relayed.{is_broadcast}
 use Rattle.plan_count.specs.declared.question.Question.{Question}
-use Rattle.plan_count.specs.Questions.{question_query}
+use Rattle.plan_count.specs.Questions.{HasRowAt, question_query}
+use Rattle.plan_counted.specs.declared.counted.Column.{Column}
 use Rattle.plan_counted.specs.declared.counted.Told.{Told}
 use Rattle.plan_counted.specs.declared.counted.Told.TheVariants as telling
-use Rattle.plan_counted.specs.Counted.{AreBacked, IsBacked, IsColumnBacked}
-use Rattle.plan_counted.specs.inner.Answers.{AreColumns, IsAnswerTo, IsChained, IsColumn, IsOneAnswer, IsToldAt, IsToldOf, NeedsNote}
+use Rattle.plan_counted.specs.Counted.{AreBacked, IsBacked, IsBarred, IsColumnBacked, IsTried, ROWS_TRIED}
+use Rattle.plan_counted.specs.inner.Answers.{AreBarredBefore, AreColumns, IsAnswerTo, IsChained, IsColumn, IsOneAnswer, IsRowAnswer, IsToldAt, IsToldOf, NeedsNote}
 use Rattle.plan_counted.proofs.Table.{has_if}
 
 -- ---- answers
@@ -91,10 +92,10 @@ notes_of plan block notes is = ap (λ (found : Option (List Note)). unwrap_or fo
 
 -- ---- columns
 
--- a block that needs a note of its own bars its condition
-pub chained : (monitor : MonitorParts) (plan : Plan) (condition block : ℕ) (is_noted : Bool) → is_noted ≡ has_note (notes_at plan block) condition
-    → IsChained monitor plan.kept condition block is_noted → IsColumn monitor plan condition None
-chained monitor plan condition block is_noted same chain = λ kind may.
+-- a block that needs a note of its own bars the row
+pub chained : (monitor : MonitorParts) (plan : Plan) (condition row block : ℕ) (is_noted : Bool) → is_noted ≡ has_note (notes_at plan block) condition
+    → IsChained monitor plan.kept condition row block is_noted → IsRowAnswer monitor plan condition row None
+chained monitor plan condition row block is_noted same chain = λ may.
     let waits = waits_from monitor condition block chain.waits in record {
       block = block;
       waits = waits;
@@ -104,7 +105,7 @@ chained monitor plan condition block is_noted same chain = λ kind may.
 -- a condition that reads inputs, or is not of kind broadcast, is left
 pub left : (monitor : MonitorParts) (plan : Plan) (condition : ℕ) → (reads_none monitor condition && is_broadcast (condition_kind plan condition)) ≡ false
     → IsColumn monitor plan condition None
-left monitor plan condition is = λ kind may. absurd (true≢false (sym (and_from (reads_none monitor condition) (is_broadcast (condition_kind plan condition))
+left monitor plan condition is = λ kind row tried may. absurd (true≢false (sym (and_from (reads_none monitor condition) (is_broadcast (condition_kind plan condition))
     (reads_to may.reads_none) (ap is_broadcast kind)) ∙ is))
   where
     reads_to : ReadsNone monitor condition → reads_none monitor condition ≡ true
@@ -114,41 +115,69 @@ left monitor plan condition is = λ kind may. absurd (true≢false (sym (and_fro
         by_found None some = absurd some
         by_found (Some held) some = ap not some
 
+-- ---- rows, one after the other
+
+-- where each row before this one is barred, and the guard has no such row, none is left
+pub no_more_rows : (monitor : MonitorParts) (plan : Plan) (condition row : ℕ) → 1 ≤ row → AreBarredBefore monitor plan condition row
+    → (HasRowAt monitor condition row → ⊥) → IsColumn monitor plan condition None
+no_more_rows monitor plan condition row low before missing = λ kind tried_row tried. by_less tried_row tried (nat_lt tried_row row) refl
+  where
+    by_less : (other : ℕ) → IsTried monitor condition other → (less : Bool) → nat_lt other row ≡ less → IsBarred monitor plan condition other
+    by_less other tried true is = before other tried.has.first (grind (arith, is))
+    by_less other tried false is = let last = tried.has.last in absurd (missing (record { first = low; last = grind (arith, is, last) }))
+
+-- where each of the first rows is barred
+pub all_tried : (monitor : MonitorParts) (plan : Plan) (condition : ℕ) → AreBarredBefore monitor plan condition (ROWS_TRIED + 1) → IsColumn monitor plan condition None
+all_tried monitor plan condition before = λ kind row tried. let limit = tried.limit in before row tried.has.first (omega (arith, limit))
+
+pub one_more_row : (monitor : MonitorParts) (plan : Plan) (condition row : ℕ) → AreBarredBefore monitor plan condition row → IsBarred monitor plan condition row
+    → AreBarredBefore monitor plan condition (row + 1)
+one_more_row monitor plan condition row before here earlier first less = by_less (nat_lt earlier row) refl
+  where
+    by_less : (below : Bool) → nat_lt earlier row ≡ below → IsBarred monitor plan condition earlier
+    by_less true is = before earlier first (grind (arith, is))
+    by_less false is = subst (IsBarred monitor plan condition) (same is) here
+      where
+        same : nat_lt earlier row ≡ false → row ≡ earlier
+        same is = grind (arith, is, less)
+
 -- ---- what the answers back
 
-backed_told : (monitor : MonitorParts) (kept : List Candidate) (condition block : ℕ) (is_noted : Bool) (told : Told)
-    → IsToldOf monitor kept condition block is_noted told → IsBacked monitor kept condition block told
-backed_told monitor kept condition block is_noted (telling.Nothing counts) is = is.1.certified
-backed_told monitor kept condition block is_noted (telling.Signal gives before) is = (is.one.0.certified, is.one.1.certified)
-backed_told monitor kept condition block is_noted telling.Broadcast is = tt
+backed_told : (monitor : MonitorParts) (kept : List Candidate) (condition row block : ℕ) (is_noted : Bool) (told : Told)
+    → IsToldOf monitor kept condition row block is_noted told → IsBacked monitor kept condition row block told
+backed_told monitor kept condition row block is_noted (telling.Nothing counts) is = is.1.certified
+backed_told monitor kept condition row block is_noted (telling.Signal gives before) is = (is.one.0.certified, is.one.1.certified)
+backed_told monitor kept condition row block is_noted telling.Broadcast is = tt
 
-backed_column : (monitor : MonitorParts) (plan : Plan) (condition : ℕ) (column : Option (List Told)) → IsColumn monitor plan condition column
+backed_column : (monitor : MonitorParts) (plan : Plan) (condition : ℕ) (column : Option Column) → IsColumn monitor plan condition column
     → IsColumnBacked monitor plan.kept condition column
 backed_column monitor plan condition None is = tt
 backed_column monitor plan condition (Some column) is = record {
-  many = is.many;
-  each = All-weaker (IsToldAt monitor plan condition) (λ (one : ℕ × Told). IsBacked monitor plan.kept condition one.0 one.1)
-      (λ one known. backed_told monitor plan.kept condition one.0 (has_note (notes_at plan one.0) condition) one.1 known) (enumerate_from 0 column) is.told;
+  reads_none = is.reads_none;
+  has_row = is.tried.has;
+  many = is.told.many;
+  each = All-weaker (IsToldAt monitor plan condition column.row) (λ (one : ℕ × Told). IsBacked monitor plan.kept condition column.row one.0 one.1)
+      (λ one known. backed_told monitor plan.kept condition column.row one.0 (has_note (notes_at plan one.0) condition) one.1 known) (enumerate_from 0 column.told) is.told.each;
 }
 
-pub backed : (monitor : MonitorParts) (plan : Plan) (columns : List (Option (List Told))) → AreColumns monitor plan columns → AreBacked monitor plan columns
+pub backed : (monitor : MonitorParts) (plan : Plan) (columns : List (Option Column)) → AreColumns monitor plan columns → AreBacked monitor plan columns
 backed monitor plan columns are = record {
   many = are.many;
-  each = All-weaker (λ (one : ℕ × Option (List Told)). IsColumn monitor plan one.0 one.1) (λ (one : ℕ × Option (List Told)). IsColumnBacked monitor plan.kept one.0 one.1)
+  each = All-weaker (λ (one : ℕ × Option Column). IsColumn monitor plan one.0 one.1) (λ (one : ℕ × Option Column). IsColumnBacked monitor plan.kept one.0 one.1)
       (λ one known. backed_column monitor plan one.0 one.1 known) (enumerate_from 1 columns) are.each;
 }
 
 -- ---- one block
 
-pub told_of : (monitor : MonitorParts) (kept : List Candidate) (condition block : ℕ) (is_noted : Bool) (told : Told) → waits_at monitor condition block ≡ false
-    → NeedsNote monitor kept condition block is_noted → IsOneAnswer monitor kept condition block told → IsToldOf monitor kept condition block is_noted told
-told_of monitor kept condition block is_noted (telling.Nothing counts) other needed one = absurd one
-told_of monitor kept condition block is_noted (telling.Signal gives before) other needed one = record { other = other; needed = needed; one = one }
-told_of monitor kept condition block is_noted telling.Broadcast other needed one = record { other = other; needed = needed; one = one }
+pub told_of : (monitor : MonitorParts) (kept : List Candidate) (condition row block : ℕ) (is_noted : Bool) (told : Told) → waits_at monitor condition block ≡ false
+    → NeedsNote monitor kept condition row block is_noted → IsOneAnswer monitor kept condition row block told → IsToldOf monitor kept condition row block is_noted told
+told_of monitor kept condition row block is_noted (telling.Nothing counts) other needed one = absurd one
+told_of monitor kept condition row block is_noted (telling.Signal gives before) other needed one = record { other = other; needed = needed; one = one }
+told_of monitor kept condition row block is_noted telling.Broadcast other needed one = record { other = other; needed = needed; one = one }
 
-pub none_needed_where_noted : (monitor : MonitorParts) (kept : List Candidate) (condition block : ℕ) (is_noted : Bool) → is_noted ≡ true
-    → NeedsNote monitor kept condition block is_noted
-none_needed_where_noted monitor kept condition block is_noted noted none = absurd (true≢false (sym noted ∙ none))
+pub none_needed_where_noted : (monitor : MonitorParts) (kept : List Candidate) (condition row block : ℕ) (is_noted : Bool) → is_noted ≡ true
+    → NeedsNote monitor kept condition row block is_noted
+none_needed_where_noted monitor kept condition row block is_noted noted none = absurd (true≢false (sym noted ∙ none))
 
 -- the notes of a block, by its index
 pub notes_by_index : (plan : Plan) (lists : List (List Note)) (index : ℕ) (d found : List Note) → lists ≡ plan.notes → index < length lists

@@ -23,6 +23,7 @@ use Rattle.plan_place.specs.Relayed.{note_on}
 use Rattle.plan_place.proofs.Lists.{in_numbered}
 use Rattle.plan_place.proofs.NotesOn.{all_made, made_rise, on_found}
 use Rattle.plan_count.specs.Questions.{AnswersCount, IsToldRight}
+use Rattle.plan_counted.specs.declared.counted.Column.{Column}
 use Rattle.plan_counted.specs.declared.counted.Told.{Told}
 use Rattle.plan_counted.specs.declared.counted.Told.TheVariants as telling
 use Rattle.plan_counted.specs.Counted.{IsTold, column_at, counted_kind, counted_notes, counted_of, told_by, told_note, told_on, is_tested}
@@ -33,47 +34,47 @@ use Rattle.plan_counted.proofs.Table.{has_if, kind_at, kind_missing, length_numb
 -- ---- what is known of a condition
 
 abbrev columns_type : Type 0
-columns_type = List (Option (List Told))
+columns_type = List (Option Column)
 
 pub column_known : (monitor : MonitorParts) (plan : Plan) (columns : columns_type) (condition : ℕ) → AreColumns monitor plan columns
     → 1 ≤ condition → condition ≤ length monitor.conditions → IsColumn monitor plan condition (column_at columns condition)
 column_known monitor plan columns condition are first last =
     let many = are.many in
     let found = at_index columns (condition - 1) (omega arith) in
-    subst (IsColumn monitor plan condition) (sym (ap (λ (held : Option (Option (List Told))). unwrap_or held None) found.1))
-    (in_numbered (λ (one : ℕ × Option (List Told)). IsColumn monitor plan one.0 one.1) 1 columns (condition - 1) found.0 condition found.1 (omega arith) are.each)
+    subst (IsColumn monitor plan condition) (sym (ap (λ (held : Option (Option Column)). unwrap_or held None) found.1))
+    (in_numbered (λ (one : ℕ × Option Column). IsColumn monitor plan one.0 one.1) 1 columns (condition - 1) found.0 condition found.1 (omega arith) are.each)
 
 -- a column, or none
 by_column : (P : Type 0) (monitor : MonitorParts) (plan : Plan) (columns : columns_type) (condition : ℕ) → AreColumns monitor plan columns
     → 1 ≤ condition → condition ≤ length monitor.conditions
     → (column_at columns condition ≡ None → IsColumn monitor plan condition None → P)
-    → ((column : List Told) → column_at columns condition ≡ Some column → IsColumnOf monitor plan condition column → P)
+    → ((column : Column) → column_at columns condition ≡ Some column → IsColumnOf monitor plan condition column → P)
     → P
 by_column P monitor plan columns condition are first last left made = by_found (column_at columns condition) refl
   where
-    by_found : (found : Option (List Told)) → column_at columns condition ≡ found → P
+    by_found : (found : Option Column) → column_at columns condition ≡ found → P
     by_found None is = left is (subst (IsColumn monitor plan condition) is (column_known monitor plan columns condition are first last))
     by_found (Some column) is = made column is (subst (IsColumn monitor plan condition) is (column_known monitor plan columns condition are first last))
 
--- what a block has on a condition that is counted
-record IsThere (monitor : MonitorParts) (plan : Plan) (columns : columns_type) (condition block : ℕ) : Type 0 where
+-- what a block has on a condition that is counted by a row
+record IsThere (monitor : MonitorParts) (plan : Plan) (columns : columns_type) (condition row block : ℕ) : Type 0 where
   told : Told
   note : note_on (notes_at (counted_of plan columns) block) condition ≡ told_note condition told (note_on (notes_at plan block) condition)
-  is : IsToldOf monitor plan.kept condition block (has_note (notes_at plan block) condition) told
+  is : IsToldOf monitor plan.kept condition row block (has_note (notes_at plan block) condition) told
 
-told_there : (monitor : MonitorParts) (plan : Plan) (columns : columns_type) (condition block : ℕ) (column : List Told)
+told_there : (monitor : MonitorParts) (plan : Plan) (columns : columns_type) (condition block : ℕ) (column : Column)
     → FitsPlan monitor plan → AreColumns monitor plan columns → 1 ≤ condition → condition ≤ length monitor.conditions
     → column_at columns condition ≡ Some column → IsColumnOf monitor plan condition column → block < length monitor.blocks
-    → IsThere monitor plan columns condition block
+    → IsThere monitor plan columns condition column.row block
 told_there monitor plan columns condition block column fits are first last is known within =
-    let many = known.many in
-    let found = at_index column block (omega arith) in
+    let many = known.told.many in
+    let found = at_index column.told block (omega arith) in
     let own = at_index plan.notes block (omega (arith, fits.notes)) in record {
       told = found.0;
       note = note_is plan columns block condition own.0 own.1 first (omega (arith, are.many))
-          ∙ ap (λ (held : Option (List Told)). told_on condition block held (note_on (notes_at plan block) condition)) is
+          ∙ ap (λ (held : Option Column). told_on condition block held (note_on (notes_at plan block) condition)) is
           ∙ ap (λ (held : Option Told). told_by condition held (note_on (notes_at plan block) condition)) found.1;
-      is = in_numbered (IsToldAt monitor plan condition) 0 column block found.0 block found.1 (omega arith) known.told;
+      is = in_numbered (IsToldAt monitor plan condition column.row) 0 column.told block found.0 block found.1 (omega arith) known.told.each;
     }
 
 last_of : (monitor : MonitorParts) (number : ℕ) (which : Condition) → IsCondition monitor number which → number ≤ length monitor.conditions
@@ -95,29 +96,29 @@ was_out monitor plan columns block condition fits are within first last none =
     by_column (has_note (notes_at plan block) condition ≡ false) monitor plan columns condition are first last
     (λ is known. has_if (notes_at plan block) condition None (sym (note_left plan columns block condition first (omega (arith, are.many)) is) ∙ out))
     (λ column is known. let there = told_there monitor plan columns condition block column fits are first last is known within in
-    by_told there.told (sym there.note ∙ out) there.is)
+    by_told column.row there.told (sym there.note ∙ out) there.is)
   where
     out : note_on (notes_at (counted_of plan columns) block) condition ≡ None
     out = none_if (notes_at (counted_of plan columns) block) condition none
 
-    by_told : (told : Told) → told_note condition told (note_on (notes_at plan block) condition) ≡ None
-        → IsToldOf monitor plan.kept condition block (has_note (notes_at plan block) condition) told → has_note (notes_at plan block) condition ≡ false
-    by_told (telling.Nothing counts) is known = known.0
-    by_told (telling.Signal gives before) is known = absurd (cc is)
-    by_told telling.Broadcast is known = absurd (cc is)
+    by_told : (row : ℕ) (told : Told) → told_note condition told (note_on (notes_at plan block) condition) ≡ None
+        → IsToldOf monitor plan.kept condition row block (has_note (notes_at plan block) condition) told → has_note (notes_at plan block) condition ≡ false
+    by_told row (telling.Nothing counts) is known = known.0
+    by_told row (telling.Signal gives before) is known = absurd (cc is)
+    by_told row telling.Broadcast is known = absurd (cc is)
 
 -- ---- each block is told as the answers say
 
-told_right : (monitor : MonitorParts) (plan : Plan) (columns : columns_type) (condition block : ℕ)
-    → IsThere monitor plan columns condition block → IsToldRight monitor (counted_of plan columns) condition block
-told_right monitor plan columns condition block there = by_told there.told there.note there.is
+told_right : (monitor : MonitorParts) (plan : Plan) (columns : columns_type) (condition row block : ℕ)
+    → IsThere monitor plan columns condition row block → IsToldRight monitor (counted_of plan columns) condition row block
+told_right monitor plan columns condition row block there = by_told there.told there.note there.is
   where
     notes : List Note
     notes = notes_at (counted_of plan columns) block
 
     by_told : (told : Told) → note_on notes condition ≡ told_note condition told (note_on (notes_at plan block) condition)
-        → IsToldOf monitor plan.kept condition block (has_note (notes_at plan block) condition) told
-        → IsToldRight monitor (counted_of plan columns) condition block
+        → IsToldOf monitor plan.kept condition row block (has_note (notes_at plan block) condition) told
+        → IsToldRight monitor (counted_of plan columns) condition row block
     by_told (telling.Nothing counts) is known = inr (inl (record { none = has_if notes condition None is; counts = known.1.so }))
     by_told (telling.Signal gives before) is known =
         inr (inr (record { one = has_if notes condition (Some _) is; gives = known.one.0.so; first = λ other. known.one.1.so }))
@@ -144,7 +145,7 @@ still_each P monitor plan columns number none keeps block = by_notes (slice_get 
     each : (notes : List Note) → All Q notes → (condition : ℕ) → IfSome (made_on columns block notes condition) Q
     each notes all condition = elim (cases_eq condition number) [
       | inl same ↦ subst (λ (n : ℕ). IfSome (made_on columns block notes n) Q) (sym same)
-          (subst (λ (column : Option (List Told)). IfSome (told_on number block column (note_on notes number)) Q) (sym none)
+          (subst (λ (column : Option Column). IfSome (told_on number block column (note_on notes number)) Q) (sym none)
           (by_placed notes all (note_on notes number) refl))
       | inr differs ↦ elsewhere condition differs (made_on columns block notes condition) (on_theirs columns block notes condition)
     ]
@@ -181,13 +182,13 @@ kind_left plan columns condition first none = by_kind (condition_kind plan condi
     by_kind : (found : Option CondKind) → condition_kind plan condition ≡ found → condition_kind (counted_of plan columns) condition ≡ condition_kind plan condition
     by_kind None is = kind_missing plan columns condition is ∙ sym is
     by_kind (Some kind) is =
-        kind_at plan columns condition kind first is ∙ ap (λ (column : Option (List Told)). Some (counted_kind kind column)) none ∙ sym is
+        kind_at plan columns condition kind first is ∙ ap (λ (column : Option Column). Some (counted_kind kind column)) none ∙ sym is
 
-pub kind_made : (plan : Plan) (columns : columns_type) (condition : ℕ) (column : List Told) (was : CondKind) → 1 ≤ condition
+pub kind_made : (plan : Plan) (columns : columns_type) (condition : ℕ) (column : Column) (was : CondKind) → 1 ≤ condition
     → column_at columns condition ≡ Some column → condition_kind plan condition ≡ Some was
     → condition_kind (counted_of plan columns) condition ≡ Some kinds.Signal
 kind_made plan columns condition column was first is there =
-    kind_at plan columns condition was first there ∙ ap (λ (held : Option (List Told)). Some (counted_kind was held)) is
+    kind_at plan columns condition was first there ∙ ap (λ (held : Option Column). Some (counted_kind was held)) is
 
 pub two_kinds : (o : Option CondKind) → o ≡ Some kinds.Broadcast → o ≡ Some kinds.Signal → ⊥
 two_kinds o is also = cc
@@ -246,8 +247,8 @@ by_guards answers monitor plan columns rule fits lawful are = record {
       by_column _ monitor plan columns number are is.numbered (last_of monitor number which is)
       (λ none known. inl (passed_on monitor plan columns number fits lawful are is.numbered (last_of monitor number which is) none
       (sym (kind_left plan columns number is.numbered none) ∙ kind)))
-      (λ column there known. inr (answers monitor (counted_of plan columns) number which rule is (not_read monitor number which rule is known.reads_none)
-      (λ block within. told_right monitor plan columns number block
+      (λ column there known. inr (answers monitor (counted_of plan columns) number column.row which rule is (not_read monitor number which rule is known.reads_none) known.tried.has
+      (λ block within. told_right monitor plan columns number column.row block
       (told_there monitor plan columns number block column fits are is.numbered (last_of monitor number which is) there known within))));
 }
 
@@ -257,11 +258,11 @@ lawful_by_counting answers guards monitor plan columns rule fits lawful are =
 
 -- ---- the plan is the placed one, counted
 
-noted_as : (monitor : MonitorParts) (plan : Plan) (columns : columns_type) (condition block : ℕ)
-    → IsThere monitor plan columns condition block
-    → IsTold monitor plan condition block (note_on (notes_at (counted_of plan columns) block) condition)
-noted_as monitor plan columns condition block there =
-    subst (IsTold monitor plan condition block) (sym there.note) (by_told there.told there.is)
+noted_as : (monitor : MonitorParts) (plan : Plan) (columns : columns_type) (condition row block : ℕ)
+    → IsThere monitor plan columns condition row block
+    → IsTold monitor plan condition row block (note_on (notes_at (counted_of plan columns) block) condition)
+noted_as monitor plan columns condition row block there =
+    subst (IsTold monitor plan condition row block) (sym there.note) (by_told there.told there.is)
   where
     placed : Option Note
     placed = note_on (notes_at plan block) condition
@@ -269,8 +270,8 @@ noted_as monitor plan columns condition block there =
     none_placed : placed ≡ None → has_note (notes_at plan block) condition ≡ false
     none_placed is = has_if (notes_at plan block) condition None is
 
-    by_told : (told : Told) → IsToldOf monitor plan.kept condition block (has_note (notes_at plan block) condition) told
-        → IsTold monitor plan condition block (told_note condition told placed)
+    by_told : (told : Told) → IsToldOf monitor plan.kept condition row block (has_note (notes_at plan block) condition) told
+        → IsTold monitor plan condition row block (told_note condition told placed)
     by_told (telling.Nothing counts) known = record { none = none_if (notes_at plan block) condition known.0; counts = known.1.so }
     by_told (telling.Signal gives before) known = record {
       on = refl;
@@ -307,7 +308,10 @@ counted_from monitor plan columns rule fits are = record {
         was = known.was;
         kind = kind_made plan columns condition column kinds.Broadcast is.0 there known.was;
         reads_none = known.reads_none;
-        told = λ block within. noted_as monitor plan columns condition block
+        row = column.row;
+        tried = known.tried;
+        first = known.first;
+        told = λ block within. noted_as monitor plan columns condition column.row block
             (told_there monitor plan columns condition block column fits are is.0 is.1 there known within);
       }));
 }
@@ -320,10 +324,10 @@ fits_notes monitor plan columns block notes rule are fits = record {
   rising = (made_rise (made_on columns block notes) (on_theirs columns block notes) (length columns)).rising;
   each = all_made (FitsNote monitor) (made_on columns block notes) 1 (length columns) (λ condition low high.
       by_column _ monitor plan columns condition are low (omega (arith, are.many, high))
-      (λ none known. subst (λ (column : Option (List Told)). IfSome (told_on condition block column (note_on notes condition)) (FitsNote monitor)) (sym none)
+      (λ none known. subst (λ (column : Option Column). IfSome (told_on condition block column (note_on notes condition)) (FitsNote monitor)) (sym none)
       (placed condition (note_on notes condition) refl))
-      (λ column there known. subst (λ (column : Option (List Told)). IfSome (told_on condition block column (note_on notes condition)) (FitsNote monitor)) (sym there)
-      (by_told condition (slice_get column block) low known.reads_none)));
+      (λ column there known. subst (λ (column : Option Column). IfSome (told_on condition block column (note_on notes condition)) (FitsNote monitor)) (sym there)
+      (by_told condition (slice_get column.told block) low known.reads_none)));
 }
   where
     placed : (condition : ℕ) (found : Option Note) → note_on notes condition ≡ found → IfSome found (FitsNote monitor)

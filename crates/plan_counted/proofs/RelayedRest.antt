@@ -21,6 +21,7 @@ use Rattle.logic_wp.specs.PlainClaims.{IsConditionNumber}
 use Rattle.plan_place.specs.Relayed.{RelayedPlansAreLawful, RelayedPlansOmitNoMore, hands_on, note_on, relay_of, relayed_notes, relayed_on, tested_signal}
 use Rattle.plan_place.proofs.NotesOn.{all_made, is_some as is_found, made_rise, on_found, on_is}
 use Rattle.plan_place.proofs.RelayedPlans.{made_on as relayed_made, on_theirs as relayed_theirs}
+use Rattle.plan_counted.specs.declared.counted.Column.{Column}
 use Rattle.plan_counted.specs.declared.counted.Told.{Told}
 use Rattle.plan_counted.specs.declared.counted.Told.TheVariants as telling
 use Rattle.plan_counted.specs.Counted.{IsTold, column_at, counted_kind, counted_notes, counted_of, is_tested, told_by, told_on}
@@ -31,7 +32,7 @@ use Rattle.plan_counted.proofs.Mixing.{has_as}
 use Rattle.plan_counted.proofs.Table.{has_if, length_numbered, made_on, none_if, note_is, note_left, note_made, notes_missing, numbered_at, none_numbered, on_theirs}
 
 abbrev columns_type : Type 0
-columns_type = List (Option (List Told))
+columns_type = List (Option Column)
 
 -- ---- a note that was relayed is tested where the placed one is
 
@@ -44,9 +45,9 @@ still_tested monitor all_kinds block condition None = by_test (hands_on monitor 
     by_test true = refl
     by_test false = refl
 
-same_told : (condition block : ℕ) (column : List Told) (placed other : Option Note) → is_tested other ≡ is_tested placed
+same_told : (condition block : ℕ) (column : Column) (placed other : Option Note) → is_tested other ≡ is_tested placed
     → told_on condition block (Some column) other ≡ told_on condition block (Some column) placed
-same_told condition block column placed other same = by_told (slice_get column block)
+same_told condition block column placed other same = by_told (slice_get column.told block)
   where
     by_told : (told : Option Told) → told_by condition told other ≡ told_by condition told placed
     by_told None = refl
@@ -84,7 +85,7 @@ as_relayed monitor placed columns condition many within none = record {
   notes = λ block. let last = within.1 in note_left (relay_of monitor placed) columns block condition within.0 (omega arith) none;
 }
 
-as_counted : (monitor : MonitorParts) (placed : Plan) (columns : columns_type) (condition : ℕ) (column : List Told) → FitsPlan monitor placed
+as_counted : (monitor : MonitorParts) (placed : Plan) (columns : columns_type) (condition : ℕ) (column : Column) → FitsPlan monitor placed
     → length columns ≡ length monitor.conditions → IsConditionNumber monitor condition → column_at columns condition ≡ Some column
     → HasAsIn (counted_and_relayed monitor placed columns) (counted_of placed columns) condition
 as_counted monitor placed columns condition column fits many within is = record {
@@ -113,12 +114,12 @@ as_counted monitor placed columns condition column fits many within is = record 
     by_notes block (Some notes) some =
         let last : condition ≤ length columns = (let end = within.1 in omega arith) in
         note_is (relay_of monitor placed) columns block condition (relayed_notes monitor placed.kinds block notes) (lists_relayed monitor placed block notes some) within.0 last
-        ∙ ap (λ (held : Option (List Told)). told_on condition block held (note_on (notes_at (relay_of monitor placed) block) condition)) is
+        ∙ ap (λ (held : Option Column). told_on condition block held (note_on (notes_at (relay_of monitor placed) block) condition)) is
         ∙ same_told condition block column (note_on (notes_at placed block) condition) (note_on (notes_at (relay_of monitor placed) block) condition)
         (ap is_tested (relayed_note_is monitor placed block condition notes some within)
         ∙ still_tested monitor placed.kinds block condition (note_on (notes_at placed block) condition))
         ∙ sym (note_is placed columns block condition notes some within.0 last
-        ∙ ap (λ (held : Option (List Told)). told_on condition block held (note_on (notes_at placed block) condition)) is)
+        ∙ ap (λ (held : Option Column). told_on condition block held (note_on (notes_at placed block) condition)) is)
 
 -- ---- all conditions
 
@@ -130,7 +131,7 @@ relayed_rest_mixed monitor placed columns fits many = record {
   each = λ condition within. by_column condition within (column_at columns condition) refl;
 }
   where
-    by_column : (condition : ℕ) → IsConditionNumber monitor condition → (found : Option (List Told)) → column_at columns condition ≡ found
+    by_column : (condition : ℕ) → IsConditionNumber monitor condition → (found : Option Column) → column_at columns condition ≡ found
         → HasAsIn (counted_and_relayed monitor placed columns) (counted_of placed columns) condition ⊎ HasAsIn (counted_and_relayed monitor placed columns) (relay_of monitor placed) condition
     by_column condition within None is = inr (as_relayed monitor placed columns condition many within is)
     by_column condition within (Some column) is = inl (as_counted monitor placed columns condition column fits many within is)
@@ -143,12 +144,12 @@ counted_and_relayed_is monitor placed columns fits many broadcasts = record {
   relays = λ condition within others. relays condition within others (column_at columns condition) refl;
 }
   where
-    counts : (condition : ℕ) → IsConditionNumber monitor condition → IsCountedIn placed (counted_of placed columns) condition → (found : Option (List Told)) → column_at columns condition ≡ found
+    counts : (condition : ℕ) → IsConditionNumber monitor condition → IsCountedIn placed (counted_of placed columns) condition → (found : Option Column) → column_at columns condition ≡ found
         → HasAsIn (counted_and_relayed monitor placed columns) (counted_of placed columns) condition
     counts condition within counted None is = absurd (two_kinds (condition_kind placed condition) counted.was (sym (kind_left placed columns condition within.0 is) ∙ counted.kind))
     counts condition within counted (Some column) is = as_counted monitor placed columns condition column fits many within is
 
-    relays : (condition : ℕ) → IsConditionNumber monitor condition → (IsCountedIn placed (counted_of placed columns) condition → ⊥) → (found : Option (List Told)) → column_at columns condition ≡ found
+    relays : (condition : ℕ) → IsConditionNumber monitor condition → (IsCountedIn placed (counted_of placed columns) condition → ⊥) → (found : Option Column) → column_at columns condition ≡ found
         → HasAsIn (counted_and_relayed monitor placed columns) (relay_of monitor placed) condition
     relays condition within others None is = as_relayed monitor placed columns condition many within is
     relays condition within others (Some column) is =

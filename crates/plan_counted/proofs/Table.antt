@@ -13,6 +13,7 @@ use Rattle.machine_events.specs.declared.plan.Plan.{Plan}
 use Rattle.machine_events.specs.Plans.{condition_kind, has_note, has_broadcast, notes_at}
 use Rattle.plan_place.specs.Relayed.{note_on}
 use Rattle.plan_place.proofs.NotesOn.{AreOnTheirs, is_some, made, on_found, on_is}
+use Rattle.plan_counted.specs.declared.counted.Column.{Column}
 use Rattle.plan_counted.specs.declared.counted.Told.{Told}
 use Rattle.plan_counted.specs.declared.counted.Told.TheVariants as telling
 use Rattle.plan_counted.specs.Counted.{column_at, counted_kind, counted_notes, counted_of, told_by, told_on}
@@ -79,13 +80,13 @@ note_made f on first (suc count) q low high = elim (cases_eq q first) [
 
 -- ---- what is made for a condition
 
-abbrev pub made_on : List (Option (List Told)) → ℕ → List Note → ℕ → Option Note
+abbrev pub made_on : List (Option Column) → ℕ → List Note → ℕ → Option Note
 made_on columns block notes condition = told_on condition block (column_at columns condition) (note_on notes condition)
 
 anything : (notes : List Note) → All (λ (note : Note). Unit {0}) notes
 anything notes = λ place other within. tt
 
-pub on_theirs : (columns : List (Option (List Told))) (block : ℕ) (notes : List Note) → AreOnTheirs (made_on columns block notes)
+pub on_theirs : (columns : List (Option Column)) (block : ℕ) (notes : List Note) → AreOnTheirs (made_on columns block notes)
 on_theirs columns block notes condition = by_column (column_at columns condition)
   where
     placed : (found : Option Note) → note_on notes condition ≡ found → IfSome found (λ note. note.condition ≡ condition)
@@ -98,13 +99,13 @@ on_theirs columns block notes condition = by_column (column_at columns condition
     by_told (Some (telling.Signal gives first)) = refl
     by_told (Some telling.Broadcast) = refl
 
-    by_column : (column : Option (List Told)) → IfSome (told_on condition block column (note_on notes condition)) (λ note. note.condition ≡ condition)
+    by_column : (column : Option Column) → IfSome (told_on condition block column (note_on notes condition)) (λ note. note.condition ≡ condition)
     by_column None = placed (note_on notes condition) refl
-    by_column (Some column) = by_told (slice_get column block)
+    by_column (Some column) = by_told (slice_get column.told block)
 
 -- ---- the parts of the plan
 
-pub notes_there : (plan : Plan) (columns : List (Option (List Told))) (block : ℕ) (notes : List Note) → slice_get plan.notes block ≡ Some notes
+pub notes_there : (plan : Plan) (columns : List (Option Column)) (block : ℕ) (notes : List Note) → slice_get plan.notes block ≡ Some notes
     → notes_at (counted_of plan columns) block ≡ counted_notes columns block notes
 notes_there plan columns block notes is =
     let same : 0 + block ≡ block = omega arith in
@@ -112,14 +113,14 @@ notes_there plan columns block notes is =
     (numbered_at (λ (one : ℕ × List Note). counted_notes columns one.0 one.1) 0 plan.notes block notes is)
     ∙ ap (λ (number : ℕ). counted_notes columns number notes) same
 
-pub notes_missing : (plan : Plan) (columns : List (Option (List Told))) (block : ℕ) → slice_get plan.notes block ≡ None
+pub notes_missing : (plan : Plan) (columns : List (Option Column)) (block : ℕ) → slice_get plan.notes block ≡ None
     → notes_at (counted_of plan columns) block ≡ []
 notes_missing plan columns block is =
     ap (λ (found : Option (List Note)). unwrap_or found [])
     (none_numbered (λ (one : ℕ × List Note). counted_notes columns one.0 one.1) 0 plan.notes block is)
 
 -- the note of a block that there is
-pub note_is : (plan : Plan) (columns : List (Option (List Told))) (block condition : ℕ) (notes : List Note) → slice_get plan.notes block ≡ Some notes
+pub note_is : (plan : Plan) (columns : List (Option Column)) (block condition : ℕ) (notes : List Note) → slice_get plan.notes block ≡ Some notes
     → 1 ≤ condition → condition ≤ length columns
     → note_on (notes_at (counted_of plan columns) block) condition
     ≡ told_on condition block (column_at columns condition) (note_on (notes_at plan block) condition)
@@ -129,7 +130,7 @@ note_is plan columns block condition notes there first last =
     ∙ ap (λ (own : List Note). told_on condition block (column_at columns condition) (note_on own condition)) (sym (ap (λ (found : Option (List Note)). unwrap_or found []) there))
 
 -- the note of a block on a condition with no column is the placed one
-pub note_left : (plan : Plan) (columns : List (Option (List Told))) (block condition : ℕ) → 1 ≤ condition → condition ≤ length columns
+pub note_left : (plan : Plan) (columns : List (Option Column)) (block condition : ℕ) → 1 ≤ condition → condition ≤ length columns
     → column_at columns condition ≡ None
     → note_on (notes_at (counted_of plan columns) block) condition ≡ note_on (notes_at plan block) condition
 note_left plan columns block condition first last none = by_notes (slice_get plan.notes block) refl
@@ -140,9 +141,9 @@ note_left plan columns block condition first last none = by_notes (slice_get pla
         ap (λ (own : List Note). note_on own condition) (notes_missing plan columns block is ∙ sym (ap (λ (found : Option (List Note)). unwrap_or found []) is))
     by_notes (Some notes) is =
         note_is plan columns block condition notes is first last
-        ∙ ap (λ (column : Option (List Told)). told_on condition block column (note_on (notes_at plan block) condition)) none
+        ∙ ap (λ (column : Option Column). told_on condition block column (note_on (notes_at plan block) condition)) none
 
-pub kind_at : (plan : Plan) (columns : List (Option (List Told))) (condition : ℕ) (was : CondKind) → 1 ≤ condition
+pub kind_at : (plan : Plan) (columns : List (Option Column)) (condition : ℕ) (was : CondKind) → 1 ≤ condition
     → condition_kind plan condition ≡ Some was
     → condition_kind (counted_of plan columns) condition ≡ Some (counted_kind was (column_at columns condition))
 kind_at plan columns condition was first is =
@@ -150,7 +151,7 @@ kind_at plan columns condition was first is =
     numbered_at (λ (one : ℕ × CondKind). counted_kind one.1 (column_at columns one.0)) 1 plan.kinds (condition - 1) was is
     ∙ ap (λ (number : ℕ). Some (counted_kind was (column_at columns number))) same
 
-pub kind_missing : (plan : Plan) (columns : List (Option (List Told))) (condition : ℕ)
+pub kind_missing : (plan : Plan) (columns : List (Option Column)) (condition : ℕ)
     → condition_kind plan condition ≡ None → condition_kind (counted_of plan columns) condition ≡ None
 kind_missing plan columns condition is =
     none_numbered (λ (one : ℕ × CondKind). counted_kind one.1 (column_at columns one.0)) 1 plan.kinds (condition - 1) is
@@ -182,9 +183,9 @@ none_if notes condition none = by_found (note_on notes condition) refl
 
 -- ---- columns by their index
 
-pub column_is : (columns : List (Option (List Told))) (index : ℕ) (d : Option (List Told)) → index < length columns
+pub column_is : (columns : List (Option Column)) (index : ℕ) (d : Option Column) → index < length columns
     → column_at columns (index + 1) ≡ get_or columns index d
 column_is columns index d low =
     let same : index + 1 - 1 ≡ index = omega arith in
     ap (λ (place : ℕ). unwrap_or (slice_get columns place) None) same
-    ∙ ap (λ (found : Option (Option (List Told))). unwrap_or found None) (slice_get-get_or columns index d low)
+    ∙ ap (λ (found : Option (Option Column)). unwrap_or found None) (slice_get-get_or columns index d low)

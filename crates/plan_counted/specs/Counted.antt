@@ -194,9 +194,11 @@ IsBacked monitor kept condition row block (telling.Signal gives first) =
     × Certifies monitor kept (questions.First condition row block) first
 IsBacked monitor kept condition row block telling.Broadcast = Unit {0}
 
--- a row of the guard of a condition that is counted, and what each block of the monitor has on it
+-- a row of the guard of a condition, which reads no inputs, and what each block of the monitor has
+-- on it
 pub record IsWholeColumn (monitor : MonitorParts) (kept : List Candidate) (condition : ℕ)
     (column : Column) : Type 0 where
+  pub reads_none : ReadsNone monitor condition
   pub has_row : HasRowAt monitor condition column.row
   pub many : length column.told ≡ length monitor.blocks
   pub each : All (λ one. IsBacked monitor kept condition column.row one.0 one.1)

@@ -1,10 +1,6 @@
-use Rattle.std.specs.Prelude.{◌≡◌, All, length}
-use Rattle.std.specs.List.{enumerate_from}
-use Rattle.plan_counted.specs.inner.Answers.{IsToldAt}
+use Rattle.std.specs.Prelude.{◌+◌}
+use Rattle.plan_counted.specs.inner.Answers.{AreBarredBefore}
 use Rattle.plan_counted.proofs.columns.column.Given as goal
 
 abbrev pub invariant-loop-index : goal.invariant-loop-index
-invariant-loop-index l = record {
-  many : length l.column.items ≡ l.index;
-  told : All (IsToldAt l.monitor l.plan l.condition) (enumerate_from 0 l.column.items);
-}
+invariant-loop-index l = AreBarredBefore l.monitor l.plan l.condition (l.index + 1)

@@ -6,8 +6,8 @@ use Rattle.machine_events.specs.Plans.{has_note, notes_at}
 use Rattle.plan_place.proofs.Placing.{each_more}
 use Rattle.plan_counted.specs.inner.Answers.{IsToldAnswer, IsToldAt, IsToldOf}
 use Rattle.plan_counted.proofs.Answered.{chained, notes_by_index}
-use Rattle.plan_counted.proofs.columns.column.Goals as goal
-use Rattle.plan_counted.proofs.columns.column.Goals.{After-has_note-is_noted}
+use Rattle.plan_counted.proofs.columns.told_by.Goals as goal
+use Rattle.plan_counted.proofs.columns.told_by.Goals.{After-has_note-is_noted}
 
 noted_is : (c : After-has_note-is_noted) → c.has_note-is_noted.result ≡ has_note (notes_at c.args.plan.now c.loop-index.index) c.args.condition
 noted_is c =
@@ -23,25 +23,27 @@ pub returns-in-None : goal.returns-in-None
 returns-in-None c =
     let monitor = c.args.monitor.now in
     let condition = c.args.condition in
+    let row = c.args.row in
     let index = c.loop-index.index in
     let is_noted = c.has_note-is_noted.result in
-    chained monitor c.args.plan.now condition index is_noted (noted_is (goal.at.returns-in-None c).After-has_note-is_noted)
-    (subst (λ (kept : List Candidate). IsToldAnswer monitor kept condition index is_noted None) c.items-kept.ensures
-    (subst (IsToldAnswer monitor c.items-kept.result.now condition index is_noted) c.in-None.is c.in_ok-told.ensures))
+    chained monitor c.args.plan.now condition row index is_noted (noted_is (goal.at.returns-in-None c).After-has_note-is_noted)
+    (subst (λ (kept : List Candidate). IsToldAnswer monitor kept condition row index is_noted None) c.items-kept.ensures
+    (subst (IsToldAnswer monitor c.items-kept.result.now condition row index is_noted) c.in-None.is c.in_ok-told.ensures))
 
 pub loop-index-preserved : goal.loop-index-preserved
 loop-index-preserved c =
     let monitor = c.args.monitor.now in
     let plan = c.args.plan.now in
     let condition = c.args.condition in
+    let row = c.args.row in
     let index = c.loop-index.index in
     let is_noted = c.has_note-is_noted.result in
     let told = c.in-Some.told in
     let made = c.in_ok-push-in-Some.ensures.items in
     let many = c.loop-index.invariant.many in record {
       many = grind (arith, common_steps, made, many);
-      told = each_more (IsToldAt monitor plan condition) 0 c.loop-index.column.items c.push.new.self.items told index made (omega (arith, many)) c.loop-index.invariant.told
-          (subst (λ (flag : Bool). IsToldOf monitor plan.kept condition index flag told) (noted_is (goal.at.loop-index-preserved c).After-has_note-is_noted)
-          (subst (λ (kept : List Candidate). IsToldAnswer monitor kept condition index is_noted (Some told)) c.items-kept.ensures
-          (subst (IsToldAnswer monitor c.items-kept.result.now condition index is_noted) c.in-Some.is c.in_ok-told.ensures)));
+      each = each_more (IsToldAt monitor plan condition row) 0 c.loop-index.column.items c.push.new.self.items told index made (omega (arith, many)) c.loop-index.invariant.each
+          (subst (λ (flag : Bool). IsToldOf monitor plan.kept condition row index flag told) (noted_is (goal.at.loop-index-preserved c).After-has_note-is_noted)
+          (subst (λ (kept : List Candidate). IsToldAnswer monitor kept condition row index is_noted (Some told)) c.items-kept.ensures
+          (subst (IsToldAnswer monitor c.items-kept.result.now condition row index is_noted) c.in-Some.is c.in_ok-told.ensures)));
     }
