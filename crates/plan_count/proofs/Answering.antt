@@ -1,5 +1,5 @@
 -- A condition is counted by its guard where each block is told as the answers say.
-use Rattle.std.proofs.Common.{◌≡◌, ◌==◌, ◌⊎◌, inl, inr, ℕ, ◌-◌, ◌<◌, Bool, true, false, Option, Some, sym, ap, subst, refl, ◌∙◌}
+use Rattle.std.proofs.Common.{◌≡◌, ◌==◌, ◌⊎◌, inl, inr, ℕ, ◌-◌, true, false, Option, Some, sym, ap, subst, ◌∙◌}
 use Rattle.std.specs.Prelude.{slice_get}
 use Rattle.std.specs.Option.{option_map_or}
 use Rattle.std.proofs.lemmas.Bool.{true≢false}
@@ -7,17 +7,17 @@ use Rattle.std.proofs.lemmas.Option.{slice_get_within}
 use Rattle.logic_linear.specs.declared.formula.Formula.{Formula}
 use Rattle.lang_monitor.specs.declared.monitor.Block.{Block}
 use Rattle.lang_monitor.specs.declared.monitor.Condition.{Condition}
-use Rattle.lang_monitor.specs.MonitorParts.{MonitorParts, IsMonitor}
+use Rattle.lang_monitor.specs.MonitorParts.{MonitorParts}
 use Rattle.lang_monitor.specs.Inputs.{reads_inputs}
 use Rattle.lang_monitor.specs.Queries.{for_waiting, guard_in_condition, waiting_guard}
 use Rattle.lang_monitor.specs.Triples.{IsValidQuery}
 use Rattle.machine_events.specs.declared.plan.Plan.{Plan}
-use Rattle.machine_events.specs.Plans.{notes_at, has_note, has_broadcast, IsCondition}
+use Rattle.machine_events.specs.Plans.{notes_at, has_broadcast, IsCondition}
 use Rattle.machine_events.specs.Counts.{row_measure}
 use Rattle.machine_events.specs.CountClaims.{still_query, fresh_query}
-use Rattle.machine_events.specs.CountClaims.{CountsBlock, HasRow, IsCountedByGuard}
+use Rattle.machine_events.specs.CountClaims.{CountsBlock, HasRow}
 use Rattle.logic_wp.proofs.Fitting.{condition_fits}
-use Rattle.plan_count.specs.Questions.{takes_at, AnswersCount, AreToldRight, CountsWithNone, CountsWithOne, IsToldRight}
+use Rattle.plan_count.specs.Questions.{takes_at, AnswersCount, CountsWithNone, CountsWithOne, IsToldRight}
 use Rattle.plan_count.proofs.GuardCuts.{free_reads}
 use Rattle.plan_count.proofs.GuardRows.{form_reads}
 

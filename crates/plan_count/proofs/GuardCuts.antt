@@ -1,7 +1,8 @@
 -- A guard without one of its rows: it reads no more, and can be negated where the guard can.
-use Rattle.std.proofs.Common.{◌≡◌, ◌==◌, ℕ, ◌+◌, ◌-◌, Bool, true, false, not, cond, ◌&&◌, ◌||◌, List, [], ◌∷◌, ◌++◌, map, length, sym, ap, ap₂, subst, refl, ◌∙◌}
+use Rattle.std.proofs.Common.{◌≡◌, ◌==◌, ℕ, ◌+◌, ◌-◌, ◌<◌, Bool, true, false, not, cond, ◌&&◌, ◌||◌, List, [], ◌∷◌, ◌++◌, map, length, drop, get_or, sym, ap, ap₂, subst, refl, ◌∙◌}
 use Rattle.std.specs.List.{list_all, list_any, filter, flat_map}
 use Rattle.std.proofs.lemmas.Bool.{and_parts, and_from}
+use Rattle.std.proofs.lemmas.List.{append_assoc, at_drop_more}
 use Rattle.logic_linear.specs.declared.formula.Formula.{Formula}
 use Rattle.logic_linear.specs.declared.formula.Formula.TheVariants as formulas
 use Rattle.logic_linear.specs.declared.formula.Formula.TheOpen.{Formula-F, Row, Flag, All as Every, Any as Some_of}
@@ -11,8 +12,7 @@ use Rattle.logic_linear.specs.Linear.{Linear}
 use Rattle.logic_linear.specs.Negation.{can_negate, can_negate_layer, negation, layer_negation}
 use Rattle.logic_linear.specs.Places.{rows_of, rows_layer}
 use Rattle.lang_monitor.specs.Inputs.{reads_step, reads_inputs}
-use Rattle.machine_events.specs.Counts.{Cut, cut_layer, cut_of, every_of, is_never, never, parts_without, row_measure, some_of, without_row}
-use Rattle.plan_count.specs.inner.Rows.{rows_of_parts}
+use Rattle.machine_events.specs.Counts.{Cut, cut_layer, cut_of, every_of, is_never, never, parts_without, some_of, without_row}
 
 -- ---- the rows of a cut
 
@@ -56,6 +56,23 @@ without_in_all parts row = ap (without_row row) (sym (formulas.rolls-All parts))
 
 pub without_in_any : (parts : List Formula) (row : ℕ) → without_row row (formulas.Any parts) ≡ some_of (parts_without row (map cut_of parts))
 without_in_any parts row = ap (without_row row) (sym (formulas.rolls-Any parts)) ∙ cut_roll (Some_of parts) row
+
+-- ---- parts without a row, one after the other
+
+pub cut_next : (parts : List Formula) (index left row after : ℕ) (part cut : Formula) (old new : List Formula)
+    → index < length parts → part ≡ get_or parts index part → cut ≡ without_row left part → after ≡ left - length (rows_of part) → new ≡ old ++ cut ∷ []
+    → old ++ parts_without left (map cut_of (drop index parts)) ≡ parts_without row (map cut_of parts)
+    → new ++ parts_without after (map cut_of (drop (index + 1) parts)) ≡ parts_without row (map cut_of parts)
+cut_next parts index left row after part cut old new low is cut_is after_is made so_far =
+    (λ i. made i ++ parts_without (after_same i) (map cut_of (drop (index + 1) parts)))
+    ∙ append_assoc old (cut ∷ []) (parts_without (left - length (cut_of part).rows) (map cut_of (drop (index + 1) parts)))
+    ∙ ap (λ (one : Formula). old ++ one ∷ parts_without (left - length (cut_of part).rows) (map cut_of (drop (index + 1) parts))) cut_is
+    ∙ ap (λ (one : Formula). old ++ parts_without left (cut_of one ∷ map cut_of (drop (index + 1) parts))) is
+    ∙ ap (λ (rest : List Formula). old ++ rest) (sym (at_drop_more (λ (some : List Formula). parts_without left (map cut_of some)) parts index part low))
+    ∙ so_far
+  where
+    after_same : after ≡ left - length (cut_of part).rows
+    after_same = after_is ∙ ap (λ (rows : List Linear). left - length rows) (sym (cut_rows part))
 
 -- ---- what is so of each part of a formula
 

@@ -1,10 +1,11 @@
 -- The rows of a guard that fits its places and reads no inputs, and the search of one.
-use Rattle.std.proofs.Common.{◌≡◌, ℕ, zero, suc, ◌+◌, ◌-◌, ◌^◌, ◌<◌, ◌≤◌, pos, Bool, true, false, not, cond, ◌&&◌, ◌||◌, List, [], ◌∷◌, ◌++◌, map, length, get_or, Option, Some, None, sym, ap, subst, refl, ◌∙◌, arith}
-use Rattle.std.specs.Prelude.{All, slice_get, unwrap_or}
+use Rattle.std.proofs.Common.{◌≡◌, ℕ, zero, suc, ◌+◌, ◌-◌, ◌^◌, ◌<◌, ◌≤◌, Bool, true, false, ◌||◌, List, [], ◌∷◌, ◌++◌, map, length, drop, get_or, Option, Some, None, sym, ap, subst, refl, ◌∙◌, arith}
+use Rattle.std.specs.Prelude.{All, slice_get, unwrap_or, IfOk, Result, Ok, Err}
+use Rattle.std.specs.declared.alloc.AllocError.{AllocError}
 use Rattle.std.specs.List.{list_all, list_any, flat_map}
 use Rattle.std.proofs.lemmas.Bool.{and_parts}
 use Rattle.std.proofs.lemmas.Option.{get_or_from_slice_get, unwrap_or-slice_get}
-use Rattle.std.proofs.lemmas.List.{length-append}
+use Rattle.std.proofs.lemmas.List.{at_drop_more, length-append}
 use Rattle.std.proofs.lemmas.List.Elements.{All-nil, All-cons, All-head, All-tail, All-append}
 use Rattle.lang_base.specs.Numbers.{is_within}
 use Rattle.lang_base.specs.declared.kind.Kind.TheVariants as kinds
@@ -16,10 +17,10 @@ use Rattle.logic_linear.specs.declared.formula.Formula.TheViews.{roll-Formula}
 use Rattle.logic_linear.specs.declared.formula.Formula.TheFolds.{ind-Formula, map-Formula, fold-roll-Formula}
 use Rattle.logic_linear.specs.Linear.{Linear}
 use Rattle.logic_linear.specs.Places.{rows_of, rows_layer}
-use Rattle.lang_monitor.specs.MonitorParts.{Places, fits_term, fits_form, fits_formula, fits_formula_step, is_kind, kind_at}
+use Rattle.lang_monitor.specs.MonitorParts.{Places, fits_term, fits_formula, fits_formula_step, is_kind, kind_at}
 use Rattle.lang_monitor.specs.Inputs.{reads_term, reads_step, reads_inputs}
 use Rattle.machine_events.specs.Counts.{zero_form, row_measure}
-use Rattle.plan_count.specs.inner.Rows.{has_small_number, rows_of_parts, IsFieldTerm, IsCountable}
+use Rattle.plan_count.specs.inner.Rows.{rows_of_parts, IsFieldTerm, IsCountable}
 
 neither : (a b : Bool) → (a || b) ≡ false → (a ≡ false) × (b ≡ false)
 neither false b h = (refl, h)
@@ -136,20 +137,53 @@ in_first [] more index low = absurd (omega (arith, low))
 in_first (row ∷ rows) more zero low = refl
 in_first (row ∷ rows) more (suc index) low = in_first rows more index (omega (arith, low))
 
-in_more : (rows more : List Linear) (index : ℕ) → slice_get (rows ++ more) (length rows + index) ≡ slice_get more index
-in_more [] more index = refl
-in_more (row ∷ rows) more index = in_more rows more index
+in_more : (rows more : List Linear) (place index : ℕ) → place ≡ length rows + index → slice_get (rows ++ more) place ≡ slice_get more index
+in_more [] more place index is = ap (slice_get more) (omega (arith, is))
+in_more (row ∷ rows) more zero index is = absurd (omega (arith, is))
+in_more (row ∷ rows) more (suc place) index is = in_more rows more place index (omega (arith, is))
 
 -- where it is the last or an earlier one of the first part, it is a row of that
-pub found_here : (rows more : List Linear) (left : ℕ) → 1 ≤ left → left - length rows ≡ 0
+found_here : (rows more : List Linear) (left : ℕ) → 1 ≤ left → left - length rows ≡ 0
     → slice_get rows (left - 1) ≡ slice_get (rows ++ more) (left - 1)
 found_here rows more left first none = sym (in_first rows more (left - 1) (omega (arith, first, none)))
 
 -- else one of the others
-pub found_there : (rows more : List Linear) (left after : ℕ) → after ≡ left - length rows → 1 ≤ after
+found_there : (rows more : List Linear) (left after : ℕ) → after ≡ left - length rows → 1 ≤ after
     → slice_get more (after - 1) ≡ slice_get (rows ++ more) (left - 1)
-found_there rows more left after is some =
-    sym (ap (slice_get (rows ++ more)) place ∙ in_more rows more (after - 1))
+found_there rows more left after is some = sym (in_more rows more (left - 1) (after - 1) (omega (arith, is, some)))
+
+-- the rows of the parts that are left
+dropped : (parts : List Formula) (index : ℕ) (part : Formula) → index < length parts → part ≡ get_or parts index part
+    → rows_of_parts (drop index parts) ≡ rows_of part ++ rows_of_parts (drop (index + 1) parts)
+dropped parts index part low is =
+    at_drop_more rows_of_parts parts index part low ∙ ap (λ (one : Formula). rows_of one ++ rows_of_parts (drop (index + 1) parts)) (sym is)
+
+-- the row is one of a part
+pub row_here : (parts : List Formula) (index left row after : ℕ) (part : Formula) (answer : Result (Option Linear) AllocError)
+    → index < length parts → part ≡ get_or parts index part → 1 ≤ left → after ≡ left - length (rows_of part) → after ≡ 0
+    → slice_get (rows_of_parts (drop index parts)) (left - 1) ≡ slice_get (rows_of_parts parts) (row - 1)
+    → IfOk answer (λ found. found ≡ slice_get (rows_of part) (left - 1)) → IfOk answer (λ found. found ≡ slice_get (rows_of_parts parts) (row - 1))
+row_here parts index left row after part answer low is first after_is none stands told = by_answer answer told
   where
-    place : left - 1 ≡ length rows + (after - 1)
-    place = omega (arith, is, some)
+    here : slice_get (rows_of part) (left - 1) ≡ slice_get (rows_of_parts parts) (row - 1)
+    here =
+        found_here (rows_of part) (rows_of_parts (drop (index + 1) parts)) left first (sym after_is ∙ none)
+        ∙ ap (λ (rows : List Linear). slice_get rows (left - 1)) (sym (dropped parts index part low is)) ∙ stands
+
+    by_answer : (answer : Result (Option Linear) AllocError) → IfOk answer (λ found. found ≡ slice_get (rows_of part) (left - 1))
+        → IfOk answer (λ found. found ≡ slice_get (rows_of_parts parts) (row - 1))
+    by_answer (Ok found) told = told ∙ here
+    by_answer (Err error) told = tt
+
+-- it is one of the parts after this
+pub row_later : (parts : List Formula) (index left row after : ℕ) (part : Formula)
+    → index < length parts → part ≡ get_or parts index part → after ≡ left - length (rows_of part) → 1 ≤ after
+    → slice_get (rows_of_parts (drop index parts)) (left - 1) ≡ slice_get (rows_of_parts parts) (row - 1)
+    → slice_get (rows_of_parts (drop (index + 1) parts)) (after - 1) ≡ slice_get (rows_of_parts parts) (row - 1)
+row_later parts index left row after part low is after_is some stands =
+    found_there (rows_of part) (rows_of_parts (drop (index + 1) parts)) left after after_is some
+    ∙ ap (λ (rows : List Linear). slice_get rows (left - 1)) (sym (dropped parts index part low is)) ∙ stands
+
+pub some_left : (number : ℕ) → (number ≡ 0 → ⊥) → 1 ≤ number
+some_left zero some = absurd (some refl)
+some_left (suc number) some = omega arith

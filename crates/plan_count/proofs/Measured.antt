@@ -1,15 +1,15 @@
 -- What the queries on a condition and a block are made of.
-use Rattle.std.proofs.Common.{◌≡◌, ℕ, ◌-◌, ◌<◌, ℤ, pos, Bool, true, false, ◌&&◌, List, [], ◌∷◌, ◌++◌, map, Option, Some, refl, sym, ap, subst, ◌∙◌}
-use Rattle.std.specs.Prelude.{slice_get, IsSomeAnd}
-use Rattle.std.specs.List.{list_all}
-use Rattle.std.proofs.lemmas.Bool.{and_from}
+use Rattle.std.proofs.Common.{◌≡◌, ℕ, ◌-◌, ◌≤◌, ℤ, Bool, true, false, ◌&&◌, List, [], ◌∷◌, ◌++◌, map, length, get_or, sym, ap, subst, ◌∙◌, arith}
+use Rattle.std.specs.Prelude.{slice_get, IsTrue, nat_eq}
 use Rattle.std.proofs.lemmas.List.{append_assoc}
+use Rattle.std.proofs.lemmas.Option.{get_or_from_slice_get}
 use Rattle.lang_base.specs.Numbers.{is_within}
 use Rattle.logic_linear.specs.declared.formula.Formula.{Formula}
 use Rattle.logic_linear.specs.declared.formula.Formula.TheVariants as formulas
 use Rattle.logic_linear.specs.declared.formula.Formula.TheOpen.{Row}
 use Rattle.logic_linear.specs.declared.formula.Formula.TheFolds.{fold-roll-Formula}
 use Rattle.logic_linear.specs.Linear.{Linear, IsLinear}
+use Rattle.logic_linear.specs.Places.{rows_of}
 use Rattle.logic_linear.specs.Negation.{can_negate, can_negate_layer, can_negate_linear, negation}
 use Rattle.lang_monitor.specs.declared.candidate.Candidate.{Candidate}
 use Rattle.lang_monitor.specs.declared.monitor.Condition.{Condition}
@@ -23,8 +23,9 @@ use Rattle.machine_events.proofs.Facing.{all_at, is_some_and}
 use Rattle.machine_events.specs.Plans.{IsCondition}
 use Rattle.machine_events.specs.Counts.{row_measure, without_row, zero_form}
 use Rattle.machine_events.specs.CountClaims.{minus, more_by, net, old_form}
+use Rattle.logic_wp.specs.PlainClaims.{ReadsNone}
 use Rattle.logic_wp.proofs.Fitting.{condition_fits}
-use Rattle.plan_count.specs.Questions.{MayBeAsked, first_query, leaves_query, takes_at}
+use Rattle.plan_count.specs.Questions.{HasRowAt, MayBeAsked, first_query, leaves_query, takes_at}
 use Rattle.plan_count.specs.inner.Rows.{IsCountable, IsMeasured, fresh_post, still_post, tied}
 use Rattle.plan_count.proofs.Answering.{GuardsStay, guard_at}
 use Rattle.plan_count.proofs.GuardCuts.{all_negates, any_negates, free_negates_twice}
@@ -45,6 +46,36 @@ countable stay monitor condition row block rule may =
     let fits = condition_fits monitor (condition - 1) which rule found.1 in
     subst (λ (guard : Formula). IsCountable (row_measure guard row).form) (sym (guard_at stay monitor condition which there plain))
     (form_countable fits.places which.guard row fits.fits plain)
+
+-- ---- whether the guard has a row
+
+-- the guard of a condition as it is read
+waiting_is : GuardsStay → (monitor : MonitorParts) (conditions : List Condition) (condition : ℕ) (held : Condition) → IsMonitor monitor → ReadsNone monitor condition
+    → conditions ≡ monitor.conditions → held ≡ get_or conditions (condition - 1) held → waiting_guard monitor condition ≡ held.guard
+waiting_is stay monitor conditions condition held rule reads same is =
+    let found = is_some_and (slice_get monitor.conditions (condition - 1)) (λ (held : Condition). held.reads_inputs ≡ false) reads.1 in
+    let which = found.0 in
+    let described = all_at IsDescribed monitor.conditions (condition - 1) which found.1 rule.described in
+    let held_is : held ≡ which = is ∙ ap (λ (all : List Condition). get_or all (condition - 1) held) same ∙ get_or_from_slice_get monitor.conditions (condition - 1) which held found.1 in
+    guard_at stay monitor condition which (record { numbered = reads.0; there = found.1 }) (sym described.inputs ∙ found.2)
+    ∙ ap (λ (one : Condition). one.guard) (sym held_is)
+
+pub has_row_is : GuardsStay → (monitor : MonitorParts) (conditions : List Condition) (condition row after : ℕ) (held : Condition) → IsMonitor monitor → ReadsNone monitor condition
+    → conditions ≡ monitor.conditions → held ≡ get_or conditions (condition - 1) held → after ≡ row - length (rows_of held.guard) → 1 ≤ row
+    → (IsTrue (nat_eq after 0) → HasRowAt monitor condition row) × (HasRowAt monitor condition row → IsTrue (nat_eq after 0))
+has_row_is stay monitor conditions condition row after held rule reads same is after_is low =
+    (λ none. record { first = low; last = last after (length (rows_of (waiting_guard monitor condition))) left_is none }, λ has. none after (length (rows_of (waiting_guard monitor condition))) left_is has.last)
+  where
+    left_is : after ≡ row - length (rows_of (waiting_guard monitor condition))
+    left_is = after_is ∙ ap (λ (guard : Formula). row - length (rows_of guard)) (sym (waiting_is stay monitor conditions condition held rule reads same is))
+
+    last : (left all : ℕ) → left ≡ row - all → nat_eq left 0 ≡ true → row ≤ all
+    last left all is none = grind (arith, is, none)
+
+    none : (left all : ℕ) → left ≡ row - all → row ≤ all → nat_eq left 0 ≡ true
+    none left all is within = grind (arith, is, within)
+
+-- ---- what the queries are made of
 
 pub measured : GuardsStay → (monitor : MonitorParts) (kept : List Candidate) (condition row block : ℕ) (hyps idle : List Formula) (guard shut free : Formula) (form : Linear) (bounded : Formula)
     → IsMonitor monitor → MayBeAsked monitor condition row block

@@ -1,6 +1,6 @@
 //! The rows of a guard, by each of which the clients may be counted that pass it.
 
-ghost use Rattle.std.specs.Prelude.{◌≡◌, ◌≤◌, ◌-◌, ◌↔◌, IfOk, IsTrue, length, map, slice_get};
+ghost use Rattle.std.specs.Prelude.{◌≡◌, ◌≤◌, ◌-◌, ◌↔◌, IfOk, IsTrue, length, map, not, slice_get};
 ghost use Rattle.std.specs.List.{filter, list_any};
 ghost use Rattle.logic_linear.specs.Places.{rows_of};
 ghost use Rattle.logic_linear.specs.declared.formula.Formula.TheVariants as formulas;
@@ -139,12 +139,19 @@ fn every_of(alloc: Global, parts: Vec<Formula>) -> Formula
     }
 }
 
+/// Leaves out the parts that are true nowhere.
+fn leave_out_never(parts: &mut Vec<Formula>)
+    ensures { parts.new.items ≡ filter (λ part. not (is_never part)) parts.old.items }
+{
+    parts.retain(|part| !is_never(part));
+}
+
 /// Some of the parts.
 fn some_of(parts: Vec<Formula>) -> Formula
     ensures { result ≡ some_of parts.items }
 {
     let mut some = parts;
-    some.retain(|part| !is_never(part));
+    leave_out_never(&mut some);
     Formula::Any(Seq::of(some))
 }
 

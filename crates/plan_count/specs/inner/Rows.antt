@@ -2,7 +2,7 @@
 use Rattle.std.specs.Prelude.{◌≡◌, ◌^◌, ℕ, ℤ, pos, Bool, true, false, List, [], ◌∷◌, map, All}
 use Rattle.std.specs.Prelude.{neg_ℤ, if◌then◌else◌}
 use Rattle.std.specs.List.{flat_map}
-use Rattle.lang_base.specs.Limits.{FIRST_INPUT, MOST_TIMES}
+use Rattle.lang_base.specs.Limits.{MOST_TIMES}
 use Rattle.lang_base.specs.Numbers.{is_within}
 use Rattle.logic_linear.specs.declared.form.Term.{Term}
 use Rattle.logic_linear.specs.declared.formula.Formula.{Formula}

@@ -1,5 +1,4 @@
-use Rattle.std.proofs.Common.{◌≡◌, ◌++◌, ◌∷◌, [], List, not, sym, ap, subst, ◌∙◌}
-use Rattle.logic_linear.specs.declared.form.Term.{Term}
+use Rattle.std.proofs.Common.{◌≡◌, ◌++◌, ◌∷◌, [], not, sym, ap, subst, ◌∙◌}
 use Rattle.logic_linear.specs.Linear.{IsLinear}
 use Rattle.machine_events.specs.CountClaims.{is_turned}
 use Rattle.plan_count.specs.inner.Rows.{last_term, old_number}

@@ -1,5 +1,4 @@
-use Rattle.std.proofs.Common.{◌≡◌, ◌++◌, ◌∷◌, [], List, map, sym, ap, subst, ◌∙◌}
-use Rattle.logic_linear.specs.declared.form.Term.{Term}
+use Rattle.std.proofs.Common.{◌≡◌, ◌++◌, ◌∷◌, [], map, sym, ap, subst, ◌∙◌}
 use Rattle.logic_linear.specs.Linear.{IsLinear}
 use Rattle.logic_linear.specs.Negation.{negative_term}
 use Rattle.machine_events.specs.CountClaims.{is_turned}

@@ -1,4 +1,4 @@
-use Rattle.std.proofs.Common.{◌≡◌, ap, ◌∙◌}
+use Rattle.std.proofs.Common.{ap, ◌∙◌}
 use Rattle.logic_linear.specs.Negation.{can_negate}
 use Rattle.lang_monitor.specs.declared.query.Query.{Query}
 use Rattle.plan_count.proofs.GuardCuts.{free_negates}
