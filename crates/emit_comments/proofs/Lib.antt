@@ -1,0 +1,4 @@
+pub mod Numbered
+mod Runs
+mod Lasts
+mod Cuts
