@@ -5,7 +5,7 @@ use Rattle.std.specs.Prelude.{if◌then◌else◌}
 use Rattle.std.specs.List.{flat_map, list_all, list_any, enumerate_from, prefix_len, suffix_len}
 use Rattle.std.specs.List.{slice_split}
 use Rattle.std.specs.Char.{is_ascii_whitespace}
-use Rattle.lang_base.specs.Identifiers.{is_digit}
+use Rattle.lang_base.specs.Identifiers.{is_digit, is_word_byte}
 
 -- ---- lines, by their numbers from 0
 
@@ -62,12 +62,32 @@ comments_above text place =
 
 -- ---- docs
 
--- bytes that could make more than text of a line of docs
+-- bytes that could make more than text of a line of docs, wherever they stand
 abbrev pub MARKS : List ℕ
-MARKS = codes "\\`*_[]<>#~|&=+-"
+MARKS = codes "\\`*[]<>~|&"
 
-abbrev pub is_mark : ℕ → Bool
-is_mark b = list_any (λ mark. mark == b) MARKS
+-- those that could at its begin alone
+abbrev pub FIRST_MARKS : List ℕ
+FIRST_MARKS = codes "#=+-"
+
+abbrev pub is_among : List ℕ → ℕ → Bool
+is_among marks b = list_any (λ mark. mark == b) marks
+
+abbrev pub is_mark : ℕ → ℕ → Bool
+is_mark at b = is_among MARKS b || (at == 0 && is_among FIRST_MARKS b)
+
+-- a letter or a digit
+abbrev pub begins_word : List ℕ → Bool
+begins_word [] = false
+begins_word (b ∷ text) = is_word_byte b && not (b == 95)
+
+-- one stands before the byte of this number, and one after it
+abbrev pub is_inside : List ℕ → ℕ → Bool
+is_inside text at = begins_word (drop (at - 1) text) && begins_word (drop (at + 1) text)
+
+-- an underscore that may begin or end an emphasis
+abbrev pub is_emphasis : List ℕ → ℕ → ℕ → Bool
+is_emphasis text at b = b == 95 && not (is_inside text at)
 
 -- after a number, at the line's begin, this would begin an item of a list
 abbrev pub begins_item : List ℕ → ℕ → ℕ → Bool
@@ -79,7 +99,8 @@ begins_link text at b = b == 58 && begins_slashed (drop (at + 1) text)
 
 -- the byte of this number is to be read as it is
 abbrev pub is_escaped : List ℕ → ℕ → ℕ → Bool
-is_escaped text at b = is_mark b || (begins_item text at b || begins_link text at b)
+is_escaped text at b =
+    (is_mark at b || is_emphasis text at b) || (begins_item text at b || begins_link text at b)
 
 -- what is no printable ASCII is shown as `?`
 abbrev pub shown : ℕ → ℕ

@@ -1,19 +1,19 @@
 //! Comments as docs.
 
 ghost use Rattle.std.specs.Prelude.{◌≡◌, ◌==◌, ◌<◌, ◌≤◌, ◌-◌, ◌^◌, drop, nat_le, take};
-ghost use Rattle.std.specs.List.{flat_map, list_all, list_any};
+ghost use Rattle.std.specs.List.{flat_map, list_all};
 ghost use Rattle.lang_base.specs.Identifiers.{is_digit};
 ghost use Rattle.base_io.specs.Writing.{Wrote};
-ghost use Rattle.emit_comments.specs.Comments.{MARKS, begins_item, begins_link, byte_text};
-ghost use Rattle.emit_comments.specs.Comments.{comment_docs, doc_line, doc_mark, due_text};
-ghost use Rattle.emit_comments.specs.Comments.{empty_line};
-ghost use Rattle.emit_comments.specs.Comments.{is_escaped, is_mark, leading_docs, lines_of};
-ghost use Rattle.emit_comments.specs.Comments.{plain_text, shown};
+ghost use Rattle.emit_comments.specs.Comments.{FIRST_MARKS, MARKS, begins_item, begins_link};
+ghost use Rattle.emit_comments.specs.Comments.{begins_word, byte_text, comment_docs, doc_line};
+ghost use Rattle.emit_comments.specs.Comments.{doc_mark, due_text, empty_line, is_among};
+ghost use Rattle.emit_comments.specs.Comments.{is_emphasis, is_escaped, is_inside, is_mark};
+ghost use Rattle.emit_comments.specs.Comments.{leading_docs, lines_of, plain_text, shown};
 
 use crate::comments::{comment_count, has_comments};
 use crate::line::{begins_slashed, comment_of, line_at};
 use base_io::{Sink, SinkFailed, write_piece};
-use lang_base::is_digit;
+use lang_base::{is_digit, is_word_byte};
 
 /// Writes the comments directly above the line of this number as lines of docs, each after an
 /// indent. It takes no memory.
@@ -161,20 +161,23 @@ fn is_escaped(text: &[u8], at: usize, byte: u8) -> bool
     requires { at < 2 ^ 63 }
     ensures { result ≡ is_escaped text.now at byte }
 {
-    let mark = is_mark(byte);
+    let mark = is_mark(at, byte);
+    let emphasis = is_emphasis(text, at, byte);
     let item = begins_item(text, at, byte);
     let link = begins_link(text, at, byte);
-    mark || item || link
+    (mark || emphasis) || (item || link)
 }
 
-fn is_mark(byte: u8) -> bool
-    ensures { result ≡ is_mark byte }
+fn is_mark(at: usize, byte: u8) -> bool
+    ensures { result ≡ is_mark at byte }
 {
-    is_among(marks(), byte)
+    let anywhere = is_among(marks(), byte);
+    let first = is_among(first_marks(), byte);
+    anywhere || (at == 0 && first)
 }
 
 fn is_among(marks: &[u8], byte: u8) -> bool
-    ensures { result ≡ list_any (λ mark. mark == byte) marks.now }
+    ensures { result ≡ is_among marks.now byte }
 {
     marks.iter().any(|mark| *mark == byte)
 }
@@ -182,7 +185,40 @@ fn is_among(marks: &[u8], byte: u8) -> bool
 fn marks() -> &'static [u8]
     ensures { result.now ≡ MARKS }
 {
-    b"\\`*_[]<>#~|&=+-"
+    b"\\`*[]<>~|&"
+}
+
+fn first_marks() -> &'static [u8]
+    ensures { result.now ≡ FIRST_MARKS }
+{
+    b"#=+-"
+}
+
+fn is_emphasis(text: &[u8], at: usize, byte: u8) -> bool
+    requires { at < 2 ^ 63 }
+    ensures { result ≡ is_emphasis text.now at byte }
+{
+    let inside = is_inside(text, at);
+    byte == b'_' && !inside
+}
+
+// Of the first byte itself is asked, in place of one before it, but a `_` is no letter.
+fn is_inside(text: &[u8], at: usize) -> bool
+    requires { at < 2 ^ 63 }
+    ensures { result ≡ is_inside text.now at }
+{
+    let before = begins_word(text.get(at.saturating_sub(1)..).unwrap_or(&[]));
+    let after = begins_word(text.get(at + 1..).unwrap_or(&[]));
+    before && after
+}
+
+fn begins_word(text: &[u8]) -> bool
+    ensures { result ≡ begins_word text.now }
+{
+    match text {
+        [byte, ..] => is_word_byte(*byte) && *byte != b'_',
+        _ => false,
+    }
 }
 
 fn begins_item(text: &[u8], at: usize, byte: u8) -> bool
