@@ -18,7 +18,8 @@ given_same words one other is also =
     let workers : one.workers ≡ other.workers = sym is.workers_is ∙ also.workers_is in
     let relay : one.relay ≡ other.relay = sym is.relay_is ∙ also.relay_is in
     let count : one.count ≡ other.count = sym is.count_is ∙ also.count_is in
-    λ i. record { command = command i; values = values i; seed = seed i; spurious = spurious i; workers = workers i; relay = relay i; count = count i }
+    let fits : one.fits ≡ other.fits = sym is.fits_is ∙ also.fits_is in
+    λ i. record { command = command i; values = values i; seed = seed i; spurious = spurious i; workers = workers i; relay = relay i; count = count i; fits = fits i }
 
 -- what words take is what is computed of what they give
 taken_found : (words : List (List ℕ)) (given : Given) (command : Command) → IsGiven words given → Takes words command → command_if given ≡ Some command

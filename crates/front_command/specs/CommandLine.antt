@@ -29,8 +29,9 @@ pub data Command : Type 0 where
   run : List ℕ → List ℕ → ℕ → PlanChoice → Command
   -- runs the large input of this number in so many workers
   stress : ℕ → ℕ → Command
-  -- compiles a monitor to a plan with its certificates, or with `--count` to a counted plan
-  report : List ℕ → Bool → Command
+  -- compiles a monitor to a plan with its certificates, or with `--count` to a counted plan, and
+  -- with `--fits` says which blocks keep 64 bits
+  report : List ℕ → Bool → Bool → Command
   -- checks such a report, the second file, of the monitor of the first
   recheck : List ℕ → List ℕ → Command
   -- runs the clients of the second file on the monitor of the first, under such a plan, by a caller
@@ -40,8 +41,8 @@ pub data Command : Type 0 where
   -- whether it is so by counting
   audit : List ℕ → List ℕ → Bool → Command
   -- compiles a monitor to a plan, or with `--count` to that one counted, and shows why each thing
-  -- stands that costs something
-  explain : List ℕ → Bool → Command
+  -- stands that costs something, and with `--fits` why blocks may leave 64 bits
+  explain : List ℕ → Bool → Bool → Command
   -- compiles a monitor to a plan, and prints it under that plan as a module of Rust
   emit : List ℕ → Command
 
@@ -68,10 +69,11 @@ flag_rule name = record (new_rule name) { long = Some name; action = Some SetTru
 
 -- the command line, as `clap` defines it
 abbrev pub program : App
-program = with_rule (with_rule (with_rule (with_rule (with_rule (with_rule (with_rule
+program = with_rule (with_rule (with_rule (with_rule (with_rule (with_rule (with_rule (with_rule
     (new_app (codes "expresso")) command_rule) values_rule)
     (option_rule (codes "seed"))) (option_rule (codes "spurious")))
-    (option_rule (codes "workers"))) (flag_rule (codes "relay"))) (flag_rule (codes "count"))
+    (option_rule (codes "workers"))) (flag_rule (codes "relay"))) (flag_rule (codes "count")))
+    (flag_rule (codes "fits"))
 
 -- a flag is used, of which `clap` gives this text: `true` where it is, else `false`
 abbrev pub is_used : Option Text → Bool
@@ -89,6 +91,8 @@ pub record Given : Type 0 where
   pub relay : Bool
   -- `--count` is used
   pub count : Bool
+  -- `--fits` is used
+  pub fits : Bool
 
 -- `clap` takes the words, the program's name first, and its matches are these
 pub record IsGiven (words : List Text) (given : Given) : Type 0 where
@@ -100,6 +104,7 @@ pub record IsGiven (words : List Text) (given : Given) : Type 0 where
   pub workers_is : first_of (codes "workers") (matches_of program words) ≡ given.workers
   pub relay_is : is_used (first_of (codes "relay") (matches_of program words)) ≡ given.relay
   pub count_is : is_used (first_of (codes "count") (matches_of program words)) ≡ given.count
+  pub fits_is : is_used (first_of (codes "fits") (matches_of program words)) ≡ given.fits
 
 -- ---- numbers
 
@@ -164,11 +169,11 @@ name_of (compile monitor choice) = codes "compile"
 name_of (simulate monitor clients schedule choice) = codes "simulate"
 name_of (run monitor clients workers choice) = codes "run"
 name_of (stress number workers) = codes "stress"
-name_of (report monitor count) = codes "report"
+name_of (report monitor count fits) = codes "report"
 name_of (recheck monitor report_file) = codes "recheck"
 name_of (block monitor clients choice) = codes "block"
 name_of (audit monitor plan_file count) = codes "audit"
-name_of (explain monitor count) = codes "explain"
+name_of (explain monitor count fits) = codes "explain"
 name_of (emit monitor) = codes "emit"
 
 -- the values are those of the command, as many as it has
@@ -180,11 +185,11 @@ HasValues values (simulate monitor clients schedule choice) = values ≡ monitor
 HasValues values (run monitor clients workers choice) = values ≡ monitor ∷ clients ∷ []
 HasValues values (stress number workers) =
     (word : Text) × (values ≡ word ∷ []) × IsNumber GREATEST_UNSIGNED word number
-HasValues values (report monitor count) = values ≡ monitor ∷ []
+HasValues values (report monitor count fits) = values ≡ monitor ∷ []
 HasValues values (recheck monitor report_file) = values ≡ monitor ∷ report_file ∷ []
 HasValues values (block monitor clients choice) = values ≡ monitor ∷ clients ∷ []
 HasValues values (audit monitor plan_file count) = values ≡ monitor ∷ plan_file ∷ []
-HasValues values (explain monitor count) = values ≡ monitor ∷ []
+HasValues values (explain monitor count fits) = values ≡ monitor ∷ []
 HasValues values (emit monitor) = values ≡ monitor ∷ []
 
 abbrev pub HasNoSchedule : Given → Type 0
@@ -196,7 +201,13 @@ HasNoChoice given = (given.relay ≡ false) × (given.count ≡ false)
 abbrev pub HasNoOptions : Given → Type 0
 HasNoOptions given = HasNoSchedule given × (given.workers ≡ None) × HasNoChoice given
 
--- the options are the command's own: a schedule for `simulate`, workers for `run` and `stress`,
+-- whether the command says which blocks keep 64 bits
+abbrev pub wants_fits : Command → Bool
+wants_fits (report monitor count fits) = fits
+wants_fits (explain monitor count fits) = fits
+wants_fits command = false
+
+-- the options but for `--fits` are the command's own: a schedule for `simulate`, workers for `run` and `stress`,
 -- `--relay` for `compile`, `simulate` and `run`, and `--count` for these, `report`, `block`,
 -- `audit` and `explain`
 abbrev pub HasOptions : Given → Command → Type 0
@@ -211,7 +222,7 @@ HasOptions given (run monitor clients workers choice) =
     HasNoSchedule given × IsWorkers given.workers workers × (choice_in given ≡ choice)
 HasOptions given (stress number workers) =
     HasNoSchedule given × IsWorkers given.workers workers × HasNoChoice given
-HasOptions given (report monitor count) =
+HasOptions given (report monitor count fits) =
     HasNoSchedule given × (given.workers ≡ None) × (given.relay ≡ false) × (given.count ≡ count)
 HasOptions given (recheck monitor report_file) = HasNoOptions given
 HasOptions given (block monitor clients choice) =
@@ -219,7 +230,7 @@ HasOptions given (block monitor clients choice) =
     × (choice_in given ≡ choice)
 HasOptions given (audit monitor plan_file count) =
     HasNoSchedule given × (given.workers ≡ None) × (given.relay ≡ false) × (given.count ≡ count)
-HasOptions given (explain monitor count) =
+HasOptions given (explain monitor count fits) =
     HasNoSchedule given × (given.workers ≡ None) × (given.relay ≡ false) × (given.count ≡ count)
 HasOptions given (emit monitor) = HasNoOptions given
 
@@ -228,6 +239,7 @@ pub record Asks (given : Given) (command : Command) : Type 0 where
   pub name : given.command ≡ name_of command
   pub has_values : HasValues given.values command
   pub has_options : HasOptions given command
+  pub has_fits : given.fits ≡ wants_fits command
 
 -- ---- words
 
@@ -247,11 +259,11 @@ files_of (compile monitor choice) = monitor ∷ []
 files_of (simulate monitor clients schedule choice) = monitor ∷ clients ∷ []
 files_of (run monitor clients workers choice) = monitor ∷ clients ∷ []
 files_of (stress number workers) = []
-files_of (report monitor count) = monitor ∷ []
+files_of (report monitor count fits) = monitor ∷ []
 files_of (recheck monitor report_file) = monitor ∷ report_file ∷ []
 files_of (block monitor clients choice) = monitor ∷ clients ∷ []
 files_of (audit monitor plan_file count) = monitor ∷ plan_file ∷ []
-files_of (explain monitor count) = monitor ∷ []
+files_of (explain monitor count fits) = monitor ∷ []
 files_of (emit monitor) = monitor ∷ []
 
 -- each file that the words name is one that may be read

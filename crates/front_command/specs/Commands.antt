@@ -14,9 +14,9 @@ command_meant (read.Simulate monitor clients schedule choice) =
 command_meant (read.Run monitor clients workers choice) =
     run monitor.now clients.now workers choice
 command_meant (read.Stress number workers) = stress number workers
-command_meant (read.Report monitor count) = report monitor.now count
+command_meant (read.Report monitor count fits) = report monitor.now count fits
 command_meant (read.Recheck monitor report_file) = recheck monitor.now report_file.now
 command_meant (read.Block monitor clients choice) = block monitor.now clients.now choice
 command_meant (read.Audit monitor plan_file count) = audit monitor.now plan_file.now count
-command_meant (read.Explain monitor count) = explain monitor.now count
+command_meant (read.Explain monitor count fits) = explain monitor.now count fits
 command_meant (read.Emit monitor) = emit monitor.now

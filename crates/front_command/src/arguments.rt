@@ -23,6 +23,7 @@ pub(crate) struct Given<'a> {
     pub(crate) workers: Option<&'a str>,
     pub(crate) relay: bool,
     pub(crate) count: bool,
+    pub(crate) fits: bool,
 }
 
 /// What the words, the program's name first, give; `Usage` where `clap` refuses them or they ask
@@ -56,6 +57,7 @@ pub(crate) fn given_of<'a>(alloc: Global, words: &'a [String]) -> Result<Given<'
         workers: matches.get_str("workers"),
         relay: is_used(matches.get_str("relay")),
         count: is_used(matches.get_str("count")),
+        fits: is_used(matches.get_str("fits")),
     })
 }
 
@@ -101,7 +103,8 @@ fn program<'a>(alloc: Global) -> Result<clap::Command<'a>, AllocError>
         .arg(option(alloc, "spurious"))?
         .arg(option(alloc, "workers"))?
         .arg(flag(alloc, "relay"))?
-        .arg(flag(alloc, "count"))
+        .arg(flag(alloc, "count"))?
+        .arg(flag(alloc, "fits"))
 }
 
 /// The command's name.

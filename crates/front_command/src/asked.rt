@@ -4,8 +4,10 @@ ghost use Rattle.std.specs.Prelude.{◌≡◌, ◌≤◌, option_map};
 ghost use Rattle.front_command.specs.Commands.{command_meant};
 ghost use Rattle.front_command.specs.inner.Given.{given_meant};
 ghost use Rattle.front_command.specs.CommandLine.{choice_in};
-ghost use Rattle.front_command.specs.inner.Asked.{command_if, compile_if, counted_if, has_choice};
-ghost use Rattle.front_command.specs.inner.Asked.{has_schedule, has_settings, pair_if, plain_if};
+ghost use Rattle.front_command.specs.inner.Asked.{command_if, command_of_values, compile_if};
+ghost use Rattle.front_command.specs.inner.Asked.{counted_if, fitting_if, fitting_of_values};
+ghost use Rattle.front_command.specs.inner.Asked.{has_choice, has_schedule, has_settings};
+ghost use Rattle.front_command.specs.inner.Asked.{pair_if, plain_if};
 ghost use Rattle.front_command.specs.inner.Asked.{run_if, simulate_if, single_if, some_workers};
 ghost use Rattle.front_command.specs.inner.Asked.{stress_if, workers_if};
 
@@ -22,6 +24,56 @@ pub const DEFAULT_WORKERS: u32 = 4;
 /// The command that the arguments ask for; nothing where a rule refuses them.
 pub(crate) fn command_asked<'a>(given: &Given<'a>) -> Option<Command<'a>>
     ensures { option_map command_meant result ≡ command_if (given_meant given.now) }
+{
+    if given.fits {
+        fitting_of_values(given)
+    } else {
+        command_of_values(given)
+    }
+}
+
+/// The command that the values ask for where `--fits` is used.
+fn fitting_of_values<'a>(given: &Given<'a>) -> Option<Command<'a>>
+    ensures { option_map command_meant result
+        ≡ fitting_of_values (given_meant given.now) (given_meant given.now).values }
+{
+    match given.values.as_slice() {
+        [value] => fitting_asked(given, *value),
+        _ => None,
+    }
+}
+
+/// The command of one value that says which blocks keep 64 bits.
+fn fitting_asked<'a>(given: &Given<'a>, value: &'a str) -> Option<Command<'a>>
+    ensures { option_map command_meant result ≡ fitting_if (given_meant given.now) value.now }
+{
+    if given.command == "report" {
+        counted_asked(
+            given,
+            Command::Report {
+                monitor: value,
+                count: given.count,
+                fits: true,
+            },
+        )
+    } else if given.command == "explain" {
+        counted_asked(
+            given,
+            Command::Explain {
+                monitor: value,
+                count: given.count,
+                fits: true,
+            },
+        )
+    } else {
+        None
+    }
+}
+
+/// The command that the values ask for where it is not.
+fn command_of_values<'a>(given: &Given<'a>) -> Option<Command<'a>>
+    ensures { option_map command_meant result
+        ≡ command_of_values (given_meant given.now) (given_meant given.now).values }
 {
     match given.values.as_slice() {
         [value] => single_asked(given, *value),
@@ -46,6 +98,7 @@ fn single_asked<'a>(given: &Given<'a>, value: &'a str) -> Option<Command<'a>>
             Command::Report {
                 monitor: value,
                 count: given.count,
+                fits: false,
             },
         )
     } else if given.command == "explain" {
@@ -54,6 +107,7 @@ fn single_asked<'a>(given: &Given<'a>, value: &'a str) -> Option<Command<'a>>
             Command::Explain {
                 monitor: value,
                 count: given.count,
+                fits: false,
             },
         )
     } else if given.command == "emit" {
@@ -111,7 +165,7 @@ fn pair_asked<'a>(given: &Given<'a>, monitor: &'a str, other: &'a str) -> Option
     }
 }
 
-/// A command whose option is `--count` alone.
+/// A command whose options are `--count` and `--fits` alone.
 fn counted_asked<'a>(given: &Given<'a>, command: Command<'a>) -> Option<Command<'a>>
     ensures { option_map command_meant result
         ≡ counted_if (given_meant given.now) (command_meant command.entry) }
@@ -123,7 +177,7 @@ fn counted_asked<'a>(given: &Given<'a>, command: Command<'a>) -> Option<Command<
     }
 }
 
-/// A command that has no options.
+/// A command that has no options but `--fits`.
 fn plain_asked<'a>(given: &Given<'a>, command: Command<'a>) -> Option<Command<'a>>
     ensures { option_map command_meant result
         ≡ plain_if (given_meant given.now) (command_meant command.entry) }

@@ -50,10 +50,11 @@ pub enum Command<'a> {
         workers: u32,
     },
     /// Compiles a monitor to a plan, or to that one counted, with a certificate for each claim that
-    /// the plan rests on.
+    /// the plan rests on, and where it is asked for, for each block that keeps 64 bits.
     Report {
         monitor: &'a str,
         count: bool,
+        fits: bool,
     },
     /// Checks such a report of the monitor of another file again.
     Recheck {
@@ -75,10 +76,11 @@ pub enum Command<'a> {
         count: bool,
     },
     /// Compiles a monitor to a plan, or to that one counted, with a state that shows why each thing
-    /// stands that costs something.
+    /// stands that costs something, and where it is asked for, why each block may leave 64 bits.
     Explain {
         monitor: &'a str,
         count: bool,
+        fits: bool,
     },
     /// Compiles a monitor to a plan, and prints it under that plan as a module of Rust.
     Emit {

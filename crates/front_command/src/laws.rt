@@ -1,8 +1,8 @@
 //! What follows from the definitions alone.
 
-ghost use Rattle.std.specs.Prelude.{◌≡◌, ℕ, List, [], ◌∷◌, codes};
+ghost use Rattle.std.specs.Prelude.{◌≡◌, ℕ, false, true, List, [], ◌∷◌, codes};
 ghost use Rattle.front_command.specs.CommandLine.{Command, Takes, TakesNone, block, check, compile};
-ghost use Rattle.front_command.specs.CommandLine.{run};
+ghost use Rattle.front_command.specs.CommandLine.{explain, report, run};
 ghost use Rattle.front_command.specs.CommandLine.{DEFAULT_WORKERS};
 ghost use Rattle.front_command.specs.declared.plan_choice.PlanChoice.TheVariants.{Counted, Placed};
 ghost use Rattle.front_command.specs.declared.plan_choice.PlanChoice.TheVariants.{Relayed};
@@ -54,4 +54,12 @@ pub fn words_taken()
         ∷ codes "--count" ∷ codes "--relay" ∷ []) }
     ensures no_count { TakesNone (codes "expresso" ∷ codes "check" ∷ codes "M"
         ∷ codes "--count" ∷ []) }
+    ensures fits { Takes
+        (codes "expresso" ∷ codes "report" ∷ codes "M" ∷ codes "--fits" ∷ [])
+        (report (codes "M") false true) }
+    ensures counted_fits { Takes
+        (codes "expresso" ∷ codes "explain" ∷ codes "M" ∷ codes "--fits" ∷ codes "--count" ∷ [])
+        (explain (codes "M") true true) }
+    ensures no_fits { TakesNone (codes "expresso" ∷ codes "recheck" ∷ codes "M" ∷ codes "R"
+        ∷ codes "--fits" ∷ []) }
 {}

@@ -1,5 +1,6 @@
 -- The command that arguments ask for, computed.
-use Rattle.std.specs.Prelude.{ℕ, ◌&&◌, ◌||◌, ◌==◌, List, [], ◌∷◌, Option, Some, None, Bool}
+use Rattle.std.specs.Prelude.{ℕ, ◌&&◌, ◌||◌, ◌==◌, List, [], ◌∷◌, Option, Some, None, Bool, true}
+use Rattle.std.specs.Prelude.{false}
 use Rattle.std.specs.Prelude.{bytes_eq, codes, is_some, cond, length, nat_le, nat_lt}
 use Rattle.std.specs.Prelude.{option_and_then, option_map}
 use Rattle.std.specs.List.{list_all}
@@ -75,11 +76,11 @@ abbrev pub compile_if : Given → List ℕ → Option Command
 compile_if given monitor =
     cond (has_settings given) None (Some (compile monitor (choice_in given)))
 
--- a command whose option is `--count` alone
+-- a command whose options are `--count` and `--fits` alone
 abbrev pub counted_if : Given → Command → Option Command
 counted_if given command = cond (has_settings given || given.relay) None (Some command)
 
--- a command that has no options
+-- a command that has no options but `--fits`
 abbrev pub plain_if : Given → Command → Option Command
 plain_if given command = cond given.count None (counted_if given command)
 
@@ -90,9 +91,9 @@ single_if given value =
     (cond (bytes_eq given.command (codes "compile")) (compile_if given value)
     (cond (bytes_eq given.command (codes "stress")) (stress_if given value)
     (cond (bytes_eq given.command (codes "report"))
-    (counted_if given (report value given.count))
+    (counted_if given (report value given.count false))
     (cond (bytes_eq given.command (codes "explain"))
-    (counted_if given (explain value given.count))
+    (counted_if given (explain value given.count false))
     (cond (bytes_eq given.command (codes "emit")) (plain_if given (emit value)) None)))))
 
 -- the command of two values
@@ -115,5 +116,20 @@ command_of_values given (value ∷ []) = single_if given value
 command_of_values given (monitor ∷ other ∷ []) = pair_if given monitor other
 command_of_values given (value ∷ other ∷ another ∷ more) = None
 
+-- the command of one value that says which blocks keep 64 bits
+abbrev pub fitting_if : Given → List ℕ → Option Command
+fitting_if given value =
+    cond (bytes_eq given.command (codes "report"))
+    (counted_if given (report value given.count true))
+    (cond (bytes_eq given.command (codes "explain"))
+    (counted_if given (explain value given.count true)) None)
+
+-- the command of these values that does
+abbrev pub fitting_of_values : Given → List (List ℕ) → Option Command
+fitting_of_values given [] = None
+fitting_of_values given (value ∷ []) = fitting_if given value
+fitting_of_values given (value ∷ other ∷ more) = None
+
 abbrev pub command_if : Given → Option Command
-command_if given = command_of_values given given.values
+command_if given =
+    cond given.fits (fitting_of_values given given.values) (command_of_values given given.values)

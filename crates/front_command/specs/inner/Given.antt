@@ -13,4 +13,5 @@ given_meant read = record {
   workers = option_map (λ word. word.now) read.workers;
   relay = read.relay;
   count = read.count;
+  fits = read.fits;
 }

@@ -31,4 +31,5 @@ returns-clause-given c =
       workers_is = read m _ (codes "workers") c.get_str-4.result rows c.get_str-4.ensures;
       relay_is = ap is_used (read m _ (codes "relay") c.get_str-5.result rows c.get_str-5.ensures) ∙ sym c.is_used.ensures;
       count_is = ap is_used (read m _ (codes "count") c.get_str-6.result rows c.get_str-6.ensures) ∙ sym c.is_used-2.ensures;
+      fits_is = ap is_used (read m _ (codes "fits") c.get_str-7.result rows c.get_str-7.ensures) ∙ sym c.is_used-3.ensures;
     }
