@@ -194,9 +194,14 @@ many_cubes monitor kept number many = and_right (is_made_within monitor kept num
 
 pub answer_fits : (monitor : MonitorParts) (kept : List Candidate) (number : ℕ) (answer : Option Cert) → IsMonitor monitor → AreSomeOf kept (candidates_of monitor)
     → ((formula : Formula) (cert : Cert) (v : Valuation) → Refutes formula cert → truth_of v formula ≡ false)
+    → is_made_within monitor kept number ≡ true
     → IsAnswer (outside_question monitor kept number) answer → IsFitAnswer monitor kept number answer
-answer_fits monitor kept number (Some cert) rule some refuted is = record { refutes = is; fits = never_fits monitor kept number (λ v. refuted (outside_question monitor kept number) cert v is) }
-answer_fits monitor kept number None rule some refuted is = λ fits. by fits is
+answer_fits monitor kept number (Some cert) rule some refuted made is = record {
+  refutes = is;
+  made = made;
+  fits = never_fits monitor kept number (λ v. refuted (outside_question monitor kept number) cert v is);
+}
+answer_fits monitor kept number None rule some refuted made is = λ fits. by fits is
   where
     by : Fits64 monitor kept number → IsLeftOpen (outside_question monitor kept number) → QuestionMayStayOpen monitor kept number
     by fits (inl many) = limits (many_cubes monitor kept number many)

@@ -53,6 +53,10 @@ pub value_there : {X : Type 0} (test : Bool) (x y : X) → Some y ≡ value_if t
 value_there true x y e = cc
 value_there false x y e = absurd cc
 
+pub made_there : {X : Type 0} (test : Bool) (x y : X) → Some y ≡ value_if test x → test ≡ true
+made_there true x y e = refl
+made_there false x y e = absurd cc
+
 there_none : {X : Type 0} (test : Bool) (x : X) → None ≡ value_if test x → test ≡ false
 there_none true x e = absurd cc
 there_none false x e = refl

@@ -8,7 +8,7 @@ use Rattle.logic_cert.specs.Refutes.{Refutes}
 use Rattle.logic_solve.specs.Refutation.{HasUndecidedCube}
 use Rattle.plan_fits.specs.Fits.{Fits64}
 use Rattle.plan_fits.specs.Outside.{outside_question}
-use Rattle.plan_fits.specs.Within.{is_asked_within}
+use Rattle.plan_fits.specs.Within.{is_asked_within, is_made_within}
 
 -- why the prover may find no certificate for the question of a block that fits
 pub data QuestionMayStayOpen (monitor : MonitorParts) (kept : List Candidate) (number : ℕ) : Type 0
@@ -20,10 +20,11 @@ pub data QuestionMayStayOpen (monitor : MonitorParts) (kept : List Candidate) (n
     undecided : HasUndecidedCube (outside_question monitor kept number)
         → QuestionMayStayOpen monitor kept number
 
--- a certificate refutes the question, and the block fits
+-- a certificate refutes the question, which is made within the limits, and the block fits
 pub record IsCertified (monitor : MonitorParts) (kept : List Candidate) (number : ℕ) (cert : Cert) :
     Type 0 where
   pub refutes : Refutes (outside_question monitor kept number) cert
+  pub made : is_made_within monitor kept number ≡ true
   pub fits : Fits64 monitor kept number
 
 -- there is none only where the block does not fit, or its question may stay open
