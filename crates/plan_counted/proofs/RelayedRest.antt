@@ -257,12 +257,12 @@ pub counted_omits : CountedPlansOmitNoMore
 counted_omits monitor placed counted fits from = if_within monitor placed counted fits (λ block condition low within none.
     has_if (notes_at placed block) condition None (elim (from.each condition within) [
       | inl left ↦ sym (left.notes block) ∙ none_if (notes_at counted block) condition none
-      | inr made ↦ by_told block condition (note_on (notes_at counted block) condition) (none_if (notes_at counted block) condition none) (made.told block low)
+      | inr made ↦ by_told block condition made.row (note_on (notes_at counted block) condition) (none_if (notes_at counted block) condition none) (made.told block low)
     ]))
   where
-    by_told : (block condition : ℕ) (found : Option Note) → found ≡ None → IsTold monitor placed condition block found → note_on (notes_at placed block) condition ≡ None
-    by_told block condition None is told = told.none
-    by_told block condition (Some note) is told = absurd (none-some note (sym is))
+    by_told : (block condition row : ℕ) (found : Option Note) → found ≡ None → IsTold monitor placed condition row block found → note_on (notes_at placed block) condition ≡ None
+    by_told block condition row None is told = told.none
+    by_told block condition row (Some note) is told = absurd (none-some note (sym is))
 
 pub relayed_rest_omits : RelayedPlansOmitNoMore → (monitor : MonitorParts) (placed : Plan) (columns : columns_type) → FitsPlan monitor placed
     → length columns ≡ length monitor.conditions → OmitsNoMore placed (counted_of placed columns) → OmitsNoMore placed (counted_and_relayed monitor placed columns)
