@@ -1,8 +1,7 @@
-use Rattle.std.proofs.Common.{ℕ, ◌+◌, List, Option, arith}
+use Rattle.std.proofs.Common.{ℕ, ◌+◌, Option, arith}
 use Rattle.std.proofs.lemmas.Grind.{common_steps}
 use Rattle.plan_place.proofs.Placing.{each_more}
 use Rattle.plan_counted.specs.declared.counted.Column.{Column}
-use Rattle.plan_counted.specs.declared.counted.Told.{Told}
 use Rattle.plan_counted.specs.inner.Answers.{IsColumn}
 use Rattle.plan_counted.proofs.columns.columns_of.Goals as goal
 
