@@ -296,3 +296,180 @@ block put: 1 broadcast
 fn a_condition_whose_block_takes_nothing_stays_as_it_was(rt: HostRuntime) {
     assert_eq!(rt; stays(rt.alloc(), PEEK, PEEK_PLACED), Some(true));
 }
+
+// ---- guards with several rows
+
+const POOL: &[u8] = b"monitor Pool {
+  const CAP = 4;
+  int count = 1;
+  method grow() waituntil (count > 0 && count < CAP) {
+    count = count + 1;
+  }
+  method shrink() waituntil (count > 1) {
+    count = count - 1;
+  }
+}
+";
+
+// `grow` adds to `count`: by the first row, `count > 0`, it would let one more pass, and by the
+// second it takes one of `CAP - count`.
+const POOL_COUNTED: &[u8] = b"plan Pool
+keep count >= 0
+keep count >= 1
+keep count <= 4
+condition 1 signal: count > 0 && count < CAP
+condition 2 signal: count > 1
+block grow: 2 signal
+block shrink: 1 signal
+";
+
+#[test]
+fn a_guard_is_counted_by_its_second_row_where_the_first_does_not_serve(rt: HostRuntime) {
+    assert_eq!(rt; counts_to(rt.alloc(), POOL, POOL_COUNTED), Some(true));
+}
+
+const GATE: &[u8] = b"monitor Gate {
+  int n = 0;
+  bool run = true;
+  bool closed = false;
+  method enter() waituntil ((n > 0 && run) || closed) {
+    if (!closed) {
+      n = n - 1;
+    }
+  }
+  method give() waituntil (true) {
+    n = n + 1;
+  }
+  method resume() waituntil (!run) {
+    run = true;
+  }
+  method pause() waituntil (run) {
+    run = false;
+  }
+  method close() waituntil (true) {
+    closed = true;
+  }
+}
+";
+
+// Any number may pass where the gate is closed: `close` broadcasts, and so does `resume`, which lets
+// in as many as `n` says. `give` lets in one.
+const GATE_COUNTED: &[u8] = b"plan Gate
+keep n >= 0
+condition 1 signal: n > 0 && run || closed
+condition 2 broadcast: true
+condition 3 signal: !run
+condition 4 signal: run
+block enter: none
+block give: 1 signal tested
+block resume: 1 broadcast tested, 4 signal
+block pause: 3 signal
+block close: 1 broadcast
+";
+
+#[test]
+fn a_row_counts_within_a_part_of_a_disjunction(rt: HostRuntime) {
+    assert_eq!(rt; counts_to(rt.alloc(), GATE, GATE_COUNTED), Some(true));
+}
+
+const FLAGS: &[u8] = b"monitor Flags {
+  bool left = false;
+  bool right = false;
+  method pass() waituntil (left || right) {
+    left = false;
+  }
+  method open() waituntil (true) {
+    left = true;
+    right = true;
+  }
+}
+";
+
+const FLAGS_PLACED: &[u8] = b"plan Flags
+condition 1 broadcast: left || right
+condition 2 broadcast: true
+block pass: none
+block open: 1 broadcast
+";
+
+#[test]
+fn a_guard_without_rows_is_not_counted(rt: HostRuntime) {
+    assert_eq!(rt; stays(rt.alloc(), FLAGS, FLAGS_PLACED), Some(true));
+}
+
+const EIGHT_ROWS: &[u8] = b"monitor Eight {
+  const CAP = 4;
+  int count = 1;
+  method grow() waituntil (
+    count > 0 && count > 0 - 1 && count > 0 - 2 && count > 0 - 3
+    && count > 0 - 4 && count > 0 - 5 && count > 0 - 6 && count < CAP) {
+    count = count + 1;
+  }
+  method shrink() waituntil (count > 1) {
+    count = count - 1;
+  }
+}
+";
+
+// Only the last of the eight rows serves.
+const EIGHT_ROWS_COUNTED: &[u8] = b"plan Eight
+keep count >= 0
+keep count >= 1
+keep count >= -1
+keep count >= -2
+keep count >= -3
+keep count >= -4
+keep count >= -5
+keep count >= -6
+keep count <= 4
+condition 1 signal: count > 0 && count > 0 - 1 && count > 0 - 2 && count > 0 - 3 \
+    && count > 0 - 4 && count > 0 - 5 && count > 0 - 6 && count < CAP
+condition 2 signal: count > 1
+block grow: 2 signal
+block shrink: 1 signal
+";
+
+const NINE_ROWS: &[u8] = b"monitor Nine {
+  const CAP = 4;
+  int count = 1;
+  method grow() waituntil (
+    count > 0 && count > 0 - 1 && count > 0 - 2 && count > 0 - 3
+    && count > 0 - 4 && count > 0 - 5 && count > 0 - 6 && count > 0 - 7 && count < CAP) {
+    count = count + 1;
+  }
+  method shrink() waituntil (count > 1) {
+    count = count - 1;
+  }
+}
+";
+
+// The ninth row would serve, and is not tried.
+const NINE_ROWS_COUNTED: &[u8] = b"plan Nine
+keep count >= 0
+keep count >= 1
+keep count >= -1
+keep count >= -2
+keep count >= -3
+keep count >= -4
+keep count >= -5
+keep count >= -6
+keep count >= -7
+keep count <= 4
+condition 1 broadcast: count > 0 && count > 0 - 1 && count > 0 - 2 && count > 0 - 3 \
+    && count > 0 - 4 && count > 0 - 5 && count > 0 - 6 && count > 0 - 7 && count < CAP
+condition 2 signal: count > 1
+block grow: 2 signal
+block shrink: 1 broadcast
+";
+
+#[test]
+fn eight_rows_are_tried(rt: HostRuntime) {
+    assert_eq!(rt;
+        counts_to(rt.alloc(), EIGHT_ROWS, EIGHT_ROWS_COUNTED),
+        Some(true)
+    );
+    assert_eq!(rt;
+        counts_to(rt.alloc(), NINE_ROWS, NINE_ROWS_COUNTED),
+        Some(true)
+    );
+}
