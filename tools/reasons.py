@@ -16,6 +16,7 @@ from monitors import read_monitor  # noqa: E402
 from recheck import expect, read_plan  # noqa: E402
 
 VALUE = r"(?:-?[1-9][0-9]*|0|true|false)"
+ROWS_TRIED = 8
 BEYOND = " numbers beyond 128 bits"
 GIVEN = rf"(?:\((\w+={VALUE}(?: \w+={VALUE})*)\))?"
 
@@ -26,15 +27,31 @@ def triple(w, p, hyps, post):
     return w, p, hyps, lambda state, ended: not is_true(post, ended)
 
 
-def measure_of(guard):
-    """Its first row, and what is true where any number may pass."""
-    free = [part for part in guard.value if part.kind != "row"] if guard.kind == "any" else []
-    return (forms_of(guard) or [{}])[0], joined("any", free)
+def without_row(formula, row):
+    """The formula with its row of this number, from 1, taken for false, or none where it is then
+    true nowhere; and the number less its rows."""
+    if formula.kind == "row":
+        return None if row == 1 else formula, row - 1
+    if formula.kind == "flag":
+        return formula, row
+    parts = []
+    for part in formula.value:
+        part, row = without_row(part, row)
+        parts.append(part)
+    if formula.kind == "all":
+        return None if None in parts else joined("all", parts), row
+    parts = [part for part in parts if part]
+    return joined("any", parts) if parts else None, row
 
 
-def leaves(w, q, p, facts, gives):
-    """The block leaves the condition counted, with so many signals on it."""
-    form, free = measure_of(p.guard)
+def measure_of(guard, row):
+    """That row of it, and what is true where any number may pass."""
+    return forms_of(guard)[row - 1], without_row(guard, row)[0] or joined("any", [])
+
+
+def leaves(w, q, p, facts, gives, row):
+    """By the row the block leaves the condition counted, with so many signals on it."""
+    form, free = measure_of(p.guard, row)
     net = (w.condition == q) - gives
 
     def fails(state, ended):
@@ -44,41 +61,47 @@ def leaves(w, q, p, facts, gives):
     return w, p, facts + [w.guard, p.waiting, negation(free)], fails
 
 
-def lets_in_one(w, p, facts):
+def lets_in_one(w, p, facts, row):
     """Where nobody could pass before the block, one client at most may after it."""
-    form, free = measure_of(p.guard)
+    form, free = measure_of(p.guard, row)
 
     def fails(_, ended):
         return is_true(p.waiting, ended) and (is_true(free, ended) or value_of(form, ended) < 0)
     return w, p, facts + [w.guard, p.failing], fails
 
 
-# ---- what costs something, in order: the words of its line, and for each block that it may be about
-# the triples that would spare it
+# ---- what costs something, in order: the words of its line, the condition where it is counted, and
+# by each row for each block that it may be about the triples that would spare it
 def things_of(monitor, kept, kinds, notes, placed=None):
     facts, conditions = [fact for _, fact in kept], list(enumerate(monitor.conditions, 1))
     noted = [(w, q, monitor.conditions[q - 1], *on[q])
              for w, on in zip(monitor.blocks, notes) for q in on]
     counted = {q for q, pair in enumerate(zip(placed or [], kinds), 1)
                if pair == ("broadcast", "signal")}
+
+    def rows(p):
+        return range(1, min(len(forms_of(p.guard)), ROWS_TRIED) + 1)
+
     for w, q, p, _, _ in noted:
-        sparing = [triple(w, p, facts + [w.guard, p.failing], p.failing)]
-        if q in counted:
-            sparing.append(leaves(w, q, p, facts, 0))
-        yield f"{w.name}{{own}} {q}{{others}}", sparing
+        none = triple(w, p, facts + [w.guard, p.failing], p.failing)
+        yield f"{w.name}{{own}} {q}{{others}}", *(
+            (q, {row: [none, leaves(w, q, p, facts, 0, row)] for row in rows(p)})
+            if q in counted else (None, {1: [none]}))
     for (q, p), kind in zip(conditions, kinds):
         if kind == "broadcast" and not p.reads_inputs:
-            yield f"{q} broadcast {{block}}{{own}}", [
-                triple(w, p, facts + [p.waiting], p.failing) if placed is None
-                else leaves(w, q, p, facts, 0) for w in monitor.blocks if w.condition == q]
+            yield f"{q} broadcast {{block}}{{own}}", None, {1: [
+                leaves(w, q, p, facts, 0, 1) if placed is not None and rows(p)
+                else triple(w, p, facts + [p.waiting], p.failing)
+                for w in monitor.blocks if w.condition == q]}
     for w, q, p, _, tested in noted:
         if tested:
-            yield f"{w.name}{{own}} {q}{{others}} tested", [
-                triple(w, p, facts + [w.guard, p.failing], p.waiting)]
+            yield f"{w.name}{{own}} {q}{{others}} tested", None, {1: [
+                triple(w, p, facts + [w.guard, p.failing], p.waiting)]}
     for w, q, p, kind, _ in noted:
         if q in counted and kind == "broadcast":
-            yield f"{w.name}{{own}} {q} broadcast", [
-                leaves(w, q, p, facts, 1), lets_in_one(w, p, facts)]
+            yield f"{w.name}{{own}} {q} broadcast", q, {row: [
+                leaves(w, q, p, facts, 1, row), lets_in_one(w, p, facts, row)]
+                for row in rows(p)}
 
 
 # ---- states: from places to numbers and truths
@@ -124,29 +147,45 @@ def read_values(text, variables):
 
 
 # ---- lines
-def check(monitor, line, words, cases):
-    """Whether the line shows a state; that a state it shows is one at which the triple fails."""
+def check(monitor, line, words, choices):
+    """By which of the rows a triple fails at the state that the line shows, where it shows one."""
     given = {"own": GIVEN, "others": GIVEN, "block": r"([\w.]+)"}
     head = re.escape(words).replace(r"\{", "{").replace(r"\}", "}").format(**given)
     if re.fullmatch("why " + re.sub(r"\{\w+\}", "", words).strip() + ": not decided", line):
-        return False
+        return None
     shown = re.fullmatch(f"why {head}:(| .*) to(| .*)", line)
     expect(shown)
     *heads, first, last = shown.groups()
     if " broadcast " in words:
-        cases, heads = [case for case in cases if case[0].name == heads[0]], heads[1:]
-    (block, condition, *_), (own, others) = cases[0], (heads + [None])[:2]
+        choices = {row: [case for case in cases if case[0].name == heads[0]]
+                   for row, cases in choices.items()}
+        heads = heads[1:]
+    (block, condition, *_), (own, others) = choices[1][0], (heads + [None])[:2]
     fields = [(name, variable) for name, variable, _ in monitor.fields]
     state = read_values(first, fields)
     state |= read_values(own, list(block.own.items()))
     state |= read_values(others, list(condition.others.items()) if condition.reads_inputs else [])
     ended = after(block.body, state)
-    expect(any(all(is_true(fact, state) for fact in hyps) and fails(state, ended)
-               for _, _, hyps, fails in cases))
+    found = {row for row, cases in choices.items()
+             if any(all(is_true(fact, state) for fact in hyps) and fails(state, ended)
+                    for _, _, hyps, fails in cases)}
+    expect(found)
     if last != BEYOND:
         values = read_values(last, fields)
         expect(values == {place: ended[place] for place in values})
-    return True
+    return found
+
+
+def checked(monitor, lines, things):
+    """Of each thing whether its line shows a state. Of each condition that is counted one row will
+    do for all of its lines."""
+    counting = {}
+    for words, condition, choices in things:
+        found = check(monitor, lines.pop(), words, choices)
+        if found and condition:
+            counting[condition] = counting.get(condition, found) & found
+            expect(counting[condition])
+        yield found is not None
 
 
 def main(monitor, explained, placed=None):
@@ -160,7 +199,7 @@ def main(monitor, explained, placed=None):
         if placed:
             first = pathlib.Path(placed).read_text("ascii").split("\n")[-2::-1]
             plan = *plan, read_plan(monitor, first)[1]
-        shown = [check(monitor, lines.pop(), *thing) for thing in things_of(monitor, *plan)]
+        shown = [*checked(monitor, lines, things_of(monitor, *plan))]
         expect(not lines)
     except (LookupError, ValueError) as fault:
         print(f"refused: {explained}: {fault}")
