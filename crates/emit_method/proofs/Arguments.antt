@@ -9,7 +9,7 @@ use Rattle.emit_rust.specs.declared.scope.Reach.{Reach}
 use Rattle.emit_rust.specs.Names.{input_name}
 use Rattle.emit_bodies.specs.Blocks.{lending_text}
 use Rattle.emit_method.specs.Conditions.{arguments_text, comma_text, handed_local, handed_parameter}
-use Rattle.emit_method.proofs.Numbered.{numbered}
+use Rattle.emit_comments.proofs.Numbered.{numbered}
 
 -- what a call hands on, by lists that are the method's
 pub arguments_say : (method : MethodTree) (reach : Reach) (inputs : List InputTree) (locals : List Decl) → inputs ≡ method.inputs → locals ≡ method.locals

@@ -1,4 +1,3 @@
-pub mod Numbered
 pub mod Choices
 mod Lookups
 mod Arguments

@@ -8,6 +8,7 @@ use Rattle.lang_tree.specs.declared.tree.MethodTree.{MethodTree}
 use Rattle.lang_printer.specs.Canonical.{expression_text}
 use Rattle.machine_events.specs.Configurations.{block_condition}
 use Rattle.emit_code.specs.Code.{is_waited_on}
+use Rattle.emit_comments.specs.Comments.{leading_docs, line_of}
 use Rattle.emit_rust.specs.declared.style.Style.TheVariants as styles
 use Rattle.emit_rust.specs.Names.{member_name}
 use Rattle.emit_method.specs.Statements.{MethodParts}
@@ -51,10 +52,16 @@ errors_text false blocks = []
 errors_text true blocks =
     ERRORS ++ codes "    /// [`Overflow`] where a number would leave 64 bits. " ++ stays_text blocks
 
+-- the comments directly above it
+abbrev pub own_comments : MethodParts → List ℕ
+own_comments it =
+    leading_docs (codes "    ") it.source.text (line_of it.source.text it.method.at)
+
 -- what is said of a method for calls that wait
 abbrev pub waiting_docs : MethodParts → List ℕ
 waiting_docs it =
-    flat_map (λ one. waiting_text it one.0 one.1) (enumerate_from 0 it.method.blocks)
+    own_comments it
+    ++ flat_map (λ one. waiting_text it one.0 one.1) (enumerate_from 0 it.method.blocks)
     ++ errors_text it.fails (length it.method.blocks)
 
 -- ---- calls that try

@@ -14,6 +14,8 @@ use Rattle.emit_method.specs.declared.source.Source.{Source}
 
 -- a monitor as it is written and as it was checked, and a plan of it
 pub record SourceParts : Type 0 where
+  -- the text that the tree was read from
+  pub text : List ℕ
   pub tree : MonitorTree
   pub monitor : MonitorParts
   -- without the notes that nobody hears
@@ -24,8 +26,9 @@ pub record SourceParts : Type 0 where
   pub whole : List Bool
 
 -- the parts of a module's source
-abbrev pub source_of : MonitorTree → MonitorParts → Plan → List Bool → SourceParts
-source_of tree monitor plan whole = record {
+abbrev pub source_of : List ℕ → MonitorTree → MonitorParts → Plan → List Bool → SourceParts
+source_of text tree monitor plan whole = record {
+  text = text;
   tree = tree;
   monitor = monitor;
   plan = live_plan monitor plan;
@@ -36,7 +39,7 @@ source_of tree monitor plan whole = record {
 -- a source of the code, as contracts see it
 abbrev pub seen : Source → SourceParts
 seen source =
-    source_of source.tree.now source.monitor.now source.plan.now source.whole.now
+    source_of source.text.now source.tree.now source.monitor.now source.plan.now source.whole.now
 
 -- the guard of a condition reads inputs or locals
 abbrev pub reads_inputs : MonitorParts → ℕ → Bool

@@ -7,11 +7,13 @@ ghost use Rattle.emit_code.specs.Code.{is_waited_on};
 ghost use Rattle.base_io.specs.Writing.{Wrote};
 ghost use Rattle.emit_method.specs.Statements.{method_seen};
 ghost use Rattle.emit_method.specs.Docs.{ERRORS, docs_text, errors_text, first_guard, going_text};
-ghost use Rattle.emit_method.specs.Docs.{likeness_text, other_error, refused_by, trying_docs};
+ghost use Rattle.emit_method.specs.Docs.{likeness_text, other_error, own_comments, refused_by};
+ghost use Rattle.emit_method.specs.Docs.{trying_docs};
 ghost use Rattle.emit_method.specs.Docs.{waiting_docs, waiting_text, waits_until};
 
 use crate::source::{Calls, condition_of, is_waited_on};
 use base_io::{Sink, SinkFailed, write_piece};
+use emit_comments::{line_of, write_leading};
 use emit_rust::{Style, write_member};
 use lang_printer::write_around;
 use lang_tree::{BlockTree, MethodTree};
@@ -29,8 +31,16 @@ pub(crate) fn write_docs<S: Sink>(it: &Calls, out: &mut S) -> Result<(), SinkFai
 fn write_waiting_docs<S: Sink>(it: &Calls, out: &mut S) -> Result<(), SinkFailed>
     ensures { Wrote (S.seen out.old) (S.seen out.new) result (waiting_docs (method_seen it.now)) }
 {
+    write_own_comments(it, out)?;
     write_blocks_docs(it, it.method.blocks.items(), out)?;
     write_errors(it, out)
+}
+
+fn write_own_comments<S: Sink>(it: &Calls, out: &mut S) -> Result<(), SinkFailed>
+    ensures { Wrote (S.seen out.old) (S.seen out.new) result (own_comments (method_seen it.now)) }
+{
+    let place = line_of(it.source.text, it.method.at);
+    write_leading(b"    ", it.source.text, place, out)
 }
 
 fn write_blocks_docs<S: Sink>(

@@ -19,6 +19,8 @@ use machine_events::{Note, Plan};
 /// A monitor as it is written and as it was checked, and its plan.
 #[derive(Clone, Copy)]
 pub struct Source<'a> {
+    /// The text that the tree was read from.
+    pub text: &'a [u8],
     /// The monitor as it is written.
     pub tree: &'a MonitorTree,
     /// The monitor as it was checked.

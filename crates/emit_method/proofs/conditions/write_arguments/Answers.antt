@@ -1,7 +1,7 @@
 use Rattle.std.proofs.Common.{refl}
 use Rattle.base_io.proofs.Writing.{wrote_both, wrote_fails, wrote_longer, wrote_same}
 use Rattle.emit_method.proofs.Arguments.{arguments_say}
-use Rattle.emit_method.proofs.Numbered.{numbered}
+use Rattle.emit_comments.proofs.Numbered.{numbered}
 use Rattle.emit_method.specs.Conditions.{handed_local}
 use Rattle.std.specs.List.{enumerate_from, flat_map}
 use Rattle.emit_method.proofs.conditions.write_arguments.Goals as goal

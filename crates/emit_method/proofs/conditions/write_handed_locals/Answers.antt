@@ -1,6 +1,6 @@
 use Rattle.std.proofs.Common.{refl}
 use Rattle.base_io.proofs.Writing.{wrote_same}
-use Rattle.emit_method.proofs.Numbered.{numbered_done, numbered_stopped, numbered_went}
+use Rattle.emit_comments.proofs.Numbered.{numbered_done, numbered_stopped, numbered_went}
 use Rattle.emit_method.specs.Conditions.{handed_local}
 use Rattle.emit_method.proofs.conditions.write_handed_locals.Goals as goal
 

@@ -1,6 +1,6 @@
 use Rattle.std.proofs.Common.{take, Ok}
 use Rattle.base_io.specs.Writing.{Wrote}
-use Rattle.emit_method.proofs.Numbered.{numbered}
+use Rattle.emit_comments.proofs.Numbered.{numbered}
 use Rattle.emit_method.specs.Conditions.{handed_local}
 use Rattle.std.specs.List.{enumerate_from, flat_map}
 use Rattle.emit_method.proofs.conditions.write_handed_locals.Given as goal
