@@ -280,8 +280,10 @@ fn block_at(monitor: &Monitor, number: usize) -> Option<&Block>
     monitor.blocks().get(number)
 }
 
-/// `put(n=3)`: a block that runs.
-pub(crate) fn write_running<S: Sink>(
+/// Writes a block that runs, with its inputs and locals: `put(n=3)`. It takes no memory.
+///
+/// After `SinkFailed` the first bytes of the text were taken, fewer than all and maybe none.
+pub fn write_running<S: Sink>(
     tree: &MonitorTree,
     monitor: &Monitor,
     at: &Solution,

@@ -54,8 +54,10 @@ fn write_field<S: Sink>(
     write_named(at, field.name.bytes(), field.kind, number as u32, out)
 }
 
-/// ` readers=0 writing=false`: each field.
-pub(crate) fn write_fields<S: Sink>(
+/// Writes each field, by what stands at its place: ` readers=0 writing=false`. It takes no memory.
+///
+/// After `SinkFailed` the first bytes of the text were taken, fewer than all and maybe none.
+pub fn write_fields<S: Sink>(
     at: &Solution,
     fields: &[Field],
     out: &mut S,

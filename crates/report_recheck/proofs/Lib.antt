@@ -15,5 +15,5 @@ pub mod ReportParts
 pub mod PlansFit
 mod PrintedReports
 mod TypedNumbers
-mod ProofLines
+pub mod ProofLines
 mod NumberedLines

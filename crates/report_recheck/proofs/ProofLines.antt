@@ -40,7 +40,7 @@ field_in_line : (monitor : MonitorParts) (field : ℕ) → IsMonitor monitor
 field_in_line monitor field rule =
     names_in_line monitor.fields (λ i within. words_in_line (field_name (slice_get monitor.fields i)) (name_words (field_name (slice_get monitor.fields i)) (field_is_named monitor i rule within))) field
 
-block_in_line : (monitor : MonitorParts) (block : ℕ) → IsMonitor monitor
+pub block_in_line : (monitor : MonitorParts) (block : ℕ) → IsMonitor monitor
     → HasNoLineFeed (block_name monitor block)
 block_in_line monitor block rule = by_held (slice_get monitor.blocks block)
   where
@@ -140,7 +140,7 @@ layer_in_line (Chain combines) =
     both_in_line (codes "chain " ++ decimal count) (flat_map combine_text combines)
     (both_in_line (codes "chain ") (decimal count) refl (decimal_in_line count)) (each_in_line combine_text combine_in_line combines)
 
-cert_in_line : (cert : Cert) → HasNoLineFeed (cert_text cert)
+pub cert_in_line : (cert : Cert) → HasNoLineFeed (cert_text cert)
 cert_in_line = ind-Cert (λ cert. HasNoLineFeed (cert_text cert)) (λ layer parts is. subst (λ (one : Cert-F Cert). HasNoLineFeed (cert_text (roll-Cert one))) is (rolled parts))
   where
     rolled : (parts : Cert-F Part)

@@ -1,0 +1,4 @@
+mod BlockNames
+pub mod FitLines
+pub mod PartedTexts
+pub mod Checks
