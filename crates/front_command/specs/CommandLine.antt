@@ -207,9 +207,9 @@ wants_fits (report monitor count fits) = fits
 wants_fits (explain monitor count fits) = fits
 wants_fits command = false
 
--- the options but for `--fits` are the command's own: a schedule for `simulate`, workers for `run` and `stress`,
--- `--relay` for `compile`, `simulate` and `run`, and `--count` for these, `report`, `block`,
--- `audit` and `explain`
+-- the options but for `--fits` are the command's own: a schedule for `simulate`, workers for `run`
+-- and `stress`, `--relay` for `compile`, `simulate` and `run`, and `--count` for these, `report`,
+-- `block`, `audit` and `explain`
 abbrev pub HasOptions : Given → Command → Type 0
 HasOptions given (check monitor) = HasNoOptions given
 HasOptions given (turns monitor clients) = HasNoOptions given
