@@ -1,5 +1,5 @@
 -- The lines of blocks that fit, as they are written and as they are read. Byte 58 is a colon.
-use Rattle.std.proofs.Common.{◌≡◌, ℕ, zero, suc, ◌+◌, ◌<◌, ◌≤◌, List, [], ◌∷◌, ◌++◌, length, Option, Some, None, inl, inr, codes, refl, sym, ap, subst, ◌∙◌, append_assoc, append-nil, arith}
+use Rattle.std.proofs.Common.{◌≡◌, ℕ, suc, ◌+◌, ◌<◌, ◌≤◌, List, [], ◌∷◌, ◌++◌, length, Option, Some, None, inl, inr, codes, refl, sym, ap, subst, ◌∙◌, append_assoc, append-nil, arith}
 use Rattle.std.specs.Prelude.{All, IfSome, MatchOption, option_map, slice_get}
 use Rattle.std.specs.List.{enumerate_from, flat_map}
 use Rattle.std.proofs.lemmas.Bool.{cases_order}
@@ -14,7 +14,7 @@ use Rattle.report_recheck.specs.Fronts.{Anything, IsFront, IsNoFront}
 use Rattle.report_recheck.specs.Readings.{IsReadable}
 use Rattle.report_fits.specs.declared.fit.Fit.{Fit}
 use Rattle.report_fits.specs.FitReadings.{AreFitsRead, AreReadableFits}
-use Rattle.report_fits.specs.FitTexts.{AreFits, AreFrom, certified, certified_from, fit_if, fit_line, fit_text, fits_text}
+use Rattle.report_fits.specs.FitTexts.{AreFrom, certified, certified_from, fit_if, fit_line, fit_text, fits_text}
 use Rattle.report_fits.specs.inner.Reading.{IsFitTurn, fit_of}
 use Rattle.report_recheck.proofs.Pairs.{all_at}
 use Rattle.report_fits.proofs.BlockNames.{same_block}

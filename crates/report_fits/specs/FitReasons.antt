@@ -1,5 +1,5 @@
 -- Why blocks may leave 64 bits.
-use Rattle.std.specs.Prelude.{◌≡◌, ℕ, List, length, Option, Some, None, slice_get}
+use Rattle.std.specs.Prelude.{◌≡◌, ℕ, List, length, Some, None, slice_get}
 use Rattle.lang_monitor.specs.declared.candidate.Candidate.{Candidate}
 use Rattle.lang_monitor.specs.MonitorParts.{MonitorParts}
 use Rattle.logic_solve.specs.Solutions.{valuation_of}

@@ -1,4 +1,4 @@
-use Rattle.std.proofs.Common.{[], ◌++◌, ap, append-nil, sym, ◌∙◌}
+use Rattle.std.proofs.Common.{ap, append-nil, sym, ◌∙◌}
 use Rattle.std.specs.List.{flat_map}
 use Rattle.base_io.proofs.Writing.{wrote_same}
 use Rattle.report_fits.specs.FitTexts.{fit_if, fit_line, fit_text}
