@@ -7,6 +7,8 @@ pub mod Completeness
 pub mod Telling
 pub mod RunFiles
 pub mod Judged
+pub mod Fitted
+pub mod ReportLines
 pub mod Audited
 pub mod Simulating
 pub mod Simulated

@@ -47,11 +47,11 @@ check_works file = record { files = refl; refused = λ held text is. is; accepte
 pub compile_works : (file : List ℕ) (choice : PlanChoice) → WorksOn (compile file choice) file []
 compile_works file choice = record { files = refl; refused = λ held text is. is; accepted = λ held is. is }
 
-pub report_works : (file : List ℕ) (count : Bool) → WorksOn (report file count) file []
-report_works file count = record { files = refl; refused = λ held text is. is; accepted = λ held is. is }
+pub report_works : (file : List ℕ) (count fits : Bool) → WorksOn (report file count fits) file []
+report_works file count fits = record { files = refl; refused = λ held text is. is; accepted = λ held is. is }
 
-pub explain_works : (file : List ℕ) (count : Bool) → WorksOn (explain file count) file []
-explain_works file count = record { files = refl; refused = λ held text is. is; accepted = λ held is. is }
+pub explain_works : (file : List ℕ) (count fits : Bool) → WorksOn (explain file count fits) file []
+explain_works file count fits = record { files = refl; refused = λ held text is. is; accepted = λ held is. is }
 
 pub emit_works : (file : List ℕ) → WorksOn (emit file) file []
 emit_works file = record { files = refl; refused = λ held text is. is; accepted = λ held is. is }
@@ -134,17 +134,17 @@ compile_done file choice tree monitor plan files files_now result out out_now ho
 
 pub explain_done : (file : List ℕ) (tree : MonitorTree) (monitor : MonitorParts) (plan : Plan) (reasons : List Reason) (files files_now : FilesSeen) (result : Status) (out out_now : SinkSeen)
     → HoldsMonitor files.held file tree monitor → IsExplained monitor plan reasons → files_now.faults ≡ files.faults
-    → IsWritten statuses.Done (explained_text tree monitor plan reasons) result out out_now → CommandEnds (explain file false) files files_now result out out_now
+    → IsWritten statuses.Done (explained_text tree monitor plan reasons) result out out_now → CommandEnds (explain file false false) files files_now result out out_now
 explain_done file tree monitor plan reasons files files_now result out out_now holds explained steady written =
-    work_ended (explain file false) files files_now (explained_text tree monitor plan reasons) result out out_now true
+    work_ended (explain file false false) files files_now (explained_text tree monitor plan reasons) result out out_now true
     (record { tree = tree; monitor = monitor; plan = plan; reasons = reasons; holds = holds; placement = explained.placement; things = explained.things; each = explained.each; printed = refl })
     (no_rejection files.held file tree monitor holds) steady written
 
 pub count_explain_done : (file : List ℕ) (tree : MonitorTree) (monitor : MonitorParts) (plan : Plan) (reasons : List Reason) (broadcasts : List BroadcastReason) (files files_now : FilesSeen) (result : Status) (out out_now : SinkSeen)
     → HoldsMonitor files.held file tree monitor → IsCountExplained monitor plan reasons broadcasts → files_now.faults ≡ files.faults
-    → IsWritten statuses.Done (count_explained_text tree monitor plan reasons broadcasts) result out out_now → CommandEnds (explain file true) files files_now result out out_now
+    → IsWritten statuses.Done (count_explained_text tree monitor plan reasons broadcasts) result out out_now → CommandEnds (explain file true false) files files_now result out out_now
 count_explain_done file tree monitor plan reasons broadcasts files files_now result out out_now holds explained steady written =
-    work_ended (explain file true) files files_now (count_explained_text tree monitor plan reasons broadcasts) result out out_now true
+    work_ended (explain file true false) files files_now (count_explained_text tree monitor plan reasons broadcasts) result out out_now true
     (record {
       tree = tree;
       monitor = monitor;

@@ -23,11 +23,11 @@ pub in_range : (words : List (List ℕ)) (command : Command) → Takes words com
 in_range words (check monitor) taken = tt
 in_range words (turns monitor clients) taken = tt
 in_range words (compile monitor choice) taken = tt
-in_range words (report monitor count) taken = tt
+in_range words (report monitor count fits) taken = tt
 in_range words (recheck monitor report_file) taken = tt
 in_range words (block monitor clients choice) taken = tt
 in_range words (audit monitor plan_file count) taken = tt
-in_range words (explain monitor count) taken = tt
+in_range words (explain monitor count fits) taken = tt
 in_range words (emit monitor) taken = tt
 in_range words (simulate monitor clients schedule choice) (given, is, asks) = few_of_schedule given.seed given.spurious schedule (asks.has_options).0
 in_range words (run monitor clients workers choice) (given, is, asks) = few_workers given.workers workers (asks.has_options).1

@@ -1,10 +1,11 @@
 -- What the program answers.
 use Rattle.std.specs.Prelude.{◌≡◌, ◌<◌, ◌⊎◌, ℕ, Bool, true, false, List, All, Any, map, Option}
-use Rattle.std.specs.Prelude.{Some, IfSome, codes}
+use Rattle.std.specs.Prelude.{Some, IfSome, codes, ◌++◌}
 use Rattle.std.specs.Io.KnownBytes.{Appends}
 use Rattle.base_io.specs.Outside.{FilesSeen, SinkSeen, AppendsFront, Rises}
 use Rattle.lang_tree.specs.declared.tree.MonitorTree.{MonitorTree}
 use Rattle.lang_printer.specs.Canonical.{tree_text}
+use Rattle.lang_monitor.specs.declared.candidate.Candidate.{Candidate}
 use Rattle.lang_monitor.specs.MonitorParts.{MonitorParts}
 use Rattle.machine_implicit.specs.declared.commit.Turns.{Turns}
 use Rattle.machine_implicit.specs.declared.script.Client.{Client}
@@ -53,6 +54,12 @@ use Rattle.plan_needs.specs.Needs.{broadcasts_of}
 use Rattle.plan_why.specs.declared.reason.Reason.{Reason}
 use Rattle.plan_why.specs.Reasons.{IsReason}
 use Rattle.plan_why.specs.Things.{things_of}
+use Rattle.logic_cert.specs.declared.cert.Cert.{Cert}
+use Rattle.plan_fits.specs.Answers.{AreFitAnswers}
+use Rattle.report_fits.specs.declared.reasons.FitReason.{FitReason}
+use Rattle.report_fits.specs.FitReasons.{AreFitReasons}
+use Rattle.report_fits.specs.FitReasonTexts.{fit_reasons_text}
+use Rattle.report_fits.specs.FitTexts.{certified, fits_text}
 use Rattle.emit_module.specs.Modules.{rust_text}
 use Rattle.expresso.specs.PrintedPrograms.{IsAsPromised}
 use Rattle.expresso.specs.Texts.{count_explained_text, explained_text, usage_text}
@@ -186,10 +193,24 @@ pub record IsCountedReportText (held : List ℕ → Option (List ℕ)) (file tex
     pub counting : IsCounting monitor placed counted
     pub printed : text ≡ counted_report_text monitor (counted_report_of placed counted)
 
--- with `--count`, of the counted plan
-abbrev pub IsReportTextBy : (List ℕ → Option (List ℕ)) → Bool → List ℕ → List ℕ → Type 0
-IsReportTextBy held false file text = IsReportText held file text
-IsReportTextBy held true file text = IsCountedReportText held file text
+-- after a text, a line for each block for which a certificate was found that it keeps 64 bits
+pub record HasFits (monitor : MonitorParts) (kept : List Candidate) (front text : List ℕ) : Type 0
+  where
+    pub answers : List (Option Cert)
+    pub are : AreFitAnswers monitor kept answers
+    pub typed : All (λ answer. IfSome answer HasTypedNumbers) answers
+    pub printed : text ≡ front ++ fits_text monitor (certified answers)
+
+-- with `--count`, of the counted plan, and with `--fits`, with such lines
+abbrev pub IsReportTextBy : (List ℕ → Option (List ℕ)) → Bool → Bool → List ℕ → List ℕ → Type 0
+IsReportTextBy held false false file text = IsReportText held file text
+IsReportTextBy held true false file text = IsCountedReportText held file text
+IsReportTextBy held false true file text =
+    (front : List ℕ) × (is : IsReportText held file front)
+    × HasFits is.monitor is.placed.plan.kept front text
+IsReportTextBy held true true file text =
+    (front : List ℕ) × (is : IsCountedReportText held file front)
+    × HasFits is.monitor is.counted.plan.kept front text
 
 -- the line that accepts the report of the second file, of the monitor of the first
 pub record IsRecheckText (held : List ℕ
@@ -241,6 +262,25 @@ pub record IsCountExplainText (held : List ℕ → Option (List ℕ)) (file text
   pub each_listed : All (IsBroadcastReason monitor plan) broadcasts
   pub printed : text ≡ count_explained_text tree monitor plan reasons broadcasts
 
+-- after a text, a line for each block of which no certificate was found that it keeps 64 bits, with
+-- values with which it doesn't, where they are found
+pub record HasFitReasons (tree : MonitorTree) (monitor : MonitorParts) (kept : List Candidate)
+    (front text : List ℕ) : Type 0 where
+  pub found : List FitReason
+  pub are : AreFitReasons monitor kept found
+  pub printed : text ≡ front ++ fit_reasons_text tree monitor found
+
+-- with `--count`, of the counted plan, and with `--fits`, with such lines
+abbrev pub IsExplainTextBy : (List ℕ → Option (List ℕ)) → Bool → Bool → List ℕ → List ℕ → Type 0
+IsExplainTextBy held false false file text = IsExplainText held file text
+IsExplainTextBy held true false file text = IsCountExplainText held file text
+IsExplainTextBy held false true file text =
+    (front : List ℕ) × (is : IsExplainText held file front)
+    × HasFitReasons is.tree is.monitor is.plan.kept front text
+IsExplainTextBy held true true file text =
+    (front : List ℕ) × (is : IsCountExplainText held file front)
+    × HasFitReasons is.tree is.monitor is.plan.kept front text
+
 -- the text of the Rust module of the monitor of the file, under a counted plan: what threads do by
 -- the code of that plan is a run of the monitor, no wake-up is lost, and each printed body does the
 -- step of its block, without tests of 64 bits where the block is whole
@@ -269,14 +309,13 @@ IsDoneText held (simulate monitor clients schedule choice) text =
 IsDoneText held (run monitor clients workers choice) text =
     IsFinishedRunText held monitor clients choice text
 IsDoneText held (stress number workers) text = IsStressText number text
-IsDoneText held (report file count) text = IsReportTextBy held count file text
+IsDoneText held (report file count fits) text = IsReportTextBy held count fits file text
 IsDoneText held (recheck monitor report_file) text = IsRecheckText held monitor report_file text
 IsDoneText held (block monitor clients choice) text =
     IsFinishedRunText held monitor clients choice text
 IsDoneText held (audit monitor plan_file count) text =
     IsAuditText held count monitor plan_file text
-IsDoneText held (explain file false) text = IsExplainText held file text
-IsDoneText held (explain file true) text = IsCountExplainText held file text
+IsDoneText held (explain file count fits) text = IsExplainTextBy held count fits file text
 IsDoneText held (emit file) text = IsEmitText held file text
 
 -- the text of `turns`, `simulate`, `run` or `block` where some client has a call left; no other
@@ -294,12 +333,12 @@ IsStalledText held (simulate monitor clients schedule choice) text =
 IsStalledText held (run monitor clients workers choice) text =
     IsStalledRunText held monitor clients choice text
 IsStalledText held (stress number workers) text = ⊥
-IsStalledText held (report file count) text = ⊥
+IsStalledText held (report file count fits) text = ⊥
 IsStalledText held (recheck monitor report_file) text = ⊥
 IsStalledText held (block monitor clients choice) text =
     IsStalledRunText held monitor clients choice text
 IsStalledText held (audit monitor plan_file count) text = ⊥
-IsStalledText held (explain file count) text = ⊥
+IsStalledText held (explain file count fits) text = ⊥
 IsStalledText held (emit file) text = ⊥
 
 -- ---- refusals
@@ -367,13 +406,13 @@ IsRefusedText held (simulate monitor clients schedule choice) text =
 IsRefusedText held (run monitor clients workers choice) text =
     IsRunRefusal held monitor clients text
 IsRefusedText held (stress number workers) text = ⊥
-IsRefusedText held (report file count) text = IsMonitorRefusal held file text
+IsRefusedText held (report file count fits) text = IsMonitorRefusal held file text
 IsRefusedText held (recheck monitor report_file) text =
     IsRecheckRefusal held monitor report_file text
 IsRefusedText held (block monitor clients choice) text = IsRunRefusal held monitor clients text
 IsRefusedText held (audit monitor plan_file count) text =
     IsAuditRefusal held count monitor plan_file text
-IsRefusedText held (explain file count) text = IsMonitorRefusal held file text
+IsRefusedText held (explain file count fits) text = IsMonitorRefusal held file text
 IsRefusedText held (emit file) text = IsMonitorRefusal held file text
 
 -- a read fault's line that names one of the command's files; which of them, no clause says
@@ -487,11 +526,11 @@ AcceptsFiles held (compile file choice) = AcceptsMonitor held file
 AcceptsFiles held (simulate monitor clients schedule choice) = AcceptsRun held monitor clients
 AcceptsFiles held (run monitor clients workers choice) = AcceptsRun held monitor clients
 AcceptsFiles held (stress number workers) = Unit {0}
-AcceptsFiles held (report file count) = AcceptsMonitor held file
+AcceptsFiles held (report file count fits) = AcceptsMonitor held file
 AcceptsFiles held (recheck monitor report_file) = AcceptsReport held monitor report_file
 AcceptsFiles held (block monitor clients choice) = AcceptsRun held monitor clients
 AcceptsFiles held (audit monitor plan_file count) = AcceptsPlan held count monitor plan_file
-AcceptsFiles held (explain file count) = AcceptsMonitor held file
+AcceptsFiles held (explain file count fits) = AcceptsMonitor held file
 AcceptsFiles held (emit file) = AcceptsMonitor held file
 
 -- they tell their bytes, and one of them is not accepted
@@ -502,11 +541,11 @@ RejectsFiles held (compile file choice) = RejectsMonitor held file
 RejectsFiles held (simulate monitor clients schedule choice) = RejectsRun held monitor clients
 RejectsFiles held (run monitor clients workers choice) = RejectsRun held monitor clients
 RejectsFiles held (stress number workers) = ⊥
-RejectsFiles held (report file count) = RejectsMonitor held file
+RejectsFiles held (report file count fits) = RejectsMonitor held file
 RejectsFiles held (recheck monitor report_file) = RejectsReport held monitor report_file
 RejectsFiles held (block monitor clients choice) = RejectsRun held monitor clients
 RejectsFiles held (audit monitor plan_file count) = RejectsPlan held count monitor plan_file
-RejectsFiles held (explain file count) = RejectsMonitor held file
+RejectsFiles held (explain file count fits) = RejectsMonitor held file
 RejectsFiles held (emit file) = RejectsMonitor held file
 
 -- the words are a command's whose files are accepted; or one of them is not

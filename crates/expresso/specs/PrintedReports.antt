@@ -7,7 +7,7 @@ use Rattle.plan_place.specs.declared.placed.PlacedPlan.{PlacedPlan}
 use Rattle.plan_counted.specs.declared.counted.CountedPlan.{CountedPlan}
 use Rattle.plan_counted.specs.Exact.{HasNoOpenQuestion}
 use Rattle.report_tally.specs.CountedTexts.{counted_report_of}
-use Rattle.expresso.specs.Answers.{IsCountedReportText, IsReportText}
+use Rattle.expresso.specs.Answers.{HasFits, IsCountedReportText, IsReportText}
 use Rattle.expresso.specs.Headline.{IsHeadlineText}
 use Rattle.expresso.specs.ReportFiles.{OTHER_BYTES}
 
@@ -32,6 +32,29 @@ counted_many placed counted =
 pub record IsPrintedCountedReport (held later : List ℕ
     → Option (List ℕ)) (file report_file text : List ℕ) : Type 0 where
   pub printed : IsCountedReportText held file text
+  pub easy : HasNoHardClaim printed.monitor
+  pub asked : HasNoOpenQuestion printed.monitor printed.placed.plan.kept
+  pub short : length text ≤ OTHER_BYTES
+  pub same : later file ≡ Some printed.holds.bytes
+  pub there : later report_file ≡ Some text
+
+-- The text is what `report --fits` printed of such a file, without `--count`.
+pub record IsPrintedFitsReport (held later : List ℕ
+    → Option (List ℕ)) (file report_file text : List ℕ) : Type 0 where
+  pub front : List ℕ
+  pub printed : IsReportText held file front
+  pub fits : HasFits printed.monitor printed.placed.plan.kept front text
+  pub easy : HasNoHardClaim printed.monitor
+  pub short : length text ≤ OTHER_BYTES
+  pub same : later file ≡ Some printed.holds.bytes
+  pub there : later report_file ≡ Some text
+
+-- The text is what `report --count --fits` printed of one where no question may stay open.
+pub record IsPrintedCountedFitsReport (held later : List ℕ
+    → Option (List ℕ)) (file report_file text : List ℕ) : Type 0 where
+  pub front : List ℕ
+  pub printed : IsCountedReportText held file front
+  pub fits : HasFits printed.monitor printed.counted.plan.kept front text
   pub easy : HasNoHardClaim printed.monitor
   pub asked : HasNoOpenQuestion printed.monitor printed.placed.plan.kept
   pub short : length text ≤ OTHER_BYTES

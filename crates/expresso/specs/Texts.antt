@@ -21,11 +21,11 @@ usage_text =
     ++ codes "expresso simulate FILE CLIENTS [--seed N] [--spurious K] [--count] [--relay]\n"
     ++ codes "expresso run FILE CLIENTS [--workers N] [--count] [--relay]\n"
     ++ codes "expresso stress N [--workers N]\n"
-    ++ codes "expresso report FILE [--count]\n"
+    ++ codes "expresso report FILE [--count] [--fits]\n"
     ++ codes "expresso recheck FILE REPORT\n"
     ++ codes "expresso block FILE CLIENTS [--count]\n"
     ++ codes "expresso audit FILE PLAN [--count]\n"
-    ++ codes "expresso explain FILE [--count]\n"
+    ++ codes "expresso explain FILE [--count] [--fits]\n"
     ++ codes "expresso emit FILE\n"
 
 -- a plan, and why each thing stands in it that costs something

@@ -1,4 +1,4 @@
-//! `expresso explain FILE [--count]`.
+//! `expresso explain FILE [--count]`, without `--fits`.
 
 ghost use Rattle.std.specs.Prelude.{IfOk, false, true};
 ghost use Rattle.front_command.specs.CommandLine.{explain};
@@ -41,7 +41,7 @@ pub(crate) fn explain_file<F: Files, S: Sink>(
     out: &mut S,
 ) -> Status
     requires { F.may_read files.old file.now }
-    ensures ended { CommandEnds (explain file.now false)
+    ensures ended { CommandEnds (explain file.now false false)
         (F.seen files.old) (F.seen files.new) result (S.seen out.old) (S.seen out.new) }
     ensures files { KeepsFiles (F.seen files.old) (F.seen files.new)
         (F.may_read files.old) (F.may_read files.new) }
@@ -57,7 +57,7 @@ pub(crate) fn explain_file<F: Files, S: Sink>(
 }
 
 /// The plan of a monitor with its reasons. It fails only for want of memory.
-fn explanation_of(alloc: Global, monitor: &Monitor) -> Result<Explanation, AllocError>
+pub(crate) fn explanation_of(alloc: Global, monitor: &Monitor) -> Result<Explanation, AllocError>
     ensures { IfOk result (λ found. IsExplained monitor.now found.plan found.reasons.items) }
 {
     let plan = placed_of(alloc, monitor)?.plan;
@@ -73,7 +73,7 @@ pub(crate) fn explain_counted_file<F: Files, S: Sink>(
     out: &mut S,
 ) -> Status
     requires { F.may_read files.old file.now }
-    ensures ended { CommandEnds (explain file.now true)
+    ensures ended { CommandEnds (explain file.now true false)
         (F.seen files.old) (F.seen files.new) result (S.seen out.old) (S.seen out.new) }
     ensures files { KeepsFiles (F.seen files.old) (F.seen files.new)
         (F.may_read files.old) (F.may_read files.new) }
@@ -89,7 +89,10 @@ pub(crate) fn explain_counted_file<F: Files, S: Sink>(
 }
 
 /// The counted plan of a monitor with its reasons. It fails only for want of memory.
-fn count_explanation_of(alloc: Global, monitor: &Monitor) -> Result<CountExplanation, AllocError>
+pub(crate) fn count_explanation_of(
+    alloc: Global,
+    monitor: &Monitor,
+) -> Result<CountExplanation, AllocError>
     ensures { IfOk result (λ found. IsCountExplained monitor.now found.explanation.plan
         found.explanation.reasons.items found.broadcasts.items) }
 {

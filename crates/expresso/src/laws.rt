@@ -1,6 +1,6 @@
 //! What follows from the definitions alone.
 
-ghost use Rattle.std.specs.Prelude.{◌≡◌, ℕ, Bool, List, Option, Some, length};
+ghost use Rattle.std.specs.Prelude.{◌≡◌, ◌++◌, ℕ, Bool, List, Option, Some, length};
 ghost use Rattle.lang_tree.specs.declared.tree.MonitorTree.{MonitorTree};
 ghost use Rattle.lang_monitor.specs.MonitorParts.{MonitorParts};
 ghost use Rattle.machine_implicit.specs.declared.script.Client.{Client};
@@ -13,6 +13,8 @@ ghost use Rattle.front_command.specs.declared.plan_choice.PlanChoice.{PlanChoice
 ghost use Rattle.report_recheck.specs.declared.report.Verdict.TheVariants.{Accepted};
 ghost use Rattle.report_recheck.specs.Verdicts.{verdict_text};
 ghost use Rattle.plan_place.specs.Backing.{AreProofs, backed_claims};
+ghost use Rattle.report_fits.specs.FitTexts.{certified};
+ghost use Rattle.report_fits.specs.FitVerdicts.{fitting_text};
 ghost use Rattle.front_command.specs.CommandLine.{audit, recheck};
 ghost use Rattle.front_command.specs.declared.schedule.Schedule.{Schedule};
 ghost use Rattle.expresso.specs.declared.status.Status.{Status};
@@ -22,6 +24,7 @@ ghost use Rattle.expresso.specs.MonitorFiles.{IsAccepted};
 ghost use Rattle.expresso.specs.ClientFiles.{AreAccepted};
 ghost use Rattle.expresso.specs.Placements.{CountsNothing, IsPlacement};
 ghost use Rattle.expresso.specs.PrintedReports.{AreRunAndReport, IsPrintedCountedReport};
+ghost use Rattle.expresso.specs.PrintedReports.{IsPrintedCountedFitsReport, IsPrintedFitsReport};
 ghost use Rattle.expresso.specs.PrintedReports.{IsPrintedReport, counted_many};
 ghost use Rattle.expresso.specs.Simulations.{IsSimulation};
 
@@ -129,6 +132,39 @@ pub fn printed_counted_reports_are_rechecked()
 {
     one_spelling();
     derives_one_tree();
+    easy_monitors_have_no_open_claim();
+    counted_text_is_report_text();
+    printed_counted_reports_are_accepted();
+}
+
+/// The same of what `report --fits` printed. Then `recheck` also names the blocks for which it
+/// printed a certificate that they keep 64 bits.
+pub fn printed_fits_are_rechecked()
+    ensures refusals { (held later : List ℕ → Option (List ℕ))
+        (file report_file text line : List ℕ)
+        → IsPrintedFitsReport held later file report_file text
+        → IsRefusedText later (recheck file report_file) line → ⊥ }
+    ensures lines { (held later : List ℕ → Option (List ℕ))
+        (file report_file text line : List ℕ)
+        (is : IsPrintedFitsReport held later file report_file text)
+        → IsDoneText later (recheck file report_file) line
+        → line ≡ verdict_text (Accepted (length is.printed.placed.proofs))
+        ++ fitting_text is.printed.monitor (certified is.fits.answers) }
+    ensures counted_refusals { (held later : List ℕ → Option (List ℕ))
+        (file report_file text line : List ℕ)
+        → IsPrintedCountedFitsReport held later file report_file text
+        → IsRefusedText later (recheck file report_file) line → ⊥ }
+    ensures counted_lines { (held later : List ℕ → Option (List ℕ))
+        (file report_file text line : List ℕ)
+        (is : IsPrintedCountedFitsReport held later file report_file text)
+        → IsDoneText later (recheck file report_file) line
+        → line ≡ verdict_text (Accepted (counted_many is.printed.placed is.printed.counted))
+        ++ fitting_text is.printed.monitor (certified is.fits.answers) }
+{
+    one_spelling();
+    derives_one_tree();
+    easy_reports_are_accepted();
+    reports_are_uncounted();
     easy_monitors_have_no_open_claim();
     counted_text_is_report_text();
     printed_counted_reports_are_accepted();

@@ -32,6 +32,8 @@ mod client_file;
 mod compile;
 mod emit;
 mod explain;
+mod fits;
+mod fits_text;
 mod input;
 mod laws;
 mod monitor_file;
@@ -50,8 +52,8 @@ mod work;
 
 pub use laws::{
     accepts_one_client_list, accepts_one_monitor, checked_plans_lose_no_wakeup, one_simulated_text,
-    one_simulation, printed_counted_reports_are_rechecked, printed_reports_are_rechecked,
-    runs_are_reported,
+    one_simulation, printed_counted_reports_are_rechecked, printed_fits_are_rechecked,
+    printed_reports_are_rechecked, runs_are_reported,
 };
 pub use program::{expresso, without_threads};
 pub use status::{Status, exit_status};

@@ -1,4 +1,4 @@
-//! `expresso report FILE [--count]`.
+//! `expresso report FILE [--count]`, without `--fits`.
 
 ghost use Rattle.std.specs.Prelude.{false, true};
 ghost use Rattle.front_command.specs.CommandLine.{report};
@@ -24,7 +24,7 @@ pub(crate) fn report_file<F: Files, S: Sink>(
     out: &mut S,
 ) -> Status
     requires { F.may_read files.old file.now }
-    ensures ended { CommandEnds (report file.now count)
+    ensures ended { CommandEnds (report file.now count false)
         (F.seen files.old) (F.seen files.new) result (S.seen out.old) (S.seen out.new) }
     ensures files { KeepsFiles (F.seen files.old) (F.seen files.new)
         (F.may_read files.old) (F.may_read files.new) }
@@ -40,7 +40,7 @@ pub(crate) fn report_file<F: Files, S: Sink>(
 /// fault.
 fn report_placed<F: Files, S: Sink>(alloc: Global, file: &str, files: &mut F, out: &mut S) -> Status
     requires { F.may_read files.old file.now }
-    ensures ended { CommandEnds (report file.now false)
+    ensures ended { CommandEnds (report file.now false false)
         (F.seen files.old) (F.seen files.new) result (S.seen out.old) (S.seen out.new) }
     ensures files { KeepsFiles (F.seen files.old) (F.seen files.new)
         (F.may_read files.old) (F.may_read files.new) }
@@ -67,7 +67,7 @@ fn report_counted<F: Files, S: Sink>(
     out: &mut S,
 ) -> Status
     requires { F.may_read files.old file.now }
-    ensures ended { CommandEnds (report file.now true)
+    ensures ended { CommandEnds (report file.now true false)
         (F.seen files.old) (F.seen files.new) result (S.seen out.old) (S.seen out.new) }
     ensures files { KeepsFiles (F.seen files.old) (F.seen files.new)
         (F.may_read files.old) (F.may_read files.new) }

@@ -16,13 +16,11 @@ ghost use Rattle.report_text.specs.SummaryText.{summary_text};
 ghost use Rattle.plan_counted.specs.Counted.{AreBacked};
 ghost use Rattle.report_recheck.specs.Reports.{placed_text};
 ghost use Rattle.report_tally.specs.CountedTexts.{counted_text};
-ghost use Rattle.report_recheck.specs.Verdicts.{verdict_text};
 ghost use Rattle.report_audit.specs.FindingText.{finding_text};
 ghost use Rattle.emit_module.specs.Modules.{rust_text};
 ghost use Rattle.expresso.specs.Texts.{count_explained_text, explained_text, usage_text};
 ghost use Rattle.expresso.specs.inner.Auditing.{audit_status};
 ghost use Rattle.expresso.specs.inner.Ending.{IsWritten, ended, fault_status};
-ghost use Rattle.expresso.specs.inner.Judging.{verdict_status};
 
 use crate::explain::{CountExplanation, Explanation};
 use crate::placement::Counting;
@@ -38,7 +36,7 @@ use machine_implicit::{Scripts, Turns};
 use plan_place::PlacedPlan;
 use report_audit::{Finding, write_finding};
 use report_reasons::{write_broadcast_reasons, write_reasons};
-use report_recheck::{Verdict, write_report, write_verdict};
+use report_recheck::write_report;
 use report_tally::write_counted_report;
 use report_text::{
     Fault, are_done, write_fault, write_log, write_plan, write_summary, write_turns,
@@ -46,7 +44,11 @@ use report_text::{
 
 /// Hands on what was written of a text, and gives the status that the text comes to.
 #[tactic(auto, using(crate::proofs::Outcomes::text_handed_on, crate::proofs::Outcomes::flush_failed, crate::proofs::Outcomes::write_failed))]
-fn finish<S: Sink>(status: Status, outcome: Result<(), SinkFailed>, out: &mut S) -> Status
+pub(crate) fn finish<S: Sink>(
+    status: Status,
+    outcome: Result<(), SinkFailed>,
+    out: &mut S,
+) -> Status
     ensures { (before : SinkSeen) (text : List ℕ) → Wrote before (S.seen out.old) outcome text
         → IsWritten status text result before (S.seen out.new) }
 {
@@ -72,11 +74,11 @@ pub(crate) fn show_usage<S: Sink>(out: &mut S) -> Status
             b"expresso simulate FILE CLIENTS [--seed N] [--spurious K] [--count] [--relay]\n",
             b"expresso run FILE CLIENTS [--workers N] [--count] [--relay]\n",
             b"expresso stress N [--workers N]\n",
-            b"expresso report FILE [--count]\n",
+            b"expresso report FILE [--count] [--fits]\n",
             b"expresso recheck FILE REPORT\n",
             b"expresso block FILE CLIENTS [--count]\n",
             b"expresso audit FILE PLAN [--count]\n",
-            b"expresso explain FILE [--count]\n",
+            b"expresso explain FILE [--count] [--fits]\n",
             b"expresso emit FILE\n",
         ],
         out,
@@ -164,7 +166,7 @@ pub(crate) fn show_explanation<S: Sink>(
 }
 
 /// Writes the plan, and then the reasons.
-fn write_explanation<S: Sink>(
+pub(crate) fn write_explanation<S: Sink>(
     tree: &MonitorTree,
     monitor: &Monitor,
     explanation: &Explanation,
@@ -193,7 +195,7 @@ pub(crate) fn show_count_explanation<S: Sink>(
 }
 
 /// Writes the plan with its reasons, and then those of the broadcasts of blocks.
-fn write_count_explanation<S: Sink>(
+pub(crate) fn write_count_explanation<S: Sink>(
     tree: &MonitorTree,
     monitor: &Monitor,
     explanation: &CountExplanation,
@@ -220,26 +222,6 @@ pub(crate) fn show_module<S: Sink>(
 {
     let outcome = write_rust(tree, monitor, plan, whole, out);
     finish(Status::Done, outcome, out)
-}
-
-/// The status of a verdict.
-fn verdict_status(verdict: Verdict) -> Status
-    ensures { result ≡ verdict_status verdict }
-{
-    match verdict {
-        Verdict::Accepted { .. } => Status::Done,
-        Verdict::Unlawful => Status::Refused,
-        Verdict::Unproved { .. } => Status::Refused,
-    }
-}
-
-/// Writes the line of a verdict.
-pub(crate) fn show_verdict<S: Sink>(verdict: Verdict, out: &mut S) -> Status
-    ensures { IsWritten (verdict_status verdict) (verdict_text verdict) result
-        (S.seen out.old) (S.seen out.new) }
-{
-    let outcome = write_verdict(&verdict, out);
-    finish(verdict_status(verdict), outcome, out)
 }
 
 /// The status of a finding.

@@ -1,7 +1,7 @@
 //! What is done for a command.
 
-ghost use Rattle.std.specs.Prelude.{◌≡◌, All, IfErr, IfOk, OnErr};
-ghost use Rattle.front_command.specs.CommandLine.{explain, files_of};
+ghost use Rattle.std.specs.Prelude.{◌≡◌, false, All, IfErr, IfOk, OnErr};
+ghost use Rattle.front_command.specs.CommandLine.{explain, files_of, report};
 ghost use Rattle.front_command.specs.Commands.{command_meant};
 ghost use Rattle.expresso.specs.ProgramEnds.{HasThreads, KeepsFiles};
 ghost use Rattle.expresso.specs.inner.Ending.{CommandEnds};
@@ -13,6 +13,7 @@ use crate::check::check_file;
 use crate::compile::compile_file;
 use crate::emit::emit_file;
 use crate::explain::{explain_counted_file, explain_file};
+use crate::fits::{explain_fits, report_fits};
 use crate::recheck::recheck_files;
 use crate::report::report_file;
 use crate::run::run_files;
@@ -58,7 +59,11 @@ pub(crate) fn work<'a, F: Files, S: Sink>(
             schedule,
             choice,
         } => Ok(simulate_files(alloc, monitor, clients, schedule, choice, files, out)),
-        Command::Report { monitor, count } => Ok(report_file(alloc, monitor, count, files, out)),
+        Command::Report {
+            monitor,
+            count,
+            fits,
+        } => Ok(reported(alloc, monitor, count, fits, files, out)),
         Command::Recheck { monitor, report } => {
             Ok(recheck_files(alloc, monitor, report, files, out))
         }
@@ -67,7 +72,11 @@ pub(crate) fn work<'a, F: Files, S: Sink>(
             plan,
             count,
         } => Ok(audit_files(alloc, monitor, plan, count, files, out)),
-        Command::Explain { monitor, count } => { Ok(explained(alloc, monitor, count, files, out)) }
+        Command::Explain {
+            monitor,
+            count,
+            fits,
+        } => Ok(explained(alloc, monitor, count, fits, files, out)),
         Command::Emit { monitor } => Ok(emit_file(alloc, monitor, files, out)),
         Command::Run { .. } => Err(command),
         Command::Stress { .. } => Err(command),
@@ -75,8 +84,50 @@ pub(crate) fn work<'a, F: Files, S: Sink>(
     }
 }
 
-/// Explains the plan that is asked for.
+/// Reports the plan that is asked for, and where it is asked for, which blocks keep 64 bits.
+fn reported<F: Files, S: Sink>(
+    alloc: Global,
+    file: &str,
+    count: bool,
+    fits: bool,
+    files: &mut F,
+    out: &mut S,
+) -> Status
+    requires { F.may_read files.old file.now }
+    ensures ended { CommandEnds (report file.now count fits)
+        (F.seen files.old) (F.seen files.new) result (S.seen out.old) (S.seen out.new) }
+    ensures files { KeepsFiles (F.seen files.old) (F.seen files.new)
+        (F.may_read files.old) (F.may_read files.new) }
+{
+    match fits {
+        true => report_fits(alloc, file, count, files, out),
+        false => report_file(alloc, file, count, files, out),
+    }
+}
+
+/// Explains the plan that is asked for, and where it is asked for, why blocks may leave 64 bits.
 fn explained<F: Files, S: Sink>(
+    alloc: Global,
+    file: &str,
+    count: bool,
+    fits: bool,
+    files: &mut F,
+    out: &mut S,
+) -> Status
+    requires { F.may_read files.old file.now }
+    ensures ended { CommandEnds (explain file.now count fits)
+        (F.seen files.old) (F.seen files.new) result (S.seen out.old) (S.seen out.new) }
+    ensures files { KeepsFiles (F.seen files.old) (F.seen files.new)
+        (F.may_read files.old) (F.may_read files.new) }
+{
+    match fits {
+        true => explain_fits(alloc, file, count, files, out),
+        false => explained_alone(alloc, file, count, files, out),
+    }
+}
+
+/// Explains the plan that is asked for, and no more.
+fn explained_alone<F: Files, S: Sink>(
     alloc: Global,
     file: &str,
     count: bool,
@@ -84,7 +135,7 @@ fn explained<F: Files, S: Sink>(
     out: &mut S,
 ) -> Status
     requires { F.may_read files.old file.now }
-    ensures ended { CommandEnds (explain file.now count)
+    ensures ended { CommandEnds (explain file.now count false)
         (F.seen files.old) (F.seen files.new) result (S.seen out.old) (S.seen out.new) }
     ensures files { KeepsFiles (F.seen files.old) (F.seen files.new)
         (F.may_read files.old) (F.may_read files.new) }

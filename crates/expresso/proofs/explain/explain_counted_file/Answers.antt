@@ -1,4 +1,4 @@
-use Rattle.std.proofs.Common.{true}
+use Rattle.std.proofs.Common.{true, false}
 use Rattle.expresso.specs.Texts.{count_explained_text}
 use Rattle.expresso.specs.declared.status.Status.TheVariants.{Done}
 use Rattle.front_command.specs.CommandLine.{explain}
@@ -7,7 +7,7 @@ use Rattle.expresso.proofs.Outcomes.{written_since}
 use Rattle.expresso.proofs.explain.explain_counted_file.Goals as goal
 
 pub returns-in-Err-clause-ended : goal.returns-in-Err-clause-ended
-returns-in-Err-clause-ended g c = c.in-Err.ensures.ended (explain c.args.file.now true) (explain_works c.args.file.now true)
+returns-in-Err-clause-ended g c = c.in-Err.ensures.ended (explain c.args.file.now true false) (explain_works c.args.file.now true false)
 
 pub returns-in-Ok-count_explanation_of-clause-ended : goal.returns-in-Ok-count_explanation_of-clause-ended
 returns-in-Ok-count_explanation_of-clause-ended g c =

@@ -7,7 +7,7 @@ use Rattle.expresso.proofs.Outcomes.{written_since}
 use Rattle.expresso.proofs.explain.explain_file.Goals as goal
 
 pub returns-in-Err-clause-ended : goal.returns-in-Err-clause-ended
-returns-in-Err-clause-ended g c = c.in-Err.ensures.ended (explain c.args.file.now false) (explain_works c.args.file.now false)
+returns-in-Err-clause-ended g c = c.in-Err.ensures.ended (explain c.args.file.now false false) (explain_works c.args.file.now false false)
 
 pub returns-in-Ok-explanation_of-clause-ended : goal.returns-in-Ok-explanation_of-clause-ended
 returns-in-Ok-explanation_of-clause-ended g c =

@@ -1,4 +1,4 @@
-use Rattle.std.proofs.Common.{true}
+use Rattle.std.proofs.Common.{true, false}
 use Rattle.report_tally.specs.CountedTexts.{counted_text}
 use Rattle.expresso.specs.declared.status.Status.TheVariants.{Done}
 use Rattle.front_command.specs.CommandLine.{report}
@@ -8,7 +8,7 @@ use Rattle.expresso.proofs.Outcomes.{written_since}
 use Rattle.expresso.proofs.report.report_counted.Goals as goal
 
 pub returns-in-Err-clause-ended : goal.returns-in-Err-clause-ended
-returns-in-Err-clause-ended g c = c.in-Err.ensures.ended (report c.args.file.now true) (report_works c.args.file.now true)
+returns-in-Err-clause-ended g c = c.in-Err.ensures.ended (report c.args.file.now true false) (report_works c.args.file.now true false)
 
 pub show_counted_report-requires : goal.show_counted_report-requires
 show_counted_report-requires g c = c.in-Ok-counting_of.ensures.by.table.backed

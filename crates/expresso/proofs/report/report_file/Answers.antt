@@ -3,7 +3,7 @@ use Rattle.expresso.proofs.Judged.{report_ended}
 use Rattle.expresso.proofs.report.report_file.Goals as goal
 
 pub returns-then-count-clause-ended : goal.returns-then-count-clause-ended
-returns-then-count-clause-ended g c = report_ended c.args.file.now c.args.count true _ _ _ _ _ c.if-count.true c.report_counted.ensures.ended
+returns-then-count-clause-ended g c = report_ended c.args.file.now c.args.count true false _ _ _ _ _ c.if-count.true c.report_counted.ensures.ended
 
 pub returns-else-count-clause-ended : goal.returns-else-count-clause-ended
-returns-else-count-clause-ended g c = report_ended c.args.file.now c.args.count false _ _ _ _ _ c.if-count.false c.report_placed.ensures.ended
+returns-else-count-clause-ended g c = report_ended c.args.file.now c.args.count false false _ _ _ _ _ c.if-count.false c.report_placed.ensures.ended

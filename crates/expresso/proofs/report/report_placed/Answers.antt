@@ -8,7 +8,7 @@ use Rattle.expresso.proofs.Outcomes.{written_since}
 use Rattle.expresso.proofs.report.report_placed.Goals as goal
 
 pub returns-in-Err-clause-ended : goal.returns-in-Err-clause-ended
-returns-in-Err-clause-ended g c = c.in-Err.ensures.ended (report c.args.file.now false) (report_works c.args.file.now false)
+returns-in-Err-clause-ended g c = c.in-Err.ensures.ended (report c.args.file.now false false) (report_works c.args.file.now false false)
 
 pub returns-in-Ok-placed_of-clause-ended : goal.returns-in-Ok-placed_of-clause-ended
 returns-in-Ok-placed_of-clause-ended g c =
