@@ -51,7 +51,7 @@ pub(crate) const COMMANDS: [CommandWords; 12] = [
         name: b"report",
         files: b"FILE",
         count: 1,
-        options: [b"--count", b"", b"", b""],
+        options: [b"--count", b"--fits", b"", b""],
     },
     CommandWords {
         name: b"recheck",
@@ -75,7 +75,7 @@ pub(crate) const COMMANDS: [CommandWords; 12] = [
         name: b"explain",
         files: b"FILE",
         count: 1,
-        options: [b"--count", b"", b"", b""],
+        options: [b"--count", b"--fits", b"", b""],
     },
     CommandWords {
         name: b"emit",
@@ -96,7 +96,7 @@ pub(crate) struct OptionWords {
 }
 
 /// The options.
-pub(crate) const OPTIONS: [OptionWords; 5] = [
+pub(crate) const OPTIONS: [OptionWords; 6] = [
     OptionWords {
         name: b"--seed",
         numbered: true,
@@ -131,5 +131,12 @@ pub(crate) const OPTIONS: [OptionWords; 5] = [
         least: 0,
         most: 0,
         said: b"`--count` has no number",
+    },
+    OptionWords {
+        name: b"--fits",
+        numbered: false,
+        least: 0,
+        most: 0,
+        said: b"`--fits` has no number",
     },
 ];
