@@ -103,11 +103,11 @@ expresso compile FILE [--count] [--relay]
 expresso simulate FILE CLIENTS [--seed N] [--spurious K] [--count] [--relay]
 expresso run FILE CLIENTS [--workers N] [--count] [--relay]
 expresso stress N [--workers N]
-expresso report FILE [--count]
+expresso report FILE [--count] [--fits]
 expresso recheck FILE REPORT
 expresso block FILE CLIENTS [--count]
 expresso audit FILE PLAN [--count]
-expresso explain FILE [--count]
+expresso explain FILE [--count] [--fits]
 expresso emit FILE
 """
 

@@ -7,6 +7,7 @@ the kept lines are true: each number that it assigns on the way, and its answer,
 too where this is not found: beyond the limits of formulas, or where only whole numbers, and no fractions, exclude it.
 """
 
+import itertools
 import pathlib
 import re
 import sys
@@ -16,14 +17,23 @@ from formulas import (CONSTANT, Beyond, Formula, at_most, combined, joined,  # n
                       negation, number, substituted)
 from monitors import read, read_monitor  # noqa: E402
 
-MOST_CUBES, MOST_ROWS = 1024, 4096
+MOST_CUBES, MOST_ROWS, MOST_PATHS = 1024, 4096, 64
 LEAST, BEYOND = -2 ** 63, 2 ** 63
 
 
 # ---- the question
 def outside(form):
     """The form is outside 64 bits."""
+    times = [each for place, each in form.items() if place != CONSTANT]
+    if abs(form.get(CONSTANT, 0)) > 2 ** 94 or min(times, default=0) < 2 - 2 ** 95:
+        raise Beyond
     return joined("any", [at_most(number(BEYOND), form), at_most(form, number(LEAST), 1)])
+
+
+def has_numbers(body):
+    """Some int is assigned."""
+    return any(has_numbers(one[1]) or has_numbers(one[2]) if len(one) == 3
+               else not isinstance(one[1], Formula) for one in body)
 
 
 def ways(body, end):
@@ -50,6 +60,21 @@ def bounds(variables):
             yield at_most(number(LEAST), form)
 
 
+def question(facts, monitor, block, end):
+    """True just where the block leaves 64 bits. There is none past the limits."""
+    if not has_numbers(block.body) and end == joined("any", []):
+        return end
+    own = [variable for _, variable, _ in monitor.fields]
+    hypotheses = [*facts, *bounds([*own, *block.own.values()]), block.guard]
+    try:
+        parts = list(itertools.islice(ways(block.body, end), MOST_PATHS + 1))
+        if len(parts) <= MOST_PATHS:
+            return joined("all", [*hypotheses, joined("any", parts)])
+    except Beyond:
+        pass
+    return None
+
+
 def scope_of(text, monitor):
     """The constants and the fields."""
     scope = {"true": joined("all", []), "false": joined("any", [])}
@@ -58,8 +83,9 @@ def scope_of(text, monitor):
     return scope | {name: variable for name, variable, _ in monitor.fields}
 
 
-def answers(text, scope, blocks):
+def answers(text, monitor):
     """Of each block the end of its paths: its answer is a number outside 64 bits."""
+    scope, blocks = scope_of(text, monitor), monitor.blocks
     bodies = re.findall(r"^( +)(?:method .*)?waituntil \(.*\) {\n((?:\1 .*\n)*)\1}$", text, re.M)
     for block, (_, body) in zip(blocks, bodies, strict=True):
         value = [read(shown, scope | block.own) for shown in re.findall(r"return (.*);", body)]
@@ -111,17 +137,14 @@ def has_none(rows):
     return any(form.get(CONSTANT, 0) > 0 for form in rows)
 
 
-def fits(hypotheses, block, end):
-    try:
-        question = [*hypotheses, block.guard, joined("any", list(ways(block.body, end)))]
-        tried = 0
-        for rows in cubes(question, [], {}):
-            tried += 1
-            if tried > MOST_CUBES or not has_none(rows):
-                return False
-        return True
-    except Beyond:
-        return False
+def fits(asked):
+    """The question of a block is true nowhere, as far as this is found."""
+    tried = 0
+    for rows in cubes([asked], [], {}) if asked else [[]]:
+        tried += 1
+        if tried > MOST_CUBES or not has_none(rows):
+            return False
+    return True
 
 
 def main(monitor, plan):
@@ -130,9 +153,8 @@ def main(monitor, plan):
     monitor = read_monitor(text)
     scope = scope_of(text, monitor)
     kept = [read(fact, scope) for fact in re.findall(r"^keep (.*)$", plan, re.M)]
-    own = [variable for _, variable, _ in monitor.fields]
-    for block, end in zip(monitor.blocks, answers(text, scope, monitor.blocks), strict=True):
-        if fits([*kept, *bounds([*own, *block.own.values()])], block, end):
+    for block, end in zip(monitor.blocks, answers(text, monitor), strict=True):
+        if fits(question(kept, monitor, block, end)):
             print(block.name)
 
 

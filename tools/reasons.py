@@ -2,8 +2,9 @@
 """`tools/reasons.py MONITOR EXPLAINED [PLACED]` checks each state that `expresso explain` shows.
 
 With PLACED, in which the placed plan stands first, EXPLAINED is of the counted one, as `explain
---count` prints it. It shares no code with the product. MONITOR is in canonical form, as `expresso
-check` prints it. It prints how many states it checked and how many reasons are not decided.
+--count` prints it. At its end may stand lines of blocks that may leave 64 bits, as with `--fits`.
+It shares no code with the product. MONITOR is in canonical form, as `expresso check` prints it. It
+prints how many states it checked and how many reasons are not decided.
 """
 
 import pathlib
@@ -11,6 +12,7 @@ import re
 import sys
 
 sys.dont_write_bytecode = True
+from fits import BEYOND as BEYOND_64, LEAST, answers  # noqa: E402
 from formulas import CONSTANT, Formula, forms_of, joined, negation  # noqa: E402
 from monitors import read_monitor  # noqa: E402
 from recheck import expect, read_plan  # noqa: E402
@@ -188,9 +190,50 @@ def checked(monitor, lines, things):
         yield found is not None
 
 
+# ---- blocks that may leave 64 bits
+def are_short(numbers):
+    return all(LEAST <= number < BEYOND_64 for number in numbers if not isinstance(number, bool))
+
+
+def leaves_64(body, state):
+    """Some number that is assigned on the way is outside 64 bits."""
+    for at, statement in enumerate(body):
+        if len(statement) == 3:
+            when, then, other = statement
+            side = then if is_true(when, state) else other
+            return leaves_64(side + body[at + 1:], state)
+        state = after([statement], state)
+        if not are_short([state[place_of(statement[0])]]):
+            return True
+    return False
+
+
+def check_fit(monitor, facts, block, end, line):
+    """Whether the line shows a state; that from this state within 64 bits the block leaves them."""
+    if line == f"why fits {block.name}: not decided":
+        return False
+    shown = re.fullmatch(f"why fits {re.escape(block.name)}{GIVEN}:(| .*)", line)
+    expect(shown)
+    own, first = shown.groups()
+    state = read_values(first, [(name, variable) for name, variable, _ in monitor.fields])
+    state |= read_values(own, list(block.own.items()))
+    expect(are_short(state.values()) and all(is_true(fact, state) for fact in facts + [block.guard]))
+    expect(leaves_64(block.body, state) or is_true(end, after(block.body, state)))
+    return True
+
+
+def check_fits(monitor, text, kept, lines):
+    """Lines of blocks in their order, each at most once."""
+    facts = [fact for _, fact in kept]
+    for block, end in zip(monitor.blocks, answers(text, monitor), strict=True):
+        if lines and re.match(rf"why fits {re.escape(block.name)}[(:]", lines[-1]):
+            yield check_fit(monitor, facts, block, end, lines.pop())
+
+
 def main(monitor, explained, placed=None):
     sys.setrecursionlimit(10 ** 6)
-    monitor = read_monitor(pathlib.Path(monitor).read_text("ascii"))
+    canonical = pathlib.Path(monitor).read_text("ascii")
+    monitor = read_monitor(canonical)
     text = pathlib.Path(explained).read_text("ascii")
     try:
         expect(text.endswith("\n"))
@@ -200,6 +243,7 @@ def main(monitor, explained, placed=None):
             first = pathlib.Path(placed).read_text("ascii").split("\n")[-2::-1]
             plan = *plan, read_plan(monitor, first)[1]
         shown = [*checked(monitor, lines, things_of(monitor, *plan))]
+        shown += check_fits(monitor, canonical, plan[0], lines)
         expect(not lines)
     except (LookupError, ValueError) as fault:
         print(f"refused: {explained}: {fault}")

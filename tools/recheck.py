@@ -10,12 +10,13 @@ import re
 import sys
 
 sys.dont_write_bytecode = True
+from fits import answers, question  # noqa: E402
 from formulas import (CONSTANT, Beyond, are_within, combined, forms_of, joined,  # noqa: E402
                       negated_query, negation, number, row)
 from monitors import WAITING, candidates_of, holds_at_start, read_monitor  # noqa: E402
 
 MOST_BYTES, CHAIN_BITS, FACTOR = 16777216, 128, (-2 ** 127, 2 ** 127)
-KINDS = "signal", "broadcast"
+KINDS, FIT = ("signal", "broadcast"), "proof fits "
 OLD = {WAITING: 1}  # what a counted form was worth before the block
 
 
@@ -163,6 +164,7 @@ def is_proved(line, text, formula):
 
 
 def verdict(monitor, text):
+    """The line of a report, how many lines it has, and what its plan keeps."""
     expect(text.endswith("\n"))
     lines = text.split("\n")[-2::-1]
     kept, kinds, notes = plan = read_plan(monitor, lines)
@@ -176,10 +178,44 @@ def verdict(monitor, text):
         proved.append(is_proved(lines.pop(), question, negated_question(*asked)))
     expect(not lines)
     if not is_lawful_at_sight(monitor, *plan):
-        return "rejected: plan"
+        line = "rejected: plan"
+    elif False in proved:
+        line = f"rejected: line {plan_lines + proved.index(False) + 1}"
+    else:
+        line = f"accepted {len(proved)} claims"
+    return line, plan_lines + len(proved), [fact for _, fact in kept]
+
+
+# ---- lines of blocks that keep 64 bits, after a report
+def parted(text):
+    """The text up to the first such line, and from there on."""
+    found = re.search(f"^{FIT}", text, re.M)
+    at = found.start() if found else len(text)
+    return text[:at], text[at:]
+
+
+def fitting(monitor, shown, kept, text):
+    """The blocks in order that have a line, and whether each certificate is accepted."""
+    expect(not text or text.endswith("\n"))
+    lines = text.split("\n")[-2::-1]
+    for block, end in zip(monitor.blocks, answers(shown, monitor), strict=True):
+        if lines and lines[-1].startswith(f"{FIT}{block.name}: "):
+            asked = question(kept, monitor, block, end)
+            yield block.name, is_proved(lines.pop(), f"fits {block.name}", asked)
+    expect(not lines)
+
+
+def judged(monitor, shown, text):
+    """What is said of the report, and of the lines after it."""
+    report, rest = parted(text)
+    line, count, kept = verdict(monitor, report)
+    if not line.startswith("accepted "):
+        return line
+    found = list(fitting(monitor, shown, kept, rest))
+    names, proved = [name for name, _ in found], [is_so for _, is_so in found]
     if False in proved:
-        return f"rejected: line {plan_lines + proved.index(False) + 1}"
-    return f"accepted {len(proved)} claims"
+        return f"rejected: line {count + proved.index(False) + 1}"
+    return f"{line}\nfits {', '.join(names)}" if names else line
 
 
 def main(monitor, report):
@@ -191,7 +227,7 @@ def main(monitor, report):
         return 3
     monitor = read_monitor(shown)
     try:
-        line = verdict(monitor, text)
+        line = judged(monitor, shown, text)
     except (LookupError, ValueError):
         line = f"refused: {report}: not a report"
     if len(text) > MOST_BYTES:

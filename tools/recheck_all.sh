@@ -1,7 +1,7 @@
 #!/usr/bin/env bash
 # Has the reports of each monitor of the program, of the placed and of the counted plan, and changed
-# ones, judged by the program and by the second reader, tools/recheck.py. Fails where they differ, or
-# where a whole report isn't accepted.
+# ones, judged by the program and by the second reader, tools/recheck.py, without and with lines of
+# blocks that keep 64 bits. Fails where they differ, or where a whole report isn't accepted.
 # Then each state that `explain` shows of the monitor is checked by tools/reasons.py.
 cd "$(dirname "$0")/../crates/expresso_cli" || exit 1
 program=$PWD/out/expresso_cli
@@ -35,6 +35,20 @@ reports() {
     judge - "$made/unanswered"
 }
 
+# fits [--count]: the report with lines of blocks that keep 64 bits, and changed ones
+fits() {
+    "$program" report "$monitor" --fits "$@" >"$made/fitting" || exit 1
+    sed '$d' "$made/fitting" >"$made/fewer"
+    sed '$p' "$made/fitting" >"$made/doubled"
+    sed 's/^\(proof fits .*: \).*/\1split 1 split 0/' "$made/fitting" >"$made/unfitted"
+    sed 's/^\(proof fits .*: split \)2 /\11 /' "$made/fitting" >"$made/malformed"
+    judge 0 "$made/fitting"
+    judge - "$made/fewer"
+    judge 1 "$made/doubled"
+    judge - "$made/unfitted"
+    judge - "$made/malformed"
+}
+
 # explain TEXT [PLACED]: the states that are shown hold, and with a line missing the text is refused
 explain() {
     sed '$d' "$1" >"$made/shorter"
@@ -47,15 +61,28 @@ explain() {
     fi
 }
 
+# leaves [--count PLACED]: the states that are shown of blocks that may leave 64 bits hold
+leaves() {
+    "$program" explain --fits "$monitor" ${1:+"$1"} >"$made/leaving" || exit 1
+    if ! "$reasons" "$made/monitor" "$made/leaving" "${@:2}" >>"$made/states"; then
+        echo "$monitor: what explain --fits shows is refused by the second reader"
+        exit 1
+    fi
+}
+
 count=0
 for monitor in data/*.mon data/derived/*.mon; do
     "$program" check "$monitor" >"$made/monitor" || exit 1
     reports
     reports --count
+    fits
+    fits --count
     "$program" explain "$monitor" >"$made/explained" || exit 1
     explain "$made/explained"
     "$program" explain --count "$monitor" >"$made/counted" || exit 1
     explain "$made/counted" "$made/explained"
+    leaves
+    leaves --count "$made/explained"
     count=$((count + 1))
 done
 echo "both readers agree on the reports of $count monitors; of their reasons" \
