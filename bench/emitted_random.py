@@ -3,30 +3,34 @@
 
   emitted_random.py MONITORS [SEED]     so many monitors; SEED is 1 where it is left out
 
-Each module is compiled by rustc without a warning, and called on one thread: what the calls answer must be what plain
-arithmetic over the monitor's text says. EXPRESSO=PROGRAM takes the modules of that program; without it those of the
-second printer, tools/emitted.py, under a plan that wakes everyone. It ends with status 1 where one differs.
+Each module is compiled by rustc in both editions without a warning, and called on one thread: what the calls answer
+must be what plain arithmetic over the monitor's text says. EXPRESSO=PROGRAM takes the modules of that program, which
+must be those of the second printer, tools/emitted.py; without it those of the second printer alone are taken, under a
+plan that wakes everyone. Which blocks keep 64 bits is what tools/fits.py finds. It ends with status 1 where one differs.
 """
 
+import math
 import os
 import pathlib
 import random
 import subprocess
 import sys
 import tempfile
+from collections import namedtuple
 
 sys.dont_write_bytecode = True
 ROOT = pathlib.Path(__file__).resolve().parent.parent
 sys.path.insert(0, str(ROOT / "tools"))
 
 from emitted import Source, module_text  # noqa: E402
+from fits import whole_blocks  # noqa: E402
 from trees import If, Return, read_tree  # noqa: E402
 
 WORDS = ("self Self _ __ Ok Err Some None state State next answer match match_ try startRead start_read x X y new lock "
          "wait drop narrow inner Inner copy asleep_x Overflow Mutex Option Refused Failed From i64 i128 std async dyn a__b can_x run_x x_ "
          "_x await clone Result try_x try_new_ box gen readX read_x").split()
 LEAST, MOST = -2 ** 63, 2 ** 63 - 1
-CALLS = 40
+CALLS, BATCH, LONG = 40, 20, 0.01
 SIGNS = "==", "!=", "<", "<=", ">", ">="
 
 
@@ -45,15 +49,20 @@ class Maker:
         known = self.constants + self.ints
         return self.dice.choice(known) if known and self.dice.random() < 0.8 else str(self.number())
 
+    def count(self, few):
+        """Few parts, and now and then so many that they are printed in pieces."""
+        return self.dice.randrange(60, 140) if self.dice.random() < LONG else self.dice.choice(few)
+
     def sum(self):
         """A sum, a product with a number, or an atom."""
-        parts = [self.part() for _ in range(self.dice.choice([1, 1, 2, 3]))]
+        parts = [self.part() for _ in range(self.count([1, 1, 2, 3]))]
         return "".join(part if not k else f" {self.dice.choice('+-')} {part}" for k, part in enumerate(parts))
 
     def part(self):
         kind = self.dice.random()
         if kind < 0.2:
-            return f"{self.dice.randrange(9)} * {self.atom()}"
+            count = self.count([1])
+            return "".join(f"{self.dice.randrange(9 if count == 1 else 2)} * " for _ in range(count)) + self.atom()
         if kind < 0.3:
             return f"-{self.atom()}"
         return f"-({self.sum()})" if kind < 0.35 else self.atom()
@@ -62,7 +71,7 @@ class Maker:
         kind = self.dice.random()
         if deep and kind < 0.3:
             sign = self.dice.choice(["&&", "||"])
-            return f" {sign} ".join(self.within(self.truth(deep - 1)) for _ in range(2))
+            return f" {sign} ".join(self.within(self.truth(deep - 1)) for _ in range(self.count([2])))
         if kind < 0.4:
             return f"!({self.truth(0)})"
         if kind < 0.6 and self.flags:
@@ -145,13 +154,15 @@ def value(expression, known):
     if sign == "+":
         return sum((-1 if one == "-" else 1) * value(part, known) for one, part in parts)
     held = [value(part, known) for part in parts]
+    if sign == "*":
+        return math.prod(held)
     if sign in ("minus", "not"):
         return -held[0] if sign == "minus" else not held[0]
     if sign in ("&&", "||"):
         return all(held) if sign == "&&" else any(held)
     left, right = held
-    return {"*": left * right, "==": left == right, "!=": left != right, "<": left < right, "<=": left <= right,
-            ">": left > right, ">=": left >= right}[sign]
+    return {"==": left == right, "!=": left != right, "<": left < right, "<=": left <= right, ">": left > right,
+            ">=": left >= right}[sign]
 
 
 def stored(number):
@@ -221,6 +232,10 @@ def calls_of(source, dice):
 
 
 # ---- the comparison
+# a monitor's module, the statements that call it, and the lines that these should print
+Case = namedtuple("Case", "number text kind module lines wanted")
+
+
 def everyone(text):
     """A plan by which each block wakes all."""
     count = len(Source(text, "").monitor.conditions)
@@ -229,58 +244,85 @@ def everyone(text):
     return "".join(f"block m: {notes}\n" for _ in range(blocks))
 
 
-def printed(program, text, work):
-    """The source and its module, or None where the program refuses the text."""
-    if program is None:
-        source = Source(text, everyone(text))
-        return source, module_text(source)
-    (work / "m.mon").write_text(text)
+def answers_of(program, path):
+    """The canonical form, the plan and the module, or None where the program refuses the text."""
     texts = []
-    for command in "check", "compile", "emit":
-        made = subprocess.run([program, command, work / "m.mon"], capture_output=True, text=True, check=False)
+    for command in ["check"], ["compile", "--count"], ["emit"]:
+        made = subprocess.run([program, *command, path], capture_output=True, text=True, check=False)
         if made.returncode:
             return None
         texts.append(made.stdout)
-    return Source(*texts[:2]), texts[2]
+    return texts
 
 
-def compiled(words):
-    return subprocess.run(["rustc", "--edition", "2021", *words], check=False).returncode == 0
+def case_of(program, seed, number, work):
+    """A made-up monitor, or None where the program refuses its text."""
+    dice = random.Random(f"{seed}.{number}")
+    text, module = Maker(dice).monitor(), None
+    plan = everyone(text)
+    if program:
+        (work / "m.mon").write_text(text)
+        answered = answers_of(program, work / "m.mon")
+        if answered is None:
+            return None
+        text, plan, module = answered
+    source = Source(text, plan, whole_blocks(text, plan))
+    if module not in (None, module_text(source)):
+        sys.exit(f"{text}monitor {number} of seed {seed}: the second printer prints another")
+    return Case(number, text, source.names.type_name(), module_text(source), *calls_of(source, dice))
 
 
-def judge(program, dice, work):
-    """Whether a module answers as the reference, or None where its text is refused."""
-    text = Maker(dice).monitor()
-    made = printed(program, text, work)
-    if made is None:
-        return None
-    source, module = made
-    lines, wanted = calls_of(source, dice)
-    (work / "m.rs").write_text(module)
-    (work / "main.rs").write_text(f"mod m;\n\nfn main() {{\n    let monitor = m::{source.names.type_name()}::new();\n"
-                                  + "\n".join(lines) + "\n}\n")
-    is_good = compiled(["-D", "warnings", "--crate-type", "lib", "-o", work / "m.rlib", work / "m.rs"])
-    is_good = is_good and compiled(["-A", "warnings", "-C", "debug-assertions", "-o", work / "main", work / "main.rs"])
-    if is_good:
-        got = subprocess.run([work / "main"], capture_output=True, text=True, timeout=60, check=False)
-        is_good = got.returncode == 0 and got.stdout.split("\n")[:-1] == wanted
-    if not is_good:
-        print(text)
-    return is_good, len(wanted), wanted.count("Err(Overflow)")
+def compiled(*words):
+    return subprocess.run(["rustc", *words], check=False).returncode == 0
+
+
+def compiles(work, edition):
+    """The modules have no warning, as a library's."""
+    return compiled("-D", "warnings", "-W", "missing_docs", "--edition", edition, "--crate-type", "lib", "--emit",
+                    "metadata", "-o", work / "lib.rmeta", work / "lib.rs")
+
+
+def agree(cases, work):
+    """The modules compile, and answer as the reference."""
+    library, program = ["//! Modules.\n"], []
+    for place, case in enumerate(cases):
+        (work / f"m{place}.rs").write_text(case.module)
+        library.append(f"/// It.\npub mod m{place};\n")
+        program.append(f"mod m{place};\n\nfn call{place}() {{\n    let monitor = m{place}::{case.kind}::new();\n"
+                       + "\n".join(case.lines) + "\n}\n")
+    calls = "".join(f"    call{place}();\n" for place in range(len(cases)))
+    (work / "lib.rs").write_text("\n".join(library))
+    (work / "main.rs").write_text("\n".join([*program, f"fn main() {{\n{calls}}}\n"]))
+    if not compiles(work, "2021") or not compiles(work, "2024"):
+        return False
+    if not compiled("--edition", "2021", "-A", "warnings", "-C", "debug-assertions", "-o", work / "main", work / "main.rs"):
+        return False
+    got = subprocess.run([work / "main"], capture_output=True, text=True, timeout=60, check=False)
+    return got.returncode == 0 and got.stdout.split("\n")[:-1] == [line for case in cases for line in case.wanted]
+
+
+def judge(cases, seed, work):
+    """Many at once; one by one where some one differs."""
+    if agree(cases, work):
+        return
+    for case in cases:
+        if not agree([case], work):
+            sys.exit(f"{case.text}monitor {case.number} of seed {seed} differs")
+    sys.exit(f"monitors {cases[0].number} to {cases[-1].number} of seed {seed} differ, but none alone")
 
 
 def main(count, seed):
-    program, refused, calls, overflows = os.environ.get("EXPRESSO"), 0, 0, 0
-    for number in range(count):
-        with tempfile.TemporaryDirectory() as work:
-            found = judge(program, random.Random(f"{seed}.{number}"), pathlib.Path(work))
-        if found is None:
-            refused += 1
-        elif not found[0]:
-            sys.exit(f"monitor {number} of seed {seed} differs")
-        else:
-            calls, overflows = calls + found[1], overflows + found[2]
-    print(f"{count - refused} monitors of {count}, {calls} calls, of which {overflows} overflow: as the reference")
+    program, taken, lines = os.environ.get("EXPRESSO"), 0, []
+    for first in range(0, count, BATCH):
+        with tempfile.TemporaryDirectory() as folder:
+            work = pathlib.Path(folder)
+            cases = [case_of(program, seed, number, work) for number in range(first, min(first + BATCH, count))]
+            cases = [case for case in cases if case]
+            judge(cases, seed, work)
+        taken += len(cases)
+        lines += [line for case in cases for line in case.wanted]
+    overflows = lines.count("Err(Overflow)")
+    print(f"{taken} monitors of {count}, {len(lines)} calls, of which {overflows} overflow: as the reference")
 
 
 if __name__ == "__main__":

@@ -147,15 +147,21 @@ def fits(asked):
     return True
 
 
-def main(monitor, plan):
-    sys.setrecursionlimit(10 ** 6)
-    text, plan = (pathlib.Path(one).read_text("ascii") for one in (monitor, plan))
+def whole_blocks(text, plan):
+    """The names of the blocks that keep 64 bits."""
     monitor = read_monitor(text)
     scope = scope_of(text, monitor)
     kept = [read(fact, scope) for fact in re.findall(r"^keep (.*)$", plan, re.M)]
-    for block, end in zip(monitor.blocks, answers(text, monitor), strict=True):
-        if fits(question(kept, monitor, block, end)):
-            print(block.name)
+    return [block.name
+            for block, end in zip(monitor.blocks, answers(text, monitor), strict=True)
+            if fits(question(kept, monitor, block, end))]
+
+
+def main(monitor, plan):
+    sys.setrecursionlimit(10 ** 6)
+    text, plan = (pathlib.Path(one).read_text("ascii") for one in (monitor, plan))
+    for name in whole_blocks(text, plan):
+        print(name)
 
 
 if __name__ == "__main__":
