@@ -17,7 +17,6 @@ from monitors import WAITING, candidates_of, holds_at_start, read_monitor  # noq
 
 MOST_BYTES, CHAIN_BITS, FACTOR = 16777216, 128, (-2 ** 127, 2 ** 127)
 KINDS, FIT = ("signal", "broadcast"), "proof fits "
-OLD = {WAITING: 1}  # what a counted form was worth before the block
 
 
 # ---- plans: what is kept has a text and a fact; a block's notes lead from conditions to kind, test
@@ -39,33 +38,64 @@ def claims_of(monitor, kept, kinds, notes):
 
 
 # ---- questions on conditions that are counted
-def measure_of(guard):
+def without_row(formula, row):
+    """The formula with its row of this number, from 1, taken for false, and the number less its
+    rows. A part that is then true nowhere is an any without parts, and is left out of an any."""
+    if formula.kind in ("row", "flag"):
+        is_row, never = formula.kind == "row", joined("any", [])
+        return never if is_row and row == 1 else formula, row - is_row
+    parts, never = [], joined("any", [])
+    for part in formula.value:
+        part, row = without_row(part, row)
+        parts.append(part)
+    if formula.kind == "all":
+        return never if never in parts else joined("all", parts), row
+    return joined("any", [part for part in parts if part != never]), row
+
+
+def measure_of(guard, row):
     """By which form the clients are counted that may pass, and where any number may."""
-    forms, parts = forms_of(guard), guard.value if guard.kind == "any" else []
-    free = joined("any", [part for part in parts if part.kind != "row"])
-    return (forms[0] if forms else {}), free
+    return forms_of(guard)[row - 1], without_row(guard, row)[0]
 
 
-def question_query(kept, kind, block, condition, takes):
+def old_of(form):
+    """What the form was worth before the block, or that with its sign turned, by its first term."""
+    first = min(form.keys() - {CONSTANT}, default=CONSTANT)
+    return {WAITING: -1 if first != CONSTANT and form[first] < 0 else 1}
+
+
+def question_query(kept, kind, block, condition, takes, row_number):
     """The hypotheses, body and post formula."""
-    facts, (form, free) = [fact for _, fact in kept] + [block.guard], measure_of(condition.waiting)
-    below = combined(1, OLD, -1, form)
+    facts = [fact for _, fact in kept] + [block.guard]
+    form, free = measure_of(condition.waiting, row_number)
+    old = old_of(form)
+    below = combined(1, old, -1, form)
     if kind == "first":
         facts, owed = facts + [condition.failing], [row(combined(1, {}, -1, form))]
     else:
-        facts += [condition.waiting, negation(free), row(combined(1, form, -1, OLD)), row(below)]
+        facts += [condition.waiting, negation(free), row(combined(1, form, -1, old)), row(below)]
         owed = [row(form), row(combined(1, below, 1, number(takes - (kind == "gives"))))]
     still = joined("all", [negation(free)] + owed)
     return facts, block.body, joined("any", [condition.failing, still])
 
 
-def questions_of(monitor, kept, notes, counted):
-    """In their order: the text, and the arguments of the query."""
-    for q, (w, on) in itertools.product(counted, [*zip(monitor.blocks, notes)]):
+def row_named(monitor, q, lines):
+    """By which row the next line counts the condition: the first, where it names none."""
+    named = re.match(rf"proof \w+ {q} \(row ([0-9]+)\) ", lines[-1]) if lines else None
+    condition, row_number = monitor.conditions[q - 1], int(named[1]) if named else 1
+    expect(not condition.reads_inputs and 0 < row_number <= len(forms_of(condition.waiting)))
+    return row_number
+
+
+def questions_of(monitor, kept, notes, q, row_number):
+    """On a counted condition, in their order: the text, and the arguments of the query."""
+    mark = f"(row {row_number}) " if row_number > 1 else ""
+    for w, on in zip(monitor.blocks, notes):
         way = on[q][0] if q in on else "none"
         for kind in {"none": ["counts"], "signal": ["gives", "first"], "broadcast": []}[way]:
             condition = monitor.conditions[q - 1]
-            yield f"{kind} {q} {w.name}", (kept, kind, w, condition, w.condition == q)
+            asked = kept, kind, w, condition, w.condition == q, row_number
+            yield f"{kind} {q} {mark}{w.name}", asked
 
 
 def negated_question(*asked):
@@ -174,8 +204,10 @@ def verdict(monitor, text):
     for claim, *query in claims_of(monitor, *plan):
         if not any(claim.startswith(f"one {q} ") for q in counted):
             proved.append(is_proved(lines.pop(), claim, negated_query(*query)))
-    for question, asked in questions_of(monitor, kept, notes, counted):
-        proved.append(is_proved(lines.pop(), question, negated_question(*asked)))
+    for q in counted:
+        row_number = row_named(monitor, q, lines)
+        for question, asked in questions_of(monitor, kept, notes, q, row_number):
+            proved.append(is_proved(lines.pop(), question, negated_question(*asked)))
     expect(not lines)
     if not is_lawful_at_sight(monitor, *plan):
         line = "rejected: plan"
