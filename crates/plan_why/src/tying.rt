@@ -1,8 +1,9 @@
 //! Failures of queries that tie a place to a form.
 //!
 //! A query on a counted condition speaks of what a form was worth before the block, at a place of
-//! its own that two hypotheses tie to the form (`machine_events`, `specs/CountClaims`). With the
-//! form in that place the rows have one variable less, so more of them are difference rows.
+//! its own that two hypotheses tie to the form, or to the form with its sign turned
+//! (`machine_events`, `specs/CountClaims`). With the form in that place the rows have one variable
+//! less, so more of them are difference rows.
 
 ghost use Rattle.std.specs.Prelude.{◌≡◌, ◌<◌, IfOk, IfSome, length};
 ghost use Rattle.logic_linear.specs.Truth.{value_of};
@@ -23,7 +24,7 @@ use std::alloc::{AllocError, Global};
 /// The place of what the form was worth.
 const OLD: u32 = 32;
 
-/// The form, where the row says that it is at most what it was worth.
+/// The form, where the row says that it is at most what stands at the place.
 fn form_in(alloc: Global, row: &Lin) -> Result<Option<Lin>, AllocError> {
     let constant = row.constant();
     let mut terms = Vec::from_slice(alloc, row.terms())?;
@@ -36,16 +37,25 @@ fn form_in(alloc: Global, row: &Lin) -> Result<Option<Lin>, AllocError> {
     Ok(Some(Lin::of(terms, constant)))
 }
 
-/// The form that the last two hypotheses tie: the former says that it is at most what it was worth.
-fn tied_form(alloc: Global, hyps: &[Formula]) -> Result<Option<Lin>, AllocError> {
-    if hyps.len() < 2 {
-        return Ok(None);
-    }
-    match &hyps[hyps.len() - 2] {
+/// The same of a hypothesis.
+fn form_of(alloc: Global, hyp: &Formula) -> Result<Option<Lin>, AllocError> {
+    match hyp {
         Formula::Row(row) => form_in(alloc, row),
         Formula::Flag { .. } => Ok(None),
         Formula::All(_) => Ok(None),
         Formula::Any(_) => Ok(None),
+    }
+}
+
+/// The form that the last two hypotheses tie to the place: the one or the other says that it is at
+/// most what stands there.
+fn tied_form(alloc: Global, hyps: &[Formula]) -> Result<Option<Lin>, AllocError> {
+    if hyps.len() < 2 {
+        return Ok(None);
+    }
+    match form_of(alloc, &hyps[hyps.len() - 2])? {
+        Some(form) => Ok(Some(form)),
+        None => form_of(alloc, &hyps[hyps.len() - 1]),
     }
 }
 
