@@ -90,7 +90,7 @@ fn line_slip(
         let same = same_front(line, expected);
         let at = start.saturating_add(same);
         if same >= expected.len() {
-            return Ok(Some(saying(alloc, at, b"the line is to end here")));
+            return Ok(Some(saying(alloc, at, said_beyond(from(line, same)))));
         }
         return Ok(Some(expecting(alloc, at, from(expected, same))?));
     }
@@ -98,6 +98,17 @@ fn line_slip(
         return Ok(Some(saying(alloc, bytes.len(), b"a line feed is missing at the end")));
     }
     Ok(None)
+}
+
+/// What is said of bytes that stand behind a line.
+fn said_beyond(rest: &[u8]) -> &'static [u8] {
+    if rest.ends_with(b"\r") {
+        b"a line ends in a line feed alone, with no carriage return"
+    } else if rest.iter().all(|byte| *byte == b' ') {
+        b"no blank stands at the end of a line"
+    } else {
+        b"the line is to end here"
+    }
 }
 
 /// What is wrong of the lines of kept facts, and where what follows them begins.
@@ -240,8 +251,19 @@ fn block_slip(
 /// What is wrong of what follows the lines of a plan.
 fn last_slip(alloc: Global, bytes: &[u8], start: usize) -> Option<Slip> {
     if start < bytes.len() {
-        Some(saying(alloc, start, b"the plan is to end here"))
+        Some(saying(alloc, start, said_after(from(bytes, start))))
     } else {
         None
+    }
+}
+
+/// What is said of bytes that stand behind a plan.
+fn said_after(rest: &[u8]) -> &'static [u8] {
+    if rest.starts_with(b"proof ") {
+        b"the plan is to end here: a report is for `recheck`"
+    } else if rest.starts_with(b"why ") {
+        b"the plan is to end here: take it from `compile`, not from `explain`"
+    } else {
+        b"the plan is to end here"
     }
 }

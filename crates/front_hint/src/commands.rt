@@ -85,6 +85,53 @@ pub(crate) const COMMANDS: [CommandWords; 12] = [
     },
 ];
 
+/// What is meant by words that are no command.
+pub(crate) const OTHER_COMMANDS: [(&[u8], &[u8]); 14] = [
+    (b"build", b"compile"),
+    (b"plan", b"compile"),
+    (b"start", b"run"),
+    (b"exec", b"run"),
+    (b"execute", b"run"),
+    (b"test", b"check"),
+    (b"lint", b"check"),
+    (b"fmt", b"check"),
+    (b"format", b"check"),
+    (b"verify", b"recheck"),
+    (b"prove", b"report"),
+    (b"why", b"explain"),
+    (b"generate", b"emit"),
+    (b"export", b"emit"),
+];
+
+/// What is said of words that are no option.
+pub(crate) const OTHER_OPTIONS: [(&[u8], &[u8]); 7] = [
+    (
+        b"--threads",
+        b"no option `--threads`: `--workers` says how many threads run the clients",
+    ),
+    (
+        b"--jobs",
+        b"no option `--jobs`: `--workers` says how many threads run the clients",
+    ),
+    (
+        b"-j",
+        b"no option `-j`: `--workers` says how many threads run the clients",
+    ),
+    (b"-n", b"no option `-n`: options are long, as `--workers`"),
+    (
+        b"-o",
+        b"no option `-o`: all is printed on standard output, so write `> FILE`",
+    ),
+    (
+        b"--out",
+        b"no option `--out`: all is printed on standard output, so write `> FILE`",
+    ),
+    (
+        b"--output",
+        b"no option `--output`: all is printed on standard output, so write `> FILE`",
+    ),
+];
+
 /// An option: its name, and of one with a number which numbers there are, and what is said of it.
 #[derive(Clone, Copy)]
 pub(crate) struct OptionWords {

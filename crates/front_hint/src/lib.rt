@@ -10,10 +10,12 @@ mod commands;
 mod hint;
 mod near;
 mod parts;
+mod said;
 mod shown;
 mod words;
 
 pub use hint::{Hint, write_hint, write_hint_if};
 pub use near::{is, is_near};
+pub use said::{said_at_front, said_of};
 pub use shown::write_caret;
 pub use words::words_hint;

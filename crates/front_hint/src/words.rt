@@ -1,8 +1,11 @@
 //! Hints of words that are no command.
 
-use crate::commands::{COMMANDS, CommandWords, OPTIONS, OptionWords};
+use crate::commands::{
+    COMMANDS, CommandWords, OPTIONS, OTHER_COMMANDS, OTHER_OPTIONS, OptionWords,
+};
 use crate::hint::Hint;
 use crate::near::{is, is_near};
+use crate::said::said_of;
 use lang_base::is_digit;
 
 /// The most digits of a number among words.
@@ -16,12 +19,31 @@ pub fn words_hint<'a>(words: &'a [String]) -> Option<Hint<'a>> {
         return None;
     }
     let Some(name) = first_value(given) else {
-        return Some(Hint::of(b"a command is missing"));
+        return Some(without_command(given));
     };
     match command_named(name) {
         Some(command) => options_hint(command, given).or(values_hint(command, given)),
         None => Some(no_command(name)),
     }
+}
+
+/// Words with no name of a command among them.
+fn without_command<'a>(given: &'a [String]) -> Hint<'a> {
+    match unknown_option(given) {
+        Some(word) => no_option(name_in(word)),
+        None => Hint::of(b"a command is missing"),
+    }
+}
+
+/// The first word that looks like an option and is none.
+fn unknown_option<'a>(given: &'a [String]) -> Option<&'a [u8]> {
+    for word in given {
+        let word = word.as_bytes();
+        if is_option(word) && option_named(word).is_none() {
+            return Some(word);
+        }
+    }
+    None
 }
 
 /// Whether the word asks for help.
@@ -31,7 +53,15 @@ fn is_help(word: &[u8]) -> bool {
 
 /// Whether a word is an option, or looks like one.
 fn is_option(word: &[u8]) -> bool {
-    word.starts_with(b"-") && word.len() > 1
+    match word.get(1) {
+        Some(next) => is_dashed(word) || (word.starts_with(b"-") && !is_digit(*next)),
+        None => false,
+    }
+}
+
+/// Whether a word begins with a dash that is no hyphen, as text programs write it.
+fn is_dashed(word: &[u8]) -> bool {
+    word.starts_with(b"\xE2\x80\x93") || word.starts_with(b"\xE2\x80\x94")
 }
 
 /// What stands ahead of the first `=` of a word.
@@ -73,12 +103,38 @@ fn near_command<'a>(name: &'a [u8]) -> Option<&'a [u8]> {
     Some(found.name)
 }
 
+/// The first name of a command that begins so.
+fn begun_command<'a>(name: &'a [u8]) -> Option<&'a [u8]> {
+    if name.len() < 2 {
+        return None;
+    }
+    let found = COMMANDS
+        .iter()
+        .find(|command| command.name.starts_with(name))?;
+    Some(found.name)
+}
+
+/// The command that is likely meant by a name of none.
+fn meant_command<'a>(name: &'a [u8]) -> Option<&'a [u8]> {
+    near_command(name)
+        .or(begun_command(name))
+        .or(said_of(&OTHER_COMMANDS, name))
+}
+
 /// A name of no command.
 fn no_command<'a>(name: &'a [u8]) -> Hint<'a> {
-    match near_command(name) {
-        Some(near) => other_command(name, near),
+    if is_file_name(name) {
+        return Hint::quoting(b"a command is missing ahead of ", name, b"");
+    }
+    match meant_command(name) {
+        Some(meant) => other_command(name, meant),
         None => Hint::quoting(b"no command ", name, b""),
     }
+}
+
+/// Whether a word looks like the name of a file.
+fn is_file_name(word: &[u8]) -> bool {
+    word.ends_with(b".mon") || word.ends_with(b".cl") || word.iter().any(|byte| *byte == b'/')
 }
 
 /// A name of no command, near one that is.
@@ -156,20 +212,34 @@ fn option_hint<'a>(
     let Some(option) = option_named(word) else {
         return Some(no_option(name_in(word)));
     };
+    if is(command.name, "emit") && is(option.name, "--count") {
+        return Some(Hint::of(b"`emit` has no `--count`: it always counts"));
+    }
     if !has_option(command, option.name) {
         return Some(Hint::of_two(b"`", command.name, b"` has no `", option.name, b"`"));
     }
     number_hint(option, number_in(word), next)
 }
 
-/// The first name of an option that differs in one letter.
+/// The first name of an option that is likely meant by a word.
 fn near_option<'a>(name: &'a [u8]) -> Option<&'a [u8]> {
-    let found = OPTIONS.iter().find(|option| is_near(option.name, name))?;
+    let found = OPTIONS.iter().find(|option| is_meant(option.name, name))?;
     Some(found.name)
+}
+
+/// Whether a name differs from a word in one letter, or begins with it.
+fn is_meant(name: &[u8], word: &[u8]) -> bool {
+    is_near(name, word) || (word.len() > 3 && name.starts_with(word))
 }
 
 /// A name of no option.
 fn no_option<'a>(name: &'a [u8]) -> Hint<'a> {
+    if is_dashed(name) {
+        return Hint::quoting(b"an option begins with two hyphens, and not as ", name, b"");
+    }
+    if let Some(said) = said_of(&OTHER_OPTIONS, name) {
+        return Hint::of(said);
+    }
     match near_option(name) {
         Some(near) => other_option(name, near),
         None => Hint::quoting(b"no option ", name, b""),

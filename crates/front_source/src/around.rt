@@ -98,7 +98,7 @@ impl<'a> Around<'a> {
     }
 
     /// How many opening signs before the place are not closed.
-    pub(crate) fn open(&self, opening: TokenKind, closing: TokenKind) -> u64 {
+    fn open(&self, opening: TokenKind, closing: TokenKind) -> u64 {
         let mut open: u64 = 0;
         for token in self.tokens.iter().take(self.index) {
             if token.kind == opening {
@@ -108,6 +108,27 @@ impl<'a> Around<'a> {
             }
         }
         open
+    }
+
+    /// How many braces before the place are not closed.
+    pub(crate) fn braces(&self) -> u64 {
+        self.open(TokenKind::OpenBrace, TokenKind::CloseBrace)
+    }
+
+    /// How many parentheses before the place are not closed.
+    pub(crate) fn parens(&self) -> u64 {
+        self.open(TokenKind::OpenParen, TokenKind::CloseParen)
+    }
+
+    /// Whether the place is right behind the token before it.
+    pub(crate) fn touches(&self) -> bool {
+        match self.index.checked_sub(1) {
+            Some(index) => match self.tokens.get(index) {
+                Some(token) => token.at.saturating_add(token.len) == self.at,
+                None => false,
+            },
+            None => false,
+        }
     }
 
     /// The index of the parenthesis that is closed by the token before the place, or of the token

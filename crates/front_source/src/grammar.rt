@@ -1,234 +1,37 @@
-//! Hints of places where the grammar stops.
+//! Hints of places where the grammar of monitors stops.
 
 use crate::around::Around;
-use crate::said::{said_at_front, said_of};
-use front_hint::{Hint, is};
-use lang_base::KEYWORDS;
+use crate::foreign::foreign;
+use front_hint::{Hint, is, is_near};
+use lang_base::{KEYWORDS, is_word_byte};
 use lang_tokens::TokenKind;
-
-/// What is said of signs that other languages have.
-const WRONG_SIGNS: [(&[u8], &[u8]); 10] = [
-    (b"+=", b"there is no `+=`: write `count = count + 1;`"),
-    (b"-=", b"there is no `-=`: write `count = count - 1;`"),
-    (b"*=", b"there is no `*=`: write `count = count * 2;`"),
-    (b"++", b"there is no `++`: write `count = count + 1;`"),
-    (b"--", b"there is no `--`: write `count = count - 1;`"),
-    (b"=>", b"at least is written `>=`"),
-    (b"=<", b"at most is written `<=`"),
-    (b"=!", b"differs is written `!=`"),
-    (
-        b"->",
-        b"nobody declares what a method answers: `return` says it",
-    ),
-    (
-        b"*/",
-        b"a comment begins with `//` and ends with its line: there is no `/* */`",
-    ),
-];
-
-/// What is said of words that other languages have.
-const WRONG_WORDS: [(&[u8], &[u8]); 59] = [
-    (
-        b"while",
-        b"there is no `while`: a call waits by `waituntil`, and a client repeats",
-    ),
-    (
-        b"for",
-        b"there is no `for`: a client repeats by `repeat 3 { .. }`",
-    ),
-    (
-        b"loop",
-        b"there is no `loop`: a client repeats by `repeat 3 { .. }`",
-    ),
-    (
-        b"do",
-        b"there is no `do`: a client repeats by `repeat 3 { .. }`",
-    ),
-    (
-        b"switch",
-        b"there is no `switch`: write `if (..) { .. } else { .. }`",
-    ),
-    (
-        b"match",
-        b"there is no `match`: write `if (..) { .. } else { .. }`",
-    ),
-    (b"i8", b"a number's type is `int`"),
-    (b"i16", b"a number's type is `int`"),
-    (b"i32", b"a number's type is `int`"),
-    (b"i64", b"a number's type is `int`"),
-    (b"u8", b"a number's type is `int`"),
-    (b"u16", b"a number's type is `int`"),
-    (b"u32", b"a number's type is `int`"),
-    (b"u64", b"a number's type is `int`"),
-    (b"isize", b"a number's type is `int`"),
-    (b"usize", b"a number's type is `int`"),
-    (b"long", b"a number's type is `int`"),
-    (b"short", b"a number's type is `int`"),
-    (b"unsigned", b"a number's type is `int`"),
-    (b"integer", b"a number's type is `int`"),
-    (b"Integer", b"a number's type is `int`"),
-    (b"float", b"a number's type is `int`: numbers are whole"),
-    (b"double", b"a number's type is `int`: numbers are whole"),
-    (b"boolean", b"a truth value's type is `bool`"),
-    (b"Boolean", b"a truth value's type is `bool`"),
-    (
-        b"let",
-        b"a field is written `int count = 0;`, a local `local int count = 0;`",
-    ),
-    (
-        b"var",
-        b"a field is written `int count = 0;`, a local `local int count = 0;`",
-    ),
-    (
-        b"mut",
-        b"a field is written `int count = 0;`: all fields may be assigned",
-    ),
-    (
-        b"fn",
-        b"a method is written `method put() waituntil (true) { .. }`",
-    ),
-    (
-        b"void",
-        b"a method is written `method put() waituntil (true) { .. }`",
-    ),
-    (
-        b"def",
-        b"a method is written `method put() waituntil (true) { .. }`",
-    ),
-    (
-        b"function",
-        b"a method is written `method put() waituntil (true) { .. }`",
-    ),
-    (b"and", b"and is written `&&`"),
-    (b"or", b"or is written `||`"),
-    (b"not", b"not is written `!`"),
-    (
-        b"signal",
-        b"nobody writes signals: Expresso finds whom a body has to wake",
-    ),
-    (
-        b"broadcast",
-        b"nobody writes signals: Expresso finds whom a body has to wake",
-    ),
-    (
-        b"notify",
-        b"nobody writes signals: Expresso finds whom a body has to wake",
-    ),
-    (
-        b"notifyAll",
-        b"nobody writes signals: Expresso finds whom a body has to wake",
-    ),
-    (
-        b"notify_one",
-        b"nobody writes signals: Expresso finds whom a body has to wake",
-    ),
-    (
-        b"notify_all",
-        b"nobody writes signals: Expresso finds whom a body has to wake",
-    ),
-    (
-        b"private",
-        b"nothing stands ahead of a field's type or of `method`",
-    ),
-    (
-        b"public",
-        b"nothing stands ahead of a field's type or of `method`",
-    ),
-    (
-        b"protected",
-        b"nothing stands ahead of a field's type or of `method`",
-    ),
-    (
-        b"static",
-        b"nothing stands ahead of a field's type or of `method`",
-    ),
-    (
-        b"final",
-        b"nothing stands ahead of a field's type or of `method`",
-    ),
-    (
-        b"pub",
-        b"nothing stands ahead of a field's type or of `method`",
-    ),
-    (
-        b"synchronized",
-        b"nothing stands ahead of a field's type or of `method`",
-    ),
-    (
-        b"elif",
-        b"there is no `elif`: write `else { if (..) { .. } }`",
-    ),
-    (
-        b"elseif",
-        b"there is no `elseif`: write `else { if (..) { .. } }`",
-    ),
-    (
-        b"elsif",
-        b"there is no `elsif`: write `else { if (..) { .. } }`",
-    ),
-    (b"pass", b"a body that does nothing is empty: `{ }`"),
-    (
-        b"throw",
-        b"there are no exceptions: a call waits until its guard holds",
-    ),
-    (
-        b"raise",
-        b"there are no exceptions: a call waits until its guard holds",
-    ),
-    (
-        b"waitUntil",
-        b"a guard is written `waituntil (..)`, in small letters",
-    ),
-    (
-        b"WaitUntil",
-        b"a guard is written `waituntil (..)`, in small letters",
-    ),
-    (
-        b"wait_until",
-        b"a guard is written `waituntil (..)`, in small letters",
-    ),
-    (
-        b"when",
-        b"a guard is written `waituntil (..)`, in small letters",
-    ),
-    (
-        b"wait",
-        b"a call waits by its guard: `waituntil (..) { .. }`",
-    ),
-];
 
 /// What is likely wrong where the grammar of monitors stops.
 pub(crate) fn monitor_hint<'a>(place: &Around<'a>) -> Option<Hint<'a>> {
     monitor_start(place)
+        .or(numeral(place))
         .or(foreign(place))
-        .or(braces(place))
-        .or(answers(place))
-        .or(pairs(place))
+        .or(misspelled(place))
+        .or(unnamed_method(place))
+        .or(nested(place))
+        .or(ordered(place))
         .or(reserved(place))
         .or(declaration(place))
+        .or(naming(place))
         .or(header(place))
+        .or(called(place))
         .or(comparison(place))
         .or(parentheses(place))
         .or(separator(place))
+        .or(begun_part(place))
         .or(monitor_end(place))
-}
-
-/// What is likely wrong where the grammar of clients stops.
-pub(crate) fn clients_hint<'a>(place: &Around<'a>) -> Option<Hint<'a>> {
-    clients_start(place)
-        .or(calls(place))
-        .or(foreign(place))
-        .or(braces(place))
-        .or(repetition(place))
-        .or(reserved(place))
-        .or(argument(place))
-        .or(parentheses(place))
-        .or(separator(place))
-        .or(end(place))
 }
 
 /// At a monitor's start.
 fn monitor_start<'a>(place: &Around<'a>) -> Option<Hint<'a>> {
+    if is(place.before(2), "monitor") {
+        return Some(Hint::quoting(b"expected `{` after ", place.before(1), b""));
+    }
     if place.index > 0 {
         return None;
     }
@@ -241,91 +44,92 @@ fn monitor_start<'a>(place: &Around<'a>) -> Option<Hint<'a>> {
     Some(Hint::of(b"a monitor begins with `monitor NAME {`"))
 }
 
-/// At the start of a file of clients.
-fn clients_start<'a>(place: &Around<'a>) -> Option<Hint<'a>> {
-    if place.index > 0 && !is(place.before(1), "}") {
-        return None;
-    }
-    if is(place.here(), "monitor") {
-        return Some(Hint::of(b"this is a monitor: the file of clients comes second"));
-    }
-    if place.open(TokenKind::OpenBrace, TokenKind::CloseBrace) > 0 {
-        return None;
-    }
-    Some(Hint::of(b"a client begins with `client NAME {`"))
-}
-
-/// Signs and words of other languages.
-fn foreign<'a>(place: &Around<'a>) -> Option<Hint<'a>> {
-    if let Some(said) = said_at_front(&WRONG_SIGNS, place.rest()) {
-        return Some(Hint::of(said));
-    }
-    if let Some(said) = said_of(&WRONG_WORDS, place.here()) {
-        return Some(Hint::of(said));
-    }
-    let said = said_of(&WRONG_WORDS, place.before(1))?;
-    Some(Hint::of(said))
-}
-
-/// A `;` behind a brace.
-fn braces<'a>(place: &Around<'a>) -> Option<Hint<'a>> {
-    if is(place.before(1), "}") && is(place.here(), ";") {
-        return Some(Hint::of(b"no `;` stands behind `}`"));
-    }
-    None
-}
-
-/// What a method answers, in its header, and signs of two characters that are no sign here.
-fn answers<'a>(place: &Around<'a>) -> Option<Hint<'a>> {
-    if is(place.before(1), "method") && is_type(place.here()) {
-        return Some(Hint::of(b"nobody declares what a method answers: `return` says it"));
-    }
-    if is(place.before(1), "<") && is(place.here(), ">") {
-        return Some(Hint::of(b"differs is written `!=`"));
-    }
-    None
-}
-
-/// What a client writes that only calls.
-fn calls<'a>(place: &Around<'a>) -> Option<Hint<'a>> {
-    let before = place.before(1);
-    let here = place.here();
-    if is(here, "=") {
-        return Some(Hint::of(b"a client only calls, as `get();`: the log has what is answered"));
-    }
-    if is(before, "try") && is(here, "{") {
-        return Some(Hint::of(b"a call that tries is written `try get();`"));
-    }
-    if is(here, ";") && begins_statement(place.before(2)) {
-        return Some(Hint::quoting(
-            b"a call has parentheses: `()` is missing behind ",
-            before,
-            b"",
+/// Letters at the end of a number.
+pub(crate) fn numeral<'a>(place: &Around<'a>) -> Option<Hint<'a>> {
+    let first = *place.here().first()?;
+    if place.kind_before()? == TokenKind::Number && place.touches() && is_word_byte(first) {
+        return Some(Hint::of(
+            b"a number has decimal digits alone, and a name begins with a letter",
         ));
     }
-    if is(before, ")") && is(here, "{") {
-        return Some(Hint::of(b"a client only calls and repeats, as `repeat 3 { get(); }`"));
+    None
+}
+
+/// A keyword with a slip of one letter, at the place or before it.
+pub(crate) fn misspelled<'a>(place: &Around<'a>) -> Option<Hint<'a>> {
+    if place.kind(place.index) == Some(TokenKind::Ident) && begins_part(place.before(1)) {
+        return slip_of(place.here());
+    }
+    let here = place.here();
+    let is_assigned = is(here, "=") || is_comparison(here) || is_sum(here);
+    let is_word = place.kind_before() == Some(TokenKind::Ident) && !is_assigned;
+    if is_word && begins_part(place.before(2)) {
+        return slip_of(place.before(1));
     }
     None
 }
 
-/// Two tokens that never stand beside each other.
-fn pairs<'a>(place: &Around<'a>) -> Option<Hint<'a>> {
+/// The keyword from which a word differs in one letter.
+fn slip_of<'a>(word: &'a [u8]) -> Option<Hint<'a>> {
+    let near = KEYWORDS.iter().find(|keyword| is_near(keyword, word))?;
+    Some(Hint::of_two(b"`", word, b"` is no keyword; `", near, b"`?"))
+}
+
+/// Whether a statement or another part stands behind the word.
+pub(crate) fn begins_part(word: &[u8]) -> bool {
+    is(word, ";") || is(word, "{") || is(word, "}") || is(word, ")")
+}
+
+/// A method without the word `method`.
+fn unnamed_method<'a>(place: &Around<'a>) -> Option<Hint<'a>> {
+    if place.braces() != 1 || place.parens() > 0 {
+        return None;
+    }
+    let here = place.here();
+    let is_name = place.kind(place.index) == Some(TokenKind::Ident);
+    let after = if is_type(here) { 2 } else { 1 };
+    let next = place.text(place.index.saturating_add(after));
+    let is_header = (is_name || is_type(here)) && is(next, "(") && begins_member(place.before(1));
+    let is_behind = is(here, "(") && place.kind_before() == Some(TokenKind::Ident);
+    if is_header || (is_behind && !is(place.before(2), "method")) {
+        return Some(Hint::of(b"a method begins with `method`, as `method get() waituntil (..)`"));
+    }
+    None
+}
+
+/// Whether a field or a method may stand behind the word.
+fn begins_member(word: &[u8]) -> bool {
+    is(word, ";") || is(word, "{") || is(word, "}")
+}
+
+/// A word that stands in no body.
+fn nested<'a>(place: &Around<'a>) -> Option<Hint<'a>> {
+    if place.braces() < 2 {
+        return None;
+    }
+    let here = place.here();
+    if is(here, "method") {
+        Some(Hint::of(b"a `}` is missing ahead of this `method`"))
+    } else if is(here, "waituntil") {
+        Some(Hint::of(b"a `waituntil` stands in no body: a `}` ends the body ahead of it"))
+    } else if is(here, "repeat") || is(here, "try") {
+        Some(Hint::quoting(b"only clients have ", here, b""))
+    } else {
+        None
+    }
+}
+
+/// Declarations at another place than their own, and what stands behind a word.
+fn ordered<'a>(place: &Around<'a>) -> Option<Hint<'a>> {
     let before = place.before(1);
     let here = place.here();
-    if is(before, "else") && is(here, "if") {
-        Some(Hint::of(b"there is no `else if`: write `else { if (..) { .. } }`"))
-    } else if is(before, "else") {
+    if is(before, "else") {
         Some(Hint::of(b"a `{` stands behind `else`: `else { .. }`"))
-    } else if is(before, "return") && is(here, ";") {
-        Some(Hint::of(b"a `return` has a value, as `return 0;`: without one leave it out"))
-    } else if is(before, "const") && (is(here, "int") || is(here, "bool")) {
-        Some(Hint::of(b"a constant has no type: `const CAP = 1;`"))
     } else if is(before, "local") {
         Some(Hint::of(b"a local has a type: `local int x = 0;`"))
     } else if is(here, "local") && is_type(place.text(place.index.saturating_add(1))) {
         Some(Hint::of(b"locals stand between the inputs and the first `waituntil`"))
-    } else if is_type(here) && (is(before, ";") || is(before, "{") || is(before, "}")) {
+    } else if is_declared(here) && begins_member(before) {
         Some(Hint::of(b"fields stand ahead of the methods, locals ahead of `waituntil`"))
     } else if is_asked(before) && !is(here, "(") {
         Some(Hint::quoting(
@@ -349,21 +153,17 @@ fn is_asked(word: &[u8]) -> bool {
 }
 
 /// Whether the word is reserved.
-fn is_reserved(word: &[u8]) -> bool {
+pub(crate) fn is_reserved(word: &[u8]) -> bool {
     KEYWORDS.iter().any(|keyword| word == *keyword)
 }
 
 /// Whether a name stands behind the word.
 fn is_naming(word: &[u8]) -> bool {
-    is_type(word)
-        || is(word, "const")
-        || is(word, "monitor")
-        || is(word, "method")
-        || is(word, "client")
+    is_declared(word) || is(word, "monitor") || is(word, "method") || is(word, "client")
 }
 
 /// A reserved word in place of a name.
-fn reserved<'a>(place: &Around<'a>) -> Option<Hint<'a>> {
+pub(crate) fn reserved<'a>(place: &Around<'a>) -> Option<Hint<'a>> {
     let here = place.here();
     let next = place.text(place.index.saturating_add(1));
     if !is_reserved(here) {
@@ -378,12 +178,29 @@ fn reserved<'a>(place: &Around<'a>) -> Option<Hint<'a>> {
 
 /// Whether a value stands behind the sign.
 fn begins_value(sign: &[u8]) -> bool {
-    is(sign, "=")
+    is_comparison(sign)
+        || is(sign, "=")
         || is(sign, "+")
         || is(sign, "-")
+        || is(sign, "*")
+        || is(sign, "!")
+        || is(sign, "(")
+        || is_joining(sign)
+}
+
+/// Whether the sign compares.
+pub(crate) fn is_comparison(sign: &[u8]) -> bool {
+    is(sign, "==")
+        || is(sign, "!=")
         || is(sign, "<")
+        || is(sign, "<=")
         || is(sign, ">")
-        || is(sign, "==")
+        || is(sign, ">=")
+}
+
+/// Whether the sign joins truth values.
+fn is_joining(sign: &[u8]) -> bool {
+    is(sign, "&&") || is(sign, "||")
 }
 
 /// In a declaration of a constant, a field or a local.
@@ -393,7 +210,7 @@ fn declaration<'a>(place: &Around<'a>) -> Option<Hint<'a>> {
     if is_type(named) && is(here, ",") {
         return Some(Hint::of(b"each field has a type and a value of its own: `int a = 0;`"));
     }
-    if (is_type(named) || is(named, "const")) && is(here, ";") {
+    if is_declared(named) && is(here, ";") {
         return Some(Hint::of(b"a value is missing: a field begins with one, as `int x = 0;`"));
     }
     if is(place.before(1), "-") && is_declared(place.before(4)) {
@@ -402,11 +219,8 @@ fn declaration<'a>(place: &Around<'a>) -> Option<Hint<'a>> {
     if is(place.before(1), "=") && is_declared(place.before(3)) {
         return Some(begun(place.before(3), here));
     }
-    if is(place.before(2), "=") && is_declared(place.before(4)) && is(here, ",") {
-        return Some(Hint::of(b"each field has a type and a value of its own: `int a = 0;`"));
-    }
-    if is(place.before(2), "=") && is_declared(place.before(4)) && is_sum(here) {
-        return Some(Hint::of(b"only one number may stand here, and no sum"));
+    if is(place.before(2), "=") && is_declared(place.before(4)) {
+        return Some(behind_value(place.before(1), here));
     }
     None
 }
@@ -417,7 +231,7 @@ fn is_declared(word: &[u8]) -> bool {
 }
 
 /// Whether the sign is one of sums.
-fn is_sum(sign: &[u8]) -> bool {
+pub(crate) fn is_sum(sign: &[u8]) -> bool {
     is(sign, "+") || is(sign, "-") || is(sign, "*")
 }
 
@@ -430,18 +244,40 @@ fn begun<'a>(declared: &'a [u8], here: &'a [u8]) -> Hint<'a> {
     }
 }
 
+/// What stands behind the value of a declaration.
+fn behind_value<'a>(value: &'a [u8], here: &[u8]) -> Hint<'a> {
+    if is(here, ",") {
+        Hint::of(b"each field has a type and a value of its own: `int a = 0;`")
+    } else if is_sum(here) {
+        Hint::of(b"only one number may stand here, and no sum")
+    } else {
+        Hint::quoting(b"expected `;` after ", value, b"")
+    }
+}
+
+/// A name that is missing.
+pub(crate) fn naming<'a>(place: &Around<'a>) -> Option<Hint<'a>> {
+    if is_naming(place.before(1)) {
+        return Some(Hint::quoting(b"a name is missing behind ", place.before(1), b""));
+    }
+    None
+}
+
 /// In the header of a method, or where its first guard is to come.
 fn header<'a>(place: &Around<'a>) -> Option<Hint<'a>> {
     let here = place.here();
+    let before = place.before(1);
     if is(place.before(2), "method") && !is(here, "(") {
-        return Some(Hint::quoting(b"`()` is missing behind ", place.before(1), b""));
+        return Some(Hint::quoting(b"`()` is missing behind ", before, b""));
     }
-    if is(place.before(1), ")") {
+    if is(before, ")") {
         return behind(place, place.opener());
     }
-    let before = place.before(1);
     if (is(before, "(") || is(before, ",")) && is_header(place) {
         return Some(Hint::of(b"an input has a type, as `int n`"));
+    }
+    if is_type(place.before(2)) && is_header(place) && is(here, "=") {
+        return Some(Hint::of(b"an input has no value: each call gives one"));
     }
     if is_type(place.before(2)) && is_header(place) && !is(here, ")") {
         return Some(Hint::quoting(b"`,` or `)` is missing behind ", before, b""));
@@ -462,18 +298,36 @@ fn is_header<'a>(place: &Around<'a>) -> bool {
 
 /// Behind the `)` of the parenthesis that this one opens.
 fn behind<'a>(place: &Around<'a>, opener: usize) -> Option<Hint<'a>> {
+    let here = place.here();
     if is(place.text(opener.saturating_sub(2)), "method") {
         return Some(Hint::of(
             b"a guard is missing: a body stands behind one, as `waituntil (true) { .. }`",
         ));
     }
     let asked = place.text(opener.saturating_sub(1));
-    if is_asked(asked) && !is(place.here(), "{") {
-        return Some(Hint::quoting(
+    if !is_asked(asked) || is(here, "{") {
+        None
+    } else if is(here, ")") {
+        Some(Hint::of(b"this `)` closes no `(`"))
+    } else if is_joining(here) || is_comparison(here) || is_sum(here) {
+        Some(Hint::quoting(
+            b"one pair of parentheses holds all that stands behind ",
+            asked,
+            b"",
+        ))
+    } else {
+        Some(Hint::quoting(
             b"a body in `{ }` is missing behind the condition of ",
             asked,
             b"",
-        ));
+        ))
+    }
+}
+
+/// A call, which only clients write.
+fn called<'a>(place: &Around<'a>) -> Option<Hint<'a>> {
+    if is(place.here(), "(") && place.kind_before()? == TokenKind::Ident {
+        return Some(Hint::of(b"only clients call: here stand names, numbers and signs"));
     }
     None
 }
@@ -487,13 +341,7 @@ fn comparison<'a>(place: &Around<'a>) -> Option<Hint<'a>> {
     if is(here, "=") {
         return Some(Hint::of(b"`==` compares; `=` assigns"));
     }
-    if is(here, "==")
-        || is(here, "!=")
-        || is(here, "<")
-        || is(here, "<=")
-        || is(here, ">")
-        || is(here, ">=")
-    {
+    if is_comparison(here) {
         return Some(Hint::of(b"one comparison has two sides: join two of them by `&&`"));
     }
     None
@@ -501,18 +349,21 @@ fn comparison<'a>(place: &Around<'a>) -> Option<Hint<'a>> {
 
 /// Whether a statement or a declaration's name stands behind the word.
 fn begins_statement(word: &[u8]) -> bool {
-    is(word, ";") || is(word, "{") || is(word, "}") || is_declared(word)
+    begins_member(word) || is_declared(word)
 }
 
-/// Parentheses that are not closed, or closed twice.
-fn parentheses<'a>(place: &Around<'a>) -> Option<Hint<'a>> {
+/// Parentheses that are not closed, or closed twice, or empty.
+pub(crate) fn parentheses<'a>(place: &Around<'a>) -> Option<Hint<'a>> {
     let here = place.here();
-    let open = place.open(TokenKind::OpenParen, TokenKind::CloseParen);
+    let open = place.parens();
     if open > 0 && (is(here, "{") || is(here, ";") || is(here, "}") || is(here, "")) {
         return Some(Hint::quoting(b"a `)` is missing behind ", place.before(1), b""));
     }
     if open == 0 && is(here, ")") {
         return Some(Hint::of(b"this `)` closes no `(`"));
+    }
+    if is(place.before(1), "(") && is(here, ")") && is_asked(place.before(2)) {
+        return Some(Hint::of(b"a condition is missing, as in `waituntil (true)`"));
     }
     None
 }
@@ -526,6 +377,9 @@ fn separator<'a>(place: &Around<'a>) -> Option<Hint<'a>> {
     if begins_statement(place.before(2)) && !place.begins_line() {
         return Some(Hint::quoting(b"expected `=` after ", before, b""));
     }
+    if place.parens() > 0 {
+        return Some(Hint::quoting(b"expected `)` or a sign as `&&` after ", before, b""));
+    }
     if place.begins_line() || is(place.here(), "}") || is(place.here(), "{") {
         return Some(Hint::quoting(b"expected `;` after ", before, b""));
     }
@@ -533,7 +387,7 @@ fn separator<'a>(place: &Around<'a>) -> Option<Hint<'a>> {
 }
 
 /// Whether a token may end a value.
-fn ends_value(kind: TokenKind) -> bool {
+pub(crate) fn ends_value(kind: TokenKind) -> bool {
     kind == TokenKind::Ident
         || kind == TokenKind::Number
         || kind == TokenKind::KeyTrue
@@ -541,39 +395,29 @@ fn ends_value(kind: TokenKind) -> bool {
         || kind == TokenKind::CloseParen
 }
 
-/// `repeat` without its number or its braces.
-fn repetition<'a>(place: &Around<'a>) -> Option<Hint<'a>> {
-    if is(place.before(1), "repeat") || is(place.before(2), "repeat") {
-        return Some(Hint::of(b"a repetition is written `repeat 3 { .. }`"));
+/// Where a statement, a field or a method is to begin.
+fn begun_part<'a>(place: &Around<'a>) -> Option<Hint<'a>> {
+    if !begins_member(place.before(1)) || is(place.here(), "") {
+        return None;
     }
-    if is(place.before(2), "client") && !is(place.here(), "{") {
-        return Some(Hint::quoting(b"expected `{` after ", place.before(1), b""));
+    match place.braces() {
+        0 => None,
+        1 => Some(Hint::of(b"here begins a `const`, an `int`, a `bool` or a `method`")),
+        _ => Some(Hint::of(b"a statement begins with the name that it assigns, `if` or `return`")),
     }
-    None
-}
-
-/// At the argument of a call.
-fn argument<'a>(place: &Around<'a>) -> Option<Hint<'a>> {
-    let before = place.before(1);
-    if is(before, "(") || is(before, ",") || is(before, "-") {
-        return Some(Hint::of(b"only numbers, `true` and `false` may stand here"));
-    }
-    None
 }
 
 /// At the end of a monitor, or of its file.
 fn monitor_end<'a>(place: &Around<'a>) -> Option<Hint<'a>> {
-    let open = place.open(TokenKind::OpenBrace, TokenKind::CloseBrace);
-    if open == 0 && is(place.before(1), "}") {
+    if place.braces() == 0 && is(place.before(1), "}") {
         return Some(Hint::of(b"nothing may stand behind the last `}` of the monitor"));
     }
     end(place)
 }
 
 /// At the end of a file.
-fn end<'a>(place: &Around<'a>) -> Option<Hint<'a>> {
-    let open = place.open(TokenKind::OpenBrace, TokenKind::CloseBrace);
-    if open > 0 && is(place.here(), "") {
+pub(crate) fn end<'a>(place: &Around<'a>) -> Option<Hint<'a>> {
+    if place.braces() > 0 && is(place.here(), "") {
         return Some(Hint::of(b"the file ends ahead of a `}` that closes what is open"));
     }
     None

@@ -1,6 +1,7 @@
 //! Hints of numbers that stand in place of truth values, and the other way round.
 
 use crate::around::Around;
+use crate::grammar::is_comparison;
 use crate::rules::is_declared;
 use front_hint::{Hint, is};
 use lang_tokens::TokenKind;
@@ -29,7 +30,7 @@ pub(crate) fn kind_hint<'a>(place: &Around<'a>) -> Hint<'a> {
 /// Whether a truth value stands at the place.
 fn is_truth<'a>(place: &Around<'a>) -> bool {
     match place.kind(place.index) {
-        Some(TokenKind::Ident) => declared(place) == Some(TokenKind::KeyBool),
+        Some(TokenKind::Ident) => declared(place, place.here()) == Some(TokenKind::KeyBool),
         Some(kind) => kind == TokenKind::KeyTrue || kind == TokenKind::KeyFalse,
         None => false,
     }
@@ -38,7 +39,7 @@ fn is_truth<'a>(place: &Around<'a>) -> bool {
 /// Whether a number, or the name of one, stands at the place.
 fn is_number<'a>(place: &Around<'a>) -> bool {
     match place.kind(place.index) {
-        Some(TokenKind::Ident) => match declared(place) {
+        Some(TokenKind::Ident) => match declared(place, place.here()) {
             Some(kind) => kind == TokenKind::KeyInt || kind == TokenKind::KeyConst,
             None => false,
         },
@@ -47,9 +48,8 @@ fn is_number<'a>(place: &Around<'a>) -> bool {
     }
 }
 
-/// By which word the name at the place was last declared ahead of it.
-fn declared<'a>(place: &Around<'a>) -> Option<TokenKind> {
-    let name = place.here();
+/// By which word a name was last declared ahead of the place.
+fn declared<'a>(place: &Around<'a>, name: &[u8]) -> Option<TokenKind> {
     for back in 0..place.index {
         let index = place.index - 1 - back;
         let kind = place.kind(index.saturating_sub(1));
@@ -105,7 +105,7 @@ fn truth<'a>(place: &Around<'a>) -> Option<Hint<'a>> {
     let here = place.here();
     let before = place.before(1);
     let next = place.text(place.index.saturating_add(1));
-    if is(before, "=") {
+    if is(before, "=") && declared(place, place.before(2)) == Some(TokenKind::KeyInt) {
         Some(Hint::of_two(
             b"`",
             place.before(2),
@@ -132,23 +132,17 @@ fn truth<'a>(place: &Around<'a>) -> Option<Hint<'a>> {
     }
 }
 
-/// Whether the sign compares.
-fn is_comparison(sign: &[u8]) -> bool {
-    is(sign, "==")
-        || is(sign, "!=")
-        || is(sign, "<")
-        || is(sign, "<=")
-        || is(sign, ">")
-        || is(sign, ">=")
-}
-
 /// At a number in place of a truth value.
 fn number<'a>(place: &Around<'a>) -> Option<Hint<'a>> {
     let here = place.here();
+    let assigned = place.before(2);
+    if is(place.before(1), "=") && declared(place, assigned) == Some(TokenKind::KeyInt) {
+        return Some(Hint::quoting(b"", assigned, b" is a number, and the value a truth value"));
+    }
     if is(place.before(1), "=") {
         return Some(Hint::of_two(
             b"`",
-            place.before(2),
+            assigned,
             b"` is a truth value, and `",
             here,
             b"` a number",

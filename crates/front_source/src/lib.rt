@@ -6,11 +6,12 @@
 #![tactic(auto)]
 
 mod around;
+mod calling;
+mod foreign;
 mod grammar;
 mod kinds;
 mod lexing;
 mod rules;
-mod said;
 mod source;
 
 pub use source::{write_clients_hint, write_monitor_hint};

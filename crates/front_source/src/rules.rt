@@ -2,13 +2,12 @@
 
 use crate::around::Around;
 use crate::kinds::kind_hint;
-use crate::said::said_of;
-use front_hint::{Hint, is_near};
+use front_hint::{Hint, is_near, said_of};
 use lang_base::{Counted, Refusal};
 use lang_tokens::TokenKind;
 
 /// What is said of words that name values in other languages.
-const FOREIGN_VALUES: [(&[u8], &[u8]); 7] = [
+const FOREIGN_VALUES: [(&[u8], &[u8]); 10] = [
     (b"True", b"it is written `true`"),
     (b"TRUE", b"it is written `true`"),
     (b"False", b"it is written `false`"),
@@ -16,6 +15,18 @@ const FOREIGN_VALUES: [(&[u8], &[u8]); 7] = [
     (
         b"null",
         b"there is no `null`: a value is a number, `true` or `false`",
+    ),
+    (
+        b"NULL",
+        b"there is no `NULL`: a value is a number, `true` or `false`",
+    ),
+    (
+        b"nil",
+        b"there is no `nil`: a value is a number, `true` or `false`",
+    ),
+    (
+        b"None",
+        b"there is no `None`: a value is a number, `true` or `false`",
     ),
     (b"this", b"a field is named by its name alone"),
     (b"self", b"a field is named by its name alone"),

@@ -6,7 +6,8 @@ ghost use Rattle.front_hint.specs.declared.hint.Hint.{Hint};
 ghost use Rattle.front_hint.specs.Shown.{caret_text, hint_if};
 
 use crate::around::{Around, tokens_of};
-use crate::grammar::{clients_hint, monitor_hint};
+use crate::calling::clients_hint;
+use crate::grammar::monitor_hint;
 use crate::lexing::lexing_hint;
 use crate::rules::rule_hint;
 use base_io::{Sink, SinkFailed};
