@@ -191,6 +191,7 @@ expresso audit lock.mon lo|lock.plan
 expresso recheck lock.mon lock.r|lock.report
 expresso compile --re|--relay
 expresso compile --c|--count
+expresso report lock.mon --|--count --fits
 expresso run lock.mon locks.cl --w|--workers
 expresso run lock.mon locks.cl --|--count --relay --workers
 expresso run lock.mon locks.cl --relay --|--count --workers
