@@ -1,5 +1,5 @@
 -- How `report` and `recheck` end.
-use Rattle.std.proofs.Common.{◌≡◌, ℕ, ◌<◌, ◌≤◌, ◌⊎◌, Bool, true, false, List, [], ◌∷◌, ◌++◌, length, Option, Some, None, Result, Ok, Err, map, refl, sym, ap, subst, ◌∙◌, inl, inr, arith}
+use Rattle.std.proofs.Common.{◌≡◌, ℕ, ◌<◌, ◌≤◌, ◌⊎◌, Bool, true, false, List, [], ◌∷◌, ◌++◌, ◌+◌, length, Option, Some, None, Result, Ok, Err, map, refl, sym, ap, subst, ◌∙◌, inl, inr, arith}
 use Rattle.std.specs.Prelude.{All, IfOk, IfSome}
 use Rattle.std.specs.declared.alloc.AllocError.{AllocError}
 use Rattle.std.proofs.lemmas.Option.{none-some}
@@ -15,7 +15,7 @@ use Rattle.report_recheck.specs.declared.report.Verdict.TheVariants as verdicts
 use Rattle.logic_outline.specs.Outlines.{HasTypedNumbers}
 use Rattle.plan_counted.specs.declared.counted.CountedPlan.{CountedPlan}
 use Rattle.report_recheck.specs.Reports.{placed_text, report_of, report_text}
-use Rattle.report_recheck.specs.Verdicts.{verdict_text}
+use Rattle.report_recheck.specs.Verdicts.{plan_lines, verdict_text}
 use Rattle.plan_counted.specs.Counted.{IsCountedFrom}
 use Rattle.report_tally.specs.declared.report.CountedReport.{CountedReport}
 use Rattle.report_tally.specs.CountedReadings.{IsCountedRead}
@@ -136,18 +136,25 @@ file_of : (monitor : MonitorParts) (bytes front rest : List ℕ) (own : CountedR
     → IsReportFile bytes monitor own
 file_of monitor bytes front rest own short parts read = record { short = short; front = front; rest = rest; parts = parts; read = read }
 
--- the report is accepted, and this was found of the rest
-pub rest_found : (monitor : MonitorParts) (bytes front rest : List ℕ) (own : CountedReport) (certs : ℕ) (found : Judgement) → length bytes ≤ 16777216 → AreParts bytes front rest
-    → IsCountedRead monitor front (Some own) → IsCountedAccepted monitor own → certs ≡ many_certs own → IsRestJudged monitor own certs rest found → IsJudgement monitor bytes found
-rest_found monitor bytes front rest own certs found short parts read accepted many (inr (none, is)) =
-    subst (IsJudgement monitor bytes) (sym is) (record { front = front; rest = rest; parts = parts; none = inr (own, read, accepted, none) })
-rest_found monitor bytes front rest own certs (judgements.Accepted said found) short parts read accepted many (inl (fits, lines, same, are, fitting)) = record {
+-- the report is accepted, and each block of the rest is shown to keep 64 bits
+all_found : (monitor : MonitorParts) (bytes front rest : List ℕ) (own : CountedReport) (certs said : ℕ) (fits found : List Fit) → length bytes ≤ 16777216 → AreParts bytes front rest
+    → IsCountedRead monitor front (Some own) → IsCountedAccepted monitor own → certs ≡ many_certs own → AreFitsRead monitor rest (Some fits)
+    → (said ≡ certs) × (found ≡ fits) × All (IsFit monitor own.plan.kept) fits → IsJudgement monitor bytes (judgements.Accepted said found)
+unfolding file_of
+all_found monitor bytes front rest own certs said fits found short parts read accepted many lines (same, are, fitting) = record {
   report = own;
   rechecked = record { is = file_of monitor bytes front rest own short parts read; accepted = accepted; fits = fits; lines = lines; fitting = fitting };
   same_fits = sym are;
   many = same ∙ many;
 }
-rest_found monitor bytes front rest own certs (judgements.Rejected verdict) short parts read accepted many (inl (fits, lines, place, open_there, is)) =
+
+-- or the first that is not is named by its line
+one_found : (monitor : MonitorParts) (bytes front rest : List ℕ) (own : CountedReport) (fits : List Fit) (verdict : Verdict) → length bytes ≤ 16777216 → AreParts bytes front rest
+    → IsCountedRead monitor front (Some own) → IsCountedAccepted monitor own → AreFitsRead monitor rest (Some fits)
+    → (place : ℕ) × IsFirstOpenFit monitor own.plan.kept fits (Some place) × (verdict ≡ verdicts.Unproved (plan_lines monitor own.plan + (many_certs own + place + 1)))
+    → IsJudgement monitor bytes (judgements.Rejected verdict)
+unfolding file_of
+one_found monitor bytes front rest own fits verdict short parts read accepted lines (place, open_there, is) =
     inr (record {
       report = own;
       is = file_of monitor bytes front rest own short parts read;
@@ -158,6 +165,16 @@ rest_found monitor bytes front rest own certs (judgements.Rejected verdict) shor
       open_there = open_there;
       verdict_is = is;
     })
+
+-- the report is accepted, and this was found of the rest
+pub rest_found : (monitor : MonitorParts) (bytes front rest : List ℕ) (own : CountedReport) (certs : ℕ) (found : Judgement) → length bytes ≤ 16777216 → AreParts bytes front rest
+    → IsCountedRead monitor front (Some own) → IsCountedAccepted monitor own → certs ≡ many_certs own → IsRestJudged monitor own certs rest found → IsJudgement monitor bytes found
+rest_found monitor bytes front rest own certs found short parts read accepted many (inr (none, is)) =
+    subst (IsJudgement monitor bytes) (sym is) (record { front = front; rest = rest; parts = parts; none = inr (own, read, accepted, none) })
+rest_found monitor bytes front rest own certs (judgements.Accepted said found) short parts read accepted many (inl (fits, lines, check)) =
+    all_found monitor bytes front rest own certs said fits found short parts read accepted many lines check
+rest_found monitor bytes front rest own certs (judgements.Rejected verdict) short parts read accepted many (inl (fits, lines, check)) =
+    one_found monitor bytes front rest own fits verdict short parts read accepted lines check
 rest_found monitor bytes front rest own certs judgements.NoReport short parts read accepted many (inl (fits, lines, none)) = absurd none
 
 report_found : (monitor : MonitorParts) (bytes front rest : List ℕ) (own : CountedReport) (found : Judgement) → length bytes ≤ 16777216 → AreParts bytes front rest

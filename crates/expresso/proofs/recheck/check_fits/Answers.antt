@@ -24,6 +24,6 @@ returns-in-Some c = (
 pub returns-in-None : goal.returns-in-None
 returns-in-None c = (
   refl,
-  refl,
+  c.of.ensures,
   same_first c.args.monitor.now c.args.report.now c.items.result.now c.as_slice.result.now c.args.fits.items _ _ c.items.ensures c.as_slice.ensures.value c.in-None.is c.in_ok-place.ensures.first,
 )
