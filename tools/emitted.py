@@ -1,9 +1,9 @@
 #!/usr/bin/env python3
-"""`tools/emitted.py MONITOR PLAN BLOCK ..` prints the module of Rust that `expresso emit` prints of a monitor.
+"""`tools/emitted.py MONITOR PLAN FILE BLOCK ..` prints the module of Rust that `expresso emit` prints of a monitor.
 
-It shares no code with the product. MONITOR is in canonical form, as `expresso check` prints it, and
-PLAN is the plan that `expresso compile --count` prints of it. Each BLOCK, as the plan
-names it, is one of which it is known that no number leaves 64 bits.
+It shares no code with the product. MONITOR is in canonical form, as `expresso check` prints it, PLAN
+is the plan that `expresso compile --count` prints of it, and FILE is the file itself, with its
+comments. Each BLOCK, as the plan names it, is one of which it is known that no number leaves 64 bits.
 """
 
 import pathlib
@@ -15,6 +15,7 @@ from formulas import joined  # noqa: E402
 from monitors import read_monitor  # noqa: E402
 from rust_bodies import (Scope, answer, argument_texts, can_name, doc_text,  # noqa: E402
                          function_texts, kind_text, run_name, shortens, trace)
+from rust_comments import Comments  # noqa: E402
 from rust_names import Names, lints  # noqa: E402
 from rust_texts import DEBUG, DEFAULT, FAILED, FIELDS, HEAD, INNER, LOCK, NEW, OVERFLOW  # noqa: E402
 from rust_texts import REFUSED, SKIP, STATE, STATE_HEAD, USED, VERSION, WAIT, WHOLE  # noqa: E402
@@ -40,7 +41,8 @@ def block_name(method, number):
 class Source:
     """A monitor as it is written and as it is checked, with the notes that somebody hears."""
 
-    def __init__(self, text, plan, whole=()):
+    def __init__(self, text, plan, file=None, whole=()):
+        self.comments = Comments(text if file is None else file)
         self.tree, self.monitor = read_tree(text), read_monitor(text)
         self.names, self.plan = Names(self.tree), plan
         self.blocks = [(method, number, block) for method in self.tree.methods
@@ -224,7 +226,7 @@ def refusals(source):
 def struct_text(source, kind, lint, waited):
     fields = "".join(f"    /// For calls that wait until `{source.shown(q)}`.\n"
                      f"    {source.condition_name(q)}: Condvar,\n" for q in waited)
-    return (f"/// The monitor `{source.tree.name}`. Threads share it by reference. A call waits for its guard, "
+    return (f"{source.comments.of_monitor()}/// The monitor `{source.tree.name}`. Threads share it by reference. A call waits for its guard, "
             f"unless it tries.\n/**\n# Plan\n\n```text\n{source.plan}```\n*/\n{lint}{USED}pub struct {kind} {{\n"
             f"    inner: Mutex<Inner>,\n{fields}}}\n\n")
 
@@ -236,7 +238,7 @@ def inner_text(source, lint, waited):
 
 
 def impl_text(source, kind, lint, waited):
-    constants = "".join(f"    /// The constant `{one.name}`.\n"
+    constants = "".join((source.comments.of_constant(one.name) or f"    /// The constant `{one.name}`.\n") +
                         f"    pub const {source.names.constant(one.name)}: i64 = {one.start};\n"
                         for one in source.tree.declared if one.kind == "const")
     counts = "".join(f"                {source.count_name(q)}: 0,\n" for q in waited)
@@ -280,13 +282,13 @@ def functions(source):
     return "".join(f"\n{text}" for text in texts)
 
 
-def main(monitor, plan, *whole):
+def main(monitor, plan, file, *whole):
     sys.setrecursionlimit(10 ** 6)
-    text, plan = (pathlib.Path(one).read_text("ascii") for one in (monitor, plan))
-    sys.stdout.write(module_text(Source(text, plan, whole)))
+    text, plan, file = (pathlib.Path(one).read_bytes().decode("latin-1") for one in (monitor, plan, file))
+    sys.stdout.write(module_text(Source(text, plan, file, whole)))
 
 
 if __name__ == "__main__":
-    if len(sys.argv) < 3:
+    if len(sys.argv) < 4:
         sys.exit(__doc__)
     main(*sys.argv[1:])

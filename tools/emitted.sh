@@ -25,7 +25,7 @@ judge() {
     "$program" check "$1" >"$made/monitor" || fail "$1: no canonical form"
     "$program" compile --count "$1" >"$made/plan" || fail "$1: no plan"
     mapfile -t whole < <(tools/fits.py "$made/monitor" "$made/plan")
-    tools/emitted.py "$made/monitor" "$made/plan" "${whole[@]}" | cmp - "$made/$2.rs" || fail "$1: the second reader prints another"
+    tools/emitted.py "$made/monitor" "$made/plan" "$1" "${whole[@]}" | cmp - "$made/$2.rs" || fail "$1: the second reader prints another"
 }
 
 # compile COMPILER EDITION ..: a module without a warning, with a doc on each item

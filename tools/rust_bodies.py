@@ -273,4 +273,5 @@ def trying_docs(source, method, fails):
 def doc_text(source, method, first, fails, tries):
     lines = (trying_docs(source, method, fails) if tries
              else waiting_docs(source, method, first, fails))
-    return "".join(f"    /// {line}".rstrip() + "\n" for line in lines)
+    comments = "" if tries else source.comments.of_method(method.name)
+    return comments + "".join(f"    /// {line}".rstrip() + "\n" for line in lines)

@@ -8,9 +8,12 @@ HEAD = """\
 
 """
 
-SKIP = "#[rustfmt::skip]\n#[allow(dead_code, clippy::style)]\n"
+SKIP = "#[rustfmt::skip]\n#[allow(dead_code, clippy::doc_markdown, clippy::style)]\n"
 
-USED = "#[allow(dead_code, non_camel_case_types, clippy::upper_case_acronyms)]\n"
+USED = """\
+#[allow(dead_code, non_camel_case_types)]
+#[allow(clippy::doc_markdown, clippy::upper_case_acronyms)]
+"""
 
 NEW = """\
     /// The monitor at its start.

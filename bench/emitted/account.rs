@@ -19,7 +19,8 @@ block withdraw: 2 broadcast, 3 signal tested
 block thaw: 1 broadcast, 2 broadcast
 ```
 */
-#[allow(dead_code, non_camel_case_types, clippy::upper_case_acronyms)]
+#[allow(dead_code, non_camel_case_types)]
+#[allow(clippy::doc_markdown, clippy::upper_case_acronyms)]
 pub struct Account {
     inner: Mutex<Inner>,
     /// For calls that wait until `!frozen`.
@@ -31,7 +32,7 @@ pub struct Account {
 }
 
 #[rustfmt::skip]
-#[allow(dead_code, clippy::style)]
+#[allow(dead_code, clippy::doc_markdown, clippy::style)]
 impl Account {
     /// The constant `LIMIT`.
     pub const LIMIT: i64 = 1000;

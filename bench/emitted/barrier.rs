@@ -15,7 +15,8 @@ block arrive: 2 broadcast tested
 block leave: 1 broadcast tested
 ```
 */
-#[allow(dead_code, non_camel_case_types, clippy::upper_case_acronyms)]
+#[allow(dead_code, non_camel_case_types)]
+#[allow(clippy::doc_markdown, clippy::upper_case_acronyms)]
 pub struct Barrier {
     inner: Mutex<Inner>,
     /// For calls that wait until `!open`.
@@ -25,7 +26,7 @@ pub struct Barrier {
 }
 
 #[rustfmt::skip]
-#[allow(dead_code, clippy::style)]
+#[allow(dead_code, clippy::doc_markdown, clippy::style)]
 impl Barrier {
     /// The constant `PARTIES`.
     pub const PARTIES: i64 = 3;

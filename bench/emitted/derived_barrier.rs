@@ -23,7 +23,8 @@ block dismiss: 1 broadcast, 4 broadcast
 block watch: none
 ```
 */
-#[allow(dead_code, non_camel_case_types, clippy::upper_case_acronyms)]
+#[allow(dead_code, non_camel_case_types)]
+#[allow(clippy::doc_markdown, clippy::upper_case_acronyms)]
 pub struct Barrier {
     inner: Mutex<Inner>,
     /// For calls that wait until `!open && waiting < PARTIES`.
@@ -37,7 +38,7 @@ pub struct Barrier {
 }
 
 #[rustfmt::skip]
-#[allow(dead_code, clippy::style)]
+#[allow(dead_code, clippy::doc_markdown, clippy::style)]
 impl Barrier {
     /// The constant `PARTIES`.
     pub const PARTIES: i64 = 3;

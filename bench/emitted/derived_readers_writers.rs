@@ -29,7 +29,8 @@ block endWrite: 1 broadcast tested, 4 signal tested
 block cancel: 1 broadcast tested
 ```
 */
-#[allow(dead_code, non_camel_case_types, clippy::upper_case_acronyms)]
+#[allow(dead_code, non_camel_case_types)]
+#[allow(clippy::doc_markdown, clippy::upper_case_acronyms)]
 pub struct ReadersWriters {
     inner: Mutex<Inner>,
     /// For calls that wait until `!writing && queued == 0 && readers < MOST`.
@@ -45,7 +46,7 @@ pub struct ReadersWriters {
 }
 
 #[rustfmt::skip]
-#[allow(dead_code, clippy::style)]
+#[allow(dead_code, clippy::doc_markdown, clippy::style)]
 impl ReadersWriters {
     /// The constant `MOST`.
     pub const MOST: i64 = 2;

@@ -20,7 +20,8 @@ block takeTwo: 3 broadcast
 block give: 1 signal, 2 signal tested
 ```
 */
-#[allow(dead_code, non_camel_case_types, clippy::upper_case_acronyms)]
+#[allow(dead_code, non_camel_case_types)]
+#[allow(clippy::doc_markdown, clippy::upper_case_acronyms)]
 pub struct Semaphore {
     inner: Mutex<Inner>,
     /// For calls that wait until `free > 0`.
@@ -32,7 +33,7 @@ pub struct Semaphore {
 }
 
 #[rustfmt::skip]
-#[allow(dead_code, clippy::style)]
+#[allow(dead_code, clippy::doc_markdown, clippy::style)]
 impl Semaphore {
     /// The constant `LIMIT`.
     pub const LIMIT: i64 = 3;

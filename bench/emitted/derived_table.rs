@@ -35,7 +35,8 @@ block think2: 1 signal tested, 2 signal, 3 signal tested
 block think3: 1 signal tested, 2 signal tested, 3 signal
 ```
 */
-#[allow(dead_code, non_camel_case_types, clippy::upper_case_acronyms)]
+#[allow(dead_code, non_camel_case_types)]
+#[allow(clippy::doc_markdown, clippy::upper_case_acronyms)]
 pub struct Table {
     inner: Mutex<Inner>,
     /// For calls that wait until `a == 0 && b == 0`.
@@ -53,7 +54,7 @@ pub struct Table {
 }
 
 #[rustfmt::skip]
-#[allow(dead_code, clippy::style)]
+#[allow(dead_code, clippy::doc_markdown, clippy::style)]
 impl Table {
     /// The monitor at its start.
     #[must_use]

@@ -26,7 +26,8 @@ block rest: none
 block fail: none
 ```
 */
-#[allow(dead_code, non_camel_case_types, clippy::upper_case_acronyms)]
+#[allow(dead_code, non_camel_case_types)]
+#[allow(clippy::doc_markdown, clippy::upper_case_acronyms)]
 pub struct Tickets {
     inner: Mutex<Inner>,
     /// For calls that wait until `ticket == serving && serving < next && !busy`.
@@ -40,7 +41,7 @@ pub struct Tickets {
 }
 
 #[rustfmt::skip]
-#[allow(dead_code, clippy::style)]
+#[allow(dead_code, clippy::doc_markdown, clippy::style)]
 impl Tickets {
     /// The monitor at its start.
     #[must_use]

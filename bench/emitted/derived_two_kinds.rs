@@ -27,7 +27,8 @@ block getBlue: 1 signal
 block drain: 1 broadcast
 ```
 */
-#[allow(dead_code, non_camel_case_types, clippy::upper_case_acronyms)]
+#[allow(dead_code, non_camel_case_types)]
+#[allow(clippy::doc_markdown, clippy::upper_case_acronyms)]
 pub struct TwoKinds {
     inner: Mutex<Inner>,
     /// For calls that wait until `total < ROOM`.
@@ -41,7 +42,7 @@ pub struct TwoKinds {
 }
 
 #[rustfmt::skip]
-#[allow(dead_code, clippy::style)]
+#[allow(dead_code, clippy::doc_markdown, clippy::style)]
 impl TwoKinds {
     /// The constant `ROOM`.
     pub const ROOM: i64 = 2;

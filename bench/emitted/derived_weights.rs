@@ -20,7 +20,8 @@ block take15: 4 broadcast tested
 block give: 1 signal tested, 2 signal tested, 3 signal tested
 ```
 */
-#[allow(dead_code, non_camel_case_types, clippy::upper_case_acronyms)]
+#[allow(dead_code, non_camel_case_types)]
+#[allow(clippy::doc_markdown, clippy::upper_case_acronyms)]
 pub struct Weights {
     inner: Mutex<Inner>,
     /// For calls that wait until `free >= 5`.
@@ -34,7 +35,7 @@ pub struct Weights {
 }
 
 #[rustfmt::skip]
-#[allow(dead_code, clippy::style)]
+#[allow(dead_code, clippy::doc_markdown, clippy::style)]
 impl Weights {
     /// The constant `LIMIT`.
     pub const LIMIT: i64 = 20;

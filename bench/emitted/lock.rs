@@ -15,7 +15,8 @@ block acquire: 2 signal
 block release: 1 signal
 ```
 */
-#[allow(dead_code, non_camel_case_types, clippy::upper_case_acronyms)]
+#[allow(dead_code, non_camel_case_types)]
+#[allow(clippy::doc_markdown, clippy::upper_case_acronyms)]
 pub struct Lock {
     inner: Mutex<Inner>,
     /// For calls that wait until `!held`.
@@ -25,7 +26,7 @@ pub struct Lock {
 }
 
 #[rustfmt::skip]
-#[allow(dead_code, clippy::style)]
+#[allow(dead_code, clippy::doc_markdown, clippy::style)]
 impl Lock {
     /// The monitor at its start.
     #[must_use]

@@ -3,6 +3,12 @@
 
 use std::sync::{Condvar, Mutex, MutexGuard, PoisonError};
 
+/// Names that mean \*something\* in Rust, as \`self\`, \[\`State\`\] and \<b\>; see https\://doc.rust-lang.org/std.
+/// 1\. A number, and 2) another. \_\_init\_\_ \| \~none\~ \& # + - = \\
+///
+/// \`\`\`
+/// assert!(false);
+///
 /// The monitor `state`. Threads share it by reference. A call waits for its guard, unless it tries.
 /**
 # Plan
@@ -22,7 +28,8 @@ block try_new_: none
 ```
 */
 #[allow(non_snake_case, non_upper_case_globals)]
-#[allow(dead_code, non_camel_case_types, clippy::upper_case_acronyms)]
+#[allow(dead_code, non_camel_case_types)]
+#[allow(clippy::doc_markdown, clippy::upper_case_acronyms)]
 pub struct State_ {
     inner: Mutex<Inner>,
     /// For calls that wait until `Ok && state > Mutex`.
@@ -34,10 +41,11 @@ pub struct State_ {
 }
 
 #[rustfmt::skip]
-#[allow(dead_code, clippy::style)]
+#[allow(dead_code, clippy::doc_markdown, clippy::style)]
 #[allow(non_snake_case, non_upper_case_globals)]
 impl State_ {
-    /// The constant `Mutex`.
+    /// Least, but not \*the\* least.
+    /// \====
     pub const MUTEX: i64 = -3;
 
     /// The monitor at its start.
@@ -56,6 +64,9 @@ impl State_ {
         }
     }
 
+    /// Takes a state?and more: ??.
+    /// // \[x\]: http\://localhost:80
+    ///
     /// Waits until `Ok && state > Mutex`.
     ///
     /// # Errors
@@ -76,6 +87,8 @@ impl State_ {
         Ok(answer)
     }
 
+    /// \- Waits: with start_read, a - 1.
+    ///
     /// Waits until `answer * 2 >= narrow - match`.
     ///
     /// Then waits until `lock && startRead || match_ <= drop`.

@@ -16,7 +16,8 @@ block pair.1: 2 broadcast
 block pair.2: none
 ```
 */
-#[allow(dead_code, non_camel_case_types, clippy::upper_case_acronyms)]
+#[allow(dead_code, non_camel_case_types)]
+#[allow(clippy::doc_markdown, clippy::upper_case_acronyms)]
 pub struct Twice {
     inner: Mutex<Inner>,
     /// For calls that wait until `level > seen + 1`.
@@ -24,7 +25,7 @@ pub struct Twice {
 }
 
 #[rustfmt::skip]
-#[allow(dead_code, clippy::style)]
+#[allow(dead_code, clippy::doc_markdown, clippy::style)]
 impl Twice {
     /// The monitor at its start.
     #[must_use]

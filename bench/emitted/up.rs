@@ -17,7 +17,8 @@ condition 1 broadcast: x > 0
 block inc: none
 ```
 */
-#[allow(dead_code, non_camel_case_types, clippy::upper_case_acronyms)]
+#[allow(dead_code, non_camel_case_types)]
+#[allow(clippy::doc_markdown, clippy::upper_case_acronyms)]
 pub struct Up {
     inner: Mutex<Inner>,
     /// For calls that wait until `x > 0`.
@@ -25,7 +26,7 @@ pub struct Up {
 }
 
 #[rustfmt::skip]
-#[allow(dead_code, clippy::style)]
+#[allow(dead_code, clippy::doc_markdown, clippy::style)]
 impl Up {
     /// The monitor at its start.
     #[must_use]

@@ -14,6 +14,8 @@ use Rattle.machine_events.specs.declared.plan.Plan.{Plan}
 use Rattle.machine_events.specs.PlanText.{plan_text}
 use Rattle.machine_events.specs.Configurations.{block_condition}
 use Rattle.emit_code.specs.Code.{is_always, is_waited_on}
+use Rattle.emit_comments.specs.Comments.{comment_docs, first_line, has_comments, leading_docs}
+use Rattle.emit_comments.specs.Comments.{line_of}
 use Rattle.emit_rust.specs.declared.style.Style.TheVariants as styles
 use Rattle.emit_rust.specs.Names.{member_name, type_name}
 use Rattle.emit_rust.specs.Lints.{has_odd_name}
@@ -87,7 +89,8 @@ use_text source = use_by (waits_somewhere source.monitor) (has_calls source.tree
 -- what is said of the type, with its plan
 abbrev pub struct_docs : SourceParts → List ℕ
 struct_docs source =
-    codes "/// The monitor `" ++ source.tree.name
+    leading_docs [] source.text (first_line source.text)
+    ++ codes "/// The monitor `" ++ source.tree.name
     ++ codes "`. Threads share it by reference. A call waits for its guard, unless it tries.\n"
     ++ codes "/**\n# Plan\n\n```text\n" ++ plan_text source.monitor source.given
     ++ codes "```\n*/\n"
@@ -96,7 +99,8 @@ struct_docs source =
 -- which lints would speak.
 abbrev pub struct_head : MonitorTree → List ℕ
 struct_head tree =
-    codes "#[allow(dead_code, non_camel_case_types, clippy::upper_case_acronyms)]\npub struct "
+    codes "#[allow(dead_code, non_camel_case_types)]\n"
+    ++ codes "#[allow(clippy::doc_markdown, clippy::upper_case_acronyms)]\npub struct "
     ++ type_name tree ++ codes " {\n    inner: Mutex<Inner>,\n"
 
 -- the type that threads share
@@ -115,16 +119,29 @@ is_field (decls.Const at name value) = false
 is_field (decls.Int at name value) = true
 is_field (decls.Flag at name value) = true
 
--- `pub const CAP: i64 = 4;`
-abbrev pub constant_text : MonitorTree → Decl → List ℕ
-constant_text tree declared =
-    codes "    /// The constant `" ++ declared_name declared ++ codes "`.\n    pub const "
-    ++ member_name tree styles.Upper (declared_name declared) ++ typed_start declared
+-- what is said of a constant with no comment
+abbrev pub plain_docs : Decl → List ℕ
+plain_docs declared = codes "    /// The constant `" ++ declared_name declared ++ codes "`.\n"
+
+-- the comments above a constant in this line, or that
+abbrev pub constant_docs : List ℕ → ℕ → Decl → List ℕ
+constant_docs text place declared =
+    if has_comments text place then comment_docs (codes "    ") text place
+    else plain_docs declared
+
+-- `pub const CAP: i64 = 4;`, of a constant with this offset
+abbrev pub constant_text : SourceParts → ℕ → Decl → List ℕ
+constant_text source at declared =
+    constant_docs source.text (line_of source.text at) declared ++ codes "    pub const "
+    ++ member_name source.tree styles.Upper (declared_name declared) ++ typed_start declared
     ++ codes ";\n"
 
 -- nothing for a field
-abbrev pub constant_line : MonitorTree → Decl → List ℕ
-constant_line tree declared = if is_field declared then [] else constant_text tree declared
+abbrev pub constant_line : SourceParts → Decl → List ℕ
+constant_line source (decls.Const at name value) =
+    constant_text source at (decls.Const at name value)
+constant_line source (decls.Int at name value) = []
+constant_line source (decls.Flag at name value) = []
 
 -- an empty line comes after the last
 abbrev pub constants_end : Bool → List ℕ
@@ -132,10 +149,10 @@ constants_end true = codes "\n"
 constants_end false = []
 
 -- the constants of a monitor
-abbrev pub constants_text : MonitorTree → List ℕ
-constants_text tree =
-    flat_map (constant_line tree) tree.decls
-    ++ constants_end (list_any (λ one. not (is_field one)) tree.decls)
+abbrev pub constants_text : SourceParts → List ℕ
+constants_text source =
+    flat_map (constant_line source) source.tree.decls
+    ++ constants_end (list_any (λ one. not (is_field one)) source.tree.decls)
 
 -- a monitor at its start
 abbrev pub new_text : SourceParts → List ℕ
@@ -151,9 +168,9 @@ new_text source =
 -- A line may have more than 100 columns, so the layout is kept as it is.
 abbrev pub impl_text : SourceParts → List ℕ
 impl_text source =
-    codes "#[rustfmt::skip]\n#[allow(dead_code, clippy::style)]\n" ++ lints_text source.tree
-    ++ codes "impl " ++ type_name source.tree ++ codes " {\n" ++ constants_text source.tree
-    ++ new_text source
+    codes "#[rustfmt::skip]\n#[allow(dead_code, clippy::doc_markdown, clippy::style)]\n"
+    ++ lints_text source.tree ++ codes "impl " ++ type_name source.tree ++ codes " {\n"
+    ++ constants_text source ++ new_text source
     ++ flat_map (λ one. methods_text source one.0 one.1) (enumerate_from 0 source.tree.methods)
     ++ codes "}\n\n"
 
@@ -334,7 +351,7 @@ module_text source =
     ++ traits_text source ++ inner_text source ++ state_text source.tree ++ state_impl_text source
     ++ functions_text source
 
--- the module of a monitor, as it is written and as it was checked, under its plan, and with those
--- blocks of which it is known that no number of them leaves 64 bits
-abbrev pub rust_text : MonitorTree → MonitorParts → Plan → List Bool → List ℕ
-rust_text tree monitor plan whole = module_text (source_of tree monitor plan whole)
+-- the module of a monitor, as it is written in a text and as it was checked, under its plan, and
+-- with those blocks of which it is known that no number of them leaves 64 bits
+abbrev pub rust_text : List ℕ → MonitorTree → MonitorParts → Plan → List Bool → List ℕ
+rust_text text tree monitor plan whole = module_text (source_of text tree monitor plan whole)

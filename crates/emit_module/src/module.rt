@@ -7,16 +7,15 @@ ghost use Rattle.base_io.specs.Writing.{Wrote};
 ghost use Rattle.emit_method.specs.Sources.{seen};
 ghost use Rattle.emit_method.specs.Statements.{method_fails, method_shortens};
 ghost use Rattle.emit_method.specs.Methods.{methods_text};
-ghost use Rattle.emit_module.specs.Modules.{constant_line};
-ghost use Rattle.emit_module.specs.Modules.{constant_text, constants_end, constants_text};
 ghost use Rattle.emit_module.specs.Fixed.{FAILED, REFUSED};
-ghost use Rattle.emit_module.specs.Modules.{debug_text, default_text, fails_somewhere, functions_text};
+ghost use Rattle.emit_module.specs.Modules.{constant_docs, constant_line, constant_text};
+ghost use Rattle.emit_module.specs.Modules.{constants_end, constants_text, debug_text};
+ghost use Rattle.emit_module.specs.Modules.{default_text, fails_somewhere, functions_text};
 ghost use Rattle.emit_module.specs.Modules.{has_calls, head_text, impl_text, is_field, module_text};
-ghost use Rattle.emit_module.specs.Modules.{new_text, refuses_so, refuses_somewhere, rust_text};
-ghost use Rattle.emit_module.specs.Modules.{shortens_somewhere};
-ghost use Rattle.emit_module.specs.Modules.{struct_docs, struct_head, struct_text, text_if};
-ghost use Rattle.emit_module.specs.Modules.{traits_text, use_by, use_text};
-ghost use Rattle.emit_module.specs.Modules.{waits_somewhere};
+ghost use Rattle.emit_module.specs.Modules.{new_text, plain_docs, refuses_so, refuses_somewhere};
+ghost use Rattle.emit_module.specs.Modules.{rust_text, shortens_somewhere, struct_docs};
+ghost use Rattle.emit_module.specs.Modules.{struct_head, struct_text, text_if, traits_text, use_by};
+ghost use Rattle.emit_module.specs.Modules.{use_text, waits_somewhere};
 
 use crate::declared::{is_field, write_lints};
 use crate::fields::{ConditionLine, write_conditions};
@@ -26,6 +25,7 @@ use crate::fixed::{
 };
 use crate::state::{write_inner, write_state, write_state_impl};
 use base_io::{Sink, SinkFailed, write_piece};
+use emit_comments::{first_line, has_comments, line_of, write_comments, write_leading};
 use emit_method::{
     Source, has_try, is_always, method_fails, method_shortens, write_methods_of, write_typed_start,
 };
@@ -36,11 +36,13 @@ use lang_tree::{Decl, MethodTree, MonitorTree};
 use machine_events::Plan;
 use report_text::write_plan;
 
-/// Writes the Rust module of a monitor under a plan, by which of its blocks are known to have no
-/// number that leaves 64 bits. It takes no memory.
+/// Writes the Rust module of a monitor under a plan, with the comments of the text that its tree
+/// was read from, and by which of its blocks are known to have no number that leaves 64 bits. It
+/// takes no memory.
 ///
 /// After `SinkFailed` the first bytes were taken, fewer than all and maybe none.
 pub fn write_rust<S: Sink>(
+    text: &[u8],
     tree: &MonitorTree,
     monitor: &Monitor,
     plan: &Plan,
@@ -48,9 +50,10 @@ pub fn write_rust<S: Sink>(
     out: &mut S,
 ) -> Result<(), SinkFailed>
     ensures { Wrote (S.seen out.old) (S.seen out.new) result
-        (rust_text tree.now monitor.now plan.now whole.now) }
+        (rust_text text.now tree.now monitor.now plan.now whole.now) }
 {
     let source = Source {
+        text,
         tree,
         monitor,
         plan,
@@ -140,6 +143,7 @@ fn write_struct<S: Sink>(source: &Source, out: &mut S) -> Result<(), SinkFailed>
 fn write_struct_docs<S: Sink>(source: &Source, out: &mut S) -> Result<(), SinkFailed>
     ensures { Wrote (S.seen out.old) (S.seen out.new) result (struct_docs (seen source.now)) }
 {
+    write_leading(b"", source.text, first_line(source.text), out)?;
     write_piece(b"/// The monitor `", out)?;
     write_piece(source.tree.name.bytes(), out)?;
     write_piece(
@@ -155,7 +159,9 @@ fn write_struct_head<S: Sink>(tree: &MonitorTree, out: &mut S) -> Result<(), Sin
     ensures { Wrote (S.seen out.old) (S.seen out.new) result (struct_head tree.now) }
 {
     write_piece(
-        b"#[allow(dead_code, non_camel_case_types, clippy::upper_case_acronyms)]\npub struct ",
+        b"#[allow(dead_code, non_camel_case_types)]
+#[allow(clippy::doc_markdown, clippy::upper_case_acronyms)]
+pub struct ",
         out,
     )?;
     write_type(tree, out)?;
@@ -168,67 +174,95 @@ fn write_impl<S: Sink>(source: &Source, out: &mut S) -> Result<(), SinkFailed>
     ensures { Wrote (S.seen out.old) (S.seen out.new) result (impl_text (seen source.now)) }
 {
     write_piece(
-        b"#[rustfmt::skip]\n#[allow(dead_code, clippy::style)]\n",
+        b"#[rustfmt::skip]
+#[allow(dead_code, clippy::doc_markdown, clippy::style)]
+",
         out,
     )?;
     write_lints(source.tree, out)?;
     write_piece(b"impl ", out)?;
     write_type(source.tree, out)?;
     write_piece(b" {\n", out)?;
-    write_constants(source.tree, out)?;
+    write_constants(source, out)?;
     write_new(source, out)?;
     write_methods(source, source.tree.methods.items(), out)?;
     write_piece(b"}\n\n", out)
 }
 
-fn write_constants<S: Sink>(tree: &MonitorTree, out: &mut S) -> Result<(), SinkFailed>
-    ensures { Wrote (S.seen out.old) (S.seen out.new) result (constants_text tree.now) }
+fn write_constants<S: Sink>(source: &Source, out: &mut S) -> Result<(), SinkFailed>
+    ensures { Wrote (S.seen out.old) (S.seen out.new) result (constants_text (seen source.now)) }
 {
-    write_constant_lines(tree, tree.decls.items(), out)?;
-    write_piece(constants_end(has_constant(tree.decls.items())), out)
+    write_constant_lines(source, source.tree.decls.items(), out)?;
+    write_piece(constants_end(has_constant(source.tree.decls.items())), out)
 }
 
 fn write_constant_lines<S: Sink>(
-    tree: &MonitorTree,
+    source: &Source,
     declared: &[Decl],
     out: &mut S,
 ) -> Result<(), SinkFailed>
     ensures { Wrote (S.seen out.old) (S.seen out.new) result
-        (flat_map (constant_line tree.now) declared.now) }
+        (flat_map (constant_line (seen source.now)) declared.now) }
 {
     for one in declared {
-        write_constant_line(tree, one, out)?;
+        write_constant_line(source, one, out)?;
     }
     Ok(())
 }
 
 fn write_constant_line<S: Sink>(
-    tree: &MonitorTree,
+    source: &Source,
     declared: &Decl,
     out: &mut S,
 ) -> Result<(), SinkFailed>
-    ensures { Wrote (S.seen out.old) (S.seen out.new) result (constant_line tree.now declared.now) }
+    ensures { Wrote (S.seen out.old) (S.seen out.new) result
+        (constant_line (seen source.now) declared.now) }
 {
-    if is_field(declared) {
-        return Ok(());
+    match declared {
+        Decl::Const { at, .. } => write_constant(source, *at, declared, out),
+        Decl::Int { .. } => Ok(()),
+        Decl::Flag { .. } => Ok(()),
     }
-    write_constant(tree, declared, out)
 }
 
-// `pub const CAP: i64 = 4;`
+// `pub const CAP: i64 = 4;`, by its offset.
 fn write_constant<S: Sink>(
-    tree: &MonitorTree,
+    source: &Source,
+    at: u32,
     declared: &Decl,
     out: &mut S,
 ) -> Result<(), SinkFailed>
-    ensures { Wrote (S.seen out.old) (S.seen out.new) result (constant_text tree.now declared.now) }
+    ensures { Wrote (S.seen out.old) (S.seen out.new) result
+        (constant_text (seen source.now) at declared.now) }
+{
+    write_constant_docs(source.text, line_of(source.text, at), declared, out)?;
+    write_piece(b"    pub const ", out)?;
+    write_member(source.tree, Style::Upper, declared.name(), out)?;
+    write_typed_start(declared, out)?;
+    write_piece(b";\n", out)
+}
+
+fn write_constant_docs<S: Sink>(
+    text: &[u8],
+    place: usize,
+    declared: &Decl,
+    out: &mut S,
+) -> Result<(), SinkFailed>
+    ensures { Wrote (S.seen out.old) (S.seen out.new) result
+        (constant_docs text.now place declared.now) }
+{
+    if has_comments(text, place) {
+        return write_comments(b"    ", text, place, out);
+    }
+    write_plain_docs(declared, out)
+}
+
+fn write_plain_docs<S: Sink>(declared: &Decl, out: &mut S) -> Result<(), SinkFailed>
+    ensures { Wrote (S.seen out.old) (S.seen out.new) result (plain_docs declared.now) }
 {
     write_piece(b"    /// The constant `", out)?;
     write_piece(declared.name().bytes(), out)?;
-    write_piece(b"`.\n    pub const ", out)?;
-    write_member(tree, Style::Upper, declared.name(), out)?;
-    write_typed_start(declared, out)?;
-    write_piece(b";\n", out)
+    write_piece(b"`.\n", out)
 }
 
 fn has_constant(declared: &[Decl]) -> bool

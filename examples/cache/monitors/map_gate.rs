@@ -3,6 +3,10 @@
 
 use std::sync::{Condvar, Mutex, MutexGuard, PoisonError};
 
+/// Who may touch a map, and when: readers together, or one writer alone. A writer first queues, and
+/// while one is queued no reader starts. Whoever ends has started: so no end waits, and each \`if\`
+/// is there for the compiler alone, which now knows that no number falls below its least.
+///
 /// The monitor `MapGate`. Threads share it by reference. A call waits for its guard, unless it tries.
 /**
 # Plan
@@ -22,7 +26,8 @@ block startWrite.2: none
 block endWrite: 1 broadcast tested, 3 signal
 ```
 */
-#[allow(dead_code, non_camel_case_types, clippy::upper_case_acronyms)]
+#[allow(dead_code, non_camel_case_types)]
+#[allow(clippy::doc_markdown, clippy::upper_case_acronyms)]
 pub struct MapGate {
     inner: Mutex<Inner>,
     /// For calls that wait until `state >= 0 && queued == 0`.
@@ -32,7 +37,7 @@ pub struct MapGate {
 }
 
 #[rustfmt::skip]
-#[allow(dead_code, clippy::style)]
+#[allow(dead_code, clippy::doc_markdown, clippy::style)]
 impl MapGate {
     /// The monitor at its start.
     #[must_use]

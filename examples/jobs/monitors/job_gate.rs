@@ -3,6 +3,10 @@
 
 use std::sync::{Condvar, Mutex, MutexGuard, PoisonError};
 
+/// Who may touch a queue of jobs, and when. A push reserves a place, stores its job, and publishes
+/// it. A pop claims a job, takes it out, and releases its place. After \`close\` nothing is reserved
+/// any more; what was reserved before is still published, claimed and done.
+///
 /// The monitor `JobGate`. Threads share it by reference. A call waits for its guard, unless it tries.
 /**
 # Plan
@@ -21,7 +25,8 @@ block release: 1 signal
 block close: 1 broadcast, 3 broadcast tested
 ```
 */
-#[allow(dead_code, non_camel_case_types, clippy::upper_case_acronyms)]
+#[allow(dead_code, non_camel_case_types)]
+#[allow(clippy::doc_markdown, clippy::upper_case_acronyms)]
 pub struct JobGate {
     inner: Mutex<Inner>,
     /// For calls that wait until `used < CAP || !open`.
@@ -31,7 +36,7 @@ pub struct JobGate {
 }
 
 #[rustfmt::skip]
-#[allow(dead_code, clippy::style)]
+#[allow(dead_code, clippy::doc_markdown, clippy::style)]
 impl JobGate {
     /// The constant `CAP`.
     pub const CAP: i64 = 8;

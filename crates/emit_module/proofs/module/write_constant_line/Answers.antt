@@ -1,13 +1,18 @@
-use Rattle.std.proofs.Common.{[], rules}
+use Rattle.std.proofs.Common.{◌∙◌, ap, sym, rules}
 use Rattle.base_io.proofs.Writing.{wrote_same}
-use Rattle.emit_method.proofs.Choices.{no_text, yes_text}
-use Rattle.emit_module.specs.Modules.{constant_text, is_field}
+use Rattle.emit_method.specs.Sources.{seen}
+use Rattle.emit_module.specs.Modules.{constant_line, constant_text}
+use Rattle.lang_tree.specs.declared.tree.Decl.{Decl}
 use Rattle.emit_module.proofs.module.write_constant_line.Goals as goal
 
-pub returns-then-is_field : goal.returns-then-is_field
-returns-then-is_field g c =
-    wrote_same _ (yes_text (is_field c.args.declared.now) _ [] (constant_text c.args.tree.now c.args.declared.now) c.is_field.ensures c.if-is_field.true) (search rules)
+pub returns-in-Const : goal.returns-in-Const
+returns-in-Const g c =
+    wrote_same _ (ap (constant_text (seen c.args.source.now) c.in-Const.at) c.in-Const.is ∙ ap (constant_line (seen c.args.source.now)) (sym c.in-Const.is)) c.write_constant.ensures
 
-pub returns : goal.returns
-returns g c =
-    wrote_same _ (no_text (is_field c.args.declared.now) _ [] (constant_text c.args.tree.now c.args.declared.now) c.is_field.ensures c.if-is_field.false) c.write_constant.ensures
+pub returns-in-Int : goal.returns-in-Int
+returns-in-Int g c =
+    wrote_same _ (ap (constant_line (seen c.args.source.now)) (sym c.in-Int.is)) (search rules)
+
+pub returns-in-Flag : goal.returns-in-Flag
+returns-in-Flag g c =
+    wrote_same _ (ap (constant_line (seen c.args.source.now)) (sym c.in-Flag.is)) (search rules)

@@ -1,12 +1,13 @@
 use Rattle.std.proofs.Common.{refl}
 use Rattle.base_io.proofs.Rows.{row_stopped, row_went}
+use Rattle.emit_method.specs.Sources.{seen}
 use Rattle.emit_module.specs.Modules.{constant_line}
 use Rattle.emit_module.proofs.module.write_constant_lines.Goals as goal
 
 pub loop-one-preserved : goal.loop-one-preserved
 loop-one-preserved g c =
-    row_went (constant_line c.args.tree.now) c.args.declared.now c.loop-one.one-index c.one-item.result _ c.loop-one-test.true c.one-item.is refl c.loop-one.invariant c.in_ok-write_constant_line.ensures
+    row_went (constant_line (seen c.args.source.now)) c.args.declared.now c.loop-one.one-index c.one-item.result _ c.loop-one-test.true c.one-item.is refl c.loop-one.invariant c.in_ok-write_constant_line.ensures
 
 pub returns-in_err-write_constant_line : goal.returns-in_err-write_constant_line
 returns-in_err-write_constant_line g c =
-    row_stopped (constant_line c.args.tree.now) c.args.declared.now c.loop-one.one-index c.one-item.result _ _ c.loop-one-test.true c.one-item.is refl c.from_residual.ensures.0 c.loop-one.invariant c.in_err-write_constant_line.ensures
+    row_stopped (constant_line (seen c.args.source.now)) c.args.declared.now c.loop-one.one-index c.one-item.result _ _ c.loop-one-test.true c.one-item.is refl c.from_residual.ensures.0 c.loop-one.invariant c.in_err-write_constant_line.ensures

@@ -1,6 +1,6 @@
 use Rattle.std.proofs.Common.{take, Ok}
 use Rattle.base_io.specs.Writing.{Wrote}
-use Rattle.emit_method.proofs.Numbered.{numbered}
+use Rattle.emit_comments.proofs.Numbered.{numbered}
 use Rattle.emit_method.specs.Methods.{methods_text}
 use Rattle.emit_method.specs.Sources.{seen}
 use Rattle.std.specs.List.{enumerate_from, flat_map}

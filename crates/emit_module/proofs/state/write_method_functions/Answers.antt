@@ -1,6 +1,6 @@
 use Rattle.std.proofs.Common.{◌∙◌, ap, List, ℕ}
 use Rattle.base_io.proofs.Writing.{wrote_same}
-use Rattle.emit_method.proofs.Numbered.{numbered}
+use Rattle.emit_comments.proofs.Numbered.{numbered}
 use Rattle.emit_module.specs.Modules.{block_functions}
 use Rattle.emit_method.specs.Sources.{seen}
 use Rattle.lang_tree.specs.declared.tree.BlockTree.{BlockTree}
