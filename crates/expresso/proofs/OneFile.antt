@@ -31,10 +31,10 @@ use Rattle.expresso.specs.Texts.{count_explained_text, explained_text}
 use Rattle.expresso.specs.inner.Explaining.{IsCountExplained, IsExplained}
 use Rattle.expresso.specs.FirstFaults.{IsRefusalLine}
 use Rattle.expresso.specs.MonitorFiles.{IsAccepted, IsFirstOfMonitor}
-use Rattle.expresso.specs.Answers.{AcceptsMonitor, HoldsMonitor, IsUnreadText, RejectsMonitor}
+use Rattle.expresso.specs.Answers.{AcceptsMonitor, HoldsBytes, HoldsMonitor, IsUnreadText, RejectsMonitor}
 use Rattle.expresso.specs.inner.Ending.{CommandEnds, IsTurnedAway, IsUnread, IsWritten}
-use Rattle.expresso.specs.inner.Input.{CommandsEndOn, WorksOn}
-use Rattle.expresso.proofs.Telling.{told, is_told, accepted_told, line_told, holds_same}
+use Rattle.expresso.specs.inner.Input.{CommandsEndOn, HoldsText, WorksOn}
+use Rattle.expresso.proofs.Telling.{told, is_told, accepted_told, line_told, holds_same, read_short}
 use Rattle.expresso.proofs.FirstFaults.{OneSpelling, NoSpelling, OneTree, no_line}
 use Rattle.expresso.proofs.Outcomes.{written_since}
 use Rattle.expresso.proofs.Ending.{memory_ended, no_bytes_ended, refused_ended, work_ended}
@@ -104,6 +104,15 @@ monitor_held held file bytes slice tree monitor same read accepted =
       bytes = told (held file) slice;
       told = is_told (held file) slice;
       accepted = accepted_told (held file) slice tree monitor here accepted;
+    }
+
+pub text_held : (held : List ℕ → Option (List ℕ)) (file bytes slice : List ℕ) (tree : MonitorTree) (monitor : MonitorParts)
+    → slice ≡ bytes → IsRead (held file) 65536 bytes → IsAccepted slice tree monitor → HoldsText held file bytes tree monitor
+text_held held file bytes slice tree monitor same read accepted =
+    let here : IsAccepted bytes tree monitor = subst (λ (b : List ℕ). IsAccepted b tree monitor) same accepted in
+    record {
+      told = subst (λ (b : List ℕ). HoldsBytes held file b) (sym (read_short 65536 (held file) bytes read here.short)) (is_told (held file) bytes);
+      accepted = here;
     }
 
 pub each_held : (held : List ℕ → Option (List ℕ)) (file bytes slice : List ℕ) (result : Result MonitorFile Status) → slice ≡ bytes → IsRead (held file) 65536 bytes
@@ -233,9 +242,9 @@ is_as_promised laws bytes tree monitor plan whole accepted chosen are = record {
 }
 
 pub emit_done : PrintedLaws → (file : List ℕ) (tree : MonitorTree) (monitor : MonitorParts) (plan : Plan) (whole : List Bool) (files files_now : FilesSeen) (result : Status) (out out_now : SinkSeen)
-    → HoldsMonitor files.held file tree monitor → IsChosen Counted monitor plan → AreWhole monitor plan.kept whole → files_now.faults ≡ files.faults
-    → IsWritten statuses.Done (rust_text tree monitor plan whole) result out out_now → CommandEnds (emit file) files files_now result out out_now
+    → (holds : HoldsMonitor files.held file tree monitor) → IsChosen Counted monitor plan → AreWhole monitor plan.kept whole → files_now.faults ≡ files.faults
+    → IsWritten statuses.Done (rust_text holds.bytes tree monitor plan whole) result out out_now → CommandEnds (emit file) files files_now result out out_now
 emit_done laws file tree monitor plan whole files files_now result out out_now holds chosen are steady written =
-    work_ended (emit file) files files_now (rust_text tree monitor plan whole) result out out_now true
+    work_ended (emit file) files files_now (rust_text holds.bytes tree monitor plan whole) result out out_now true
     (record { tree = tree; monitor = monitor; plan = plan; whole = whole; holds = holds; chosen = chosen; promised = is_as_promised laws holds.bytes tree monitor plan whole holds.accepted chosen are; printed = refl })
     (no_rejection files.held file tree monitor holds) steady written

@@ -281,9 +281,9 @@ IsExplainTextBy held true true file text =
     (front : List ℕ) × (is : IsCountExplainText held file front)
     × HasFitReasons is.tree is.monitor is.plan.kept front text
 
--- the text of the Rust module of the monitor of the file, under a counted plan: what threads do by
--- the code of that plan is a run of the monitor, no wake-up is lost, and each printed body does the
--- step of its block, without tests of 64 bits where the block is whole
+-- the text of the Rust module of the monitor of the file, with its comments, under a counted plan:
+-- what threads do by the code of that plan is a run of the monitor, no wake-up is lost, and each
+-- printed body does the step of its block, without tests of 64 bits where the block is whole
 pub record IsEmitText (held : List ℕ → Option (List ℕ)) (file text : List ℕ) : Type 0 where
   pub tree : MonitorTree
   pub monitor : MonitorParts
@@ -292,7 +292,7 @@ pub record IsEmitText (held : List ℕ → Option (List ℕ)) (file text : List 
   pub holds : HoldsMonitor held file tree monitor
   pub chosen : IsChosen Counted monitor plan
   pub promised : IsAsPromised tree monitor plan whole
-  pub printed : text ≡ rust_text tree monitor plan whole
+  pub printed : text ≡ rust_text holds.bytes tree monitor plan whole
 
 -- the text of a command whose work is done; of `turns`, `simulate`, `run` and `block`, that no
 -- client has a call left

@@ -4,7 +4,7 @@ ghost use Rattle.front_command.specs.CommandLine.{emit};
 ghost use Rattle.expresso.specs.ProgramEnds.{KeepsFiles};
 ghost use Rattle.expresso.specs.inner.Ending.{CommandEnds};
 
-use crate::input::monitor_of;
+use crate::input::text_of;
 use crate::placement::plan_of;
 use crate::status::Status;
 use crate::text::show_module;
@@ -36,16 +36,20 @@ pub(crate) fn emit_file<F: Files, S: Sink>(
     printed_numbers_are_wide();
     moments_stay_in_64();
     fitting_blocks_never_overflow();
-    let found = match monitor_of(alloc, file, files, out) {
-        Ok(found) => found,
+    let text = match text_of(alloc, file, files, out) {
+        Ok(text) => text,
         Err(status) => return status,
     };
+    let found = &text.found;
     let plan = match plan_of(alloc, &found.monitor, PlanChoice::Counted) {
         Ok(plan) => plan,
         Err(AllocError) => return Status::OutOfMemory,
     };
     match whole_blocks(alloc, &found.monitor, plan.kept.items()) {
-        Ok(whole) => show_module(&found.tree, &found.monitor, &plan, whole.as_slice(), out),
+        Ok(whole) => {
+            let whole = whole.as_slice();
+            show_module(&text.bytes, &found.tree, &found.monitor, &plan, whole, out)
+        }
         Err(AllocError) => Status::OutOfMemory,
     }
 }

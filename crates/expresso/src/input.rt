@@ -9,7 +9,7 @@ ghost use Rattle.expresso.specs.ClientFiles.{AreAccepted, IsFirstOfClients};
 ghost use Rattle.expresso.specs.Answers.{HoldRun, HoldsMonitor};
 ghost use Rattle.expresso.specs.ProgramEnds.{KeepsFiles};
 ghost use Rattle.expresso.specs.inner.Ending.{IsQuiet, IsTurnedAway};
-ghost use Rattle.expresso.specs.inner.Input.{CommandsEndOn, RunsEnd};
+ghost use Rattle.expresso.specs.inner.Input.{CommandsEndOn, HoldsText, RunsEnd};
 
 use crate::client_file::read_clients;
 use crate::monitor_file::{MonitorFile, read_monitor};
@@ -104,6 +104,38 @@ pub(crate) fn monitor_of<F: Files, S: Sink>(
     derives_one_tree();
     let bytes = bytes_of(alloc, file, FILE_BYTES as u64, files, out)?;
     monitor_in(alloc, file, &bytes, out)
+}
+
+/// A monitor, and the bytes of its file.
+#[derive(Debug, Drop)]
+pub(crate) struct MonitorText {
+    pub found: MonitorFile,
+    pub bytes: Vec<u8>,
+}
+
+/// Reads a monitor file, and keeps its bytes. Where there is no monitor, the status of its command:
+/// the line of the first fault is written then.
+pub(crate) fn text_of<F: Files, S: Sink>(
+    alloc: Global,
+    file: &str,
+    files: &mut F,
+    out: &mut S,
+) -> Result<MonitorText, Status>
+    requires { F.may_read files.old file.now }
+    ensures holds { IfOk result (λ text. HoldsText (F.seen files.old).held
+        file.now text.bytes.items text.found.tree text.found.monitor) }
+    ensures quiet { OnOk result (IsQuiet (F.seen files.old) (F.seen files.new)
+        (S.seen out.old) (S.seen out.new)) }
+    ensures ended { IfErr result (λ status. CommandsEndOn file.now []
+        (F.seen files.old) (F.seen files.new) status (S.seen out.old) (S.seen out.new)) }
+    ensures files { KeepsFiles (F.seen files.old) (F.seen files.new)
+        (F.may_read files.old) (F.may_read files.new) }
+{
+    one_spelling();
+    derives_one_tree();
+    let bytes = bytes_of(alloc, file, FILE_BYTES as u64, files, out)?;
+    let found = monitor_in(alloc, file, &bytes, out)?;
+    Ok(MonitorText { found, bytes })
 }
 
 /// A monitor, and the bytes of the other file of its command.

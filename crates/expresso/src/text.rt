@@ -209,18 +209,20 @@ pub(crate) fn write_count_explanation<S: Sink>(
     write_broadcast_reasons(tree, monitor, explanation.broadcasts.as_slice(), out)
 }
 
-/// Writes the Rust module of a monitor under a plan, with these of its blocks whole.
+/// Writes the Rust module of a monitor under a plan, with the comments of its file's bytes, and
+/// with these of its blocks whole.
 pub(crate) fn show_module<S: Sink>(
+    bytes: &[u8],
     tree: &MonitorTree,
     monitor: &Monitor,
     plan: &Plan,
     whole: &[bool],
     out: &mut S,
 ) -> Status
-    ensures { IsWritten Status.Done (rust_text tree.now monitor.now plan.now whole.now) result
-        (S.seen out.old) (S.seen out.new) }
+    ensures { IsWritten Status.Done (rust_text bytes.now tree.now monitor.now plan.now whole.now)
+        result (S.seen out.old) (S.seen out.new) }
 {
-    let outcome = write_rust(tree, monitor, plan, whole, out);
+    let outcome = write_rust(bytes, tree, monitor, plan, whole, out);
     finish(Status::Done, outcome, out)
 }
 

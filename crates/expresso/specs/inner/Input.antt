@@ -6,9 +6,18 @@ use Rattle.lang_base.specs.declared.source_fault.SourceFault.{SourceFault}
 use Rattle.lang_base.specs.declared.source_fault.SourceError.{SourceError}
 use Rattle.lang_base.specs.declared.source_fault.SourceError.TheVariants.{Fault, OutOfMemory}
 use Rattle.front_command.specs.CommandLine.{Command, files_of}
-use Rattle.expresso.specs.Answers.{AcceptsFiles, AcceptsMonitor, AcceptsRun, IsMonitorRefusal}
-use Rattle.expresso.specs.Answers.{IsRefusedText, IsRunRefusal}
+use Rattle.lang_tree.specs.declared.tree.MonitorTree.{MonitorTree}
+use Rattle.lang_monitor.specs.MonitorParts.{MonitorParts}
+use Rattle.expresso.specs.MonitorFiles.{IsAccepted}
+use Rattle.expresso.specs.Answers.{AcceptsFiles, AcceptsMonitor, AcceptsRun, HoldsBytes}
+use Rattle.expresso.specs.Answers.{IsMonitorRefusal, IsRefusedText, IsRunRefusal}
 use Rattle.expresso.specs.inner.Ending.{CommandEnds}
+
+-- the file holds these bytes, where it is told, and they stand for the monitor
+pub record HoldsText (held : List ℕ → Option (List ℕ)) (file bytes : List ℕ) (tree : MonitorTree)
+    (monitor : MonitorParts) : Type 0 where
+  pub told : HoldsBytes held file bytes
+  pub accepted : IsAccepted bytes tree monitor
 
 -- the command works on the monitor of this file, and reads these others
 pub record WorksOn (command : Command) (file : List ℕ) (others : List (List ℕ)) : Type 0 where
