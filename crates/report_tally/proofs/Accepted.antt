@@ -1,6 +1,6 @@
 -- A counted plan whose certificates were checked is lawful by counting.
-use Rattle.std.proofs.Common.{◌≡◌, ℕ, ◌-◌, ◌<◌, ◌≤◌, Bool, true, false, not, List, [], ◌∷◌, length, Option, Some, None, inl, inr, refl, sym, ap, subst, ◌∙◌, arith}
-use Rattle.std.specs.Prelude.{All, IsSomeAnd, slice_get, unwrap_or, if◌then◌else◌}
+use Rattle.std.proofs.Common.{◌≡◌, ℕ, ◌+◌, ◌-◌, ◌<◌, ◌≤◌, Bool, true, false, not, List, [], ◌∷◌, length, Option, Some, None, inl, inr, refl, sym, ap, subst, ◌∙◌, arith}
+use Rattle.std.specs.Prelude.{All, IsSomeAnd, is_some, slice_get, unwrap_or}
 use Rattle.std.specs.List.{enumerate_from}
 use Rattle.std.proofs.lemmas.Bool.{true≢false, cases_Bool}
 use Rattle.std.proofs.lemmas.Option.{slice_get_within}
@@ -30,13 +30,13 @@ use Rattle.plan_place.proofs.Backed.{Laws, held, of_kept, of_signal, of_unnoted}
 use Rattle.plan_place.proofs.Lists.{all_filtered, all_flat, in_numbered, in_range}
 use Rattle.plan_count.specs.declared.question.Question.{Question}
 use Rattle.plan_count.specs.declared.question.Question.TheVariants as questions
-use Rattle.plan_count.specs.Questions.{AnswersCount, IsSo, IsToldRight, question_query}
+use Rattle.plan_count.specs.Questions.{AnswersCount, HasRowAt, IsSo, IsToldRight, question_query}
 use Rattle.plan_counted.proofs.Table.{broadcast_found, has_if}
 use Rattle.report_recheck.specs.Verdicts.{AreChecked, IsLawfulAtSight, IsProof}
 use Rattle.report_recheck.proofs.Pairs.{all_at, at_place, from_places, zip_at}
 use Rattle.report_recheck.proofs.PlansFit.{plan_fits}
 use Rattle.report_tally.specs.declared.report.CountedReport.{CountedReport}
-use Rattle.report_tally.specs.CountedReports.{IsCountedReport, answers_of, block_questions, given_questions, is_counted, is_owed, note_questions, owed_claims, owed_proofs, owed_questions}
+use Rattle.report_tally.specs.CountedReports.{IsCountedReport, answers_of, block_questions, condition_questions, given_questions, is_counted, is_owed, note_questions, owed_claims, owed_proofs, owed_questions}
 use Rattle.report_tally.specs.CountedVerdicts.{IsAnswer, IsAnswered, IsCountedAccepted}
 
 -- ---- what was checked
@@ -86,40 +86,40 @@ so laws monitor kept question rule within cert =
 -- ---- conditions that are counted
 
 -- the questions on a block and a counted condition
-on_block : (P : Question → Type 0) (monitor : MonitorParts) (plan : Plan) (counted : List Bool) (number block : ℕ)
-    → All P (owed_questions monitor plan counted) → slice_get counted (number - 1) ≡ Some true → 1 ≤ number → block < length monitor.blocks
-    → All P (note_questions number block (note_on (notes_at plan block) number))
-on_block P monitor plan counted number block all there first within =
-    let each = all_flat P (λ (one : ℕ × Bool). if one.1 then block_questions monitor plan one.0 else []) (enumerate_from 1 counted) all in
-    let own : All P (block_questions monitor plan number) =
-    in_numbered (λ (one : ℕ × Bool). All P (if one.1 then block_questions monitor plan one.0 else [])) 1 counted (number - 1) true number there (omega (arith, first)) each in
-    in_range (λ (by : ℕ). All P (note_questions number by (note_on (notes_at plan by) number))) 0 (length monitor.blocks) block (omega arith) (omega (arith, within))
-    (all_flat P (λ by. note_questions number by (note_on (notes_at plan by) number)) (block_numbers monitor) own)
+on_block : (P : Question → Type 0) (monitor : MonitorParts) (plan : Plan) (counted : List (Option ℕ)) (number row block : ℕ)
+    → All P (owed_questions monitor plan counted) → slice_get counted (number - 1) ≡ Some (Some row) → 1 ≤ number → block < length monitor.blocks
+    → All P (note_questions number row block (note_on (notes_at plan block) number))
+on_block P monitor plan counted number row block all there first within =
+    let each = all_flat P (λ (one : ℕ × Option ℕ). condition_questions monitor plan one.0 one.1) (enumerate_from 1 counted) all in
+    let own : All P (block_questions monitor plan number row) =
+    in_numbered (λ (one : ℕ × Option ℕ). All P (condition_questions monitor plan one.0 one.1)) 1 counted (number - 1) (Some row) number there (omega (arith, first)) each in
+    in_range (λ (by : ℕ). All P (note_questions number row by (note_on (notes_at plan by) number))) 0 (length monitor.blocks) block (omega arith) (omega (arith, within))
+    (all_flat P (λ by. note_questions number row by (note_on (notes_at plan by) number)) (block_numbers monitor) own)
 
-told_right : Laws → (monitor : MonitorParts) (plan : Plan) (number block : ℕ) → IsMonitor monitor → block < length monitor.blocks
-    → All (HasAnswer monitor plan.kept) (note_questions number block (note_on (notes_at plan block) number))
-    → IsToldRight monitor plan number block
-told_right laws monitor plan number block rule within all = by_note (note_on (notes_at plan block) number) refl all
+told_right : Laws → (monitor : MonitorParts) (plan : Plan) (number row block : ℕ) → IsMonitor monitor → block < length monitor.blocks
+    → All (HasAnswer monitor plan.kept) (note_questions number row block (note_on (notes_at plan block) number))
+    → IsToldRight monitor plan number row block
+told_right laws monitor plan number row block rule within all = by_note (note_on (notes_at plan block) number) refl all
   where
     answer : Question → Type 0
     answer = HasAnswer monitor plan.kept
 
     by_all : (note : Note) (every : Bool) → note.all ≡ every → note_on (notes_at plan block) number ≡ Some note
-        → All answer (given_questions number block every) → IsToldRight monitor plan number block
+        → All answer (given_questions number row block every) → IsToldRight monitor plan number row block
     by_all note true is found all = inl (broadcast_found (notes_at plan block) number note found is)
     by_all note false is found all =
-        let later = All-tail answer (questions.Gives number block) (questions.First number block ∷ []) all in
+        let later = All-tail answer (questions.Gives number row block) (questions.First number row block ∷ []) all in
         inr (inr (record {
           one = has_if (notes_at plan block) number (Some note) found;
-          gives = so laws monitor plan.kept (questions.Gives number block) rule within (All-head answer (questions.Gives number block) (questions.First number block ∷ []) all);
-          first = λ other. so laws monitor plan.kept (questions.First number block) rule within (All-head answer (questions.First number block) [] later);
+          gives = so laws monitor plan.kept (questions.Gives number row block) rule within (All-head answer (questions.Gives number row block) (questions.First number row block ∷ []) all);
+          first = λ other. so laws monitor plan.kept (questions.First number row block) rule within (All-head answer (questions.First number row block) [] later);
         }))
 
-    by_note : (found : Option Note) → note_on (notes_at plan block) number ≡ found → All answer (note_questions number block found)
-        → IsToldRight monitor plan number block
+    by_note : (found : Option Note) → note_on (notes_at plan block) number ≡ found → All answer (note_questions number row block found)
+        → IsToldRight monitor plan number row block
     by_note None is all = inr (inl (record {
       none = has_if (notes_at plan block) number None is;
-      counts = so laws monitor plan.kept (questions.Counts number block) rule within (All-head answer (questions.Counts number block) [] all);
+      counts = so laws monitor plan.kept (questions.Counts number row block) rule within (All-head answer (questions.Counts number row block) [] all);
     }))
     by_note (Some note) is all = by_all note note.all refl is all
 
@@ -130,12 +130,14 @@ is_signal (Some kinds.Broadcast) = false
 
 -- ---- the plan
 
-mark_there : (counted : List Bool) (number : ℕ) → is_counted counted number ≡ true → slice_get counted (number - 1) ≡ Some true
-mark_there counted number is = by_found (slice_get counted (number - 1)) refl is
+row_of : (counted : List (Option ℕ)) (number : ℕ) → is_counted counted number ≡ true → (row : ℕ) × (slice_get counted (number - 1) ≡ Some (Some row))
+row_of counted number is = by_found (slice_get counted (number - 1)) refl is
   where
-    by_found : (found : Option Bool) → slice_get counted (number - 1) ≡ found → unwrap_or found false ≡ true → slice_get counted (number - 1) ≡ Some true
+    by_found : (found : Option (Option ℕ)) → slice_get counted (number - 1) ≡ found → is_some (unwrap_or found None) ≡ true
+        → (row : ℕ) × (slice_get counted (number - 1) ≡ Some (Some row))
     by_found None there is = absurd (true≢false (sym is))
-    by_found (Some mark) there is = there ∙ ap {B = Option Bool} (λ (one : Bool). Some one) is
+    by_found (Some None) there is = absurd (true≢false (sym is))
+    by_found (Some (Some row)) there is = (row, there)
 
 lawful_by_guards : Laws → AnswersCount → (monitor : MonitorParts) (report : CountedReport) → IsMonitor monitor
     → IsCountedReport monitor report → IsLawfulAtSight monitor report.plan
@@ -155,9 +157,11 @@ lawful_by_guards laws count monitor report rule is sight checked answered = reco
   reading = sight.reading;
   broadcasts = sight.broadcasts;
   signals = λ number which there kind. elim (cases_Bool (is_counted report.counted number)) [
-    | inl counts ↦ inr (count monitor plan number which rule there (no_inputs number which there kind)
-        (λ block within. told_right laws monitor plan number block rule within
-        (on_block (HasAnswer monitor plan.kept) monitor plan report.counted number block questions_are (mark_there report.counted number counts) there.numbered within)))
+    | inl counts ↦
+        let row = row_of report.counted number counts in
+        inr (count monitor plan number row.0 which rule there (no_inputs number which there kind) (has_row number row.0 there.numbered row.1)
+        (λ block within. told_right laws monitor plan number row.0 block rule within
+        (on_block (HasAnswer monitor plan.kept) monitor plan report.counted number row.0 block questions_are row.1 there.numbered within)))
     | inr plain ↦ inl (λ block held_block at same.
         let low = slice_get_within monitor.blocks block held_block at in
         let waits = subst (λ (o : Option Block). IsSomeAnd o (λ one. one.condition ≡ number)) (sym at) same in
@@ -178,6 +182,11 @@ lawful_by_guards laws count monitor report rule is sight checked answered = reco
     questions_are : All (HasAnswer monitor plan.kept) (owed_questions monitor plan report.counted)
     questions_are = questions_so monitor report is answered
 
+    has_row : (number row : ℕ) → 1 ≤ number → slice_get report.counted (number - 1) ≡ Some (Some row) → HasRowAt monitor number row
+    has_row number row first there =
+        let same : 1 + (number - 1) ≡ number = omega (arith, first) in
+        subst (λ (condition : ℕ). HasRowAt monitor condition row) same (is.counted.each (number - 1) row there).has
+
     no_inputs : (number : ℕ) (which : Condition) → IsCondition monitor number which → condition_kind plan number ≡ Some kinds.Signal
         → reads_inputs which.guard ≡ false
     no_inputs number which there kind = elim (cases_Bool (reads_inputs which.guard)) [
@@ -186,16 +195,16 @@ lawful_by_guards laws count monitor report rule is sight checked answered = reco
     ]
 
 -- where no condition is counted
-none_counted : (counted : List Bool) → All (λ mark. mark ≡ false) counted → (number : ℕ) → is_counted counted number ≡ false
+none_counted : (counted : List (Option ℕ)) → All (λ row. row ≡ None) counted → (number : ℕ) → is_counted counted number ≡ false
 none_counted counted none number = by_mark (slice_get counted (number - 1)) refl
   where
-    by_mark : (found : Option Bool) → slice_get counted (number - 1) ≡ found → unwrap_or found false ≡ false
+    by_mark : (found : Option (Option ℕ)) → slice_get counted (number - 1) ≡ found → is_some (unwrap_or found None) ≡ false
     by_mark None there = refl
-    by_mark (Some mark) there = all_at (λ (one : Bool). one ≡ false) counted (number - 1) mark there none
+    by_mark (Some row) there = ap is_some (all_at (λ (one : Option ℕ). one ≡ None) counted (number - 1) row there none)
 
 lawful_plainly : Laws → (monitor : MonitorParts) (report : CountedReport) → IsMonitor monitor
     → IsCountedReport monitor report → AreChecked monitor report.plan.kept (owed_proofs monitor report)
-    → IsLawfulByGuards monitor report.plan → All (λ mark. mark ≡ false) report.counted → IsLawful monitor report.plan
+    → IsLawfulByGuards monitor report.plan → All (λ row. row ≡ None) report.counted → IsLawful monitor report.plan
 lawful_plainly laws monitor report rule is checked by_guards none = record {
   inductive = by_guards.inductive;
   noted = by_guards.noted;

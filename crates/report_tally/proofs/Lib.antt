@@ -1,4 +1,6 @@
 pub mod OneLines
+pub mod NamedRows
+pub mod ConditionLines
 pub mod Marks
 pub mod OwedLines
 pub mod Answered
@@ -6,7 +8,7 @@ pub mod AskedQuestions
 pub mod Accepted
 pub mod Verdicts
 pub mod AnswerLines
-pub mod KeptClaims
+pub mod StillOwed
 pub mod CountingReports
 pub mod WrittenColumns
 pub mod PrintedCounts

@@ -1,8 +1,9 @@
 -- Which conditions are counted shows by the claims that are left out.
-use Rattle.std.proofs.Common.{◌≡◌, ◌==◌, ℕ, suc, ◌+◌, ◌-◌, ◌<◌, ◌≤◌, Bool, true, false, not, cond, ◌||◌, List, [], ◌∷◌, map, length, Option, Some, None, inl, inr, eqb-true, refl, sym, ap, ◌∙◌, arith}
-use Rattle.std.specs.Prelude.{All, IsSomeAnd, slice_get, unwrap_or}
+use Rattle.std.proofs.Common.{◌≡◌, ◌==◌, ℕ, zero, suc, ◌+◌, ◌-◌, ◌<◌, ◌≤◌, Bool, true, false, not, cond, ◌||◌, List, [], ◌∷◌, map, length, Option, Some, None, inl, inr, eqb-true, refl, sym, ap, ◌∙◌, arith}
+use Rattle.std.specs.Prelude.{All, IsSomeAnd, is_some, slice_get, unwrap_or}
 use Rattle.std.specs.List.{filter, enumerate_from, list_any}
 use Rattle.std.proofs.lemmas.Bool.{true≢false, cases_Bool, eq-eqb}
+use Rattle.std.proofs.lemmas.List.{length-map}
 use Rattle.std.proofs.lemmas.Option.{slice_get_within, same_Some, none-some}
 use Rattle.std.proofs.lemmas.List.Elements.{All-nil, All-cons}
 use Rattle.lang_monitor.specs.declared.claim.Claim.{Claim}
@@ -16,7 +17,7 @@ use Rattle.plan_place.proofs.Backed.{of_signal}
 use Rattle.plan_counted.proofs.Table.{length_numbered, none_numbered, numbered_at}
 use Rattle.report_recheck.specs.Reports.{IsPlanOf}
 use Rattle.report_tally.specs.CountedReports.{AreCounted, is_counted, is_owed, owed_claims}
-use Rattle.report_tally.specs.inner.Lines.{is_left_out, is_one_at, is_signal, left_out}
+use Rattle.report_tally.specs.inner.Lines.{AreSignals, first_row_if, is_left_out, is_one_at, is_signal, left_out}
 
 -- ---- a list that says of each element of another one what it should
 
@@ -36,7 +37,7 @@ numbered_is f first (x ∷ xs) (y ∷ ys) many each =
 
 -- ---- whether a claim is left that one waiter is enough
 
-none_one : (counted : List Bool) (number : ℕ) (all : List Claim) → is_counted counted number ≡ true
+none_one : (counted : List (Option ℕ)) (number : ℕ) (all : List Claim) → is_counted counted number ≡ true
     → list_any (is_one_at number) (filter (is_owed counted) all) ≡ false
 none_one counted number [] is = refl
 none_one counted number (claim ∷ all) is = by_owed (is_owed counted claim) refl (none_one counted number all is)
@@ -56,10 +57,10 @@ none_one counted number (claim ∷ all) is = by_owed (is_owed counted claim) ref
     by_owed false owed rest = rest
 
 -- no claim is owed that one waiter is enough at the condition
-abbrev IsNoOne : List Bool → ℕ → Claim → Type 0
+abbrev IsNoOne : List (Option ℕ) → ℕ → Claim → Type 0
 IsNoOne counted number claim = is_one_at number claim ≡ true → is_owed counted claim ≡ true → ⊥
 
-none_of_all : (counted : List Bool) (number : ℕ) (all : List Claim)
+none_of_all : (counted : List (Option ℕ)) (number : ℕ) (all : List Claim)
     → list_any (is_one_at number) (filter (is_owed counted) all) ≡ false → All (IsNoOne counted number) all
 none_of_all counted number [] none = All-nil (IsNoOne counted number)
 none_of_all counted number (claim ∷ all) none = by_owed (is_owed counted claim) refl none (none_of_all counted number all)
@@ -81,7 +82,7 @@ none_of_all counted number (claim ∷ all) none = by_owed (is_owed counted claim
     by_owed true is none later = by_one (is_one_at number claim) refl none later
     by_owed false is none later = All-cons (IsNoOne counted number) claim all (λ one owed. true≢false (sym owed ∙ is)) (later none)
 
-some_one : (monitor : MonitorParts) (plan : Plan) (counted : List Bool) (number : ℕ) → IsMonitor monitor
+some_one : (monitor : MonitorParts) (plan : Plan) (counted : List (Option ℕ)) (number : ℕ) → IsMonitor monitor
     → slice_get plan.kinds (number - 1) ≡ Some kinds.Signal → 1 ≤ number → number ≤ length monitor.conditions
     → is_counted counted number ≡ false
     → list_any (is_one_at number) (owed_claims monitor plan counted) ≡ true
@@ -102,47 +103,79 @@ some_one monitor plan counted number rule kind first last is = elim (cases_Bool 
 
 -- ---- conditions
 
-is_at : (counted : List Bool) (k : ℕ) (b : Bool) → slice_get counted k ≡ Some b → is_counted counted (1 + k) ≡ b
-is_at counted k b there =
-    ap (λ (o : Option Bool). unwrap_or o false) (ap (slice_get counted) {x = 1 + k - 1} {y = k} (omega arith) ∙ there)
+-- whether one is counted, as its mark says
+pub mark_is : (counted : List (Option ℕ)) (k : ℕ) → is_some (unwrap_or (slice_get counted k) None) ≡ unwrap_or (slice_get (map is_some counted) k) false
+mark_is [] k = refl
+mark_is (row ∷ counted) zero = refl
+mark_is (row ∷ counted) (suc k) = mark_is counted k
 
-pub marks_are : (monitor : MonitorParts) (plan : Plan) (counted : List Bool) (found : List Claim) → IsMonitor monitor
-    → IsPlanOf monitor plan → AreCounted plan counted → found ≡ owed_claims monitor plan counted
-    → left_out found plan.kinds ≡ counted
+is_at : (counted : List (Option ℕ)) (k : ℕ) (b : Bool) → slice_get (map is_some counted) k ≡ Some b → is_counted counted (1 + k) ≡ b
+is_at counted k b there =
+    let here : 1 + k - 1 ≡ k = omega arith in
+    ap (λ (place : ℕ). is_some (unwrap_or (slice_get counted place) None)) here ∙ mark_is counted k ∙ ap (λ (o : Option Bool). unwrap_or o false) there
+
+-- the row of one that is counted
+pub row_there : (counted : List (Option ℕ)) (k : ℕ) → slice_get (map is_some counted) k ≡ Some true → (row : ℕ) × (slice_get counted k ≡ Some (Some row))
+row_there [] k there = absurd (none-some true there)
+row_there (None ∷ counted) zero there = absurd (true≢false (sym (same_Some false true there)))
+row_there (Some row ∷ counted) zero there = (row, refl)
+row_there (row ∷ counted) (suc k) there = row_there counted k there
+
+-- marks of those that are left out
+marked_if : (counts : Bool) → is_some (first_row_if counts) ≡ counts
+marked_if true = refl
+marked_if false = refl
+
+marks_left : (found : List Claim) (first : ℕ) (all_kinds : List CondKind)
+    → map is_some (map (λ one. first_row_if (is_left_out found one.0 one.1)) (enumerate_from first all_kinds))
+    ≡ map (λ one. is_left_out found one.0 one.1) (enumerate_from first all_kinds)
+marks_left found first [] = refl
+marks_left found first (kind ∷ all_kinds) =
+    let here = marked_if (is_left_out found first kind) in
+    let later = marks_left found (first + 1) all_kinds in
+    λ i. here i ∷ later i
+
+pub marks_are : (monitor : MonitorParts) (plan : Plan) (counted : List (Option ℕ)) (found : List Claim) → IsMonitor monitor
+    → IsPlanOf monitor plan → AreCounted monitor plan counted → found ≡ owed_claims monitor plan counted
+    → map is_some (left_out found plan.kinds) ≡ map is_some counted
 marks_are monitor plan counted found rule is are same =
-    ap (λ (some : List Claim). left_out some plan.kinds) same
-    ∙ numbered_is (is_left_out (owed_claims monitor plan counted)) 1 plan.kinds counted are.many each
+    ap (λ (some : List Claim). map is_some (left_out some plan.kinds)) same
+    ∙ marks_left (owed_claims monitor plan counted) 1 plan.kinds
+    ∙ numbered_is (is_left_out (owed_claims monitor plan counted)) 1 plan.kinds (map is_some counted) (length-map counted is_some ∙ are.many) each
   where
-    by_mark : (k : ℕ) (mark : Bool) → slice_get plan.kinds k ≡ Some kinds.Signal → slice_get counted k ≡ Some mark
+    by_mark : (k : ℕ) (mark : Bool) → slice_get plan.kinds k ≡ Some kinds.Signal → slice_get (map is_some counted) k ≡ Some mark
         → not (list_any (is_one_at (1 + k)) (owed_claims monitor plan counted)) ≡ mark
     by_mark k true there marked = ap not (none_one counted (1 + k) (backed_claims monitor plan) (is_at counted k true marked))
     by_mark k false there marked =
         ap not (some_one monitor plan counted (1 + k) rule (ap (slice_get plan.kinds) {x = 1 + k - 1} {y = k} (omega arith) ∙ there) (omega arith)
         (omega (arith, slice_get_within plan.kinds k kinds.Signal there, is.kinds)) (is_at counted k false marked))
 
-    each : (k : ℕ) (kind : CondKind) (mark : Bool) → slice_get plan.kinds k ≡ Some kind → slice_get counted k ≡ Some mark
+    signal : Option CondKind → Bool
+    signal None = false
+    signal (Some kind) = is_signal kind
+
+    each : (k : ℕ) (kind : CondKind) (mark : Bool) → slice_get plan.kinds k ≡ Some kind → slice_get (map is_some counted) k ≡ Some mark
         → is_left_out (owed_claims monitor plan counted) (1 + k) kind ≡ mark
     each k kinds.Signal mark there marked = by_mark k mark there marked
-    each k kinds.Broadcast true there marked = absurd (true≢false (ap signal (sym (are.signals k marked) ∙ there)))
-      where
-        signal : Option CondKind → Bool
-        signal None = false
-        signal (Some kind) = is_signal kind
+    each k kinds.Broadcast true there marked =
+        let row = row_there counted k marked in
+        let here : 1 + k - 1 ≡ k = omega arith in
+        absurd (true≢false (ap signal (sym (are.each k row.0 row.1).kind ∙ ap (slice_get plan.kinds) here ∙ there)))
     each k kinds.Broadcast false there marked = refl
 
--- what is left out may be counted
-pub left_out_counts : (plan : Plan) (found : List Claim) → AreCounted plan (left_out found plan.kinds)
-left_out_counts plan found = record {
-  many = length_numbered (λ (one : ℕ × CondKind). is_left_out found one.0 one.1) 1 plan.kinds;
-  signals = λ place there. by_kind place (slice_get plan.kinds place) refl there;
+-- what is left out is of kind signal
+pub left_out_signals : (plan : Plan) (found : List Claim) → AreSignals plan (left_out found plan.kinds)
+left_out_signals plan found = record {
+  many = length_numbered f 1 plan.kinds;
+  signals = λ place row there counts. by_kind place (slice_get plan.kinds place) row refl there counts;
 }
   where
-    f : ℕ × CondKind → Bool
-    f one = is_left_out found one.0 one.1
+    f : ℕ × CondKind → Option ℕ
+    f one = first_row_if (is_left_out found one.0 one.1)
 
-    by_kind : (place : ℕ) (kind : Option CondKind) → slice_get plan.kinds place ≡ kind → slice_get (left_out found plan.kinds) place ≡ Some true
-        → slice_get plan.kinds place ≡ Some kinds.Signal
-    by_kind place None is there = absurd (none-some true (sym (none_numbered f 1 plan.kinds place is) ∙ there))
-    by_kind place (Some kinds.Signal) is there = is
-    by_kind place (Some kinds.Broadcast) is there =
-        absurd (true≢false (sym (same_Some false true (sym (numbered_at f 1 plan.kinds place kinds.Broadcast is) ∙ there))))
+    by_kind : (place : ℕ) (kind : Option CondKind) (row : Option ℕ) → slice_get plan.kinds place ≡ kind → slice_get (left_out found plan.kinds) place ≡ Some row
+        → is_some row ≡ true → slice_get plan.kinds place ≡ Some kinds.Signal
+    by_kind place None row is there counts = absurd (none-some row (sym (none_numbered f 1 plan.kinds place is) ∙ there))
+    by_kind place (Some kinds.Signal) row is there counts = is
+    by_kind place (Some kinds.Broadcast) row is there counts =
+        absurd (true≢false (sym counts ∙ ap is_some (sym (same_Some None row (sym (numbered_at f 1 plan.kinds place kinds.Broadcast is) ∙ there)))))

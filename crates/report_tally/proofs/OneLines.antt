@@ -1,6 +1,6 @@
 -- The lines of claims, where those of some conditions are left out that one waiter is enough. Bytes:
 -- 99 is `c`, 102 `f`, 103 `g`, 107 `k`, 110 `n`, 111 `o`, 117 `u`.
-use Rattle.std.proofs.Common.{◌≡◌, ℕ, zero, suc, ◌+◌, ◌^◌, ◌<◌, ◌≤◌, Bool, true, false, not, cond, List, [], ◌∷◌, ◌++◌, length, take, drop, get_or, codes, decimal, inl, inr, refl, sym, ap, subst, ◌∙◌, append_assoc, arith}
+use Rattle.std.proofs.Common.{◌≡◌, ℕ, zero, suc, ◌+◌, ◌^◌, ◌<◌, ◌≤◌, Bool, true, false, not, cond, List, [], ◌∷◌, ◌++◌, length, take, drop, get_or, Option, codes, decimal, inl, inr, refl, sym, ap, subst, ◌∙◌, append_assoc, arith}
 use Rattle.std.specs.Prelude.{All}
 use Rattle.std.specs.List.{filter}
 use Rattle.std.proofs.lemmas.Bool.{true≢false, not-true}
@@ -68,11 +68,11 @@ same_first_number monitor number other block by cert also next more short low sa
 -- ---- a line that is left out doesn't stand there
 
 -- claims that are owed, each of which may be asked
-pub record AreOwed (monitor : MonitorParts) (counted : List Bool) (wanted : List Claim) : Type 0 where
+pub record AreOwed (monitor : MonitorParts) (counted : List (Option ℕ)) (wanted : List Claim) : Type 0 where
   pub owed : All (λ claim. is_owed counted claim ≡ true) wanted
   pub may : All (MayAsk monitor) wanted
 
-pub no_one_line : (monitor : MonitorParts) (counted : List Bool) (wanted : List Claim) (certs : List Cert)
+pub no_one_line : (monitor : MonitorParts) (counted : List (Option ℕ)) (wanted : List Claim) (certs : List Cert)
     (more next : List ℕ) (number block : ℕ) (cert : Cert) → IsMonitor monitor
     → AreOwed monitor counted wanted → number ≤ 64 → is_counted counted number ≡ true
     → IsAfterOnes more
@@ -93,14 +93,14 @@ no_one_line monitor counted (claims.One other by ∷ wanted) (also ∷ certs) mo
 -- ---- what was found so far
 
 -- the lines of the claims from here on that are owed
-pub record IsLeft (monitor : MonitorParts) (counted : List Bool) (done todo found : List Claim) (more left : List ℕ) : Type 0 where
+pub record IsLeft (monitor : MonitorParts) (counted : List (Option ℕ)) (done todo found : List Claim) (more left : List ℕ) : Type 0 where
   pub certs : List Cert
   pub are : AreFor (filter (is_owed counted) todo) IsReadable certs
   pub found_is : found ≡ filter (is_owed counted) done
   pub same : proofs_text monitor (filter (is_owed counted) todo) certs ++ more ≡ left
 
 pub record IsWalking (monitor : MonitorParts) (all : List Claim) (bytes : List ℕ) (i : ℕ) (found : List Claim) (left : List ℕ) : Type 0 where
-  pub again : (counted : List Bool) (certs : List Cert) (more : List ℕ) → AreFor (filter (is_owed counted) all) IsReadable certs
+  pub again : (counted : List (Option ℕ)) (certs : List Cert) (more : List ℕ) → AreFor (filter (is_owed counted) all) IsReadable certs
       → IsAfterOnes more → proofs_text monitor (filter (is_owed counted) all) certs ++ more ≡ bytes
       → IsLeft monitor counted (take i all) (drop i all) found more left
 
@@ -117,7 +117,7 @@ all_pass {X} test (x ∷ xs) = by_test (test x) refl (all_pass test xs)
     by_test false is rest = rest
 
 -- the line of a claim that isn't owed doesn't stand there
-not_there : (monitor : MonitorParts) (counted : List Bool) (wanted : List Claim) (certs : List Cert)
+not_there : (monitor : MonitorParts) (counted : List (Option ℕ)) (wanted : List Claim) (certs : List Cert)
     (more next : List ℕ) (claim : Claim) (cert : Cert) → IsMonitor monitor → AreOwed monitor counted wanted
     → MayAsk monitor claim → is_owed counted claim ≡ false → IsAfterOnes more
     → proof_text monitor claim cert ++ next ≡ proofs_text monitor wanted certs ++ more → ⊥
@@ -131,7 +131,7 @@ not_there monitor counted wanted certs more next (claims.One number block) cert 
     counts true is = refl
     counts false is = absurd (true≢false is)
 
-step_left : (monitor : MonitorParts) (counted : List Bool) (claim : Claim) (done todo found now : List Claim) (more left next : List ℕ)
+step_left : (monitor : MonitorParts) (counted : List (Option ℕ)) (claim : Claim) (done todo found now : List Claim) (more left next : List ℕ)
     → IsMonitor monitor → MayAsk monitor claim → All (MayAsk monitor) todo → IsAfterOnes more
     → IsLineTurn monitor claim left next found now
     → IsLeft monitor counted done (claim ∷ todo) found more left → IsLeft monitor counted (done ++ claim ∷ []) todo now more next

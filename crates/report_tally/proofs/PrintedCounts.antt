@@ -3,7 +3,7 @@ use Rattle.std.proofs.Common.{◌≡◌, ◌⊎◌, ℕ, ◌+◌, Bool, true, fa
 use Rattle.std.specs.Prelude.{All, IsSomeAnd, slice_get}
 use Rattle.std.specs.List.{enumerate_from, filter, flat_map, zip}
 use Rattle.std.proofs.lemmas.Bool.{and_parts, cases_Bool, true≢false}
-use Rattle.std.proofs.lemmas.List.Elements.{All-nil, All-cons, All-head, All-tail, All-append, All-filter, All-map}
+use Rattle.std.proofs.lemmas.List.Elements.{All-nil, All-cons, All-head, All-tail, All-append, All-filter, All-map, All-weaker}
 use Rattle.logic_cert.specs.declared.cert.Cert.{Cert}
 use Rattle.logic_outline.specs.Outlines.{HasTypedNumbers}
 use Rattle.lang_monitor.specs.declared.candidate.Candidate.{Candidate}
@@ -11,22 +11,24 @@ use Rattle.lang_monitor.specs.declared.claim.Claim.{Claim}
 use Rattle.lang_monitor.specs.declared.query.Query.{Query}
 use Rattle.lang_monitor.specs.MonitorParts.{MonitorParts}
 use Rattle.lang_monitor.specs.Queries.{query_of}
-use Rattle.machine_events.specs.declared.plan.Plan.{Plan}
-use Rattle.machine_events.specs.Plans.{IsLawful}
+use Rattle.machine_events.specs.Counts.{IsLawfulByCounting}
 use Rattle.logic_wp.specs.PlainClaims.{IsClaimOf, has_few_cubes, is_within_limits}
 use Rattle.logic_wp.specs.Limits.{is_query_within}
 use Rattle.logic_wp.specs.NegatedQueries.{negated_query}
-use Rattle.plan_prune.specs.Hardness.{MayStayOpen, limits}
+use Rattle.plan_prune.specs.Hardness.{HasNoOpenClaim, MayStayOpen, limits}
 use Rattle.plan_place.specs.declared.placed.PlacedPlan.{PlacedPlan}
 use Rattle.plan_place.specs.declared.placed.Proof.{Proof}
+use Rattle.plan_place.specs.Backing.{backed_claims}
 use Rattle.plan_place.proofs.Lists.{all_mapped}
 use Rattle.plan_count.specs.declared.question.Question.{Question}
 use Rattle.plan_count.specs.declared.question.Question.TheVariants as questions
 use Rattle.plan_count.specs.Questions.{MayAskQuestion, question_query}
+use Rattle.plan_counted.specs.declared.counted.Column.{Column}
 use Rattle.plan_counted.specs.declared.counted.CountedPlan.{CountedPlan}
 use Rattle.plan_counted.specs.declared.counted.Told.{Told}
 use Rattle.plan_counted.specs.declared.counted.Told.TheVariants as telling
 use Rattle.plan_counted.specs.Counted.{IsBacked, IsColumnBacked}
+use Rattle.plan_counted.specs.Exact.{HasNoOpenQuestion}
 use Rattle.report_recheck.specs.declared.report.Verdict.{Verdict}
 use Rattle.report_recheck.specs.declared.report.Verdict.TheVariants as verdicts
 use Rattle.report_recheck.specs.Readings.{IsReadable}
@@ -34,13 +36,13 @@ use Rattle.report_recheck.specs.Verdicts.{AreChecked, IsLawfulAtSight, IsOpen, I
 use Rattle.report_recheck.proofs.Pairs.{all_at}
 use Rattle.report_recheck.proofs.SmallReports.{claims_are}
 use Rattle.report_tally.specs.declared.report.CountedReport.{CountedReport}
-use Rattle.report_tally.specs.CountedReadings.{IsCountedRead, IsReadableReport}
-use Rattle.report_tally.specs.CountedReports.{answers_of, owed_proofs, owed_questions}
-use Rattle.report_tally.specs.CountedTexts.{HasTypedColumn, IsTypedTold, column_certs, counted_report_of, counted_text, has_column, is_kept, kept_proofs, told_certs}
+use Rattle.report_tally.specs.CountedReadings.{IsCountedRead, IsReadableReport, IsTypedRow}
+use Rattle.report_tally.specs.CountedReports.{answers_of, is_owed, owed_claims, owed_proofs, owed_questions}
+use Rattle.report_tally.specs.CountedTexts.{HasTypedColumn, IsCountingOf, IsTypedTold, column_certs, column_row, counted_report_of, counted_text, is_still_owed, still_owed_proofs, told_certs}
 use Rattle.report_tally.specs.CountedVerdicts.{IsAnswer, IsAnswered, IsCountedVerdict, IsUnanswered}
-use Rattle.report_tally.specs.EasyCountings.{IsEasyCounting}
-use Rattle.report_tally.proofs.AnswerLines.{column_questions, condition_many, told_many, told_questions}
+use Rattle.report_tally.specs.EasyCountings.{IsEasyCounting, IsNoOpenClaim, IsNoOpenQuestion}
 use Rattle.report_tally.proofs.AskedQuestions.{questions_askable}
+use Rattle.report_tally.proofs.AnswerLines.{column_questions, condition_many, told_many, told_questions}
 use Rattle.report_tally.proofs.CountingReports.{report_of, same_claims, same_questions, text_of}
 
 -- ---- queries that may not stay open
@@ -51,6 +53,20 @@ query_limits monitor query none = by_limits (cases_Bool (is_within_limits monito
     by_limits : (is_within_limits monitor query ≡ true) ⊎ (is_within_limits monitor query ≡ false) → is_query_within monitor query ≡ true
     by_limits (inl within) = (and_parts (is_query_within monitor query) (has_few_cubes (negated_query monitor query)) within).0
     by_limits (inr beyond) = absurd (none (limits beyond))
+
+-- where no claim and no question of the monitor may stay open, none may that is owed
+pub no_open_claims : (monitor : MonitorParts) (placed : PlacedPlan) (counted : CountedPlan) → IsCountingOf monitor placed counted → IsLawfulByCounting monitor counted.plan
+    → HasNoOpenClaim monitor placed.plan.kept → All (IsNoOpenClaim monitor placed.plan.kept) (owed_claims monitor counted.plan (map column_row counted.columns))
+no_open_claims monitor placed counted is lawful none =
+    let sight : IsLawfulAtSight monitor counted.plan = record { starts = lawful.inductive.starts; reading = lawful.reading; broadcasts = lawful.broadcasts } in
+    All-filter (is_owed (map column_row counted.columns)) (IsNoOpenClaim monitor placed.plan.kept) (backed_claims monitor counted.plan)
+    (All-weaker (IsClaimOf monitor) (IsNoOpenClaim monitor placed.plan.kept) none (backed_claims monitor counted.plan) (claims_are monitor counted.plan is.is is.counted_fits sight))
+
+pub no_open_questions : (monitor : MonitorParts) (placed : PlacedPlan) (counted : CountedPlan) → IsCountingOf monitor placed counted
+    → HasNoOpenQuestion monitor placed.plan.kept → All (IsNoOpenQuestion monitor placed.plan.kept) (owed_questions monitor counted.plan (map column_row counted.columns))
+no_open_questions monitor placed counted is none =
+    All-weaker (MayAskQuestion monitor) (IsNoOpenQuestion monitor placed.plan.kept) none (owed_questions monitor counted.plan (map column_row counted.columns))
+    (questions_askable monitor counted.plan (map column_row counted.columns) (report_of monitor placed counted is).counted)
 
 -- ---- what the counted plan is at sight
 
@@ -73,48 +89,50 @@ zipped P (proof ∷ proofs) all =
     All-cons P (pair proof.claim proof.cert) (zip (map (λ proof. proof.claim) proofs) (map (λ proof. proof.cert) proofs))
     (All-head (λ (one : Proof). P (pair one.claim one.cert)) proof proofs all) (zipped P proofs (All-tail (λ (one : Proof). P (pair one.claim one.cert)) proof proofs all))
 
-kept_claims : (columns : List (Option (List Told))) (proofs : List Proof)
-    → filter (is_kept columns) (map (λ proof. proof.claim) proofs) ≡ map (λ proof. proof.claim) (kept_proofs columns proofs)
-kept_claims columns [] = refl
-kept_claims columns (proof ∷ proofs) = by_kept (is_kept columns proof.claim) (kept_claims columns proofs)
+still_owed_claims : (columns : List (Option Column)) (proofs : List Proof)
+    → filter (is_still_owed columns) (map (λ proof. proof.claim) proofs) ≡ map (λ proof. proof.claim) (still_owed_proofs columns proofs)
+still_owed_claims columns [] = refl
+still_owed_claims columns (proof ∷ proofs) = by_owed (is_still_owed columns proof.claim) (still_owed_claims columns proofs)
   where
     wanted : List Claim
-    wanted = filter (is_kept columns) (map (λ proof. proof.claim) proofs)
+    wanted = filter (is_still_owed columns) (map (λ proof. proof.claim) proofs)
 
     some : List Proof
-    some = kept_proofs columns proofs
+    some = still_owed_proofs columns proofs
 
-    by_kept : (kept : Bool) → wanted ≡ map (λ proof. proof.claim) some
-        → cond kept (proof.claim ∷ wanted) wanted ≡ map (λ proof. proof.claim) (cond kept (proof ∷ some) some)
-    by_kept true rest = ap (λ (more : List Claim). proof.claim ∷ more) rest
-    by_kept false rest = rest
-
-placed_sight : (monitor : MonitorParts) (placed : Plan) → IsLawful monitor placed → IsLawfulAtSight monitor placed
-placed_sight monitor placed lawful = record { starts = lawful.inductive.starts; reading = lawful.reading; broadcasts = lawful.broadcasts }
+    by_owed : (owed : Bool) → wanted ≡ map (λ proof. proof.claim) some
+        → cond owed (proof.claim ∷ wanted) wanted ≡ map (λ proof. proof.claim) (cond owed (proof ∷ some) some)
+    by_owed true rest = ap (λ (more : List Claim). proof.claim ∷ more) rest
+    by_owed false rest = rest
 
 checked : (monitor : MonitorParts) (placed : PlacedPlan) (counted : CountedPlan) → IsEasyCounting monitor placed counted
     → AreChecked monitor counted.plan.kept (owed_proofs monitor (counted_report_of placed counted))
 checked monitor placed counted is =
     subst (λ (own : List Candidate). All (Checked monitor own) (owed_proofs monitor (counted_report_of placed counted))) (sym is.counting.from.kept)
     (subst (λ (wanted : List Claim). All (Checked monitor kept) (zip wanted (map (λ proof. proof.cert) some)))
-    (sym (kept_claims counted.columns placed.proofs) ∙ same_claims monitor placed counted is.counting)
-    (zipped (Checked monitor kept) some (All-filter (λ proof. is_kept counted.columns proof.claim) (λ proof. Checked monitor kept (pair proof.claim proof.cert)) placed.proofs
-    (λ i other low. (is.proofs.certificates i other low, within _ (each i other low))))))
+    (sym (still_owed_claims counted.columns placed.proofs) ∙ same_claims monitor placed counted is.counting)
+    (zipped (Checked monitor kept) some (λ place other low. (proved place other low, within _ (each place other low)))))
   where
     kept : List Candidate
     kept = placed.plan.kept
 
     some : List Proof
-    some = kept_proofs counted.columns placed.proofs
+    some = still_owed_proofs counted.columns placed.proofs
 
-    named : All (IsClaimOf monitor) (map (λ proof. proof.claim) placed.proofs)
-    named = subst (All (IsClaimOf monitor)) (sym is.proofs.claims) (claims_are monitor placed.plan is.is is.counting.fits (placed_sight monitor placed.plan is.lawful))
+    owed : All (IsNoOpenClaim monitor kept) (map (λ proof. proof.claim) some)
+    owed =
+        subst (All (IsNoOpenClaim monitor kept)) (sym (sym (still_owed_claims counted.columns placed.proofs) ∙ same_claims monitor placed counted is.counting)) is.claims
 
-    each : All (λ proof. IsClaimOf monitor proof.claim) placed.proofs
-    each = all_mapped (IsClaimOf monitor) (λ (proof : Proof). proof.claim) placed.proofs named
+    each : All (λ proof. IsNoOpenClaim monitor kept proof.claim) some
+    each = all_mapped (IsNoOpenClaim monitor kept) (λ (proof : Proof). proof.claim) some owed
 
-    within : (claim : Claim) → IsClaimOf monitor claim → is_query_within monitor (query_of monitor kept claim) ≡ true
-    within claim of_monitor = query_limits monitor (query_of monitor kept claim) (is.claims claim of_monitor)
+    proved : All (λ proof. IsProof monitor kept (pair proof.claim proof.cert)) some
+    proved =
+        All-filter (λ proof. is_still_owed counted.columns proof.claim) (λ proof. IsProof monitor kept (pair proof.claim proof.cert)) placed.proofs
+        (λ i other low. is.proofs.certificates i other low)
+
+    within : (claim : Claim) → IsNoOpenClaim monitor kept claim → is_query_within monitor (query_of monitor kept claim) ≡ true
+    within claim none = query_limits monitor (query_of monitor kept claim) none
 
 -- ---- answers
 
@@ -127,58 +145,59 @@ zip_both P (question ∷ asked) more (cert ∷ certs) later same first rest =
     All-cons P (question, cert) (zip (asked ++ more) (certs ++ later)) (All-head P (question, cert) (zip asked certs) first)
     (zip_both P asked more certs later (omega (arith, same)) (All-tail P (question, cert) (zip asked certs) first) rest)
 
-told_answers : (monitor : MonitorParts) (kept : List Candidate) (condition block : ℕ) (told : Told) → IsBacked monitor kept condition block told
-    → All (IsAnswer monitor kept) (zip (told_questions condition block told) (told_certs told))
-told_answers monitor kept condition block (telling.Nothing counts) backed =
-    All-cons (IsAnswer monitor kept) (questions.Counts condition block, counts) [] backed (All-nil (IsAnswer monitor kept))
-told_answers monitor kept condition block (telling.Signal gives first) backed =
-    All-cons (IsAnswer monitor kept) (questions.Gives condition block, gives) ((questions.First condition block, first) ∷ []) backed.0
-    (All-cons (IsAnswer monitor kept) (questions.First condition block, first) [] backed.1 (All-nil (IsAnswer monitor kept)))
-told_answers monitor kept condition block telling.Broadcast backed = All-nil (IsAnswer monitor kept)
+told_answers : (monitor : MonitorParts) (kept : List Candidate) (condition row block : ℕ) (told : Told) → IsBacked monitor kept condition row block told
+    → All (IsAnswer monitor kept) (zip (told_questions condition row block told) (told_certs told))
+told_answers monitor kept condition row block (telling.Nothing counts) backed =
+    All-cons (IsAnswer monitor kept) (questions.Counts condition row block, counts) [] backed (All-nil (IsAnswer monitor kept))
+told_answers monitor kept condition row block (telling.Signal gives first) backed =
+    All-cons (IsAnswer monitor kept) (questions.Gives condition row block, gives) ((questions.First condition row block, first) ∷ []) backed.0
+    (All-cons (IsAnswer monitor kept) (questions.First condition row block, first) [] backed.1 (All-nil (IsAnswer monitor kept)))
+told_answers monitor kept condition row block telling.Broadcast backed = All-nil (IsAnswer monitor kept)
 
-column_answers : (monitor : MonitorParts) (kept : List Candidate) (condition first : ℕ) (column : List Told)
-    → All (λ one. IsBacked monitor kept condition one.0 one.1) (enumerate_from first column)
-    → All (IsAnswer monitor kept) (zip (flat_map (λ one. told_questions condition one.0 one.1) (enumerate_from first column)) (flat_map told_certs column))
-column_answers monitor kept condition first [] each = All-nil (IsAnswer monitor kept)
-column_answers monitor kept condition first (told ∷ column) each =
-    let P : ℕ × Told → Type 0 = λ one. IsBacked monitor kept condition one.0 one.1 in
-    zip_both (IsAnswer monitor kept) (told_questions condition first told) (flat_map (λ one. told_questions condition one.0 one.1) (enumerate_from (first + 1) column))
-    (told_certs told) (flat_map told_certs column) (told_many condition first told)
-    (told_answers monitor kept condition first told (All-head P (first, told) (enumerate_from (first + 1) column) each))
-    (column_answers monitor kept condition (first + 1) column (All-tail P (first, told) (enumerate_from (first + 1) column) each))
+column_answers : (monitor : MonitorParts) (kept : List Candidate) (condition row first : ℕ) (column : List Told)
+    → All (λ one. IsBacked monitor kept condition row one.0 one.1) (enumerate_from first column)
+    → All (IsAnswer monitor kept) (zip (flat_map (λ one. told_questions condition row one.0 one.1) (enumerate_from first column)) (flat_map told_certs column))
+column_answers monitor kept condition row first [] each = All-nil (IsAnswer monitor kept)
+column_answers monitor kept condition row first (told ∷ column) each =
+    let P : ℕ × Told → Type 0 = λ one. IsBacked monitor kept condition row one.0 one.1 in
+    zip_both (IsAnswer monitor kept) (told_questions condition row first told) (flat_map (λ one. told_questions condition row one.0 one.1) (enumerate_from (first + 1) column))
+    (told_certs told) (flat_map told_certs column) (told_many condition row first told)
+    (told_answers monitor kept condition row first told (All-head P (first, told) (enumerate_from (first + 1) column) each))
+    (column_answers monitor kept condition row (first + 1) column (All-tail P (first, told) (enumerate_from (first + 1) column) each))
 
-condition_answers : (monitor : MonitorParts) (kept : List Candidate) (condition : ℕ) (column : Option (List Told)) → IsColumnBacked monitor kept condition column
+condition_answers : (monitor : MonitorParts) (kept : List Candidate) (condition : ℕ) (column : Option Column) → IsColumnBacked monitor kept condition column
     → All (IsAnswer monitor kept) (zip (column_questions condition column) (column_certs column))
 condition_answers monitor kept condition None backed = All-nil (IsAnswer monitor kept)
-condition_answers monitor kept condition (Some column) backed = column_answers monitor kept condition 0 column backed.each
+condition_answers monitor kept condition (Some column) backed = column_answers monitor kept condition column.row 0 column.told backed.each
 
-columns_answers : (monitor : MonitorParts) (kept : List Candidate) (first : ℕ) (columns : List (Option (List Told)))
+columns_answers : (monitor : MonitorParts) (kept : List Candidate) (first : ℕ) (columns : List (Option Column))
     → All (λ one. IsColumnBacked monitor kept one.0 one.1) (enumerate_from first columns)
     → All (IsAnswer monitor kept) (zip (flat_map (λ one. column_questions one.0 one.1) (enumerate_from first columns)) (flat_map column_certs columns))
 columns_answers monitor kept first [] each = All-nil (IsAnswer monitor kept)
 columns_answers monitor kept first (column ∷ columns) each =
-    let P : ℕ × Option (List Told) → Type 0 = λ one. IsColumnBacked monitor kept one.0 one.1 in
+    let P : ℕ × Option Column → Type 0 = λ one. IsColumnBacked monitor kept one.0 one.1 in
     zip_both (IsAnswer monitor kept) (column_questions first column) (flat_map (λ one. column_questions one.0 one.1) (enumerate_from (first + 1) columns))
     (column_certs column) (flat_map column_certs columns) (condition_many first column)
     (condition_answers monitor kept first column (All-head P (first, column) (enumerate_from (first + 1) columns) each))
     (columns_answers monitor kept (first + 1) columns (All-tail P (first, column) (enumerate_from (first + 1) columns) each))
 
--- each question may be asked, and its certificate answers it
+-- no question may stay open, and the certificate of each answers it
 zip_within : (monitor : MonitorParts) (kept : List Candidate) (asked : List Question) (certs : List Cert)
-    → ((question : Question) → MayAskQuestion monitor question → is_query_within monitor (question_query monitor kept question) ≡ true)
-    → All (MayAskQuestion monitor) asked → All (IsAnswer monitor kept) (zip asked certs) → All (IsAnswered monitor kept) (zip asked certs)
-zip_within monitor kept [] certs within may answers = All-nil (IsAnswered monitor kept)
-zip_within monitor kept (question ∷ asked) [] within may answers = All-nil (IsAnswered monitor kept)
-zip_within monitor kept (question ∷ asked) (cert ∷ certs) within may answers =
-    All-cons (IsAnswered monitor kept) (question, cert) (zip asked certs)
-    (All-head (IsAnswer monitor kept) (question, cert) (zip asked certs) answers, within question (All-head (MayAskQuestion monitor) question asked may))
-    (zip_within monitor kept asked certs within (All-tail (MayAskQuestion monitor) question asked may) (All-tail (IsAnswer monitor kept) (question, cert) (zip asked certs) answers))
+    → All (IsNoOpenQuestion monitor kept) asked → All (IsAnswer monitor kept) (zip asked certs) → All (IsAnswered monitor kept) (zip asked certs)
+zip_within monitor kept [] certs none answers = All-nil (IsAnswered monitor kept)
+zip_within monitor kept (question ∷ asked) [] none answers = All-nil (IsAnswered monitor kept)
+zip_within monitor kept (question ∷ asked) (cert ∷ certs) none answers =
+    All-cons (IsAnswered monitor kept) (question, cert) (zip asked certs) (
+      All-head (IsAnswer monitor kept) (question, cert) (zip asked certs) answers,
+      query_limits monitor (question_query monitor kept question) (All-head (IsNoOpenQuestion monitor kept) question asked none),
+    )
+    (zip_within monitor kept asked certs (All-tail (IsNoOpenQuestion monitor kept) question asked none) (All-tail (IsAnswer monitor kept) (question, cert) (zip asked certs) answers))
 
 answered : (monitor : MonitorParts) (placed : PlacedPlan) (counted : CountedPlan) → IsEasyCounting monitor placed counted
     → All (IsAnswered monitor counted.plan.kept) (answers_of monitor (counted_report_of placed counted))
 answered monitor placed counted is =
     subst (λ (own : List Candidate). All (IsAnswered monitor own) (answers_of monitor (counted_report_of placed counted))) (sym is.counting.from.kept)
-    (zip_within monitor kept asked (flat_map column_certs counted.columns) within may
+    (zip_within monitor kept asked (flat_map column_certs counted.columns) is.questions
     (subst (λ (all : List Question). All (IsAnswer monitor kept) (zip all (flat_map column_certs counted.columns))) (same_questions monitor placed counted is.counting)
     (columns_answers monitor kept 1 counted.columns is.counting.backed.each)))
   where
@@ -186,15 +205,7 @@ answered monitor placed counted is =
     kept = placed.plan.kept
 
     asked : List Question
-    asked = owed_questions monitor counted.plan (map has_column counted.columns)
-
-    may : All (MayAskQuestion monitor) asked
-    may =
-        let own = report_of monitor placed counted is.counting in
-        questions_askable monitor counted.plan (map has_column counted.columns) is.is own.plan (sight_of monitor placed counted is) own.counted
-
-    within : (question : Question) → MayAskQuestion monitor question → is_query_within monitor (question_query monitor kept question) ≡ true
-    within question asks = query_limits monitor (question_query monitor kept question) (is.questions question asks)
+    asked = owed_questions monitor counted.plan (map column_row counted.columns)
 
 -- ---- the verdict
 
@@ -241,11 +252,20 @@ column_typed [] all = All-nil HasTypedNumbers
 column_typed (told ∷ column) all =
     All-append HasTypedNumbers (told_certs told) (flat_map told_certs column) (All-head IsTypedTold told column all) (column_typed column (All-tail IsTypedTold told column all))
 
-condition_typed : (column : Option (List Told)) → HasTypedColumn column → All HasTypedNumbers (column_certs column)
+condition_typed : (column : Option Column) → HasTypedColumn column → All HasTypedNumbers (column_certs column)
 condition_typed None typed = All-nil HasTypedNumbers
-condition_typed (Some column) typed = column_typed column typed
+condition_typed (Some column) typed = column_typed column.told typed.told
 
-columns_typed : (columns : List (Option (List Told))) → All HasTypedColumn columns → All HasTypedNumbers (flat_map column_certs columns)
+rows_typed : (columns : List (Option Column)) → All HasTypedColumn columns → All IsTypedRow (map column_row columns)
+rows_typed [] all = All-nil IsTypedRow
+rows_typed (column ∷ columns) all =
+    All-cons IsTypedRow (column_row column) (map column_row columns) (by_column column (All-head HasTypedColumn column columns all)) (rows_typed columns (All-tail HasTypedColumn column columns all))
+  where
+    by_column : (column : Option Column) → HasTypedColumn column → IsTypedRow (column_row column)
+    by_column None typed = tt
+    by_column (Some column) typed = typed.row
+
+columns_typed : (columns : List (Option Column)) → All HasTypedColumn columns → All HasTypedNumbers (flat_map column_certs columns)
 columns_typed [] all = All-nil HasTypedNumbers
 columns_typed (column ∷ columns) all =
     All-append HasTypedNumbers (column_certs column) (flat_map column_certs columns) (condition_typed column (All-head HasTypedColumn column columns all))
@@ -254,8 +274,9 @@ columns_typed (column ∷ columns) all =
 readable : (monitor : MonitorParts) (placed : PlacedPlan) (counted : CountedPlan) → IsEasyCounting monitor placed counted → IsReadableReport monitor (counted_report_of placed counted)
 readable monitor placed counted is = record {
   is = report_of monitor placed counted is.counting;
-  proofs = All-map IsReadable (λ (proof : Proof). proof.cert) (kept_proofs counted.columns placed.proofs)
-      (All-filter (λ proof. is_kept counted.columns proof.claim) (λ proof. HasTypedNumbers proof.cert) placed.proofs is.typed);
+  rows = rows_typed counted.columns is.typed_columns;
+  proofs = All-map IsReadable (λ (proof : Proof). proof.cert) (still_owed_proofs counted.columns placed.proofs)
+      (All-filter (λ proof. is_still_owed counted.columns proof.claim) (λ proof. HasTypedNumbers proof.cert) placed.proofs is.typed);
   answers = columns_typed counted.columns is.typed_columns;
 }
 

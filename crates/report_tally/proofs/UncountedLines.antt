@@ -1,10 +1,9 @@
 -- A report is a counted one, none of whose conditions is counted.
 use Rattle.std.proofs.Common.{◌≡◌, ℕ, zero, suc, ◌+◌, ◌-◌, Bool, true, false, not, cond, List, [], ◌∷◌, ◌++◌, length, take, Option, Some, None, inl, inr, refl, sym, ap, subst, ◌∙◌, append-nil, arith}
-use Rattle.std.specs.Prelude.{All, IsSomeAnd, slice_get, unwrap_or, if◌then◌else◌}
+use Rattle.std.specs.Prelude.{All, IsSomeAnd, is_some, slice_get, unwrap_or}
 use Rattle.std.specs.List.{enumerate_from, filter, flat_map, zip}
 use Rattle.std.proofs.lemmas.List.{length-map}
 use Rattle.std.proofs.lemmas.List.Elements.{All-nil, All-cons}
-use Rattle.std.proofs.lemmas.Bool.{true≢false}
 use Rattle.std.proofs.lemmas.Option.{none-some, same_Some}
 use Rattle.logic_cert.specs.declared.cert.Cert.{Cert}
 use Rattle.lang_monitor.specs.declared.claim.Claim.{Claim}
@@ -24,14 +23,14 @@ use Rattle.report_recheck.specs.Reports.{IsReport, proofs_of, proofs_text, repor
 use Rattle.report_recheck.specs.Verdicts.{AreChecked, IsAccepted, IsOpen, IsUnproved as IsPlainlyUnproved, IsVerdict}
 use Rattle.report_recheck.proofs.PlansFit.{plan_fits}
 use Rattle.report_tally.specs.declared.report.CountedReport.{CountedReport}
-use Rattle.report_tally.specs.CountedReadings.{IsCountedRead, IsReadableReport}
-use Rattle.report_tally.specs.CountedReports.{IsCountedReport, answers_of, answers_text, block_questions, counted_report_text, is_owed, owed_claims, owed_proofs, owed_questions}
+use Rattle.report_tally.specs.CountedReadings.{IsCountedRead, IsReadableReport, IsTypedRow}
+use Rattle.report_tally.specs.CountedReports.{IsCountedReport, answers_of, answers_text, condition_questions, counted_report_text, is_owed, owed_claims, owed_proofs, owed_questions}
 use Rattle.report_tally.specs.CountedVerdicts.{IsAnswered, IsCountedAccepted, IsCountedVerdict, IsUnproved}
 use Rattle.report_tally.specs.UncountedReports.{none_counted, uncounted}
 
 -- ---- what is owed
 
-unmarked : (all_kinds : List CondKind) (k : ℕ) → unwrap_or (slice_get (none_counted all_kinds) k) false ≡ false
+unmarked : (all_kinds : List CondKind) (k : ℕ) → is_some (unwrap_or (slice_get (none_counted all_kinds) k) None) ≡ false
 unmarked [] k = refl
 unmarked (kind ∷ all_kinds) zero = refl
 unmarked (kind ∷ all_kinds) (suc k) = unmarked all_kinds k
@@ -50,7 +49,7 @@ pub same_owed : (monitor : MonitorParts) (plan : Plan) → owed_claims monitor p
 same_owed monitor plan = all_pass (is_owed (none_counted plan.kinds)) (backed_claims monitor plan) (all_owed plan.kinds)
 
 none_asked : (monitor : MonitorParts) (plan : Plan) (first : ℕ) (all_kinds : List CondKind)
-    → flat_map (λ one. if one.1 then block_questions monitor plan one.0 else []) (enumerate_from first (none_counted all_kinds)) ≡ []
+    → flat_map (λ one. condition_questions monitor plan one.0 one.1) (enumerate_from first (none_counted all_kinds)) ≡ []
 none_asked monitor plan first [] = refl
 none_asked monitor plan first (kind ∷ all_kinds) = none_asked monitor plan (first + 1) all_kinds
 
@@ -69,24 +68,36 @@ same_text monitor report =
     owed : List ℕ
     owed = proofs_text monitor (owed_claims monitor report.plan (none_counted report.plan.kinds)) report.proofs
 
-no_marks : (all_kinds : List CondKind) (place : ℕ) → slice_get (none_counted all_kinds) place ≡ Some true → ⊥
-no_marks [] place there = none-some true there
-no_marks (kind ∷ all_kinds) zero there = true≢false (sym (same_Some false true there))
-no_marks (kind ∷ all_kinds) (suc place) there = no_marks all_kinds place there
+no_rows : (all_kinds : List CondKind) (place row : ℕ) → slice_get (none_counted all_kinds) place ≡ Some (Some row) → ⊥
+no_rows [] place row there = none-some (Some row) there
+no_rows (kind ∷ all_kinds) zero row there = none-some row (same_Some None (Some row) there)
+no_rows (kind ∷ all_kinds) (suc place) row there = no_rows all_kinds place row there
 
 pub uncounted_report : (monitor : MonitorParts) (report : Report) → IsReport monitor report → IsCountedReport monitor (uncounted report)
 uncounted_report monitor report is = record {
   plan = is.plan;
   counted = record {
-    many = length-map report.plan.kinds (λ (kind : CondKind). false);
-    signals = λ place there. absurd (no_marks report.plan.kinds place there);
+    many = length-map report.plan.kinds nothing;
+    each = λ place row there. absurd (no_rows report.plan.kinds place row there);
   };
   proofs = is.each ∙ ap {B = ℕ} length (sym (same_owed monitor report.plan));
   answers = ap {B = ℕ} length (sym (no_questions monitor report.plan));
 }
+  where
+    nothing : CondKind → Option ℕ
+    nothing kind = None
+
+none_typed : (all_kinds : List CondKind) → All IsTypedRow (none_counted all_kinds)
+none_typed [] = All-nil IsTypedRow
+none_typed (kind ∷ all_kinds) = All-cons IsTypedRow None (none_counted all_kinds) tt (none_typed all_kinds)
 
 readable_report : (monitor : MonitorParts) (report : Report) → IsReport monitor report → All IsReadable report.proofs → IsReadableReport monitor (uncounted report)
-readable_report monitor report is readable = record { is = uncounted_report monitor report is; proofs = readable; answers = All-nil IsReadable }
+readable_report monitor report is readable = record {
+  is = uncounted_report monitor report is;
+  rows = none_typed report.plan.kinds;
+  proofs = readable;
+  answers = All-nil IsReadable;
+}
 
 pub read_as_counted : (monitor : MonitorParts) (bytes : List ℕ) (report : Report) (read : Option CountedReport) → IsReport monitor report → All IsReadable report.proofs
     → report_text monitor report ≡ bytes → IsCountedRead monitor bytes read → read ≡ Some (uncounted report)
@@ -100,9 +111,9 @@ read_as_counted monitor bytes report (Some found) is readable text told =
 same_proofs : (monitor : MonitorParts) (report : Report) → owed_proofs monitor (uncounted report) ≡ proofs_of monitor report
 same_proofs monitor report = ap (λ (wanted : List Claim). zip wanted report.proofs) (same_owed monitor report.plan)
 
-all_false : (all_kinds : List CondKind) → All (λ mark. mark ≡ false) (none_counted all_kinds)
-all_false [] = All-nil (λ mark. mark ≡ false)
-all_false (kind ∷ all_kinds) = All-cons (λ mark. mark ≡ false) false (none_counted all_kinds) refl (all_false all_kinds)
+all_none : (all_kinds : List CondKind) → All (λ row. row ≡ None) (none_counted all_kinds)
+all_none [] = All-nil (λ row. row ≡ None)
+all_none (kind ∷ all_kinds) = All-cons (λ row. row ≡ None) None (none_counted all_kinds) refl (all_none all_kinds)
 
 no_answers : (monitor : MonitorParts) (report : Report) → answers_of monitor (uncounted report) ≡ []
 no_answers monitor report = ap (λ (asked : List Question). zip asked []) (no_questions monitor report.plan)
@@ -122,7 +133,7 @@ plainly monitor report line (sight, inr question) = absurd (no_answer monitor re
 
 pub plain_verdict : (monitor : MonitorParts) (report : Report) (verdict : Verdict) → IsCountedVerdict monitor (uncounted report) verdict → IsVerdict monitor report verdict
 plain_verdict monitor report (verdicts.Accepted certs) (accepted, many) = (
-  record { lawful = accepted.plain (all_false report.plan.kinds); proofs = subst (AreChecked monitor report.plan.kept) (same_proofs monitor report) accepted.proofs },
+  record { lawful = accepted.plain (all_none report.plan.kinds); proofs = subst (AreChecked monitor report.plan.kept) (same_proofs monitor report) accepted.proofs },
   omega (arith, many),
 )
 plain_verdict monitor report verdicts.Unlawful unlawful = unlawful

@@ -8,7 +8,7 @@ use Rattle.lang_monitor.specs.declared.candidate.Candidate.{Candidate}
 use Rattle.lang_monitor.specs.MonitorParts.{MonitorParts, IsMonitor}
 use Rattle.plan_place.proofs.Lists.{all_numbers}
 use Rattle.report_text.proofs.PlanRows.{both}
-use Rattle.plan_counted.specs.declared.counted.Told.{Told}
+use Rattle.plan_counted.specs.declared.counted.Column.{Column}
 use Rattle.plan_counted.specs.Counted.{IsColumnBacked}
 use Rattle.report_tally.specs.inner.Lines.{IsShortColumn}
 
@@ -23,10 +23,10 @@ at_from {X} first xs i number x counted within is =
 pub end_from : {X : Type 0} (first : ℕ) (xs : List X) (i : ℕ) → length xs ≤ i → take i (enumerate_from first xs) ≡ enumerate_from first xs
 end_from first xs i end = take_all i (enumerate_from first xs) (omega (arith, length-enumerate_from first xs))
 
-pub short_columns : (monitor : MonitorParts) (kept : List Candidate) (columns : List (Option (List Told))) → IsMonitor monitor
+pub short_columns : (monitor : MonitorParts) (kept : List Candidate) (columns : List (Option Column)) → IsMonitor monitor
     → All (λ one. IsColumnBacked monitor kept one.0 one.1) (enumerate_from 1 columns) → All IsShortColumn columns
 short_columns monitor kept columns rule each = all_numbers (λ one. IsColumnBacked monitor kept one.0 one.1) IsShortColumn short 1 columns each
   where
-    short : (number : ℕ) (column : Option (List Told)) → IsColumnBacked monitor kept number column → IsShortColumn column
+    short : (number : ℕ) (column : Option Column) → IsColumnBacked monitor kept number column → IsShortColumn column
     short number None backed = tt
     short number (Some column) backed = omega (arith, backed.many, rule.few_blocks)

@@ -1,6 +1,6 @@
 -- What a check of a counted report says.
 use Rattle.std.specs.Prelude.{◌≡◌, ◌⊎◌, ℕ, ◌+◌, true, false, List, length, take, All, slice_get}
-use Rattle.std.specs.Prelude.{IsSomeAnd}
+use Rattle.std.specs.Prelude.{IsSomeAnd, None}
 use Rattle.logic_cert.specs.declared.cert.Cert.{Cert}
 use Rattle.logic_cert.specs.Refutes.{Refutes}
 use Rattle.lang_monitor.specs.declared.candidate.Candidate.{Candidate}
@@ -43,7 +43,7 @@ IsUnanswered monitor kept one =
 pub record IsCountedAccepted (monitor : MonitorParts) (report : CountedReport) : Type 0 where
   pub fits : FitsPlan monitor report.plan
   pub lawful : IsLawfulByCounting monitor report.plan
-  pub plain : All (λ mark. mark ≡ false) report.counted → IsLawful monitor report.plan
+  pub plain : All (λ row. row ≡ None) report.counted → IsLawful monitor report.plan
   pub proofs : AreChecked monitor report.plan.kept (owed_proofs monitor report)
   pub answers : All (IsAnswered monitor report.plan.kept) (answers_of monitor report)
 

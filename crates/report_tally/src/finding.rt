@@ -6,7 +6,7 @@ ghost use Rattle.lang_base.specs.Limits.{CONDITIONS};
 ghost use Rattle.lang_monitor.specs.declared.monitor.Condition.{Condition};
 ghost use Rattle.logic_wp.specs.PlainClaims.{MayAsk};
 ghost use Rattle.report_tally.specs.inner.Lines.{AreFound, IsLineTurn, is_left_out, is_one_at};
-ghost use Rattle.report_tally.specs.inner.Lines.{is_signal, left_out};
+ghost use Rattle.report_tally.specs.inner.Lines.{first_row_if, is_signal, left_out};
 
 use lang_monitor::{Claim, Monitor};
 use machine_events::CondKind;
@@ -53,21 +53,27 @@ fn take_line<'a>(
     }
 }
 
-/// Of each condition whether it is of kind signal, and none of the claims is that one waiter is
-/// enough at it.
+/// Of each condition its first row, where it is of kind signal, and none of the claims is that one
+/// waiter is enough at it.
 pub(crate) fn left_out(
     alloc: Global,
     found: &[Claim],
     kinds: &[CondKind],
-) -> Result<Vec<bool>, AllocError>
+) -> Result<Vec<Option<u32>>, AllocError>
     requires { length kinds.now ≤ CONDITIONS }
     ensures { IfOk result (λ counted. counted.items ≡ left_out found.now kinds.now) }
 {
     let mut counted = Vec::new(alloc);
     for index in 0..kinds.len() {
-        counted.push(is_left_out(found, index as u32 + 1, kinds[index]))?;
+        counted.push(first_row_if(is_left_out(found, index as u32 + 1, kinds[index])))?;
     }
     Ok(counted)
+}
+
+fn first_row_if(counted: bool) -> Option<u32>
+    ensures { result ≡ first_row_if counted }
+{
+    if counted { Some(1) } else { None }
 }
 
 fn is_left_out(found: &[Claim], number: u32, kind: CondKind) -> bool

@@ -33,8 +33,8 @@ pub fn counted_text_is_report_text()
         → IsCountedReport monitor (counted_report_of placed counted) }
 {}
 
-/// Where no claim and no question of the monitor may stay open, what [`write_counted_report`]
-/// writes of a plan that was placed and then counted is read as its report, and accepted.
+/// Where no claim and no question may stay open that a counted plan rests on, what
+/// [`write_counted_report`] writes of it is read as its report, and accepted.
 ///
 /// [`write_counted_report`]: super::write_counted_report
 pub fn printed_counted_reports_are_accepted()

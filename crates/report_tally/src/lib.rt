@@ -2,13 +2,13 @@
 //! rests on, read from its text and checked without a prover.
 //!
 //! [`read_counted_report`] reads such a text (`specs/CountedReports`, `specs/CountedReadings`):
-//! which conditions are counted shows by the claims that are left out. [`recheck_counted`] says
-//! whether the plan of a [`CountedReport`] is lawful by counting, by its certificates alone
-//! (`specs/CountedVerdicts`). [`write_counted_report`] writes the report of a plan that was placed
-//! and then counted (`specs/CountedTexts`), and [`write_question`] a question as it stands in its
-//! line.
+//! which conditions are counted shows by the claims that are left out, and by which of its rows one
+//! is by its questions. [`recheck_counted`] says whether the plan of a [`CountedReport`] is lawful
+//! by counting, by its certificates alone (`specs/CountedVerdicts`). [`write_counted_report`]
+//! writes the report of a plan that was placed and then counted (`specs/CountedTexts`).
 #![tactic(auto)]
 
+mod answering;
 mod checking;
 mod finding;
 mod laws;
@@ -25,4 +25,4 @@ pub use laws::{
 pub use numbers::read_column_numbers;
 pub use reading::read_counted_report;
 pub use report::CountedReport;
-pub use writing::{write_counted_report, write_question};
+pub use writing::write_counted_report;

@@ -1,15 +1,14 @@
-//! The numbers of certificates in columns, which are of their types.
+//! The rows of columns, and the numbers of certificates in them, which are of their types.
 
-ghost use Rattle.std.specs.Prelude.{All};
-ghost use Rattle.report_tally.specs.CountedTexts.{HasTypedColumn, IsTypedTold};
+ghost use Rattle.std.specs.Prelude.{◌<◌, ◌^◌, All};
+ghost use Rattle.report_tally.specs.CountedTexts.{HasTypedColumn, IsTypedColumn, IsTypedTold};
 
-use base_list::Seq;
-use plan_counted::Told;
+use plan_counted::{Column, Told};
 use report_recheck::read_cert_numbers;
 
-/// The numbers of the certificates of columns are of their types. It reads each of them, since a
-/// contract knows the range of a number that was read, and does nothing else.
-pub fn read_column_numbers(columns: &[Option<Seq<Told>>])
+/// The rows of columns, and the numbers of their certificates, are of their types. It reads each of
+/// them, since a contract knows the range of a number that was read, and does nothing else.
+pub fn read_column_numbers(columns: &[Option<Column>])
     ensures { All HasTypedColumn columns.now }
 {
     for column in columns {
@@ -17,14 +16,25 @@ pub fn read_column_numbers(columns: &[Option<Seq<Told>>])
     }
 }
 
-fn of_column(column: &Option<Seq<Told>>)
+fn of_column(column: &Option<Column>)
     ensures { HasTypedColumn column.now }
 {
     match column {
         None => {}
-        Some(column) => of_each(column.items()),
+        Some(column) => of_whole(column),
     }
 }
+
+fn of_whole(column: &Column)
+    ensures { IsTypedColumn column.now }
+{
+    of_row(column.row);
+    of_each(column.told.items());
+}
+
+fn of_row(row: u32)
+    ensures { row < 2 ^ 32 }
+{}
 
 fn of_each(column: &[Told])
     ensures { All IsTypedTold column.now }

@@ -1,12 +1,14 @@
 //! What a counted plan rests on.
 
-ghost use Rattle.std.specs.Prelude.{◌≡◌, ◌≤◌, ◌++◌, [], IfOk, OnOk, if◌then◌else◌, length};
+ghost use Rattle.std.specs.Prelude.{◌≡◌, ◌≤◌, ◌++◌, IfOk, OnOk, length};
 ghost use Rattle.std.specs.List.{filter};
 ghost use Rattle.std.specs.Option.{option_copied};
 ghost use Rattle.lang_base.specs.Limits.{CONDITIONS};
 ghost use Rattle.machine_events.specs.Plans.{notes_at};
 ghost use Rattle.plan_place.specs.Relayed.{note_on};
-ghost use Rattle.report_tally.specs.CountedReports.{block_questions, is_counted, is_owed};
+ghost use Rattle.plan_count.specs.declared.question.Question.TheVariants.{Counts, First, Gives};
+ghost use Rattle.report_tally.specs.CountedReports.{block_questions, condition_questions};
+ghost use Rattle.report_tally.specs.CountedReports.{is_counted, is_owed};
 ghost use Rattle.report_recheck.specs.Reports.{IsPlanOf};
 ghost use Rattle.report_tally.specs.CountedReports.{given_questions, note_questions, owed_claims};
 ghost use Rattle.report_tally.specs.CountedReports.{owed_questions};
@@ -20,17 +22,17 @@ use std::alloc::{AllocError, Global};
 // ---- claims
 
 /// Whether the condition is counted.
-fn is_counted(counted: &[bool], condition: u32) -> bool
+fn is_counted(counted: &[Option<u32>], condition: u32) -> bool
     ensures { result ≡ is_counted counted.now condition }
 {
     match counted.get(condition.saturating_sub(1) as usize) {
-        Some(is) => *is,
+        Some(row) => row.is_some(),
         None => false,
     }
 }
 
 /// Whether a counted plan rests on the claim, if a plan does.
-fn is_owed(counted: &[bool], claim: Claim) -> bool
+fn is_owed(counted: &[Option<u32>], claim: Claim) -> bool
     ensures { result ≡ is_owed counted.now claim }
 {
     match claim {
@@ -46,7 +48,7 @@ pub(crate) fn owed_claims(
     alloc: Global,
     monitor: &Monitor,
     plan: &Plan,
-    counted: &[bool],
+    counted: &[Option<u32>],
 ) -> Result<Vec<Claim>, AllocError>
     requires { IsPlanOf monitor.now plan.now }
     ensures { IfOk result (λ owed. owed.items ≡ owed_claims monitor.now plan.now counted.now) }
@@ -57,7 +59,11 @@ pub(crate) fn owed_claims(
 }
 
 /// Those of the claims on which a counted plan rests.
-fn owed_of(alloc: Global, claims: &[Claim], counted: &[bool]) -> Result<Vec<Claim>, AllocError>
+fn owed_of(
+    alloc: Global,
+    claims: &[Claim],
+    counted: &[Option<u32>],
+) -> Result<Vec<Claim>, AllocError>
     ensures { IfOk result (λ owed. owed.items ≡ filter (is_owed counted.now) claims.now) }
 {
     let mut owed = Vec::new(alloc);
@@ -76,7 +82,7 @@ pub(crate) fn owed_questions(
     alloc: Global,
     monitor: &Monitor,
     plan: &Plan,
-    counted: &[bool],
+    counted: &[Option<u32>],
 ) -> Result<Vec<Question>, AllocError>
     requires { length counted.now ≤ CONDITIONS }
     ensures { IfOk result (λ owed. owed.items
@@ -89,36 +95,44 @@ pub(crate) fn owed_questions(
     Ok(owed)
 }
 
-/// Appends the questions on the condition, where it is counted.
+/// Appends the questions on the condition, where it is counted by a row.
 fn push_counted(
     owed: &mut Vec<Question>,
     monitor: &Monitor,
     plan: &Plan,
     condition: u32,
-    counted: bool,
+    row: Option<u32>,
 ) -> Result<(), AllocError>
     ensures { OnOk result (owed.new.items ≡ owed.old.items
-        ++ (if counted then block_questions monitor.now plan.now condition else [])) }
+        ++ condition_questions monitor.now plan.now condition row) }
 {
-    if counted {
-        push_blocks(owed, monitor, plan, condition)?;
+    match row {
+        Some(row) => push_blocks(owed, monitor, plan, condition, row)?,
+        None => {}
     }
     Ok(())
 }
 
-/// Appends the questions on the condition and each block.
-fn push_blocks(
+/// Appends the questions on the condition, counted by the row, and each block.
+pub(crate) fn push_blocks(
     owed: &mut Vec<Question>,
     monitor: &Monitor,
     plan: &Plan,
     condition: u32,
+    row: u32,
 ) -> Result<(), AllocError>
-    ensures { OnOk result
-        (owed.new.items ≡ owed.old.items ++ block_questions monitor.now plan.now condition) }
+    ensures { OnOk result (owed.new.items ≡ owed.old.items
+        ++ block_questions monitor.now plan.now condition row) }
 {
     for index in 0..monitor.blocks().len() {
         let block = index as u32;
-        push_noted(owed, condition, block, placed_note(plan, index, condition))?;
+        push_noted(
+            owed,
+            condition,
+            row,
+            block,
+            placed_note(plan, index, condition),
+        )?;
     }
     Ok(())
 }
@@ -127,15 +141,16 @@ fn push_blocks(
 fn push_noted(
     owed: &mut Vec<Question>,
     condition: u32,
+    row: u32,
     block: u32,
     note: Option<Note>,
 ) -> Result<(), AllocError>
     ensures { OnOk result
-        (owed.new.items ≡ owed.old.items ++ note_questions condition block note) }
+        (owed.new.items ≡ owed.old.items ++ note_questions condition row block note) }
 {
     match note {
-        None => owed.push(Question::Counts { condition, block })?,
-        Some(note) => push_given(owed, condition, block, note.all)?,
+        None => owed.push(counts_question(condition, row, block))?,
+        Some(note) => push_given(owed, condition, row, block, note.all)?,
     }
     Ok(())
 }
@@ -144,17 +159,48 @@ fn push_noted(
 fn push_given(
     owed: &mut Vec<Question>,
     condition: u32,
+    row: u32,
     block: u32,
     all: bool,
 ) -> Result<(), AllocError>
     ensures { OnOk result (owed.new.items ≡ owed.old.items
-        ++ given_questions condition block all) }
+        ++ given_questions condition row block all) }
 {
     if !all {
-        owed.push(Question::Gives { condition, block })?;
-        owed.push(Question::First { condition, block })?;
+        owed.push(gives_question(condition, row, block))?;
+        owed.push(first_question(condition, row, block))?;
     }
     Ok(())
+}
+
+pub(crate) fn counts_question(condition: u32, row: u32, block: u32) -> Question
+    ensures { result ≡ Counts condition row block }
+{
+    Question::Counts {
+        condition,
+        row,
+        block,
+    }
+}
+
+pub(crate) fn gives_question(condition: u32, row: u32, block: u32) -> Question
+    ensures { result ≡ Gives condition row block }
+{
+    Question::Gives {
+        condition,
+        row,
+        block,
+    }
+}
+
+pub(crate) fn first_question(condition: u32, row: u32, block: u32) -> Question
+    ensures { result ≡ First condition row block }
+{
+    Question::First {
+        condition,
+        row,
+        block,
+    }
 }
 
 /// The block's note on the condition.

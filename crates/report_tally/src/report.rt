@@ -4,12 +4,12 @@ use base_list::Seq;
 use logic_outline::Outline;
 use machine_events::Plan;
 
-/// A plan, whether each of its conditions is counted, and a certificate for each claim and each
-/// question that it rests on, in their order.
+/// A plan, by which row of its guard each condition is counted, if it is, and a certificate for each
+/// claim and each question that it rests on, in their order. Rows are numbered from 1.
 #[derive(Debug, Drop)]
 pub struct CountedReport {
     pub plan: Plan,
-    pub counted: Seq<bool>,
+    pub counted: Seq<Option<u32>>,
     pub proofs: Seq<Outline>,
     pub answers: Seq<Outline>,
 }

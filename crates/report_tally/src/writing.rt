@@ -1,27 +1,28 @@
 //! The text of a counted report.
 
-ghost use Rattle.std.specs.Prelude.{◌≡◌, ◌≤◌, ◌++◌, All, codes, decimal, length};
+ghost use Rattle.std.specs.Prelude.{◌≡◌, ◌≤◌, ◌++◌, All, codes, length};
 ghost use Rattle.std.specs.List.{enumerate_from, flat_map};
 ghost use Rattle.lang_base.specs.Limits.{BLOCKS, CONDITIONS};
 ghost use Rattle.base_io.specs.Writing.{Wrote};
 ghost use Rattle.plan_count.specs.declared.question.Question.TheVariants.{First, Gives};
 ghost use Rattle.plan_counted.specs.Counted.{AreBacked, column_at};
-ghost use Rattle.report_tally.specs.CountedReports.{answer_text, asked_text, question_text};
+ghost use Rattle.report_questions.specs.QuestionText.{question_text};
+ghost use Rattle.report_tally.specs.CountedReports.{answer_text};
 ghost use Rattle.report_tally.specs.CountedTexts.{column_text, columns_text, counted_text};
-ghost use Rattle.report_tally.specs.CountedTexts.{has_column, is_kept, is_note, is_noted};
-ghost use Rattle.report_tally.specs.CountedTexts.{kept_text, told_text};
+ghost use Rattle.report_tally.specs.CountedTexts.{has_column, is_still_owed, is_note, is_noted};
+ghost use Rattle.report_tally.specs.CountedTexts.{still_owed_text, told_text};
 ghost use Rattle.report_tally.specs.inner.Lines.{IsShortColumn};
 
-use base_io::{Sink, SinkFailed, write_piece, write_pieces};
-use base_list::Seq;
-use itoa::Buffer;
+use super::owed::{counts_question, first_question, gives_question};
+use base_io::{Sink, SinkFailed, write_piece};
 use lang_monitor::{Claim, Monitor};
 use logic_cert::{Cert, print_cert};
 use plan_count::Question;
-use plan_counted::{CountedPlan, Told};
+use plan_counted::{Column, CountedPlan, Told};
 use plan_place::{PlacedPlan, Proof};
+use report_questions::write_question;
 use report_recheck::write_proof;
-use report_text::{write_block_name, write_plan};
+use report_text::write_plan;
 
 /// Writes the report of a plan that was placed and then counted: the text of the counted plan, then
 /// a line for each proof of the placed one on whose claim the counted one rests too, and then one
@@ -41,37 +42,37 @@ pub fn write_counted_report<S: Sink>(
     let _blocks = monitor.blocks();
     let columns = counted.columns.items();
     write_plan(monitor, &counted.plan, out)?;
-    write_kept(monitor, columns, placed.proofs.items(), out)?;
+    write_still_owed(monitor, columns, placed.proofs.items(), out)?;
     write_columns(monitor, columns, out)
 }
 
 /// A line for each proof on whose claim the counted plan rests.
-fn write_kept<S: Sink>(
+fn write_still_owed<S: Sink>(
     monitor: &Monitor,
-    columns: &[Option<Seq<Told>>],
+    columns: &[Option<Column>],
     proofs: &[Proof],
     out: &mut S,
 ) -> Result<(), SinkFailed>
     ensures { Wrote (S.seen out.old) (S.seen out.new) result
-        (flat_map (kept_text monitor.now columns.now) proofs.now) }
+        (flat_map (still_owed_text monitor.now columns.now) proofs.now) }
 {
     for proof in proofs {
-        write_if_kept(monitor, columns, proof, out)?;
+        write_if_still_owed(monitor, columns, proof, out)?;
     }
     Ok(())
 }
 
 /// The line of a proof, where the counted plan rests on its claim.
-fn write_if_kept<S: Sink>(
+fn write_if_still_owed<S: Sink>(
     monitor: &Monitor,
-    columns: &[Option<Seq<Told>>],
+    columns: &[Option<Column>],
     proof: &Proof,
     out: &mut S,
 ) -> Result<(), SinkFailed>
     ensures { Wrote (S.seen out.old) (S.seen out.new) result
-        (kept_text monitor.now columns.now proof.now) }
+        (still_owed_text monitor.now columns.now proof.now) }
 {
-    if is_kept(columns, proof.claim) {
+    if is_still_owed(columns, proof.claim) {
         write_proof(monitor, proof.claim, &proof.cert, out)
     } else {
         Ok(())
@@ -79,8 +80,8 @@ fn write_if_kept<S: Sink>(
 }
 
 /// Whether the counted plan rests on the claim, where the placed one does.
-fn is_kept(columns: &[Option<Seq<Told>>], claim: Claim) -> bool
-    ensures { result ≡ is_kept columns.now claim }
+fn is_still_owed(columns: &[Option<Column>], claim: Claim) -> bool
+    ensures { result ≡ is_still_owed columns.now claim }
 {
     match claim {
         Claim::Keeps { .. } => true,
@@ -91,7 +92,7 @@ fn is_kept(columns: &[Option<Seq<Told>>], claim: Claim) -> bool
 }
 
 /// Whether the condition is counted, and the block has a note on it.
-fn is_noted_at(columns: &[Option<Seq<Told>>], condition: u32, block: u32) -> bool
+fn is_noted_at(columns: &[Option<Column>], condition: u32, block: u32) -> bool
     ensures { result ≡ is_noted (column_at columns.now condition) block }
 {
     match columns.get(condition.saturating_sub(1) as usize) {
@@ -100,12 +101,12 @@ fn is_noted_at(columns: &[Option<Seq<Told>>], condition: u32, block: u32) -> boo
     }
 }
 
-fn is_noted(column: &Option<Seq<Told>>, block: u32) -> bool
+fn is_noted(column: &Option<Column>, block: u32) -> bool
     ensures { result ≡ is_noted column.now block }
 {
     match column {
         None => false,
-        Some(column) => match column.items().get(block as usize) {
+        Some(column) => match column.told.items().get(block as usize) {
             None => false,
             Some(told) => is_note(told),
         },
@@ -123,7 +124,7 @@ fn is_note(told: &Told) -> bool
 }
 
 /// Whether the condition is counted.
-fn has_column_at(columns: &[Option<Seq<Told>>], condition: u32) -> bool
+fn has_column_at(columns: &[Option<Column>], condition: u32) -> bool
     ensures { result ≡ has_column (column_at columns.now condition) }
 {
     match columns.get(condition.saturating_sub(1) as usize) {
@@ -132,7 +133,7 @@ fn has_column_at(columns: &[Option<Seq<Told>>], condition: u32) -> bool
     }
 }
 
-fn has_column(column: &Option<Seq<Told>>) -> bool
+fn has_column(column: &Option<Column>) -> bool
     ensures { result ≡ has_column column.now }
 {
     match column {
@@ -146,7 +147,7 @@ fn has_column(column: &Option<Seq<Told>>) -> bool
 /// A line for each certificate of what blocks have on counted conditions.
 fn write_columns<S: Sink>(
     monitor: &Monitor,
-    columns: &[Option<Seq<Told>>],
+    columns: &[Option<Column>],
     out: &mut S,
 ) -> Result<(), SinkFailed>
     requires few { length columns.now ≤ CONDITIONS }
@@ -164,7 +165,7 @@ fn write_columns<S: Sink>(
 fn write_column<S: Sink>(
     monitor: &Monitor,
     condition: u32,
-    column: &Option<Seq<Told>>,
+    column: &Option<Column>,
     out: &mut S,
 ) -> Result<(), SinkFailed>
     requires { IsShortColumn column.now }
@@ -173,7 +174,7 @@ fn write_column<S: Sink>(
 {
     match column {
         None => Ok(()),
-        Some(column) => write_each(monitor, condition, column.items(), out),
+        Some(column) => write_each(monitor, condition, column.row, column.told.items(), out),
     }
 }
 
@@ -181,16 +182,17 @@ fn write_column<S: Sink>(
 fn write_each<S: Sink>(
     monitor: &Monitor,
     condition: u32,
+    row: u32,
     column: &[Told],
     out: &mut S,
 ) -> Result<(), SinkFailed>
     requires { length column.now ≤ BLOCKS }
     ensures { Wrote (S.seen out.old) (S.seen out.new) result
-        (flat_map (λ one. told_text monitor.now condition one.0 one.1)
+        (flat_map (λ one. told_text monitor.now condition row one.0 one.1)
         (enumerate_from 0 column.now)) }
 {
     for index in 0..column.len() {
-        write_told(monitor, condition, index as u32, &column[index], out)?;
+        write_told(monitor, condition, row, index as u32, &column[index], out)?;
     }
     Ok(())
 }
@@ -199,19 +201,20 @@ fn write_each<S: Sink>(
 fn write_told<S: Sink>(
     monitor: &Monitor,
     condition: u32,
+    row: u32,
     block: u32,
     told: &Told,
     out: &mut S,
 ) -> Result<(), SinkFailed>
     ensures { Wrote (S.seen out.old) (S.seen out.new) result
-        (told_text monitor.now condition block told.now) }
+        (told_text monitor.now condition row block told.now) }
 {
     match told {
         Told::Nothing { counts } => {
-            write_answer(monitor, Question::Counts { condition, block }, counts, out)
+            write_answer(monitor, counts_question(condition, row, block), counts, out)
         }
         Told::Signal { gives, first } => {
-            write_signal(monitor, condition, block, gives, first, out)
+            write_signal(monitor, condition, row, block, gives, first, out)
         }
         Told::Broadcast => Ok(()),
     }
@@ -221,17 +224,18 @@ fn write_told<S: Sink>(
 fn write_signal<S: Sink>(
     monitor: &Monitor,
     condition: u32,
+    row: u32,
     block: u32,
     gives: &Cert,
     first: &Cert,
     out: &mut S,
 ) -> Result<(), SinkFailed>
     ensures { Wrote (S.seen out.old) (S.seen out.new) result
-        (answer_text monitor.now (Gives condition block) gives.now
-        ++ answer_text monitor.now (First condition block) first.now) }
+        (answer_text monitor.now (Gives condition row block) gives.now
+        ++ answer_text monitor.now (First condition row block) first.now) }
 {
-    write_answer(monitor, Question::Gives { condition, block }, gives, out)?;
-    write_answer(monitor, Question::First { condition, block }, first, out)
+    write_answer(monitor, gives_question(condition, row, block), gives, out)?;
+    write_answer(monitor, first_question(condition, row, block), first, out)
 }
 
 /// `proof counts 2 put: clash 0 1` and a line feed.
@@ -261,64 +265,4 @@ pub(crate) fn write_answer_head<S: Sink>(
     write_piece(b"proof ", out)?;
     write_question(monitor, question, out)?;
     write_piece(b": ", out)
-}
-
-/// Writes a question, as it stands in its line: `counts 2 put`, `gives 2 put` or `first 2 put`. It
-/// takes no memory.
-///
-/// After `SinkFailed` the first bytes of the text were taken, fewer than all and maybe none.
-pub fn write_question<S: Sink>(
-    monitor: &Monitor,
-    question: Question,
-    out: &mut S,
-) -> Result<(), SinkFailed>
-    ensures { Wrote (S.seen out.old) (S.seen out.new) result
-        (question_text monitor.now question) }
-{
-    match question {
-        Question::Counts { condition, block } => {
-            write_asked(b"counts ", monitor, condition, block, out)
-        }
-        Question::Gives { condition, block } => {
-            write_asked(b"gives ", monitor, condition, block, out)
-        }
-        Question::First { condition, block } => {
-            write_asked(b"first ", monitor, condition, block, out)
-        }
-    }
-}
-
-/// A word, and then `2 put`.
-fn write_asked<S: Sink>(
-    word: &[u8],
-    monitor: &Monitor,
-    condition: u32,
-    block: u32,
-    out: &mut S,
-) -> Result<(), SinkFailed>
-    ensures { Wrote (S.seen out.old) (S.seen out.new) result
-        (asked_text monitor.now word.now condition block) }
-{
-    write_number(word, condition, out)?;
-    write_block_name(monitor, block as usize, out)
-}
-
-/// A number after a word, and then a blank.
-fn write_number<S: Sink>(word: &[u8], number: u32, out: &mut S) -> Result<(), SinkFailed>
-    ensures { Wrote (S.seen out.old) (S.seen out.new) result
-        (word.now ++ decimal number ++ codes " ") }
-{
-    let mut digits = Buffer::new();
-    write_three(word, digits.format(number).as_bytes(), b" ", out)
-}
-
-fn write_three<'a, S: Sink>(
-    one: &'a [u8],
-    two: &'a [u8],
-    three: &'a [u8],
-    out: &mut S,
-) -> Result<(), SinkFailed>
-    ensures { Wrote (S.seen out.old) (S.seen out.new) result (one.now ++ two.now ++ three.now) }
-{
-    write_pieces(&[one, two, three], out)
 }

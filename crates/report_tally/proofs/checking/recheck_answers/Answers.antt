@@ -27,7 +27,7 @@ first_unanswered-requires-clause-questions c =
     let monitor = c.args.monitor.now in
     let report = c.args.report.now in
     subst (All (MayAskQuestion monitor)) (sym (c.deref.ensures.value ∙ c.in_ok-questions.ensures ∙ ap (owed_questions monitor report.plan) c.items.ensures))
-    (questions_askable monitor report.plan report.counted c.blocks-blocks.ensures.rule c.requires.is.plan c.requires.sight c.requires.is.counted)
+    (questions_askable monitor report.plan report.counted c.requires.is.counted)
 
 pub returns-in-Some : goal.returns-in-Some
 returns-in-Some c =

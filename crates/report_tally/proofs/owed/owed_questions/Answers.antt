@@ -1,13 +1,12 @@
-use Rattle.std.proofs.Common.{◌+◌, [], Bool, ℕ, ap, refl, ◌∙◌, arith}
-use Rattle.std.specs.Prelude.{if◌then◌else◌}
+use Rattle.std.proofs.Common.{◌+◌, [], Option, ℕ, ap, refl, ◌∙◌, arith}
 use Rattle.std.proofs.lemmas.List.{take_all}
 use Rattle.report_recheck.proofs.Gathered.{listed_more}
-use Rattle.report_tally.specs.CountedReports.{block_questions, owed_questions}
+use Rattle.report_tally.specs.CountedReports.{condition_questions, owed_questions}
 use Rattle.report_tally.proofs.owed.owed_questions.Goals as goal
 
 pub loop-index-preserved : goal.loop-index-preserved
 loop-index-preserved c =
-    listed_more (λ (number : ℕ) (mark : Bool). if mark then block_questions c.args.monitor.now c.args.plan.now number else []) 1 c.loop-index.index (c.loop-index.index + 1) c.args.counted.now _ _ _ []
+    listed_more (λ (number : ℕ) (row : Option ℕ). condition_questions c.args.monitor.now c.args.plan.now number row) 1 c.loop-index.index (c.loop-index.index + 1) c.args.counted.now _ _ _ []
     c.loop-index.owed.items c.push_counted.new.owed.items c.loop-index-test.true (omega arith) refl refl c.loop-index.invariant c.in_ok-push_counted.ensures
 
 pub returns : goal.returns

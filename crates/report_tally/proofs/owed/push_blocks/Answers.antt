@@ -14,10 +14,10 @@ loop-index-preserved c =
     let condition = c.args.condition in
     let index = c.loop-index.index in
     let old = c.args.owed.now.items in
-    let each : ℕ → List Question = λ block. note_questions condition block (note_on (notes_at c.args.plan.now block) condition) in
+    let each : ℕ → List Question = λ block. note_questions condition c.args.row block (note_on (notes_at c.args.plan.now block) condition) in
     let some = flat_map each (range_with_len 0 index) in
     c.in_ok-push_noted.ensures
-    ∙ ap (λ (note : Option Note). c.loop-index.owed.items ++ note_questions condition index note) c.placed_note.ensures
+    ∙ ap (λ (note : Option Note). c.loop-index.owed.items ++ note_questions condition c.args.row index note) c.placed_note.ensures
     ∙ ap (λ (before : List Question). before ++ each index) c.loop-index.invariant
     ∙ append_assoc old some (each index)
     ∙ ap (λ (more : List Question). old ++ more) (ap (λ (more : List Question). some ++ more) (sym (append-nil (each index)))

@@ -7,4 +7,4 @@ use Rattle.report_tally.proofs.owed.push_blocks.Given as goal
 
 abbrev pub invariant-loop-index : goal.invariant-loop-index
 invariant-loop-index l =
-    l.owed.items ≡ l.fn.owed.items ++ flat_map (λ block. note_questions l.condition block (note_on (notes_at l.plan block) l.condition)) (range_with_len 0 l.index)
+    l.owed.items ≡ l.fn.owed.items ++ flat_map (λ block. note_questions l.condition l.row block (note_on (notes_at l.plan block) l.condition)) (range_with_len 0 l.index)

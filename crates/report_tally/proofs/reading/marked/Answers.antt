@@ -21,5 +21,5 @@ left_out-requires c = omega (arith, ap {B = ℕ} length c.items.ensures, c.requi
 
 pub returns : goal.returns
 returns c =
-    marked_are c.args.monitor.now c.args.plan.now c.args.bytes.now c.deref.result.now c.in_ok-found.found.items c.in_ok-counted.counted.items c.conditions-conditions.ensures.rule c.requires
-    (c.deref.ensures.value ∙ c.in_ok-all.ensures) c.in_ok-found.ensures (c.in_ok-counted.ensures ∙ ap₂ left_out c.deref-2.ensures.value c.items.ensures)
+    marked_are c.args.monitor.now c.args.plan.now c.args.bytes.now c.deref.result.now c.in_ok-found.found.items c.in_ok-marked.marked.items c.conditions-conditions.ensures.rule c.requires
+    (c.deref.ensures.value ∙ c.in_ok-all.ensures) c.in_ok-found.ensures (c.in_ok-marked.ensures ∙ ap₂ left_out c.deref-2.ensures.value c.items.ensures)

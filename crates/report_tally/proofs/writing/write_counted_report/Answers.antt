@@ -4,8 +4,8 @@ use Rattle.std.specs.List.{flat_map}
 use Rattle.machine_events.specs.PlanText.{plan_text}
 use Rattle.base_io.proofs.Writing.{wrote_both, wrote_fails, wrote_longer, wrote_same}
 use Rattle.plan_place.specs.declared.placed.Proof.{Proof}
-use Rattle.plan_counted.specs.declared.counted.Told.{Told}
-use Rattle.report_tally.specs.CountedTexts.{columns_text, kept_text}
+use Rattle.plan_counted.specs.declared.counted.Column.{Column}
+use Rattle.report_tally.specs.CountedTexts.{columns_text, still_owed_text}
 use Rattle.report_tally.specs.inner.Lines.{IsShortColumn}
 use Rattle.report_tally.proofs.WrittenColumns.{short_columns}
 use Rattle.report_tally.proofs.writing.write_counted_report.Goals as goal
@@ -22,20 +22,20 @@ returns-in_err-write_plan g c =
     let monitor = c.args.monitor.now in
     let columns = c.args.counted.now.columns in
     wrote_fails _ c.from_residual.ensures.0
-    (wrote_longer (columns_text monitor columns) (wrote_longer (flat_map (kept_text monitor columns) c.args.placed.now.proofs) c.in_err-write_plan.ensures))
+    (wrote_longer (columns_text monitor columns) (wrote_longer (flat_map (still_owed_text monitor columns) c.args.placed.now.proofs) c.in_err-write_plan.ensures))
 
-pub returns-in_err-write_kept : goal.returns-in_err-write_kept
-returns-in_err-write_kept g c =
+pub returns-in_err-write_still_owed : goal.returns-in_err-write_still_owed
+returns-in_err-write_still_owed g c =
     let monitor = c.args.monitor.now in
     let counted = c.args.counted.now in
-    wrote_fails _ c.from_residual-in_err-write_kept.ensures.0
+    wrote_fails _ c.from_residual-in_err-write_still_owed.ensures.0
     (wrote_longer (columns_text monitor counted.columns)
-    (wrote_same _ (ap₂ (λ (columns : List (Option (List Told))) (proofs : List Proof). plan_text monitor counted.plan ++ flat_map (kept_text monitor columns) proofs)
-    c.items-columns.ensures c.items.ensures) (wrote_both c.in_ok-write_plan.ensures c.in_err-write_kept.ensures)))
+    (wrote_same _ (ap₂ (λ (columns : List (Option Column)) (proofs : List Proof). plan_text monitor counted.plan ++ flat_map (still_owed_text monitor columns) proofs)
+    c.items-columns.ensures c.items.ensures) (wrote_both c.in_ok-write_plan.ensures c.in_err-write_still_owed.ensures)))
 
 pub returns : goal.returns
 returns g c =
     let monitor = c.args.monitor.now in
     let counted = c.args.counted.now in
-    wrote_same _ (ap₂ (λ (columns : List (Option (List Told))) (proofs : List Proof). plan_text monitor counted.plan ++ flat_map (kept_text monitor columns) proofs ++ columns_text monitor columns)
-    c.items-columns.ensures c.items.ensures) (wrote_both (wrote_both c.in_ok-write_plan.ensures c.in_ok-write_kept.ensures) c.write_columns.ensures)
+    wrote_same _ (ap₂ (λ (columns : List (Option Column)) (proofs : List Proof). plan_text monitor counted.plan ++ flat_map (still_owed_text monitor columns) proofs ++ columns_text monitor columns)
+    c.items-columns.ensures c.items.ensures) (wrote_both (wrote_both c.in_ok-write_plan.ensures c.in_ok-write_still_owed.ensures) c.write_columns.ensures)

@@ -5,7 +5,7 @@ use Rattle.report_recheck.specs.Readings.{IsReadable}
 use Rattle.report_recheck.proofs.Fronts.{AreGoing, at_none, at_some}
 use Rattle.report_recheck.proofs.Fronts.{going_end, going_more, going_none}
 use Rattle.report_tally.specs.CountedReports.{answer_text}
-use Rattle.report_tally.proofs.reading.read_answers.Goals as goal
+use Rattle.report_tally.proofs.answering.read_answers.Goals as goal
 
 pub returns-in-None : goal.returns-in-None
 returns-in-None c others more are ends same =

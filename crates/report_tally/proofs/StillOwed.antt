@@ -1,6 +1,7 @@
--- The proofs of the placed plan that are kept are those of the claims that the counted plan rests on.
+-- The proofs of the placed plan that are still owed are those of the claims that the counted plan
+-- rests on.
 use Rattle.std.proofs.Common.{◌≡◌, ◌==◌, ℕ, zero, suc, ◌+◌, ◌-◌, ◌<◌, ◌≤◌, Bool, true, false, not, cond, ◌&&◌, List, [], ◌∷◌, ◌++◌, map, length, Option, Some, None, inl, inr, refl, sym, ap, ap₂, subst, ◌∙◌, arith}
-use Rattle.std.specs.Prelude.{All, slice_get, unwrap_or, IfSome}
+use Rattle.std.specs.Prelude.{All, slice_get, unwrap_or, IfSome, is_some as has_some}
 use Rattle.std.specs.List.{enumerate_from, filter, flat_map, range_with_len}
 use Rattle.std.specs.Option.{option_to_list, option_map_or}
 use Rattle.std.proofs.lemmas.Bool.{cases_eq, eq-eqb}
@@ -19,6 +20,7 @@ use Rattle.plan_prune.specs.Invariants.{keeps_claims}
 use Rattle.plan_place.specs.Backing.{backed_claims, block_numbers, condition_numbers, kind_claims, reads_none, unnoted_claims, untested_claims, waits_at}
 use Rattle.plan_place.specs.Relayed.{note_on}
 use Rattle.plan_place.proofs.NotesOn.{is_some, on_found, on_is}
+use Rattle.plan_counted.specs.declared.counted.Column.{Column}
 use Rattle.plan_counted.specs.declared.counted.Told.{Told}
 use Rattle.plan_counted.specs.declared.counted.Told.TheVariants as telling
 use Rattle.plan_counted.proofs.Table.{made_on, note_made, on_theirs}
@@ -29,7 +31,7 @@ use Rattle.report_recheck.proofs.Askable.{flat_all, range_all}
 use Rattle.report_recheck.proofs.Pairs.{all_at}
 use Rattle.report_recheck.proofs.NoteLines.{from_notes}
 use Rattle.report_tally.specs.CountedReports.{is_counted, is_owed}
-use Rattle.report_tally.specs.CountedTexts.{has_column, is_kept, is_note, is_noted}
+use Rattle.report_tally.specs.CountedTexts.{column_row, has_column, is_note, is_noted, is_still_owed}
 
 -- ---- filters of lists
 
@@ -75,53 +77,54 @@ both_flat {X} p q f g h first (x ∷ xs) each =
 -- ---- what is known of a column
 
 -- where the counted plan has no note, the placed one has none
-abbrev pub KeepsNotes : ℕ → ℕ → Option (List Told) → Option Note → Type 0
+abbrev pub KeepsNotes : ℕ → ℕ → Option Column → Option Note → Type 0
 KeepsNotes condition block column placed = told_on condition block column placed ≡ None → placed ≡ None
 
 -- ---- kinds
 
-marked : (columns : List (Option (List Told))) (condition : ℕ) → is_counted (map has_column columns) condition ≡ has_column (column_at columns condition)
+marked : (columns : List (Option Column)) (condition : ℕ) → is_counted (map column_row columns) condition ≡ has_column (column_at columns condition)
 marked columns condition = at columns (condition - 1)
   where
-    at : (columns : List (Option (List Told))) (k : ℕ) → unwrap_or (slice_get (map has_column columns) k) false ≡ has_column (unwrap_or (slice_get columns k) None)
+    at : (columns : List (Option Column)) (k : ℕ) → has_some (unwrap_or (slice_get (map column_row columns) k) None) ≡ has_column (unwrap_or (slice_get columns k) None)
     at [] k = refl
-    at (column ∷ columns) zero = refl
+    at (None ∷ columns) zero = refl
+    at (Some column ∷ columns) zero = refl
     at (column ∷ columns) (suc k) = at columns k
 
 none_of : {X : Type 0} (f : X → Claim) (p : Claim → Bool) (xs : List X) → ((x : X) → p (f x) ≡ false) → filter p (map f xs) ≡ []
 none_of f p [] each = refl
 none_of f p (x ∷ xs) each = ap (λ (test : Bool). cond test (f x ∷ filter p (map f xs)) (filter p (map f xs))) (each x) ∙ none_of f p xs each
 
-pub kinds_kept : (monitor : MonitorParts) (columns : List (Option (List Told))) (condition : ℕ) (kind : CondKind)
-    → filter (is_kept columns) (kind_claims monitor condition kind)
-    ≡ filter (is_owed (map has_column columns)) (kind_claims monitor condition (counted_kind kind (column_at columns condition)))
-kinds_kept monitor columns condition kind = by_column (column_at columns condition) refl
+pub kinds_still_owed : (monitor : MonitorParts) (columns : List (Option Column)) (condition : ℕ) (kind : CondKind)
+    → filter (is_still_owed columns) (kind_claims monitor condition kind)
+    ≡ filter (is_owed (map column_row columns)) (kind_claims monitor condition (counted_kind kind (column_at columns condition)))
+kinds_still_owed monitor columns condition kind = by_column (column_at columns condition) refl
   where
     P : List Claim → Type 0
-    P all = All (λ claim. is_kept columns claim ≡ is_owed (map has_column columns) claim) all
+    P all = All (λ claim. is_still_owed columns claim ≡ is_owed (map column_row columns) claim) all
 
     waiting : List ℕ
     waiting = filter (waits_at monitor condition) (block_numbers monitor)
 
     agree : (blocks : List ℕ) → P (map (claims.One condition) blocks)
-    agree [] = All-nil (λ claim. is_kept columns claim ≡ is_owed (map has_column columns) claim)
+    agree [] = All-nil (λ claim. is_still_owed columns claim ≡ is_owed (map column_row columns) claim)
     agree (block ∷ blocks) =
-        All-cons (λ claim. is_kept columns claim ≡ is_owed (map has_column columns) claim) (claims.One condition block) (map (claims.One condition) blocks) (ap not (sym (marked columns condition))) (agree blocks)
+        All-cons (λ claim. is_still_owed columns claim ≡ is_owed (map column_row columns) claim) (claims.One condition block) (map (claims.One condition) blocks) (ap not (sym (marked columns condition))) (agree blocks)
 
     by_kind : (kind : CondKind) → P (kind_claims monitor condition kind)
     by_kind kinds.Signal = agree waiting
-    by_kind kinds.Broadcast = All-nil (λ claim. is_kept columns claim ≡ is_owed (map has_column columns) claim)
+    by_kind kinds.Broadcast = All-nil (λ claim. is_still_owed columns claim ≡ is_owed (map column_row columns) claim)
 
-    nothing_kept : (column : List Told) → column_at columns condition ≡ Some column → (kind : CondKind) → filter (is_kept columns) (kind_claims monitor condition kind) ≡ []
-    nothing_kept column is kinds.Signal = none_of (claims.One condition) (is_kept columns) waiting (λ block. ap (λ (one : Option (List Told)). not (has_column one)) is)
-    nothing_kept column is kinds.Broadcast = refl
+    nothing_owed : (column : Column) → column_at columns condition ≡ Some column → (kind : CondKind) → filter (is_still_owed columns) (kind_claims monitor condition kind) ≡ []
+    nothing_owed column is kinds.Signal = none_of (claims.One condition) (is_still_owed columns) waiting (λ block. ap (λ (one : Option Column). not (has_column one)) is)
+    nothing_owed column is kinds.Broadcast = refl
 
-    by_column : (column : Option (List Told)) → column_at columns condition ≡ column
-        → filter (is_kept columns) (kind_claims monitor condition kind) ≡ filter (is_owed (map has_column columns)) (kind_claims monitor condition (counted_kind kind column))
-    by_column None is = same_filter (is_kept columns) (is_owed (map has_column columns)) (kind_claims monitor condition kind) (by_kind kind)
+    by_column : (column : Option Column) → column_at columns condition ≡ column
+        → filter (is_still_owed columns) (kind_claims monitor condition kind) ≡ filter (is_owed (map column_row columns)) (kind_claims monitor condition (counted_kind kind column))
+    by_column None is = same_filter (is_still_owed columns) (is_owed (map column_row columns)) (kind_claims monitor condition kind) (by_kind kind)
     by_column (Some column) is =
-        nothing_kept column is kind
-        ∙ sym (none_of (claims.One condition) (is_owed (map has_column columns)) waiting (λ block. ap not (marked columns condition) ∙ ap (λ (one : Option (List Told)). not (has_column one)) is))
+        nothing_owed column is kind
+        ∙ sym (none_of (claims.One condition) (is_owed (map column_row columns)) waiting (λ block. ap not (marked columns condition) ∙ ap (λ (one : Option Column). not (has_column one)) is))
 
 -- ---- blocks without a note
 
@@ -129,10 +132,10 @@ and_false : (b : Bool) → (b && false) ≡ false
 and_false true = refl
 and_false false = refl
 
-unnoted_at : (condition block : ℕ) (column : Option (List Told)) (placed : Option Note) → KeepsNotes condition block column placed
+unnoted_at : (condition block : ℕ) (column : Option Column) (placed : Option Note) → KeepsNotes condition block column placed
     → (not (is_some placed) && not (is_noted column block)) ≡ (not (is_some (told_on condition block column placed)) && true)
 unnoted_at condition block None placed keeps = refl
-unnoted_at condition block (Some column) placed keeps = by_told (slice_get column block) keeps
+unnoted_at condition block (Some column) placed keeps = by_told (slice_get column.told block) keeps
   where
     by_told : (told : Option Told) → (told_by condition told placed ≡ None → placed ≡ None)
         → (not (is_some placed) && not (option_map_or is_note told false)) ≡ (not (is_some (told_by condition told placed)) && true)
@@ -141,17 +144,17 @@ unnoted_at condition block (Some column) placed keeps = by_told (slice_get colum
     by_told (Some (telling.Signal gives first)) keeps = and_false (not (is_some placed))
     by_told (Some telling.Broadcast) keeps = and_false (not (is_some placed))
 
-pub unnoted_kept : (monitor : MonitorParts) (columns : List (Option (List Told))) (block : ℕ) (notes others : List Note)
+pub unnoted_still_owed : (monitor : MonitorParts) (columns : List (Option Column)) (block : ℕ) (notes others : List Note)
     → ((condition : ℕ) → 1 ≤ condition → condition ≤ length monitor.conditions
     → (note_on others condition ≡ told_on condition block (column_at columns condition) (note_on notes condition))
     × KeepsNotes condition block (column_at columns condition) (note_on notes condition))
-    → filter (is_kept columns) (unnoted_claims monitor block notes) ≡ filter (is_owed (map has_column columns)) (unnoted_claims monitor block others)
-unnoted_kept monitor columns block notes others each =
-    two_tests (claims.NoNote block) (is_kept columns) (is_owed (map has_column columns)) (λ condition. not (has_note notes condition)) (λ condition. not (has_note others condition)) (condition_numbers monitor)
+    → filter (is_still_owed columns) (unnoted_claims monitor block notes) ≡ filter (is_owed (map column_row columns)) (unnoted_claims monitor block others)
+unnoted_still_owed monitor columns block notes others each =
+    two_tests (claims.NoNote block) (is_still_owed columns) (is_owed (map column_row columns)) (λ condition. not (has_note notes condition)) (λ condition. not (has_note others condition)) (condition_numbers monitor)
     (range_all P 1 (length monitor.conditions) (λ condition first last. by_note condition (each condition first (omega (arith, last)))))
   where
     P : ℕ → Type 0
-    P condition = (not (has_note notes condition) && is_kept columns (claims.NoNote block condition)) ≡ (not (has_note others condition) && true)
+    P condition = (not (has_note notes condition) && is_still_owed columns (claims.NoNote block condition)) ≡ (not (has_note others condition) && true)
 
     by_note : (condition : ℕ) → (note_on others condition ≡ told_on condition block (column_at columns condition) (note_on notes condition))
         × KeepsNotes condition block (column_at columns condition) (note_on notes condition) → P condition
@@ -172,11 +175,11 @@ untested monitor note = not note.tested && reads_none monitor note.condition
 abbrev untested_of : MonitorParts → ℕ → Option Note → List Claim
 untested_of monitor block found = map (λ note. claims.NoTest block note.condition) (filter (untested monitor) (option_to_list found))
 
-untested_at : (monitor : MonitorParts) (condition block : ℕ) (column : Option (List Told)) (placed : Option Note)
+untested_at : (monitor : MonitorParts) (condition block : ℕ) (column : Option Column) (placed : Option Note)
     → IfSome placed (λ note. note.condition ≡ condition) → KeepsNotes condition block column placed
     → untested_of monitor block placed ≡ untested_of monitor block (told_on condition block column placed)
 untested_at monitor condition block None placed on keeps = refl
-untested_at monitor condition block (Some column) placed on keeps = by_told (slice_get column block) keeps
+untested_at monitor condition block (Some column) placed on keeps = by_told (slice_get column.told block) keeps
   where
     one_claim : (passes : Bool) (note : Note)
         → map (λ one. claims.NoTest block one.condition) (cond passes (note ∷ []) []) ≡ cond passes (claims.NoTest block note.condition ∷ []) []
@@ -256,11 +259,11 @@ rebuilt monitor (note ∷ notes) first (suc count) from many = elim (cases_eq no
 
 -- ---- of each block
 
-pub untested_kept : (monitor : MonitorParts) (columns : List (Option (List Told))) (block : ℕ) (notes : List Note)
+pub untested_still_owed : (monitor : MonitorParts) (columns : List (Option Column)) (block : ℕ) (notes : List Note)
     → length columns ≡ length monitor.conditions → AreNotesOf monitor notes
     → ((condition : ℕ) → 1 ≤ condition → condition ≤ length monitor.conditions → KeepsNotes condition block (column_at columns condition) (note_on notes condition))
     → untested_claims monitor block notes ≡ untested_claims monitor block (counted_notes columns block notes)
-untested_kept monitor columns block notes many are keeps =
+untested_still_owed monitor columns block notes many are keeps =
     ap (untested_claims monitor block) (sym (rebuilt monitor notes 1 (length columns) (from_notes monitor notes are) (omega (arith, many))))
     ∙ untested_parts monitor block (note_on notes) (range_with_len 1 (length columns))
     ∙ same_parts (λ condition. untested_of monitor block (note_on notes condition)) (λ condition. untested_of monitor block (told_on condition block (column_at columns condition) (note_on notes condition)))
@@ -276,12 +279,12 @@ untested_kept monitor columns block notes many are keeps =
 
 -- ---- the whole
 
-pub claims_kept : (monitor : MonitorParts) (plan : Plan) (columns : List (Option (List Told))) → IsPlanOf monitor plan
+pub claims_still_owed : (monitor : MonitorParts) (plan : Plan) (columns : List (Option Column)) → IsPlanOf monitor plan
     → length columns ≡ length monitor.conditions
     → ((block condition : ℕ) → block < length monitor.blocks → 1 ≤ condition → condition ≤ length monitor.conditions
     → KeepsNotes condition block (column_at columns condition) (note_on (notes_at plan block) condition))
-    → filter (is_kept columns) (backed_claims monitor plan) ≡ filter (is_owed (map has_column columns)) (backed_claims monitor (counted_of plan columns))
-claims_kept monitor plan columns is many keeps =
+    → filter (is_still_owed columns) (backed_claims monitor plan) ≡ filter (is_owed (map column_row columns)) (backed_claims monitor (counted_of plan columns))
+claims_still_owed monitor plan columns is many keeps =
     filter-append p a (b ++ (c ++ d))
     ∙ ap₂ (λ (x y : List Claim). x ++ y) keeps_same
     (filter-append p b (c ++ d) ∙ ap₂ (λ (x y : List Claim). x ++ y) unnoted_same
@@ -289,10 +292,10 @@ claims_kept monitor plan columns is many keeps =
     ∙ sym (filter-append q a (b2 ++ (c2 ++ d2)))
   where
     p : Claim → Bool
-    p = is_kept columns
+    p = is_still_owed columns
 
     q : Claim → Bool
-    q = is_owed (map has_column columns)
+    q = is_owed (map column_row columns)
 
     made : Plan
     made = counted_of plan columns
@@ -338,13 +341,13 @@ claims_kept monitor plan columns is many keeps =
         both_flat p q (unnoted_claims monitor) (unnoted_claims monitor) (λ block notes. counted_notes columns block notes) 0 plan.notes (λ k notes there.
         let same : k ≡ 0 + k = omega arith in
         subst (λ (n : ℕ). filter p (unnoted_claims monitor n notes) ≡ filter q (unnoted_claims monitor n (counted_notes columns n notes))) same
-        (unnoted_kept monitor columns k notes (counted_notes columns k notes) (λ condition first last. (
+        (unnoted_still_owed monitor columns k notes (counted_notes columns k notes) (λ condition first last. (
           note_made (made_on columns k notes) (on_theirs columns k notes) 1 (length columns) condition first (omega (arith, last, many)),
           kept_at k notes there condition first last,
         ))))
 
     kinds_same : filter p c ≡ filter q c2
-    kinds_same = both_flat p q (kind_claims monitor) (kind_claims monitor) (λ condition kind. counted_kind kind (column_at columns condition)) 1 plan.kinds (λ k kind there. kinds_kept monitor columns (1 + k) kind)
+    kinds_same = both_flat p q (kind_claims monitor) (kind_claims monitor) (λ condition kind. counted_kind kind (column_at columns condition)) 1 plan.kinds (λ k kind there. kinds_still_owed monitor columns (1 + k) kind)
 
     passes : (block : ℕ) (notes : List Note) → All (λ claim. p claim ≡ q claim) (untested_claims monitor block notes)
     passes block notes =
@@ -356,4 +359,4 @@ claims_kept monitor plan columns is many keeps =
         let same : k ≡ 0 + k = omega arith in
         subst (λ (n : ℕ). filter p (untested_claims monitor n notes) ≡ filter q (untested_claims monitor n (counted_notes columns n notes))) same
         (same_filter p q (untested_claims monitor k notes) (passes k notes)
-        ∙ ap (filter q) (untested_kept monitor columns k notes many (all_at (AreNotesOf monitor) plan.notes k notes there is.each) (kept_at k notes there))))
+        ∙ ap (filter q) (untested_still_owed monitor columns k notes many (all_at (AreNotesOf monitor) plan.notes k notes there is.each) (kept_at k notes there))))

@@ -3,9 +3,10 @@ use Rattle.report_recheck.specs.Fronts.{Anything, IsAfter}
 use Rattle.report_recheck.specs.Readings.{IsReadable}
 use Rattle.report_recheck.proofs.Fronts.{either_after, none_there}
 use Rattle.report_recheck.proofs.ReportParts.{cert_line}
-use Rattle.report_tally.specs.CountedReports.{answer_text, question_text}
-use Rattle.report_tally.proofs.OwedLines.{answer_line}
-use Rattle.report_tally.proofs.reading.read_answer.Goals as goal
+use Rattle.report_questions.specs.QuestionText.{question_text}
+use Rattle.report_tally.specs.CountedReports.{answer_text}
+use Rattle.report_tally.proofs.ConditionLines.{answer_line}
+use Rattle.report_tally.proofs.answering.read_answer.Goals as goal
 
 pub returns-in-Some : goal.returns-in-Some
 returns-in-Some c =
