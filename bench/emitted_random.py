@@ -3,10 +3,11 @@
 
   emitted_random.py MONITORS [SEED]     so many monitors; SEED is 1 where it is left out
 
-Each module is compiled by rustc in both editions without a warning, and called on one thread: what the calls answer
-must be what plain arithmetic over the monitor's text says. EXPRESSO=PROGRAM takes the modules of that program, which
-must be those of the second printer, tools/emitted.py; without it those of the second printer alone are taken, under a
-plan that wakes everyone. Which blocks keep 64 bits is what tools/fits.py finds. It ends with status 1 where one differs.
+Each module is compiled by rustc in both editions without a warning, and called on one thread: what
+the calls answer must be what plain arithmetic over the monitor's text says. EXPRESSO=PROGRAM takes
+the modules of that program, which must be those of the second printer, tools/emitted.py; without it
+those of the second printer alone are taken, under a plan that wakes everyone. Which blocks keep 64
+bits is what tools/fits.py finds. It ends with status 1 where one differs.
 """
 
 import math
@@ -62,7 +63,8 @@ class Maker:
         kind = self.dice.random()
         if kind < 0.2:
             count = self.count([1])
-            return "".join(f"{self.dice.randrange(9 if count == 1 else 2)} * " for _ in range(count)) + self.atom()
+            factors = [self.dice.randrange(9 if count == 1 else 2) for _ in range(count)]
+            return " * ".join([*map(str, factors), self.atom()])
         if kind < 0.3:
             return f"-{self.atom()}"
         return f"-({self.sum()})" if kind < 0.35 else self.atom()
@@ -71,7 +73,8 @@ class Maker:
         kind = self.dice.random()
         if deep and kind < 0.3:
             sign = self.dice.choice(["&&", "||"])
-            return f" {sign} ".join(self.within(self.truth(deep - 1)) for _ in range(self.count([2])))
+            parts = [self.within(self.truth(deep - 1)) for _ in range(self.count([2]))]
+            return f" {sign} ".join(parts)
         if kind < 0.4:
             return f"!({self.truth(0)})"
         if kind < 0.6 and self.flags:
@@ -161,8 +164,8 @@ def value(expression, known):
     if sign in ("&&", "||"):
         return all(held) if sign == "&&" else any(held)
     left, right = held
-    return {"==": left == right, "!=": left != right, "<": left < right, "<=": left <= right, ">": left > right,
-            ">=": left >= right}[sign]
+    return {"==": left == right, "!=": left != right, "<": left < right, "<=": left <= right,
+            ">": left > right, ">=": left >= right}[sign]
 
 
 def stored(number):
@@ -244,11 +247,15 @@ def everyone(text):
     return "".join(f"block m: {notes}\n" for _ in range(blocks))
 
 
+def ran(*words):
+    return subprocess.run(words, capture_output=True, text=True, timeout=600, check=False)
+
+
 def answers_of(program, path):
     """The canonical form, the plan and the module, or None where the program refuses the text."""
     texts = []
     for command in ["check"], ["compile", "--count"], ["emit"]:
-        made = subprocess.run([program, *command, path], capture_output=True, text=True, check=False)
+        made = ran(program, *command, path)
         if made.returncode:
             return None
         texts.append(made.stdout)
@@ -269,7 +276,8 @@ def case_of(program, seed, number, work):
     source = Source(text, plan, whole_blocks(text, plan))
     if module not in (None, module_text(source)):
         sys.exit(f"{text}monitor {number} of seed {seed}: the second printer prints another")
-    return Case(number, text, source.names.type_name(), module_text(source), *calls_of(source, dice))
+    kind, module = source.names.type_name(), module_text(source)
+    return Case(number, text, kind, module, *calls_of(source, dice))
 
 
 def compiled(*words):
@@ -278,8 +286,13 @@ def compiled(*words):
 
 def compiles(work, edition):
     """The modules have no warning, as a library's."""
-    return compiled("-D", "warnings", "-W", "missing_docs", "--edition", edition, "--crate-type", "lib", "--emit",
-                    "metadata", "-o", work / "lib.rmeta", work / "lib.rs")
+    return compiled("-D", "warnings", "-W", "missing_docs", "--edition", edition, "--crate-type",
+                    "lib", "--emit", "metadata", "-o", work / "lib.rmeta", work / "lib.rs")
+
+
+def builds(work):
+    return compiled("--edition", "2021", "-A", "warnings", "-C", "debug-assertions",
+                    "-o", work / "main", work / "main.rs")
 
 
 def agree(cases, work):
@@ -288,17 +301,15 @@ def agree(cases, work):
     for place, case in enumerate(cases):
         (work / f"m{place}.rs").write_text(case.module)
         library.append(f"/// It.\npub mod m{place};\n")
-        program.append(f"mod m{place};\n\nfn call{place}() {{\n    let monitor = m{place}::{case.kind}::new();\n"
-                       + "\n".join(case.lines) + "\n}\n")
+        lines = [f"    let monitor = m{place}::{case.kind}::new();", *case.lines]
+        program.append(f"mod m{place};\n\nfn call{place}() {{\n" + "\n".join(lines) + "\n}\n")
     calls = "".join(f"    call{place}();\n" for place in range(len(cases)))
     (work / "lib.rs").write_text("\n".join(library))
     (work / "main.rs").write_text("\n".join([*program, f"fn main() {{\n{calls}}}\n"]))
-    if not compiles(work, "2021") or not compiles(work, "2024"):
+    if not compiles(work, "2021") or not compiles(work, "2024") or not builds(work):
         return False
-    if not compiled("--edition", "2021", "-A", "warnings", "-C", "debug-assertions", "-o", work / "main", work / "main.rs"):
-        return False
-    got = subprocess.run([work / "main"], capture_output=True, text=True, timeout=60, check=False)
-    return got.returncode == 0 and got.stdout.split("\n")[:-1] == [line for case in cases for line in case.wanted]
+    got, wanted = ran(work / "main"), [line for case in cases for line in case.wanted]
+    return got.returncode == 0 and got.stdout.split("\n")[:-1] == wanted
 
 
 def judge(cases, seed, work):
@@ -308,7 +319,7 @@ def judge(cases, seed, work):
     for case in cases:
         if not agree([case], work):
             sys.exit(f"{case.text}monitor {case.number} of seed {seed} differs")
-    sys.exit(f"monitors {cases[0].number} to {cases[-1].number} of seed {seed} differ, but none alone")
+    sys.exit(f"of seed {seed} those from {cases[0].number} on differ, but none alone")
 
 
 def main(count, seed):
@@ -316,13 +327,15 @@ def main(count, seed):
     for first in range(0, count, BATCH):
         with tempfile.TemporaryDirectory() as folder:
             work = pathlib.Path(folder)
-            cases = [case_of(program, seed, number, work) for number in range(first, min(first + BATCH, count))]
-            cases = [case for case in cases if case]
+            numbers = range(first, min(first + BATCH, count))
+            found = [case_of(program, seed, number, work) for number in numbers]
+            cases = [case for case in found if case]
             judge(cases, seed, work)
         taken += len(cases)
         lines += [line for case in cases for line in case.wanted]
     overflows = lines.count("Err(Overflow)")
-    print(f"{taken} monitors of {count}, {len(lines)} calls, of which {overflows} overflow: as the reference")
+    print(f"{taken} monitors of {count}, {len(lines)} calls, of which {overflows} overflow: "
+          "as the reference")
 
 
 if __name__ == "__main__":
