@@ -4,6 +4,9 @@ from collections import namedtuple
 
 from trees import If, Return, Set
 
+# so many parts stand in a row: rustc's stack ends at some thousand
+PIECE = 64
+
 COMPARISONS = "==", "!=", "<", "<=", ">", ">="
 
 # where an expression stands: `own` is "held" where inputs are read, "lent" in a body, or "unread"; of a whole block no
@@ -86,12 +89,12 @@ def written(scope, expression):
     if sign == "not":
         return Written(6, "!" + within(6, inner[0], inner[0].plain), None, is_named, False)
     if sign == "*":
-        return Written(5, "", lambda end: " * ".join(within(6, part, part.wide(end)) for part in inner),
-                       is_named, True)
+        return Written(5, "", lambda end: wide_product(inner, end), is_named, True)
     if sign in COMPARISONS:
         return Written(3, comparison(sign, *inner), None, is_named, False)
     level = 2 if sign == "&&" else 1
-    text = f" {sign} ".join(within(level + 1, part, part.plain) for part in inner)
+    texts = [within(level + 1, part, part.plain) for part in inner]
+    text = in_pieces(f" {sign} ", [f" {sign} ".join(piece) for piece in pieces(texts)])
     return Written(level, text, None, is_named, False)
 
 
@@ -99,10 +102,39 @@ def sum_written(scope, parts):
     inner = [(sign, written(scope, part)) for sign, part in parts]
 
     def wide(end):
-        texts = [f" {sign} {within(5, part, part.wide(end))}" for sign, part in inner]
-        return "".join(texts).removeprefix(" + ")
+        ended = ending_in(inner, end)
+        return in_pieces(" + ", [sum_text(piece, ended) for piece in pieces(inner)])
 
     return Written(4, "", wide, any(part.is_named for _, part in inner), True)
+
+
+def pieces(parts):
+    return [parts[at:at + PIECE] for at in range(0, len(parts), PIECE)]
+
+
+def ending_in(parts, end):
+    """What comes after each number: of many, rustc would look for all types again at each sign."""
+    return "_i128" if len(parts) > PIECE else end
+
+
+def in_pieces(sign, texts):
+    return sign.join(f"({text})" for text in texts) if len(texts) > 1 else texts[0]
+
+
+def sum_text(parts, end):
+    """Parts with their signs; one that is subtracted and comes first is the negative of itself."""
+    (sign, first), *rest = parts
+    before, level = ("-", 7) if sign == "-" else ("", 5)
+    begun = before + within(level, first, first.wide(end))
+    return begun + "".join(f" {sign} {within(5, part, part.wide(end))}" for sign, part in rest)
+
+
+def wide_product(parts, end):
+    """Many factors are a list: in pieces they could leave 128 bits where 0 comes first."""
+    ended = ending_in(parts, end)
+    texts = [within(6, part, part.wide(ended)) for part in parts]
+    return (" * ".join(texts) if len(texts) <= PIECE
+            else f"[{', '.join(texts)}].iter().product::<i128>()")
 
 
 def comparison(sign, left, right):

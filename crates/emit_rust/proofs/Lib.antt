@@ -8,4 +8,5 @@ pub mod Spellings
 pub mod Tries
 pub mod TryTexts
 pub mod ValueTexts
+pub mod Numbered
 pub mod Written

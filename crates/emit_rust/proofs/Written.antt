@@ -1,10 +1,11 @@
 -- Expressions in Rust, by their forms.
-use Rattle.std.proofs.Common.{◌≡◌, ◌⊎◌, ⊎_elim, ℕ, ◌+◌, ◌<◌, ◌≤◌, Bool, true, false, not, ◌&&◌, ◌||◌, List, [], ◌∷◌, ◌++◌, ◌∙◌, map, codes, decimal, refl, ap, sym, subst, length, take, drop, get_or, append_assoc, ◌-◌, arith}
+use Rattle.std.proofs.Common.{◌≡◌, ◌⊎◌, ⊎_elim, ℕ, suc, ◌+◌, ◌<◌, ◌≤◌, Bool, true, false, not, ◌&&◌, ◌||◌, List, [], ◌∷◌, ◌++◌, ◌∙◌, map, codes, decimal, refl, ap, sym, subst, length, take, drop, get_or, append_assoc, ◌-◌, arith}
 use Rattle.std.specs.Prelude.{if◌then◌else◌}
 use Rattle.std.proofs.lemmas.Bool.{lt-ltb, le-ltb, false≢true}
 use Rattle.std.proofs.lemmas.List.{append-nil, take_all}
 use Rattle.std.proofs.lemmas.List.Folds.{flat_map-map, list_any_at, list_any_more}
-use Rattle.std.specs.List.{flat_map, list_any}
+use Rattle.std.specs.List.{enumerate_from, flat_map, list_any}
+use Rattle.std.proofs.lemmas.List.{length-map}
 use Rattle.lang_tree.specs.declared.tree.Op.{Op}
 use Rattle.lang_tree.specs.declared.tree.Addend.{Addend, out-Addend}
 use Rattle.lang_tree.specs.declared.tree.Factor.{Factor, out-Factor}
@@ -12,10 +13,10 @@ use Rattle.lang_tree.specs.declared.tree.Expr.{Expr}
 use Rattle.lang_tree.specs.declared.tree.Expr.TheVariants.{Number, Named, Minus, Product, Sum, Compare, Both, Either, rolls-Number, rolls-Named, rolls-Minus, rolls-Product, rolls-Sum, rolls-Compare, rolls-Both, rolls-Either}
 use Rattle.lang_tree.specs.declared.tree.Expr.TheOpen as layers
 use Rattle.lang_tree.specs.declared.tree.Expr.TheFolds.{fold-roll-Expr, fold_out-Addend, fold_out-Factor}
-use Rattle.lang_printer.specs.Canonical.{addend_sign, joined, op_text}
+use Rattle.lang_printer.specs.Canonical.{addend_sign, minus_text, op_text}
 use Rattle.emit_rust.specs.Scopes.{ScopeParts, is_read, name_text}
-use Rattle.emit_rust.specs.Expressions.{Written, Later, written, written_step, addend_step, factor_step, within, plain_name, plain_text, plain_texts, comparison, wide_comparison, wide_name, number_ending}
-use Rattle.emit_rust.specs.inner.Parts.{wide_part, plain_part, later_factor, later_addend, factors_text, addends_text, joined_parts, any_factor, any_addend, any_part}
+use Rattle.emit_rust.specs.Expressions.{Written, Later, addend_by, addends_after, begins, begun_level, closed, ending_in, is_pieced, joined, joined_by, joined_in, listed, multiplied, opened, product_by, product_in, sum_by, sum_in, times, written, written_step, addend_step, factor_step, wide_at, within, plain_name, plain_text, plain_texts, comparison, wide_comparison, wide_name, number_ending}
+use Rattle.emit_rust.specs.inner.Parts.{addend_at, factor_at, part_at, parts_in, wide_part, plain_part, later_factor, later_addend, factors_text, addends_text, joined_parts, any_factor, any_addend, any_part}
 use Rattle.emit_rust.proofs.Reading.{any_map}
 
 -- ---- a part, in parentheses or not
@@ -47,11 +48,16 @@ module _ (scope : ScopeParts) where
   addend_is : (addend : Addend) → later_addend scope addend ≡ addend_step (record { minus = (out-Addend addend).minus; of = written scope (out-Addend addend).of })
   addend_is addend = fold_out-Addend Written Later Later (written_step scope) addend_step factor_step addend
 
-  pub later_factor-of : (ending : List ℕ) (factor : Factor) → codes " * " ++ wide_part scope 6 ending (out-Factor factor).of ≡ (later_factor scope factor).wide ending
-  later_factor-of ending factor = sym (ap (λ (l : Later). l.wide ending) (factor_is factor))
+  pub later_factor-of : (pieced : Bool) (ending : List ℕ) (factor : Factor) (sign : List ℕ) → sign ≡ times pieced → sign ++ wide_part scope 6 ending (out-Factor factor).of ≡ factor_at scope pieced ending factor
+  later_factor-of pieced ending factor sign says =
+      ap (λ s. s ++ wide_part scope 6 ending (out-Factor factor).of) says ∙ ap (λ l. times pieced ++ l) (sym (ap (λ (l : Later). l.wide ending) (factor_is factor)))
 
   pub later_addend-of : (ending : List ℕ) (addend : Addend) → addend_sign (out-Addend addend).minus ++ wide_part scope 5 ending (out-Addend addend).of ≡ (later_addend scope addend).wide ending
   later_addend-of ending addend = sym (ap (λ (l : Later). l.wide ending) (addend_is addend))
+
+  pub later_addend-begun : (ending : List ℕ) (addend : Addend)
+      → minus_text (out-Addend addend).minus ++ wide_part scope (begun_level (out-Addend addend).minus) ending (out-Addend addend).of ≡ (later_addend scope addend).begun ending
+  later_addend-begun ending addend = sym (ap (λ (l : Later). l.begun ending) (addend_is addend))
 
   pub factor_named : (factor : Factor) → (written scope (out-Factor factor).of).is_named ≡ (later_factor scope factor).is_named
   factor_named factor = sym (ap (λ (l : Later). l.is_named) (factor_is factor))
@@ -98,18 +104,36 @@ module _ (scope : ScopeParts) where
   pub wide-Named : (ending : List ℕ) (expression : Expr) (at : ℕ) (name : List ℕ) → expression ≡ Named at name → wide_name (is_read scope name) (name_text scope name) ending ≡ (written scope expression).wide ending
   wide-Named ending expression at name is = sym (ap (λ (w : Written). w.wide ending) (ap (written scope) is ∙ named_is at name))
 
-  pub wide-Product : (ending : List ℕ) (expression first got : Expr) (rest items : List Factor) → expression ≡ Product first rest → got ≡ first → items ≡ rest → wide_part scope 6 ending got ++ factors_text scope ending items ≡ (written scope expression).wide ending
-  wide-Product ending expression first got rest items is one more =
-      ap (λ e. wide_part scope 6 ending e ++ factors_text scope ending items) one
-      ∙ ap (λ l. wide_part scope 6 ending first ++ factors_text scope ending l) more
-      ∙ ap (λ l. wide_part scope 6 ending first ++ l) (sym (flat_map-map (λ (later : Later). later.wide ending) (later_factor scope) rest))
+  pub wide-Product : (ending : List ℕ) (expression first got : Expr) (rest items : List Factor) (pieced : Bool) (ended before : List ℕ) → expression ≡ Product first rest → got ≡ first → items ≡ rest → pieced ≡ is_pieced (length items) → ended ≡ ending_in pieced ending → before ≡ listed pieced
+      → before ++ wide_part scope 6 ended got ++ factors_text scope pieced ended items ≡ (written scope expression).wide ending
+  wide-Product ending expression first got rest items pieced ended before is one more counted ends lists =
+      ap (λ b. b ++ wide_part scope 6 ended got ++ factors_text scope pieced ended items) lists
+      ∙ ap (λ e. listed pieced ++ wide_part scope 6 ended e ++ factors_text scope pieced ended items) one
+      ∙ ap (λ l. listed pieced ++ wide_part scope 6 ended first ++ factors_text scope pieced ended l) more
+      ∙ ap (λ l. listed pieced ++ wide_part scope 6 ended first ++ (l ++ multiplied pieced)) (sym (flat_map-map (λ (later : Later). times pieced ++ later.wide ended) (later_factor scope) rest))
+      ∙ ap (λ e. product_by pieced e (written scope first) (map (later_factor scope) rest)) ends
+      ∙ ap (λ p. product_in p ending (written scope first) (map (later_factor scope) rest)) (counted ∙ ap (λ n. is_pieced n) (ap length more ∙ sym (length-map rest (later_factor scope))))
       ∙ sym (ap (λ (w : Written). w.wide ending) (ap (written scope) is ∙ product_is first rest))
 
-  pub wide-Sum : (ending : List ℕ) (expression first got : Expr) (rest items : List Addend) → expression ≡ Sum first rest → got ≡ first → items ≡ rest → wide_part scope 5 ending got ++ addends_text scope ending items ≡ (written scope expression).wide ending
-  wide-Sum ending expression first got rest items is one more =
-      ap (λ e. wide_part scope 5 ending e ++ addends_text scope ending items) one
-      ∙ ap (λ l. wide_part scope 5 ending first ++ addends_text scope ending l) more
-      ∙ ap (λ l. wide_part scope 5 ending first ++ l) (sym (flat_map-map (λ (later : Later). later.wide ending) (later_addend scope) rest))
+  -- the addends after the first one, by their trees
+  addends_same : (pieced : Bool) (ending : List ℕ) (from : ℕ) (rest : List Addend)
+      → flat_map (λ one. addend_at scope pieced ending one.0 one.1) (enumerate_from from rest) ≡ flat_map (λ one. addend_by (pieced && begins one.0) ending one.1) (enumerate_from from (map (later_addend scope) rest))
+  addends_same pieced ending from [] = refl
+  addends_same pieced ending from (addend ∷ rest) = ap (λ l. addend_at scope pieced ending from addend ++ l) (addends_same pieced ending (from + 1) rest)
+
+  sum_same : (pieced : Bool) (ending : List ℕ) (first : Expr) (rest : List Addend)
+      → opened pieced ++ wide_part scope 5 ending first ++ addends_text scope pieced ending rest ≡ sum_by pieced ending (written scope first) (map (later_addend scope) rest)
+  sum_same pieced ending first rest = ap (λ l. opened pieced ++ wide_part scope 5 ending first ++ (l ++ closed pieced)) (addends_same pieced ending 0 rest)
+
+  pub wide-Sum : (ending : List ℕ) (expression first got : Expr) (rest items : List Addend) (pieced : Bool) (ended before : List ℕ) → expression ≡ Sum first rest → got ≡ first → items ≡ rest → pieced ≡ is_pieced (length items) → ended ≡ ending_in pieced ending → before ≡ opened pieced
+      → before ++ wide_part scope 5 ended got ++ addends_text scope pieced ended items ≡ (written scope expression).wide ending
+  wide-Sum ending expression first got rest items pieced ended before is one more counted ends opens =
+      ap (λ b. b ++ wide_part scope 5 ended got ++ addends_text scope pieced ended items) opens
+      ∙ ap (λ e. opened pieced ++ wide_part scope 5 ended e ++ addends_text scope pieced ended items) one
+      ∙ ap (λ l. opened pieced ++ wide_part scope 5 ended first ++ addends_text scope pieced ended l) more
+      ∙ sum_same pieced ended first rest
+      ∙ ap (λ e. sum_by pieced e (written scope first) (map (later_addend scope) rest)) ends
+      ∙ ap (λ p. sum_in p ending (written scope first) (map (later_addend scope) rest)) (counted ∙ ap (λ n. is_pieced n) (ap length more ∙ sym (length-map rest (later_addend scope))))
       ∙ sym (ap (λ (w : Written). w.wide ending) (ap (written scope) is ∙ sum_is first rest))
 
   -- ---- in 64 bits, and truth values
@@ -128,13 +152,22 @@ module _ (scope : ScopeParts) where
       ∙ ap (λ e. comparison op (written scope left) (written scope e)) r
       ∙ sym (ap (λ (w : Written). w.plain) (ap (written scope) is ∙ compare_is op left right))
 
-  joined-rest : (sign : List ℕ) (asked : ℕ) (parts : List Expr) → flat_map (λ part. sign ++ plain_part scope asked part) parts ≡ flat_map (λ text. sign ++ text) (plain_texts asked (map (written scope) parts))
-  joined-rest sign asked [] = refl
-  joined-rest sign asked (part ∷ parts) = ap (λ l. (sign ++ plain_part scope asked part) ++ l) (joined-rest sign asked parts)
+  joined-rest : (sign : List ℕ) (asked : ℕ) (pieced : Bool) (from : ℕ) (parts : List Expr)
+      → flat_map (λ one. part_at scope sign asked pieced one.0 one.1) (enumerate_from from parts)
+      ≡ flat_map (λ one. joined_by (pieced && begins one.0) sign one.1) (enumerate_from from (plain_texts asked (map (written scope) parts)))
+  joined-rest sign asked pieced from [] = refl
+  joined-rest sign asked pieced from (part ∷ parts) = ap (λ l. part_at scope sign asked pieced from part ++ l) (joined-rest sign asked pieced (from + 1) parts)
+
+  texts_length : (asked : ℕ) (parts : List Expr) → length parts ≡ length (plain_texts asked (map (written scope) parts))
+  texts_length asked [] = refl
+  texts_length asked (part ∷ parts) = ap (λ n. suc n) (texts_length asked parts)
 
   joined-same : (sign : List ℕ) (asked : ℕ) (parts : List Expr) → joined_parts scope sign asked parts ≡ joined sign (plain_texts asked (map (written scope) parts))
   joined-same sign asked [] = refl
-  joined-same sign asked (part ∷ parts) = ap (λ l. plain_part scope asked part ++ l) (joined-rest sign asked parts)
+  joined-same sign asked (part ∷ parts) =
+      let pieced = is_pieced (length parts) in
+      ap (λ l. opened pieced ++ plain_part scope asked part ++ l ++ closed pieced) (joined-rest sign asked pieced 0 parts)
+      ∙ ap (λ n. joined_in (is_pieced n) sign (plain_part scope asked part) (plain_texts asked (map (written scope) parts))) (texts_length asked parts)
 
   pub plain-Both : (expression : Expr) (parts items : List Expr) → expression ≡ Both parts → items ≡ parts → joined_parts scope (codes " && ") 3 items ≡ plain_text scope expression
   plain-Both expression parts items is same =
@@ -176,17 +209,49 @@ module _ (scope : ScopeParts) where
   named-parts expression parts items answer is same found =
       ⊎_elim (λ both. named-Both expression parts items answer both same found) (λ either. named-Either expression parts items answer either same found) is
 
+-- ---- pieces
+
+pub addend-follows : (begins : Bool) (ending : List ℕ) (later : Later) → begins ≡ false → later.wide ending ≡ addend_by begins ending later
+addend-follows true ending later is = absurd (false≢true (sym is))
+addend-follows false ending later is = refl
+
+pub addend-begins : (begins : Bool) (ending : List ℕ) (later : Later) → begins ≡ true → codes ") + (" ++ later.begun ending ≡ addend_by begins ending later
+addend-begins true ending later is = refl
+addend-begins false ending later is = absurd (false≢true is)
+
+pub begun-by : (scope : ScopeParts) (ending : List ℕ) (addend : Addend) (sign : List ℕ) (level : ℕ) → sign ≡ minus_text (out-Addend addend).minus → level ≡ begun_level (out-Addend addend).minus
+    → sign ++ wide_part scope level ending (out-Addend addend).of ≡ (later_addend scope addend).begun ending
+begun-by scope ending addend sign level says is =
+    ap (λ s. s ++ wide_part scope level ending (out-Addend addend).of) says ∙ ap (λ n. minus_text (out-Addend addend).minus ++ wide_part scope n ending (out-Addend addend).of) is ∙ later_addend-begun scope ending addend
+
+pub part-follows : (begins : Bool) (sign text : List ℕ) → begins ≡ false → sign ++ text ≡ joined_by begins sign text
+part-follows true sign text is = absurd (false≢true (sym is))
+part-follows false sign text is = refl
+
+pub part-begins : (begins : Bool) (sign text : List ℕ) → begins ≡ true → codes ")" ++ (sign ++ (codes "(" ++ [])) ++ text ≡ joined_by begins sign text
+part-begins true sign text is = ap (λ l. l ++ text) (sym (append_assoc (codes ")") sign (codes "(")))
+part-begins false sign text is = absurd (false≢true is)
+
 -- ---- rows of parts
 
 abbrev pub after_first : {X : Type 0} → List X → List X
 after_first parts = take (length parts - 1) (drop 1 parts)
 
-pub joined_parts-cut : (scope : ScopeParts) (sign : List ℕ) (asked : ℕ) (parts : List Expr) (first : Expr) → 1 ≤ length parts → first ≡ get_or parts 0 first
-    → plain_part scope asked first ++ flat_map (λ part. sign ++ plain_part scope asked part) (after_first parts) ≡ joined_parts scope sign asked parts
-joined_parts-cut scope sign asked [] first some is = absurd (omega arith)
-joined_parts-cut scope sign asked (part ∷ parts) first some is =
-    ap (λ e. plain_part scope asked e ++ flat_map (λ part. sign ++ plain_part scope asked part) (after_first (part ∷ parts))) is
-    ∙ ap (λ l. plain_part scope asked part ++ flat_map (λ part. sign ++ plain_part scope asked part) l) (take_all (length (part ∷ parts) - 1) parts (omega arith))
+-- what is written of them, with these parentheses
+abbrev pub rest_text : ScopeParts → List ℕ → ℕ → Bool → List Expr → List ℕ
+rest_text scope sign asked pieced rest = flat_map (λ one. part_at scope sign asked pieced one.0 one.1) (enumerate_from 0 rest)
+
+pub joined_parts-cut : (scope : ScopeParts) (sign : List ℕ) (asked : ℕ) (parts : List Expr) (first : Expr) (pieced : Bool) (before after : List ℕ) → 1 ≤ length parts → first ≡ get_or parts 0 first
+    → pieced ≡ is_pieced (length (after_first parts)) → before ≡ opened pieced → after ≡ closed pieced
+    → before ++ plain_part scope asked first ++ rest_text scope sign asked pieced (after_first parts) ++ after ≡ joined_parts scope sign asked parts
+joined_parts-cut scope sign asked [] first pieced before after some is counted opens closes = absurd (omega arith)
+joined_parts-cut scope sign asked (part ∷ parts) first pieced before after some is counted opens closes =
+    let rest : after_first (part ∷ parts) ≡ parts = take_all (length (part ∷ parts) - 1) parts (omega arith) in
+    ap (λ b. b ++ plain_part scope asked first ++ rest_text scope sign asked pieced (after_first (part ∷ parts)) ++ after) opens
+    ∙ ap (λ a. opened pieced ++ plain_part scope asked first ++ rest_text scope sign asked pieced (after_first (part ∷ parts)) ++ a) closes
+    ∙ ap (λ e. parts_in scope sign asked pieced e (after_first (part ∷ parts))) is
+    ∙ ap (parts_in scope sign asked pieced part) rest
+    ∙ ap (λ p. parts_in scope sign asked p part parts) (counted ∙ ap (λ l. is_pieced (length l)) rest)
 
 -- ---- a row of which some name has a text
 

@@ -1,12 +1,16 @@
 //! Expressions in Rust, written to a sink.
 
-ghost use Rattle.std.specs.Prelude.{◌≡◌, ◌++◌, ◌&&◌, ◌||◌, [], decimal, not, true};
-ghost use Rattle.lang_printer.specs.Canonical.{addend_sign, op_text};
+ghost use Rattle.std.specs.Prelude.{◌≡◌, ◌++◌, ◌&&◌, ◌||◌, codes, decimal, not};
+ghost use Rattle.lang_printer.specs.Canonical.{addend_sign, minus_text, op_text};
 ghost use Rattle.emit_rust.specs.Scopes.{ScopeParts, is_read, name_text, seen};
-ghost use Rattle.emit_rust.specs.Expressions.{number_ending, plain_name, plain_text};
+ghost use Rattle.emit_rust.specs.Expressions.{addend_by, begins, begun_level, closed, is_pieced};
+ghost use Rattle.emit_rust.specs.Expressions.{ending_in, listed, multiplied, times};
+ghost use Rattle.emit_rust.specs.Expressions.{joined_by, number_ending, opened, plain_name};
+ghost use Rattle.emit_rust.specs.Expressions.{plain_text};
 ghost use Rattle.emit_rust.specs.Expressions.{wide_comparison, wide_name, written};
-ghost use Rattle.emit_rust.specs.inner.Parts.{addends_text, any_addend, any_factor, any_part};
-ghost use Rattle.emit_rust.specs.inner.Parts.{factors_text, joined_parts, plain_part, wide_part};
+ghost use Rattle.emit_rust.specs.inner.Parts.{addend_at, addends_text, any_addend, any_factor};
+ghost use Rattle.emit_rust.specs.inner.Parts.{any_part, factors_text, joined_parts, later_addend};
+ghost use Rattle.emit_rust.specs.inner.Parts.{part_at, plain_part, wide_part};
 ghost use Rattle.base_io.specs.Writing.{Wrote};
 
 use crate::scope::{Scope, is_read, write_name};
@@ -139,12 +143,18 @@ pub(crate) fn write_wide<S: Sink>(
         Expr::Named { name, .. } => write_wide_name(scope, name, ending, out),
         Expr::Minus { of, .. } => write_wide_after(scope, b"-", 7, ending, of.get(), out),
         Expr::Product { first, rest } => {
-            write_wide_at(scope, 6, ending, first.get(), out)?;
-            write_factors(scope, ending, rest.items(), out)
+            let rest = rest.items();
+            let pieced = is_pieced(rest.len());
+            let ended = ending_in(pieced, ending);
+            write_wide_after(scope, listed_bytes(pieced), 6, ended, first.get(), out)?;
+            write_factors(scope, pieced, ended, rest, out)
         }
         Expr::Sum { first, rest } => {
-            write_wide_at(scope, 5, ending, first.get(), out)?;
-            write_addends(scope, ending, rest.items(), out)
+            let rest = rest.items();
+            let pieced = is_pieced(rest.len());
+            let ended = ending_in(pieced, ending);
+            write_wide_after(scope, opened_bytes(pieced), 5, ended, first.get(), out)?;
+            write_addends(scope, pieced, ended, rest, out)
         }
         Expr::Truth { .. } | Expr::Not { .. } | Expr::Compare { .. } => Ok(()),
         Expr::Both { .. } | Expr::Either { .. } => Ok(()),
@@ -191,33 +201,60 @@ fn write_wide_after<S: Sink>(
 #[cycle(write_wide)]
 fn write_factors<S: Sink>(
     scope: &Scope,
+    pieced: bool,
     ending: &[u8],
     factors: &[Factor],
     out: &mut S,
 ) -> Result<(), SinkFailed>
     ensures { Wrote (S.seen out.old) (S.seen out.new) result
-        (factors_text (seen scope.now) ending.now factors.now) }
+        (factors_text (seen scope.now) pieced ending.now factors.now) }
 {
     for factor in factors {
-        write_wide_after(scope, b" * ", 6, ending, &factor.of, out)?;
+        write_wide_after(scope, times_bytes(pieced), 6, ending, &factor.of, out)?;
     }
-    Ok(())
+    write_piece(multiplied_bytes(pieced), out)
 }
 
 #[cycle(write_wide)]
 fn write_addends<S: Sink>(
     scope: &Scope,
+    pieced: bool,
     ending: &[u8],
     addends: &[Addend],
     out: &mut S,
 ) -> Result<(), SinkFailed>
     ensures { Wrote (S.seen out.old) (S.seen out.new) result
-        (addends_text (seen scope.now) ending.now addends.now) }
+        (addends_text (seen scope.now) pieced ending.now addends.now) }
 {
-    for addend in addends {
-        write_wide_after(scope, sign_bytes(addend.minus), 5, ending, &addend.of, out)?;
+    for (place, addend) in addends.iter().enumerate() {
+        write_addend(scope, begins_at(pieced, place), ending, addend, out)?;
     }
-    Ok(())
+    write_piece(closed_bytes(pieced), out)
+}
+
+#[cycle(write_wide)]
+fn write_addend<S: Sink>(
+    scope: &Scope,
+    begins: bool,
+    ending: &[u8],
+    addend: &Addend,
+    out: &mut S,
+) -> Result<(), SinkFailed>
+    ensures { Wrote (S.seen out.old) (S.seen out.new) result
+        (addend_by begins ending.now (later_addend (seen scope.now) addend.now)) }
+{
+    if !begins {
+        return write_wide_after(scope, sign_bytes(addend.minus), 5, ending, &addend.of, out);
+    }
+    write_piece(b") + (", out)?;
+    write_wide_after(
+        scope,
+        minus_bytes(addend.minus),
+        begun_level(addend.minus),
+        ending,
+        &addend.of,
+        out,
+    )
 }
 
 fn write_number<S: Sink>(number: u128, ending: &[u8], out: &mut S) -> Result<(), SinkFailed>
@@ -332,11 +369,32 @@ fn write_joined<S: Sink>(
     let [first, rest @ ..] = parts else {
         return Ok(());
     };
+    let pieced = is_pieced(rest.len());
+    write_piece(opened_bytes(pieced), out)?;
     write_plain_at(scope, asked, first, out)?;
-    for part in rest {
-        write_plain_after(scope, sign, asked, part, out)?;
+    for (place, part) in rest.iter().enumerate() {
+        write_plain_part(scope, sign, asked, begins_at(pieced, place), part, out)?;
     }
-    Ok(())
+    write_piece(closed_bytes(pieced), out)
+}
+
+#[cycle(write_plain)]
+fn write_plain_part<S: Sink>(
+    scope: &Scope,
+    sign: &[u8],
+    asked: u8,
+    begins: bool,
+    part: &Expr,
+    out: &mut S,
+) -> Result<(), SinkFailed>
+    ensures { Wrote (S.seen out.old) (S.seen out.new) result
+        (joined_by begins sign.now (plain_part (seen scope.now) asked part.now)) }
+{
+    if !begins {
+        return write_plain_after(scope, sign, asked, part, out);
+    }
+    write_pieces(&[b")", sign, b"("], out)?;
+    write_plain_at(scope, asked, part, out)
 }
 
 // ---- comparisons
@@ -401,7 +459,78 @@ fn write_plain_name<S: Sink>(scope: &Scope, name: &Name, out: &mut S) -> Result<
     }
 }
 
+// ---- pieces: rustc's stack ends at some thousand parts in a row
+
+const PIECE: usize = 64;
+
+fn is_pieced(count: usize) -> bool
+    ensures { result ≡ is_pieced count }
+{
+    PIECE <= count
+}
+
+fn begins_at(pieced: bool, place: usize) -> bool
+    ensures { result ≡ (pieced && begins place) }
+{
+    pieced && place % PIECE == PIECE - 1
+}
+
+// What comes after each number that is written out.
+fn ending_in<'a>(pieced: bool, ending: &'a [u8]) -> &'a [u8]
+    ensures { result.now ≡ ending_in pieced ending.now }
+{
+    if pieced { b"_i128" } else { ending }
+}
+
+fn opened_bytes(pieced: bool) -> &'static [u8]
+    ensures { result.now ≡ opened pieced }
+{
+    if pieced { b"(" } else { b"" }
+}
+
+fn closed_bytes(pieced: bool) -> &'static [u8]
+    ensures { result.now ≡ closed pieced }
+{
+    if pieced { b")" } else { b"" }
+}
+
+fn listed_bytes(pieced: bool) -> &'static [u8]
+    ensures { result.now ≡ listed pieced }
+{
+    if pieced { b"[" } else { b"" }
+}
+
+// What stands between factors.
+fn times_bytes(pieced: bool) -> &'static [u8]
+    ensures { result.now ≡ times pieced }
+{
+    if pieced { b", " } else { b" * " }
+}
+
+fn multiplied_bytes(pieced: bool) -> &'static [u8]
+    ensures { result.now ≡ multiplied pieced }
+{
+    if pieced {
+        b"].iter().product::<i128>()"
+    } else {
+        b""
+    }
+}
+
 // ---- signs
+
+// What stands before an addend that begins a piece, and how tightly it then holds together.
+fn minus_bytes(minus: bool) -> &'static [u8]
+    ensures { result.now ≡ minus_text minus }
+{
+    if minus { b"-" } else { b"" }
+}
+
+fn begun_level(minus: bool) -> u8
+    ensures { result ≡ begun_level minus }
+{
+    if minus { 7 } else { 5 }
+}
 
 fn number_ending(named: bool) -> &'static [u8]
     ensures { result.now ≡ number_ending named }

@@ -1,12 +1,11 @@
 use Rattle.std.proofs.Common.{◌++◌, ◌∙◌, codes, ap, refl}
-use Rattle.std.proofs.lemmas.List.{take_all}
-use Rattle.std.specs.List.{flat_map}
 use Rattle.lang_printer.specs.Canonical.{op_text}
 use Rattle.emit_rust.specs.Expressions.{plain_text, written}
-use Rattle.emit_rust.specs.inner.Parts.{plain_part}
-use Rattle.base_io.proofs.Rows.{row_went, row_stopped}
+use Rattle.emit_rust.specs.inner.Parts.{part_at, plain_part}
+use Rattle.emit_rust.specs.Expressions.{closed, joined_by}
+use Rattle.emit_rust.proofs.Numbered.{numbered_done, numbered_stopped, numbered_went}
 use Rattle.base_io.proofs.Writing.{wrote_both, wrote_fails, wrote_longer, wrote_same}
-use Rattle.emit_rust.proofs.Written.{after_first, joined_parts-cut, plain_part-open, plain_part-closed, comparison_plain, comparison_wide, plain-Named, plain-Minus, plain-Compare, plain-Both, plain-Either}
+use Rattle.emit_rust.proofs.Written.{after_first, joined_parts-cut, part-begins, part-follows, rest_text, plain_part-open, plain_part-closed, comparison_plain, comparison_wide, plain-Named, plain-Minus, plain-Compare, plain-Both, plain-Either}
 use Rattle.emit_rust.specs.Scopes.{seen}
 use Rattle.emit_rust.proofs.expressions.+write_plain.Goals as goal
 
@@ -23,23 +22,59 @@ write_plain_at-returns g t c =
 pub write_plain_after-returns : goal.write_plain_after-returns
 write_plain_after-returns g t c = wrote_both c.in_ok-write_piece.ensures c.write_plain_at.ensures
 
+pub write_plain_part-returns-then-not-begins : goal.write_plain_part-returns-then-not-begins
+write_plain_part-returns-then-not-begins g t c =
+    wrote_same _ (part-follows c.args.begins c.args.sign.now (plain_part (seen c.args.scope.now) c.args.asked c.args.part.now) c.if-not-begins.true) c.write_plain_after.ensures
+
+pub write_plain_part-returns : goal.write_plain_part-returns
+write_plain_part-returns g t c =
+    wrote_same _ (part-begins c.args.begins c.args.sign.now (plain_part (seen c.args.scope.now) c.args.asked c.args.part.now) c.if-not-begins.false) (wrote_both c.in_ok-write_pieces.ensures c.write_plain_at.ensures)
+
+pub write_plain_part-returns-in_err-write_pieces : goal.write_plain_part-returns-in_err-write_pieces
+write_plain_part-returns-in_err-write_pieces g t c =
+    let text = plain_part (seen c.args.scope.now) c.args.asked c.args.part.now in
+    wrote_same _ (part-begins c.args.begins c.args.sign.now text c.if-not-begins.false) (wrote_fails _ c.from_residual.ensures.0 (wrote_longer text c.in_err-write_pieces.ensures))
+
 pub write_joined-returns : goal.write_joined-returns
 write_joined-returns g t c =
-    let whole = ap (λ rest. plain_part (seen c.args.scope.now) c.args.asked c.first-item.result ++ flat_map (λ part. c.args.sign.now ++ plain_part (seen c.args.scope.now) c.args.asked part) rest) (take_all c.loop-part.part-index (after_first c.args.parts.now) c.loop-part-test.false) in
-    wrote_same _ (whole ∙ joined_parts-cut (seen c.args.scope.now) c.args.sign.now c.args.asked c.args.parts.now c.first-item.result c.in-len1-up.len_at_least c.first-item.is) (wrote_both c.in_ok-write_plain_at.ensures c.loop-part.invariant)
+    let scope = seen c.args.scope.now in
+    let rest = after_first c.args.parts.now in
+    let done = numbered_done (part_at scope c.args.sign.now c.args.asked c.is_pieced-pieced.result) rest c.loop-place.place c.loop-place-test.false in
+    wrote_same _ (ap (λ l. c.opened_bytes.result.now ++ plain_part scope c.args.asked c.first-item.result ++ l ++ c.closed_bytes.result.now) done ∙ joined_parts-cut scope c.args.sign.now c.args.asked c.args.parts.now c.first-item.result c.is_pieced-pieced.result _ _ c.in-len1-up.len_at_least c.first-item.is c.is_pieced-pieced.ensures c.opened_bytes.ensures c.closed_bytes.ensures)
+    (wrote_both (wrote_both (wrote_both c.in_ok-write_piece.ensures c.in_ok-write_plain_at.ensures) c.loop-place.invariant) c.write_piece-2.ensures)
 
-pub write_joined-returns-in_err-write_plain_after : goal.write_joined-returns-in_err-write_plain_after
-write_joined-returns-in_err-write_plain_after g t c =
-    let stopped = row_stopped (λ part. c.args.sign.now ++ plain_part (seen c.args.scope.now) c.args.asked part) (after_first c.args.parts.now) c.loop-part.part-index c.part-item.result _ _ c.loop-part-test.true c.part-item.is refl c.from_residual-in_err-write_plain_after.ensures.0 c.loop-part.invariant c.in_err-write_plain_after.ensures in
-    wrote_same _ (joined_parts-cut (seen c.args.scope.now) c.args.sign.now c.args.asked c.args.parts.now c.first-item.result c.in-len1-up.len_at_least c.first-item.is) (wrote_both c.in_ok-write_plain_at.ensures stopped)
+pub write_joined-returns-in_err-write_plain_part : goal.write_joined-returns-in_err-write_plain_part
+write_joined-returns-in_err-write_plain_part g t c =
+    let scope = seen c.args.scope.now in
+    let rest = after_first c.args.parts.now in
+    let pieced = c.is_pieced-pieced.result in
+    let stopped = numbered_stopped (part_at scope c.args.sign.now c.args.asked pieced) rest c.loop-place.place c.index-rest-place.result _ _ c.loop-place-test.true c.index-rest-place.is
+    (ap (λ b. joined_by b c.args.sign.now (plain_part scope c.args.asked c.index-rest-place.result)) c.begins_at.ensures) refl c.loop-place.invariant c.in_err-write_plain_part.ensures in
+    wrote_same _ (joined_parts-cut scope c.args.sign.now c.args.asked c.args.parts.now c.first-item.result pieced _ (closed pieced) c.in-len1-up.len_at_least c.first-item.is c.is_pieced-pieced.ensures c.opened_bytes.ensures refl)
+    (wrote_fails _ c.from_residual-in_err-write_plain_part.ensures.0 (wrote_longer (closed pieced) (wrote_both (wrote_both c.in_ok-write_piece.ensures c.in_ok-write_plain_at.ensures) stopped)))
 
 pub write_joined-returns-in_err-write_plain_at : goal.write_joined-returns-in_err-write_plain_at
 write_joined-returns-in_err-write_plain_at g t c =
-    wrote_same _ (joined_parts-cut (seen c.args.scope.now) c.args.sign.now c.args.asked c.args.parts.now c.first-item.result c.in-len1-up.len_at_least c.first-item.is) (wrote_fails _ c.from_residual.ensures.0 (wrote_longer _ c.in_err-write_plain_at.ensures))
+    let scope = seen c.args.scope.now in
+    let rest = after_first c.args.parts.now in
+    let pieced = c.is_pieced-pieced.result in
+    wrote_same _ (joined_parts-cut scope c.args.sign.now c.args.asked c.args.parts.now c.first-item.result pieced _ (closed pieced) c.in-len1-up.len_at_least c.first-item.is c.is_pieced-pieced.ensures c.opened_bytes.ensures refl)
+    (wrote_fails _ c.from_residual-in_err-write_plain_at.ensures.0 (wrote_longer (closed pieced) (wrote_longer (rest_text scope c.args.sign.now c.args.asked pieced rest) (wrote_both c.in_ok-write_piece.ensures c.in_err-write_plain_at.ensures))))
 
-pub write_joined-loop-part-preserved : goal.write_joined-loop-part-preserved
-write_joined-loop-part-preserved g t c =
-    row_went (λ part. c.args.sign.now ++ plain_part (seen c.args.scope.now) c.args.asked part) (after_first c.args.parts.now) c.loop-part.part-index c.part-item.result _ c.loop-part-test.true c.part-item.is refl c.loop-part.invariant c.in_ok-write_plain_after.ensures
+pub write_joined-returns-in_err-write_piece : goal.write_joined-returns-in_err-write_piece
+write_joined-returns-in_err-write_piece g t c =
+    let scope = seen c.args.scope.now in
+    let rest = after_first c.args.parts.now in
+    let pieced = c.is_pieced-pieced.result in
+    wrote_same _ (joined_parts-cut scope c.args.sign.now c.args.asked c.args.parts.now c.first-item.result pieced _ (closed pieced) c.in-len1-up.len_at_least c.first-item.is c.is_pieced-pieced.ensures c.opened_bytes.ensures refl)
+    (wrote_fails _ c.from_residual.ensures.0 (wrote_longer (closed pieced) (wrote_longer (rest_text scope c.args.sign.now c.args.asked pieced rest) (wrote_longer (plain_part scope c.args.asked c.first-item.result) c.in_err-write_piece.ensures))))
+
+pub write_joined-loop-place-preserved : goal.write_joined-loop-place-preserved
+write_joined-loop-place-preserved g t c =
+    let scope = seen c.args.scope.now in
+    let rest = after_first c.args.parts.now in
+    numbered_went (part_at scope c.args.sign.now c.args.asked c.is_pieced-pieced.result) rest c.loop-place.place c.index-rest-place.result _ c.loop-place-test.true c.index-rest-place.is
+    (ap (λ b. joined_by b c.args.sign.now (plain_part scope c.args.asked c.index-rest-place.result)) c.begins_at.ensures) c.loop-place.invariant c.in_ok-write_plain_part.ensures
 
 pub write_plain-returns-in-Named : goal.write_plain-returns-in-Named
 write_plain-returns-in-Named g t c = wrote_same _ (plain-Named (seen c.args.scope.now) _ _ _ c.in-Named.is) c.write_plain_name.ensures
