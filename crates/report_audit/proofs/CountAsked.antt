@@ -21,7 +21,7 @@ use Rattle.plan_place.specs.Backing.{block_numbers, waits_at}
 use Rattle.plan_place.proofs.Lists.{range_more}
 use Rattle.plan_count.specs.declared.question.Question.{Question}
 use Rattle.plan_count.specs.declared.question.Question.TheVariants as questions
-use Rattle.plan_count.specs.Questions.{MayAskQuestion, question_query}
+use Rattle.plan_count.specs.Questions.{HasRowAt, MayAskQuestion, MayBeAsked, question_query}
 use Rattle.report_recheck.proofs.Askable.{flat_all, range_all}
 use Rattle.report_recheck.proofs.Pairs.{all_at, all_taken, one_more_at}
 use Rattle.report_audit.specs.CountedFindings.{IsCertified, block_questions, counting_questions, note_questions}
@@ -30,43 +30,44 @@ use Rattle.report_audit.specs.inner.Counted.{IsFirstUnanswered, IsReply}
 -- ---- all questions of a condition
 
 -- what holds of each kind of question holds of all that a block is asked
-pub each_question : (P : Question → Type 0) (monitor : MonitorParts) (plan : Plan) (condition block : ℕ)
-    → (has_broadcast (notes_at plan block) condition ≡ false → has_note (notes_at plan block) condition ≡ true → P (questions.Gives condition block))
+pub each_question : (P : Question → Type 0) (monitor : MonitorParts) (plan : Plan) (condition row block : ℕ)
+    → (has_broadcast (notes_at plan block) condition ≡ false → has_note (notes_at plan block) condition ≡ true → P (questions.Gives condition row block))
     → (has_broadcast (notes_at plan block) condition ≡ false → has_note (notes_at plan block) condition ≡ true
-    → waits_at monitor condition block ≡ false → P (questions.First condition block))
-    → (has_broadcast (notes_at plan block) condition ≡ false → has_note (notes_at plan block) condition ≡ false → P (questions.Counts condition block))
-    → All P (block_questions monitor plan condition block)
-each_question P monitor plan condition block gives before counts = by_cast (has_broadcast (notes_at plan block) condition) refl
+    → waits_at monitor condition block ≡ false → P (questions.First condition row block))
+    → (has_broadcast (notes_at plan block) condition ≡ false → has_note (notes_at plan block) condition ≡ false → P (questions.Counts condition row block))
+    → All P (block_questions monitor plan condition row block)
+each_question P monitor plan condition row block gives before counts = by_cast (has_broadcast (notes_at plan block) condition) refl
   where
     by_waits : has_broadcast (notes_at plan block) condition ≡ false → has_note (notes_at plan block) condition ≡ true
-        → (waits : Bool) → waits_at monitor condition block ≡ waits → All P (cond waits [] (questions.First condition block ∷ []))
+        → (waits : Bool) → waits_at monitor condition block ≡ waits → All P (cond waits [] (questions.First condition row block ∷ []))
     by_waits cast has true is = All-nil P
-    by_waits cast has false is = All-cons P (questions.First condition block) [] (before cast has is) (All-nil P)
+    by_waits cast has false is = All-cons P (questions.First condition row block) [] (before cast has is) (All-nil P)
 
     by_note : has_broadcast (notes_at plan block) condition ≡ false → (has : Bool) → has_note (notes_at plan block) condition ≡ has
-        → All P (cond has (note_questions monitor condition block) (questions.Counts condition block ∷ []))
+        → All P (cond has (note_questions monitor condition row block) (questions.Counts condition row block ∷ []))
     by_note cast true is =
-        All-cons P (questions.Gives condition block) (cond (waits_at monitor condition block) [] (questions.First condition block ∷ [])) (gives cast is)
+        All-cons P (questions.Gives condition row block) (cond (waits_at monitor condition block) [] (questions.First condition row block ∷ [])) (gives cast is)
         (by_waits cast is (waits_at monitor condition block) refl)
-    by_note cast false is = All-cons P (questions.Counts condition block) [] (counts cast is) (All-nil P)
+    by_note cast false is = All-cons P (questions.Counts condition row block) [] (counts cast is) (All-nil P)
 
     by_cast : (cast : Bool) → has_broadcast (notes_at plan block) condition ≡ cast
-        → All P (cond cast [] (cond (has_note (notes_at plan block) condition) (note_questions monitor condition block) (questions.Counts condition block ∷ [])))
+        → All P (cond cast [] (cond (has_note (notes_at plan block) condition) (note_questions monitor condition row block) (questions.Counts condition row block ∷ [])))
     by_cast true is = All-nil P
     by_cast false is = by_note is (has_note (notes_at plan block) condition) refl
 
-pub each_block : (P : Question → Type 0) (monitor : MonitorParts) (plan : Plan) (condition : ℕ)
-    → ((block : ℕ) → block < length monitor.blocks → All P (block_questions monitor plan condition block))
-    → All P (counting_questions monitor plan condition)
-each_block P monitor plan condition each =
-    let Q : ℕ → Type 0 = λ block. All P (block_questions monitor plan condition block) in
-    flat_all P (block_questions monitor plan condition) (block_numbers monitor) (λ k block is.
+pub each_block : (P : Question → Type 0) (monitor : MonitorParts) (plan : Plan) (condition row : ℕ)
+    → ((block : ℕ) → block < length monitor.blocks → All P (block_questions monitor plan condition row block))
+    → All P (counting_questions monitor plan condition row)
+each_block P monitor plan condition row each =
+    let Q : ℕ → Type 0 = λ block. All P (block_questions monitor plan condition row block) in
+    flat_all P (block_questions monitor plan condition row) (block_numbers monitor) (λ k block is.
     all_at Q (block_numbers monitor) k block is (range_all Q 0 (length monitor.blocks) (λ block low high. each block (omega arith))))
 
-pub questions_askable : (monitor : MonitorParts) (plan : Plan) (condition : ℕ) → ReadsNone monitor condition
-    → All (MayAskQuestion monitor) (counting_questions monitor plan condition)
-questions_askable monitor plan condition reads = each_block (MayAskQuestion monitor) monitor plan condition (λ block within.
-    each_question (MayAskQuestion monitor) monitor plan condition block (λ cast has. (within, reads)) (λ cast has other. (within, reads)) (λ cast none. (within, reads)))
+pub questions_askable : (monitor : MonitorParts) (plan : Plan) (condition row : ℕ) → ReadsNone monitor condition → HasRowAt monitor condition row
+    → All (MayAskQuestion monitor) (counting_questions monitor plan condition row)
+questions_askable monitor plan condition row reads has = each_block (MayAskQuestion monitor) monitor plan condition row (λ block within.
+    let may : MayBeAsked monitor condition row block = record { is_block = within; reads_none = reads; has_row = has } in
+    each_question (MayAskQuestion monitor) monitor plan condition row block (λ cast noted. may) (λ cast noted other. may) (λ cast none. may))
 
 -- one more block
 pub ranged_more : {Y : Type 0} (f : ℕ → List Y) (index : ℕ) (before after : List Y) → before ≡ flat_map f (range_with_len 0 index)

@@ -19,23 +19,23 @@ use Rattle.machine_events.specs.declared.plan.Plan.{Plan}
 use Rattle.machine_events.specs.Plans.{IsCondition, condition_kind, has_broadcast}
 use Rattle.machine_events.specs.Plans.{has_note, notes_at}
 use Rattle.machine_events.specs.Counts.{IsPassedOn}
-use Rattle.machine_events.specs.CountClaims.{GuardsCount, IsCountedByGuard, IsLawfulByGuards}
+use Rattle.machine_events.specs.CountClaims.{GuardsCount, IsLawfulByGuards}
 use Rattle.logic_wp.specs.NegatedQueries.{negated_query}
 use Rattle.plan_place.specs.Backing.{HasCertificate, backed_claims, block_numbers, waits_at}
 use Rattle.plan_place.proofs.Backed.{Laws, held, of_signal}
 use Rattle.plan_place.proofs.Lists.{all_filtered, all_flat, in_range}
 use Rattle.plan_count.specs.declared.question.Question.{Question}
 use Rattle.plan_count.specs.declared.question.Question.TheVariants as questions
-use Rattle.plan_count.specs.Questions.{AnswersCount, IsSo, IsToldRight, question_query}
+use Rattle.plan_count.specs.Questions.{AnswersCount, AreToldRight, IsSo, IsToldRight, question_query}
 use Rattle.report_recheck.specs.Reports.{IsPlanOf}
 use Rattle.report_recheck.specs.Verdicts.{IsLawfulAtSight}
 use Rattle.report_audit.specs.declared.finding.Finding.{Finding}
 use Rattle.report_audit.specs.declared.finding.Finding.TheVariants as findings
 use Rattle.report_audit.specs.Findings.{IsFirstFalse, IsFirstUnsuited}
-use Rattle.report_audit.specs.CountedFindings.{IsCertified, IsFindingBy, IsFirstCommon, IsFirstUncounted, IsProvedByCounting, IsSignalProved}
+use Rattle.report_audit.specs.CountedFindings.{IsCertified, IsCountedByTried, IsFindingBy, IsFirstCommon, IsFirstUncounted, IsLawfulByRows, IsProvedByCounting, IsSignalProved}
 use Rattle.report_audit.specs.CountedFindings.{block_questions, common_claims, counting_questions, is_common, is_passing, note_questions, passing_claims}
 use Rattle.report_audit.specs.inner.Asked.{IsFirstOpen}
-use Rattle.report_audit.specs.inner.Counted.{IsUncounted}
+use Rattle.report_audit.specs.inner.Counted.{IsFirstFound}
 use Rattle.report_audit.proofs.Found.{common_lawful}
 
 -- ---- certificates of questions
@@ -47,33 +47,33 @@ so laws monitor kept question rule within cert =
     (λ v. laws.refuted_is_false (negated_query monitor (question_query monitor kept question)) cert.0 v cert.1)
 
 -- each block is told right whose questions have certificates
-told_right : Laws → (monitor : MonitorParts) (plan : Plan) (condition block : ℕ) → IsMonitor monitor → block < length monitor.blocks
-    → All (IsCertified monitor plan.kept) (block_questions monitor plan condition block) → IsToldRight monitor plan condition block
-told_right laws monitor plan condition block rule within = by_cast (has_broadcast (notes_at plan block) condition) refl
+told_right : Laws → (monitor : MonitorParts) (plan : Plan) (condition row block : ℕ) → IsMonitor monitor → block < length monitor.blocks
+    → All (IsCertified monitor plan.kept) (block_questions monitor plan condition row block) → IsToldRight monitor plan condition row block
+told_right laws monitor plan condition row block rule within = by_cast (has_broadcast (notes_at plan block) condition) refl
   where
     P : Question → Type 0
     P = IsCertified monitor plan.kept
 
     rest : List Question
-    rest = cond (waits_at monitor condition block) [] (questions.First condition block ∷ [])
+    rest = cond (waits_at monitor condition block) [] (questions.First condition row block ∷ [])
 
     by_note : (has : Bool) → has_note (notes_at plan block) condition ≡ has
-        → All P (cond has (note_questions monitor condition block) (questions.Counts condition block ∷ [])) → IsToldRight monitor plan condition block
+        → All P (cond has (note_questions monitor condition row block) (questions.Counts condition row block ∷ [])) → IsToldRight monitor plan condition row block
     by_note true is all = inr (inr (record {
       one = is;
-      gives = so laws monitor plan.kept (questions.Gives condition block) rule within (All-head P (questions.Gives condition block) rest all);
-      first = λ other. so laws monitor plan.kept (questions.First condition block) rule within
-          (All-head P (questions.First condition block) []
-          (subst (λ (waits : Bool). All P (cond waits [] (questions.First condition block ∷ []))) other (All-tail P (questions.Gives condition block) rest all)));
+      gives = so laws monitor plan.kept (questions.Gives condition row block) rule within (All-head P (questions.Gives condition row block) rest all);
+      first = λ other. so laws monitor plan.kept (questions.First condition row block) rule within
+          (All-head P (questions.First condition row block) []
+          (subst (λ (waits : Bool). All P (cond waits [] (questions.First condition row block ∷ []))) other (All-tail P (questions.Gives condition row block) rest all)));
     }))
     by_note false is all = inr (inl (record {
       none = is;
-      counts = so laws monitor plan.kept (questions.Counts condition block) rule within (All-head P (questions.Counts condition block) [] all);
+      counts = so laws monitor plan.kept (questions.Counts condition row block) rule within (All-head P (questions.Counts condition row block) [] all);
     }))
 
     by_cast : (cast : Bool) → has_broadcast (notes_at plan block) condition ≡ cast
-        → All P (cond cast [] (cond (has_note (notes_at plan block) condition) (note_questions monitor condition block) (questions.Counts condition block ∷ [])))
-        → IsToldRight monitor plan condition block
+        → All P (cond cast [] (cond (has_note (notes_at plan block) condition) (note_questions monitor condition row block) (questions.Counts condition row block ∷ [])))
+        → IsToldRight monitor plan condition row block
     by_cast true is all = inl is
     by_cast false is all = by_note (has_note (notes_at plan block) condition) refl all
 
@@ -105,20 +105,19 @@ passed_on laws monitor plan number rule first kind certified block held_block th
           (and_from (number == number) (not (has_note (notes_at plan block) number)) (eq-eqb number number refl) (not_from_false (has_note (notes_at plan block) number) none))))
     ]
 
-counted_on : Laws → AnswersCount → (monitor : MonitorParts) (plan : Plan) (number : ℕ) (which : Condition) → IsMonitor monitor → IsCondition monitor number which
-    → reads_inputs which.guard ≡ false → All (IsCertified monitor plan.kept) (counting_questions monitor plan number) → IsCountedByGuard monitor plan number which.guard
-counted_on laws answers monitor plan number which rule is reads all =
-    let P : ℕ → Type 0 = λ block. All (IsCertified monitor plan.kept) (block_questions monitor plan number block) in
-    answers monitor plan number which rule is reads (λ block within.
-    told_right laws monitor plan number block rule within
-    (in_range P 0 (length monitor.blocks) block (omega arith) (omega arith)
-    (all_flat (IsCertified monitor plan.kept) (block_questions monitor plan number) (block_numbers monitor) all)))
+told_on : Laws → (monitor : MonitorParts) (plan : Plan) (number row : ℕ) → IsMonitor monitor
+    → All (IsCertified monitor plan.kept) (counting_questions monitor plan number row) → AreToldRight monitor plan number row
+told_on laws monitor plan number row rule all block within =
+    let P : ℕ → Type 0 = λ by. All (IsCertified monitor plan.kept) (block_questions monitor plan number row by) in
+    told_right laws monitor plan number row block rule within
+    (in_range P 0 (length monitor.blocks) block (omega arith) (omega (arith, within))
+    (all_flat (IsCertified monitor plan.kept) (block_questions monitor plan number row) (block_numbers monitor) all))
 
 -- ---- the plan
 
-lawful_by_guards : Laws → AnswersCount → (monitor : MonitorParts) (plan : Plan) → IsMonitor monitor → IsPlanOf monitor plan → IsLawfulAtSight monitor plan
-    → All (HasCertificate monitor plan.kept) (common_claims monitor plan) → IsUncounted monitor plan None → IsLawfulByGuards monitor plan
-lawful_by_guards laws answers monitor plan rule of sight common signals =
+lawful_by_rows : Laws → (monitor : MonitorParts) (plan : Plan) → IsMonitor monitor → IsPlanOf monitor plan → IsLawfulAtSight monitor plan
+    → All (HasCertificate monitor plan.kept) (common_claims monitor plan) → IsFirstFound monitor plan None → IsLawfulByRows monitor plan
+lawful_by_rows laws monitor plan rule of sight common signals =
     let own = common_lawful laws monitor plan rule of sight (all_filtered is_common (HasCertificate monitor plan.kept) (backed_claims monitor plan) common) in
     record {
       inductive = own.inductive;
@@ -131,16 +130,28 @@ lawful_by_guards laws answers monitor plan rule of sight common signals =
     }
   where
     by_proof : (number : ℕ) (which : Condition) → IsCondition monitor number which → condition_kind plan number ≡ Some kinds.Signal → IsSignalProved monitor plan number
-        → IsPassedOn monitor plan number ⊎ IsCountedByGuard monitor plan number which.guard
+        → IsPassedOn monitor plan number ⊎ IsCountedByTried monitor plan number
     by_proof number which is kind (inl passing) = inl (passed_on laws monitor plan number rule is.numbered kind passing)
-    by_proof number which is kind (inr certified) =
-        inr (counted_on laws answers monitor plan number which rule is (reads_none_at monitor plan number which sight is kind) certified)
+    by_proof number which is kind (inr counted) =
+        inr (record { row = counted.row; tried = counted.tried; told = told_on laws monitor plan number counted.row rule counted.certified })
+
+lawful_by_guards : AnswersCount → (monitor : MonitorParts) (plan : Plan) → IsMonitor monitor → IsLawfulAtSight monitor plan → IsLawfulByRows monitor plan → IsLawfulByGuards monitor plan
+lawful_by_guards answers monitor plan rule sight lawful = record {
+  inductive = lawful.inductive;
+  noted = lawful.noted;
+  reading = lawful.reading;
+  broadcasts = lawful.broadcasts;
+  signals = λ number which is kind. elim (lawful.signals number which is kind) [
+    | inl passed ↦ inl passed
+    | inr counted ↦ inr (answers monitor plan number counted.row which rule is (reads_none_at monitor plan number which sight is kind) counted.tried.has counted.told)
+  ];
+}
 
 pub proved_by_counting : Laws → AnswersCount → GuardsCount → (monitor : MonitorParts) (plan : Plan) → IsMonitor monitor → IsPlanOf monitor plan → IsLawfulAtSight monitor plan
-    → All (HasCertificate monitor plan.kept) (common_claims monitor plan) → IsUncounted monitor plan None → IsProvedByCounting monitor plan
+    → All (HasCertificate monitor plan.kept) (common_claims monitor plan) → IsFirstFound monitor plan None → IsProvedByCounting monitor plan
 proved_by_counting laws answers guards monitor plan rule of sight common signals =
-    let lawful = lawful_by_guards laws answers monitor plan rule of sight common signals in
-    record { lawful = lawful; counting = guards monitor plan lawful; common = common; signals = signals }
+    let lawful = lawful_by_rows laws monitor plan rule of sight common signals in
+    record { lawful = lawful; counting = guards monitor plan (lawful_by_guards answers monitor plan rule sight lawful); common = common; signals = signals }
 
 -- ---- what was found of claims is found of the plan
 
@@ -164,7 +175,7 @@ common_proved monitor plan kept wanted found is are none first =
     (subst (All (HasCertificate monitor kept)) are (subst (IsFirstOpen monitor kept wanted) none first))
 
 pub first_uncounted_of : (monitor : MonitorParts) (plan : Plan) (question : Question) → IsLawfulAtSight monitor plan
-    → All (HasCertificate monitor plan.kept) (common_claims monitor plan) → IsUncounted monitor plan (Some question) → IsFirstUncounted monitor plan question
+    → All (HasCertificate monitor plan.kept) (common_claims monitor plan) → IsFirstFound monitor plan (Some question) → IsFirstUncounted monitor plan question
 first_uncounted_of monitor plan question sight common own = record {
   sight = sight;
   common = common;
@@ -172,11 +183,10 @@ first_uncounted_of monitor plan question sight common own = record {
   there = own.there;
   kind = own.here.kind;
   earlier = own.earlier;
+  claim = own.here.claim;
   other_way = own.here.other_way;
-  place = own.here.first.place;
-  here = own.here.first.here;
-  before = own.here.first.before;
-  unproved = own.here.first.unproved;
+  uncounted = own.here.uncounted;
+  named = own.here.named;
 }
 
 -- ---- whether signals may be counted or not

@@ -5,4 +5,4 @@ pub mod Uncounted
 pub mod Found
 pub mod FoundLawful
 pub mod FoundByCounting
-pub mod FoundByGuards
+pub mod FoundByRows

@@ -1,6 +1,6 @@
 -- Conditions of kind signal, one after the other: which is neither passed on nor counted.
-use Rattle.std.proofs.Common.{◌≡◌, inl, inr, ℕ, ◌+◌, ◌-◌, ◌<◌, Bool, true, false, List, Option, Some, None, refl, sym, ap, subst, ◌∙◌, arith}
-use Rattle.std.specs.Prelude.{All, IfOk, Result, Ok, Err, slice_get}
+use Rattle.std.proofs.Common.{◌≡◌, ◌⊎◌, inl, inr, ℕ, zero, suc, ◌+◌, ◌-◌, ◌<◌, ◌≤◌, Bool, true, false, List, Option, Some, None, refl, sym, ap, subst, ◌∙◌, arith}
+use Rattle.std.specs.Prelude.{All, IfOk, Result, Ok, Err, slice_get, if◌then◌else◌}
 use Rattle.std.specs.declared.alloc.AllocError.{AllocError}
 use Rattle.std.specs.List.{list_all}
 use Rattle.std.proofs.lemmas.Bool.{cases_eq, true≢false}
@@ -16,14 +16,17 @@ use Rattle.logic_wp.specs.PlainClaims.{IsConditionNumber, MayAsk, ReadsNone}
 use Rattle.plan_place.specs.Backing.{HasCertificate, backed_claims}
 use Rattle.plan_place.specs.Relayed.{is_broadcast}
 use Rattle.plan_count.specs.declared.question.Question.{Question}
+use Rattle.plan_count.specs.declared.question.Question.TheVariants as questions
+use Rattle.plan_count.specs.Questions.{HasRowAt}
+use Rattle.plan_counted.specs.Counted.{ROWS_TRIED}
 use Rattle.report_recheck.specs.Reports.{IsPlanOf}
 use Rattle.report_recheck.specs.Verdicts.{IsLawfulAtSight}
 use Rattle.report_recheck.proofs.Askable.{claims_askable}
 use Rattle.report_recheck.proofs.Pairs.{at_place}
 use Rattle.report_recheck.proofs.SmallReports.{signal_reads_none}
-use Rattle.report_audit.specs.CountedFindings.{IsSignalProved, counting_questions, is_passing, passing_claims}
+use Rattle.report_audit.specs.CountedFindings.{IsNotCountedBy, IsProvedCounted, IsSignalProved, block_of, counting_questions, is_passing, passing_claims}
 use Rattle.report_audit.specs.inner.Asked.{IsFirstOpen}
-use Rattle.report_audit.specs.inner.Counted.{AreSignalsProved, IsFirstUnanswered, IsUncountedAt}
+use Rattle.report_audit.specs.inner.Counted.{AreSignalsProved, IsByOthers, IsByRow, IsByRows, IsFirstUnanswered, IsUncountedAt}
 use Rattle.report_audit.proofs.Asked.{passing}
 
 -- ---- a condition of kind signal
@@ -60,29 +63,121 @@ passed_at monitor plan condition kept wanted found is are none first = λ kind.
     inl (subst (λ (one : List Candidate). All (HasCertificate monitor one) (passing_claims monitor plan condition)) is
     (subst (λ (all : List Claim). All (HasCertificate monitor kept) all) are (subst (IsFirstOpen monitor kept wanted) none first)))
 
--- ---- what is found of it where it is not
+-- ---- which question is named of it where it is not
 
-pub uncounted_of : (monitor : MonitorParts) (plan : Plan) (condition : ℕ) (kept : List Candidate) (wanted : List Claim) (asked : List Question) (found : Option Claim) (claim : Claim)
-    (result : Result (Option Question) AllocError) → kept ≡ plan.kept → wanted ≡ passing_claims monitor plan condition → asked ≡ counting_questions monitor plan condition
+pub uncounted_of : (monitor : MonitorParts) (plan : Plan) (condition : ℕ) (kept : List Candidate) (wanted : List Claim) (found : Option Claim) (claim : Claim)
+    (result : Result (Option Question) AllocError) → kept ≡ plan.kept → wanted ≡ passing_claims monitor plan condition
     → condition_kind plan condition ≡ Some kinds.Signal → found ≡ Some claim → IsFirstOpen monitor kept wanted found
-    → IfOk result (IsFirstUnanswered monitor kept asked) → IfOk result (IsUncountedAt monitor plan condition)
-uncounted_of monitor plan condition kept wanted asked found claim result is are ask kind some first answered =
-    by_result result (subst (λ (one : List Candidate). IfOk result (IsFirstUnanswered monitor one (counting_questions monitor plan condition))) is
-    (subst (λ (all : List Question). IfOk result (IsFirstUnanswered monitor kept all)) ask answered))
+    → IfOk result (IsByRows monitor plan condition claim) → IfOk result (IsUncountedAt monitor plan condition)
+uncounted_of monitor plan condition kept wanted found claim result is are kind some first by_rows = by_result result by_rows
   where
     own : IsFirstOpen monitor plan.kept (passing_claims monitor plan condition) (Some claim)
     own = subst (λ (one : List Candidate). IsFirstOpen monitor one (passing_claims monitor plan condition) (Some claim)) is
         (subst (λ (all : List Claim). IsFirstOpen monitor kept all (Some claim)) are (subst (IsFirstOpen monitor kept wanted) some first))
 
-    by_result : (outcome : Result (Option Question) AllocError) → IfOk outcome (IsFirstUnanswered monitor plan.kept (counting_questions monitor plan condition))
+    by_result : (outcome : Result (Option Question) AllocError) → IfOk outcome (IsByRows monitor plan condition claim)
         → IfOk outcome (IsUncountedAt monitor plan condition)
-    by_result (Ok None) all = λ signal. inr all
-    by_result (Ok (Some question)) open_at = record {
+    by_result (Ok None) counted = λ signal. inr counted
+    by_result (Ok (Some question)) named = record {
       kind = kind;
-      other_way = record { claim = claim; place = own.place; here = own.here; unproved = own.unproved };
-      first = open_at;
+      claim = claim;
+      other_way = record { place = own.place; here = own.here; before = own.before; unproved = own.unproved };
+      uncounted = named.0;
+      named = named.1;
     }
     by_result (Err error) none = tt
+
+-- ---- rows that are tried
+
+-- what was found of the first question that is unanswered is found by the row
+pub by_row : (monitor : MonitorParts) (plan : Plan) (condition row : ℕ) (kept : List Candidate) (asked : List Question) (result : Result (Option Question) AllocError)
+    → kept ≡ plan.kept → asked ≡ counting_questions monitor plan condition row
+    → IfOk result (IsFirstUnanswered monitor kept asked) → IfOk result (IsByRow monitor plan condition row)
+by_row monitor plan condition row kept asked result is are first =
+    by_result result (subst (λ (one : List Candidate). IfOk result (IsFirstUnanswered monitor one (counting_questions monitor plan condition row))) is
+    (subst (λ (all : List Question). IfOk result (IsFirstUnanswered monitor kept all)) are first))
+  where
+    by_result : (outcome : Result (Option Question) AllocError) → IfOk outcome (IsFirstUnanswered monitor plan.kept (counting_questions monitor plan condition row))
+        → IfOk outcome (IsByRow monitor plan condition row)
+    by_result (Ok None) all = all
+    by_result (Ok (Some question)) own = record { place = own.place; here = own.here; before = own.before; unproved = own.unproved }
+    by_result (Err error) none = tt
+
+-- by none of these rows after the first it is counted
+abbrev pub NoneOfRows : MonitorParts → Plan → ℕ → ℕ → Type 0
+NoneOfRows monitor plan condition end = (row : ℕ) → 1 < row → row ≤ end → (question : Question) × IsNotCountedBy monitor plan condition row question
+
+pub rows_start : (monitor : MonitorParts) (plan : Plan) (condition : ℕ) → NoneOfRows monitor plan condition 1
+rows_start monitor plan condition row after last = absurd (omega (arith, after, last))
+
+pub rows_more : (monitor : MonitorParts) (plan : Plan) (condition before : ℕ) (found : Option Question) (question : Question) → found ≡ Some question
+    → IsByRow monitor plan condition (before + 1) found → NoneOfRows monitor plan condition before → NoneOfRows monitor plan condition (before + 1)
+rows_more monitor plan condition before found question some first none row after last = elim (cases_eq row (before + 1)) [
+  | inl same ↦
+      let own : IsNotCountedBy monitor plan condition (before + 1) question = subst (IsByRow monitor plan condition (before + 1)) some first in
+      (question, subst (λ (one : ℕ). IsNotCountedBy monitor plan condition one question) (sym same) own)
+  | inr differs ↦ none row after (omega (arith, last, differs))
+]
+
+-- a row that the guard has comes before one that it hasn't
+order : (left right : ℕ) → (left ≤ right) ⊎ (right < left)
+order zero right = inl (omega arith)
+order (suc left) zero = inr (omega arith)
+order (suc left) (suc right) = elim (order left right) [
+  | inl below ↦ inl (omega (arith, below))
+  | inr above ↦ inr (omega (arith, above))
+]
+
+has_below : (monitor : MonitorParts) (condition row missing : ℕ) → HasRowAt monitor condition row → 1 ≤ missing → (HasRowAt monitor condition missing → ⊥) → row < missing
+has_below monitor condition row missing has first none = elim (order missing row) [
+  | inl over ↦ absurd (none (record { first = first; last = omega (arith, over, has.last) }))
+  | inr under ↦ under
+]
+
+pub rows_missing : (monitor : MonitorParts) (plan : Plan) (condition before : ℕ) → (HasRowAt monitor condition (before + 1) → ⊥) → NoneOfRows monitor plan condition before
+    → IsByOthers monitor plan condition false
+rows_missing monitor plan condition before none rows row after tried =
+    rows row after (omega (arith, has_below monitor condition row (before + 1) tried.has (omega arith) none))
+
+pub rows_end : (monitor : MonitorParts) (plan : Plan) (condition end : ℕ) → ROWS_TRIED ≤ end → NoneOfRows monitor plan condition end → IsByOthers monitor plan condition false
+rows_end monitor plan condition end over rows row after tried = rows row after (omega (arith, tried.limit, over))
+
+-- by this row it is counted
+pub counted_by : (monitor : MonitorParts) (plan : Plan) (condition row : ℕ) (found : Option Question) → found ≡ None → HasRowAt monitor condition row → row ≤ ROWS_TRIED
+    → IsByRow monitor plan condition row found → IsProvedCounted monitor plan condition
+counted_by monitor plan condition row found none has limit first = record {
+  row = row;
+  tried = record { has = has; limit = limit };
+  certified = subst (IsByRow monitor plan condition row) none first;
+}
+
+pub counted_first : (monitor : MonitorParts) (plan : Plan) (condition : ℕ) (found : Option Question) → found ≡ None → HasRowAt monitor condition 1
+    → IsByRow monitor plan condition 1 found → IsProvedCounted monitor plan condition
+counted_first monitor plan condition found none has first = counted_by monitor plan condition 1 found none has (omega arith) first
+
+-- the guard has no row
+pub rowless : (monitor : MonitorParts) (plan : Plan) (condition : ℕ) (claim : Claim) (question : Question) → (HasRowAt monitor condition 1 → ⊥)
+    → question ≡ questions.Counts condition 1 (block_of claim) → IsByRows monitor plan condition claim (Some question)
+rowless monitor plan condition claim question none is = (
+  (λ row tried. absurd (none (record { first = omega arith; last = omega (arith, tried.has.first, tried.has.last) }))),
+  inr (none, is),
+)
+
+-- the first row and the others
+pub by_both : (monitor : MonitorParts) (plan : Plan) (condition : ℕ) (claim : Claim) (found : Option Question) (question : Question) (counted : Bool) (result : Option Question)
+    → found ≡ Some question → IsByRow monitor plan condition 1 found → IsByOthers monitor plan condition counted
+    → result ≡ (if counted then None else Some question) → IsByRows monitor plan condition claim result
+by_both monitor plan condition claim found question true result some first others is = subst (IsByRows monitor plan condition claim) (sym is) others
+by_both monitor plan condition claim found question false result some first others is = subst (IsByRows monitor plan condition claim) (sym is) (
+  (λ row tried. elim (cases_eq row 1) [
+    | inl same ↦ (question, subst (λ (one : ℕ). IsNotCountedBy monitor plan condition one question) (sym same) own)
+    | inr differs ↦ others row (omega (arith, tried.has.first, differs)) tried
+  ]),
+  inl own,
+)
+  where
+    own : IsNotCountedBy monitor plan condition 1 question
+    own = subst (IsByRow monitor plan condition 1) some first
 
 -- ---- one more condition
 

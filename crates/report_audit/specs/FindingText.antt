@@ -3,9 +3,8 @@ use Rattle.std.specs.Prelude.{ℕ, List, [], ◌++◌, slice_get, codes, decimal
 use Rattle.std.specs.Option.{option_map_or}
 use Rattle.lang_monitor.specs.MonitorParts.{MonitorParts}
 use Rattle.machine_events.specs.declared.plan.Plan.{Plan}
-use Rattle.machine_events.specs.PlanText.{block_name, candidate_text}
-use Rattle.plan_count.specs.declared.question.Question.{Question}
-use Rattle.plan_count.specs.declared.question.Question.TheVariants as questions
+use Rattle.machine_events.specs.PlanText.{candidate_text}
+use Rattle.report_questions.specs.QuestionText.{question_text}
 use Rattle.report_recheck.specs.Reports.{claim_text}
 use Rattle.report_audit.specs.declared.finding.Finding.{Finding}
 use Rattle.report_audit.specs.declared.finding.Finding.TheVariants as findings
@@ -14,19 +13,6 @@ use Rattle.report_audit.specs.declared.finding.Finding.TheVariants as findings
 abbrev pub kept_name : MonitorParts → Plan → ℕ → List ℕ
 kept_name monitor plan place =
     option_map_or (candidate_text monitor.fields) (slice_get plan.kept place) []
-
--- `2 put`: a condition, and a block
-abbrev pub pair_text : MonitorParts → ℕ → ℕ → List ℕ
-pair_text monitor condition block = decimal condition ++ codes " " ++ block_name monitor block
-
--- `counts 2 put`, `gives 2 put`, `first 2 put`
-abbrev pub question_text : MonitorParts → Question → List ℕ
-question_text monitor (questions.Counts condition block) =
-    codes "counts " ++ pair_text monitor condition block
-question_text monitor (questions.Gives condition block) =
-    codes "gives " ++ pair_text monitor condition block
-question_text monitor (questions.First condition block) =
-    codes "first " ++ pair_text monitor condition block
 
 -- `lawful`, `unlawful: keep x <= 4 at the start`, `unlawful: condition 2` or
 -- `unproved: none put 2` or `unproved: counts 2 put`, and a line feed

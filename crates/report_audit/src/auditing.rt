@@ -2,7 +2,6 @@
 
 ghost use Rattle.std.specs.Prelude.{◌≡◌, ◌↔◌, IfOk, All};
 ghost use Rattle.plan_counted.specs.Exact.{HasNoOpenQuestion};
-ghost use Rattle.machine_events.specs.CountClaims.{IsLawfulByGuards};
 ghost use Rattle.machine_events.specs.Plans.{IsLawful};
 ghost use Rattle.lang_monitor.specs.Candidates.{AllHold};
 ghost use Rattle.lang_monitor.specs.MonitorParts.{start_of};
@@ -11,7 +10,8 @@ ghost use Rattle.plan_prune.specs.Hardness.{HasNoHardClaim, HasNoOpenClaim};
 ghost use Rattle.report_recheck.specs.Reports.{IsPlanOf};
 ghost use Rattle.report_recheck.specs.Verdicts.{IsLawfulAtSight};
 ghost use Rattle.report_audit.specs.declared.finding.Finding.TheVariants.{Lawful};
-ghost use Rattle.report_audit.specs.CountedFindings.{IsCountedFinding, IsFindingBy, common_claims};
+ghost use Rattle.report_audit.specs.CountedFindings.{IsCountedFinding, IsFindingBy};
+ghost use Rattle.report_audit.specs.CountedFindings.{IsLawfulByRows, common_claims};
 ghost use Rattle.report_audit.specs.Findings.{IsFinding};
 
 use super::asking::{asked_claims, common_of, first_unproved};
@@ -62,15 +62,19 @@ pub fn audit(alloc: Global, monitor: &Monitor, plan: &Plan) -> Result<Finding, A
 /// What is kept, kinds and notes are looked at as [`audit`] does, and a claim is asked for each
 /// kept candidate with each block, and for each block with each condition on which it has no note.
 /// Then comes each condition of kind signal in order. It is passed on where a certificate is found
-/// of each block that waits at it and has no note on it that one waiter is enough. Else it is asked
-/// of each block in order whether it leaves the condition counted: of one with a broadcast on it
-/// nothing, of one with a signal whether this is enough, of any other whether it needs none. The
-/// first question for which no certificate is found is what is found of the plan: what it asks is
-/// not so, or its query may stay open.
+/// of each block that waits at it and has no note on it that one waiter is enough. Else each row of
+/// its guard is tried in order, [`ROWS_TRIED`] at most, and it is asked of each block in order
+/// whether it leaves the condition counted by the row: of one with a broadcast on it nothing, of
+/// one with a signal whether this is enough, of any other whether it needs none. Where by no row
+/// all have certificates, the first question by the first row for which none is found is what is
+/// found of the plan: what it asks is not so, or its query may stay open. Of a guard without a row
+/// it is that of the first block that doesn't pass on.
 ///
 /// It is found lawful only where it is lawful by counting; and where no query may stay open,
-/// exactly where it is so by the measures of its guards. A lawful plan is found lawful where no
-/// query of a claim may stay open.
+/// exactly where it is so by the rows that are tried (`specs/CountedFindings`). A lawful plan is
+/// found lawful where no query of a claim may stay open.
+///
+/// [`ROWS_TRIED`]: plan_counted::ROWS_TRIED
 pub fn audit_by_counting(
     alloc: Global,
     monitor: &Monitor,
@@ -80,7 +84,7 @@ pub fn audit_by_counting(
     ensures finding { IfOk result (IsCountedFinding monitor.now plan.now) }
     ensures exact { IfOk result (λ finding. HasNoOpenClaim monitor.now plan.now.kept
         → HasNoOpenQuestion monitor.now plan.now.kept
-        → (finding ≡ Lawful) ↔ IsLawfulByGuards monitor.now plan.now) }
+        → (finding ≡ Lawful) ↔ IsLawfulByRows monitor.now plan.now) }
     ensures lawful { IfOk result (λ finding. HasNoOpenClaim monitor.now plan.now.kept
         → IsLawful monitor.now plan.now → finding ≡ Lawful) }
 {

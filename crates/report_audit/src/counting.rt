@@ -1,42 +1,45 @@
-//! Conditions of kind signal that are neither passed on nor counted.
+//! Conditions of kind signal that are neither passed on nor counted by a row that is tried.
 
-ghost use Rattle.std.specs.Prelude.{◌≡◌, ◌++◌, ◌≤◌, IfOk, OnOk, All, true};
+ghost use Rattle.std.specs.Prelude.{◌≡◌, ◌++◌, ◌≤◌, IfOk, OnOk, All, None, Some, if◌then◌else◌, true};
 ghost use Rattle.std.specs.List.{list_all};
 ghost use Rattle.machine_events.specs.Plans.{has_broadcast, notes_at};
 ghost use Rattle.plan_place.specs.Backing.{backed_claims};
 ghost use Rattle.logic_wp.specs.Expressible.{is_expressible};
-ghost use Rattle.logic_wp.specs.PlainClaims.{IsConditionNumber, MayAsk};
-ghost use Rattle.plan_count.specs.Questions.{MayAskQuestion};
+ghost use Rattle.logic_wp.specs.PlainClaims.{IsConditionNumber, MayAsk, ReadsNone};
+ghost use Rattle.plan_count.specs.declared.question.Question.TheVariants.{Counts};
+ghost use Rattle.plan_count.specs.Questions.{HasRowAt, MayAskQuestion};
 ghost use Rattle.report_recheck.specs.Reports.{IsPlanOf};
 ghost use Rattle.report_recheck.specs.Verdicts.{IsLawfulAtSight};
 ghost use Rattle.report_audit.specs.CountedFindings.{block_questions, counting_questions};
-ghost use Rattle.report_audit.specs.CountedFindings.{note_questions};
-ghost use Rattle.report_audit.specs.inner.Counted.{IsFirstUnanswered, IsReply, IsUncounted};
-ghost use Rattle.report_audit.specs.inner.Counted.{IsUncountedAt};
+ghost use Rattle.report_audit.specs.CountedFindings.{block_of, note_questions};
+ghost use Rattle.report_audit.specs.inner.Counted.{IsByOthers, IsByRow, IsByRows, IsFirstFound};
+ghost use Rattle.report_audit.specs.inner.Counted.{IsFirstUnanswered, IsReply, IsUncountedAt};
 
 use super::asking::{first_unproved, has_note_at, passing_of};
 use lang_monitor::{Candidate, Claim, Monitor};
 use machine_events::{Note, Plan};
-use plan_count::{Question, question_query};
+use plan_count::{Question, has_row, question_query};
+use plan_counted::ROWS_TRIED;
 use plan_place::{is_broadcast_at, waits_at};
 use plan_prune::certificate_of;
 use std::alloc::{AllocError, Global};
 
 // ---- which questions are asked
 
-/// The questions by which the condition is counted, in their order.
+/// The questions by which the condition is counted by the row, in their order.
 fn questions_of(
     alloc: Global,
     monitor: &Monitor,
     plan: &Plan,
     condition: u32,
+    row: u32,
 ) -> Result<Vec<Question>, AllocError>
     ensures { IfOk result (λ all.
-        all.items ≡ counting_questions monitor.now plan.now condition) }
+        all.items ≡ counting_questions monitor.now plan.now condition row) }
 {
     let mut all = Vec::new(alloc);
     for index in 0..monitor.blocks().len() {
-        push_block(&mut all, monitor, plan, condition, index as u32)?;
+        push_block(&mut all, monitor, plan, condition, row, index as u32)?;
     }
     Ok(all)
 }
@@ -47,18 +50,19 @@ fn push_block(
     monitor: &Monitor,
     plan: &Plan,
     condition: u32,
+    row: u32,
     block: u32,
 ) -> Result<(), AllocError>
     ensures { OnOk result (questions.new.items ≡ questions.old.items
-        ++ block_questions monitor.now plan.now condition block) }
+        ++ block_questions monitor.now plan.now condition row block) }
 {
     if has_broadcast_at(plan, block, condition) {
         return Ok(());
     }
     if has_note_at(plan, block, condition) {
-        return push_noted(questions, monitor, condition, block);
+        return push_noted(questions, monitor, condition, row, block);
     }
-    questions.push(Question::Counts { condition, block })?;
+    questions.push(counts_question(condition, row, block))?;
     Ok(())
 }
 
@@ -67,16 +71,35 @@ fn push_noted(
     questions: &mut Vec<Question>,
     monitor: &Monitor,
     condition: u32,
+    row: u32,
     block: u32,
 ) -> Result<(), AllocError>
     ensures { OnOk result (questions.new.items
-        ≡ questions.old.items ++ note_questions monitor.now condition block) }
+        ≡ questions.old.items ++ note_questions monitor.now condition row block) }
 {
-    questions.push(Question::Gives { condition, block })?;
+    questions.push(Question::Gives {
+        condition,
+        row,
+        block,
+    })?;
     if !waits_at(monitor, condition, block) {
-        questions.push(Question::First { condition, block })?;
+        questions.push(Question::First {
+            condition,
+            row,
+            block,
+        })?;
     }
     Ok(())
+}
+
+fn counts_question(condition: u32, row: u32, block: u32) -> Question
+    ensures { result ≡ Counts condition row block }
+{
+    Question::Counts {
+        condition,
+        row,
+        block,
+    }
 }
 
 /// Whether the block has a broadcast on the condition.
@@ -140,10 +163,95 @@ fn first_unanswered(
     Ok(None)
 }
 
+// ---- rows
+
+/// The first question by the row without a certificate, or none.
+fn unanswered_by(
+    alloc: Global,
+    monitor: &Monitor,
+    plan: &Plan,
+    condition: u32,
+    row: u32,
+) -> Result<Option<Question>, AllocError>
+    requires kept { list_all is_expressible plan.now.kept ≡ true }
+    requires reads { ReadsNone monitor.now condition }
+    requires has { HasRowAt monitor.now condition row }
+    ensures { IfOk result (IsByRow monitor.now plan.now condition row) }
+{
+    let questions = questions_of(alloc, monitor, plan, condition, row)?;
+    first_unanswered(alloc, monitor, plan.kept.items(), &questions)
+}
+
+/// Whether the condition is counted by a row after the first that is tried.
+fn counts_by_others(
+    alloc: Global,
+    monitor: &Monitor,
+    plan: &Plan,
+    condition: u32,
+) -> Result<bool, AllocError>
+    requires kept { list_all is_expressible plan.now.kept ≡ true }
+    requires reads { ReadsNone monitor.now condition }
+    ensures { IfOk result (IsByOthers monitor.now plan.now condition) }
+{
+    for before in 1..ROWS_TRIED {
+        let row = before + 1;
+        if !has_row(monitor, condition, row) {
+            return Ok(false);
+        }
+        match unanswered_by(alloc, monitor, plan, condition, row)? {
+            None => return Ok(true),
+            Some(_) => {}
+        }
+    }
+    Ok(false)
+}
+
+/// The question that is named of a condition that is not passed on, as the claim says, or none
+/// where it is counted by a row that is tried.
+fn uncounted_by_rows(
+    alloc: Global,
+    monitor: &Monitor,
+    plan: &Plan,
+    condition: u32,
+    claim: Claim,
+) -> Result<Option<Question>, AllocError>
+    requires kept { list_all is_expressible plan.now.kept ≡ true }
+    requires reads { ReadsNone monitor.now condition }
+    ensures { IfOk result (IsByRows monitor.now plan.now condition claim) }
+{
+    if !has_row(monitor, condition, 1) {
+        return Ok(Some(counts_question(condition, 1, block_of(claim))));
+    }
+    match unanswered_by(alloc, monitor, plan, condition, 1)? {
+        None => Ok(None),
+        Some(question) => {
+            let counted = counts_by_others(alloc, monitor, plan, condition)?;
+            Ok(unless(counted, question))
+        }
+    }
+}
+
+fn unless(counted: bool, question: Question) -> Option<Question>
+    ensures { result ≡ (if counted then None else Some question) }
+{
+    if counted { None } else { Some(question) }
+}
+
+fn block_of(claim: Claim) -> u32
+    ensures { result ≡ block_of claim }
+{
+    match claim {
+        Claim::Keeps { block, .. } => block,
+        Claim::NoNote { block, .. } => block,
+        Claim::One { block, .. } => block,
+        Claim::NoTest { block, .. } => block,
+    }
+}
+
 // ---- conditions
 
-/// The first question without a certificate on the first condition of kind signal that is neither
-/// passed on nor counted, or none. The claims are those that the plan rests on.
+/// The question that is named of the first condition of kind signal that is neither passed on nor
+/// counted, or none. The claims are those that the plan rests on.
 pub(crate) fn first_uncounted(
     alloc: Global,
     monitor: &Monitor,
@@ -154,7 +262,7 @@ pub(crate) fn first_uncounted(
     requires sight { IsLawfulAtSight monitor.now plan.now }
     requires kept { list_all is_expressible plan.now.kept ≡ true }
     requires claims { claims.now ≡ backed_claims monitor.now plan.now }
-    ensures { IfOk result (IsUncounted monitor.now plan.now) }
+    ensures { IfOk result (IsFirstFound monitor.now plan.now) }
 {
     for index in 0..monitor.conditions().len() {
         let condition = index as u32 + 1;
@@ -166,8 +274,8 @@ pub(crate) fn first_uncounted(
     Ok(None)
 }
 
-/// The first question without a certificate on the condition, where it is of kind signal and
-/// neither passed on nor counted.
+/// The question that is named of the condition, where it is of kind signal and neither passed on
+/// nor counted.
 fn uncounted_at(
     alloc: Global,
     monitor: &Monitor,
@@ -186,13 +294,9 @@ fn uncounted_at(
     if is_broadcast_at(plan.kinds.items(), condition) {
         return Ok(None);
     }
-    let kept = plan.kept.items();
     let passing = passing_of(alloc, plan, condition, claims)?;
-    match first_unproved(alloc, monitor, kept, &passing)? {
+    match first_unproved(alloc, monitor, plan.kept.items(), &passing)? {
         None => Ok(None),
-        Some(_) => {
-            let questions = questions_of(alloc, monitor, plan, condition)?;
-            first_unanswered(alloc, monitor, kept, &questions)
-        }
+        Some(claim) => uncounted_by_rows(alloc, monitor, plan, condition, claim),
     }
 }

@@ -15,7 +15,7 @@ pub enum Finding {
     Kind { condition: u32 },
     /// The claim is the first for which no certificate is found.
     Unproved { claim: Claim },
-    /// The question is the first for which no certificate is found, of the first condition of kind
-    /// signal that is neither passed on nor counted.
+    /// The question is the first by the first row for which no certificate is found, of the first
+    /// condition of kind signal that is neither passed on nor counted by a row that is tried.
     Uncounted { question: Question },
 }

@@ -2,7 +2,8 @@
 
 ghost use Rattle.std.specs.Prelude.{◌++◌, codes, decimal};
 ghost use Rattle.base_io.specs.Writing.{Wrote};
-ghost use Rattle.report_audit.specs.FindingText.{finding_text, kept_name, pair_text, question_text};
+ghost use Rattle.report_questions.specs.QuestionText.{question_text};
+ghost use Rattle.report_audit.specs.FindingText.{finding_text, kept_name};
 ghost use Rattle.report_recheck.specs.Reports.{claim_text};
 
 use super::finding::Finding;
@@ -11,8 +12,9 @@ use itoa::Buffer;
 use lang_monitor::{Claim, Monitor};
 use machine_events::Plan;
 use plan_count::Question;
+use report_questions::write_question;
 use report_recheck::write_claim;
-use report_text::{write_block_name, write_candidate};
+use report_text::write_candidate;
 
 /// Writes the line of a finding: `lawful`, `unlawful: keep x <= 4 at the start`,
 /// `unlawful: condition 2`, `unproved: none put 2` or `unproved: counts 2 put`. It takes no memory.
@@ -107,56 +109,4 @@ fn write_uncounted<S: Sink>(
     write_piece(b"unproved: ", out)?;
     write_question(monitor, question, out)?;
     write_piece(b"\n", out)
-}
-
-/// `counts 2 put`, `gives 2 put` or `first 2 put`.
-fn write_question<S: Sink>(
-    monitor: &Monitor,
-    question: Question,
-    out: &mut S,
-) -> Result<(), SinkFailed>
-    ensures { Wrote (S.seen out.old) (S.seen out.new) result
-        (question_text monitor.now question) }
-{
-    match question {
-        Question::Counts { condition, block } => {
-            write_asked(b"counts ", monitor, condition, block, out)
-        }
-        Question::Gives { condition, block } => {
-            write_asked(b"gives ", monitor, condition, block, out)
-        }
-        Question::First { condition, block } => {
-            write_asked(b"first ", monitor, condition, block, out)
-        }
-    }
-}
-
-/// `2 put` after a word.
-fn write_asked<S: Sink>(
-    word: &[u8],
-    monitor: &Monitor,
-    condition: u32,
-    block: u32,
-    out: &mut S,
-) -> Result<(), SinkFailed>
-    ensures { Wrote (S.seen out.old) (S.seen out.new) result
-        (word.now ++ pair_text monitor.now condition block) }
-{
-    write_piece(word, out)?;
-    write_pair(monitor, condition, block, out)
-}
-
-/// `2 put`: a condition and a block.
-fn write_pair<S: Sink>(
-    monitor: &Monitor,
-    condition: u32,
-    block: u32,
-    out: &mut S,
-) -> Result<(), SinkFailed>
-    ensures { Wrote (S.seen out.old) (S.seen out.new) result
-        (pair_text monitor.now condition block) }
-{
-    write_number(condition, out)?;
-    write_piece(b" ", out)?;
-    write_block_name(monitor, block as usize, out)
 }

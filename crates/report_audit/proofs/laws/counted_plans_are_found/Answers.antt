@@ -1,9 +1,9 @@
-use Rattle.report_audit.proofs.FoundByGuards.{counted_found_of_lawful, found_by_guards}
+use Rattle.report_audit.proofs.FoundByRows.{counted_found_of_lawful, found_by_rows}
 use Rattle.report_audit.proofs.FoundLawful.{may_be_kept}
 use Rattle.report_audit.proofs.laws.counted_plans_are_found.Goals as goal
 
 pub returns-clause-counted : goal.returns-clause-counted
-returns-clause-counted c = found_by_guards c.guard_without_inputs_stays.ensures
+returns-clause-counted c = found_by_rows
 
 pub returns-clause-lawful : goal.returns-clause-lawful
 returns-clause-lawful c = counted_found_of_lawful

@@ -1,6 +1,6 @@
 use Rattle.std.proofs.Common.{codes}
 use Rattle.base_io.proofs.Writing.{wrote_both, wrote_fails, wrote_longer}
-use Rattle.report_audit.specs.FindingText.{question_text}
+use Rattle.report_questions.specs.QuestionText.{question_text}
 use Rattle.report_audit.proofs.writing.write_uncounted.Goals as goal
 
 pub returns-in_err-write_piece : goal.returns-in_err-write_piece

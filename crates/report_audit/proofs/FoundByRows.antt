@@ -1,9 +1,8 @@
 -- Where no query may stay open, nothing else than that it is lawful is found of a plan that is
--- lawful by the measures of its guards.
+-- lawful by rows of its guards that are tried.
 use Rattle.std.proofs.Common.{◌≡◌, ◌==◌, inl, inr, ℕ, ◌+◌, ◌-◌, Bool, true, false, not, List, ◌++◌, length, Option, Some, None, refl, sym, ap, subst, ◌∙◌, arith}
 use Rattle.std.specs.Prelude.{All, IsSomeAnd, slice_get}
 use Rattle.std.specs.List.{filter, flat_map, enumerate_from}
-use Rattle.std.specs.Option.{option_map_or}
 use Rattle.std.proofs.lemmas.Bool.{and_parts, eqb-true, not-true, true≢false}
 use Rattle.std.proofs.lemmas.List.Elements.{All-nil, All-append, All-map}
 use Rattle.lang_monitor.specs.declared.claim.Claim.{Claim}
@@ -12,22 +11,19 @@ use Rattle.lang_monitor.specs.declared.monitor.Block.{Block}
 use Rattle.lang_monitor.specs.declared.monitor.Condition.{Condition}
 use Rattle.lang_monitor.specs.Inputs.{reads_inputs}
 use Rattle.lang_monitor.specs.MonitorParts.{MonitorParts, IsMonitor}
-use Rattle.lang_monitor.specs.Queries.{waiting_guard}
-use Rattle.lang_monitor.specs.Triples.{IsValidQuery, OneEnough}
+use Rattle.lang_monitor.specs.Triples.{OneEnough}
 use Rattle.machine_events.specs.declared.plan.CondKind.{CondKind}
 use Rattle.machine_events.specs.declared.plan.CondKind.TheVariants as kinds
 use Rattle.machine_events.specs.declared.plan.Note.{Note}
 use Rattle.machine_events.specs.declared.plan.Plan.{Plan}
 use Rattle.machine_events.specs.Plans.{EachNoteOn, IsCondition, IsLawful, WakesAll, condition_kind, has_broadcast, has_note, notes_at}
-use Rattle.machine_events.specs.Counts.{IsPassedOn, guard_measure}
-use Rattle.machine_events.specs.CountClaims.{CountsBlock, IsCountedByGuard, IsLawfulByGuards, fresh_query, still_query}
+use Rattle.machine_events.specs.Counts.{IsPassedOn}
 use Rattle.logic_wp.specs.PlainClaims.{ReadsNone}
 use Rattle.plan_prune.specs.Hardness.{HasNoOpenClaim}
 use Rattle.plan_prune.specs.Invariants.{keeps_claims}
 use Rattle.plan_place.specs.Backing.{backed_claims, block_numbers, kind_claims, unnoted_claims, untested_claims, waits_at}
 use Rattle.plan_count.specs.declared.question.Question.{Question}
-use Rattle.plan_count.specs.Questions.{IsSo, MayAskQuestion, takes_at}
-use Rattle.plan_count.proofs.Answering.{GuardsStay, guard_at}
+use Rattle.plan_count.specs.Questions.{AreToldRight, CountsWithNone, CountsWithOne, HasRowAt, IsSo, IsToldRight, MayAskQuestion, MayBeAsked}
 use Rattle.plan_counted.specs.Exact.{HasNoOpenQuestion}
 use Rattle.report_recheck.specs.Reports.{IsPlanOf}
 use Rattle.report_recheck.specs.Verdicts.{IsLawfulAtSight}
@@ -36,7 +32,7 @@ use Rattle.report_recheck.proofs.Pairs.{all_at, at_place}
 use Rattle.report_recheck.proofs.SmallReports.{signal_reads_none, waits_of_test}
 use Rattle.report_audit.specs.declared.finding.Finding.{Finding}
 use Rattle.report_audit.specs.declared.finding.Finding.TheVariants as findings
-use Rattle.report_audit.specs.CountedFindings.{IsCountedFinding, IsFirstUncounted, IsNotPassedOn}
+use Rattle.report_audit.specs.CountedFindings.{IsCountedByTried, IsCountedFinding, IsFirstUncounted, IsLawfulByRows, IsNotPassedOn}
 use Rattle.report_audit.specs.CountedFindings.{common_claims, counting_questions, is_common, is_passing, passing_claims}
 use Rattle.report_audit.proofs.Asked.{passing}
 use Rattle.report_audit.proofs.CountAsked.{each_block, each_question}
@@ -111,77 +107,48 @@ passing_told monitor plan condition rule of own sight passed = told_by_kinds (is
 abbrev IsAnswered : MonitorParts → Plan → Question → Type 0
 IsAnswered monitor plan question = MayAskQuestion monitor question × IsSo monitor plan.kept question
 
-takes_is : (monitor : MonitorParts) (condition block : ℕ) (held : Block) → slice_get monitor.blocks block ≡ Some held
-    → takes_at monitor condition block ≡ (held.condition == condition)
-takes_is monitor condition block held is = ap (λ (found : Option Block). option_map_or (λ one. one.condition == condition) found false) is
-
-still_so : (monitor : MonitorParts) (plan : Plan) (condition block : ℕ) (which : Condition) (held : Block) (gives : Bool) → waiting_guard monitor condition ≡ which.guard
-    → slice_get monitor.blocks block ≡ Some held → has_note (notes_at plan block) condition ≡ gives
-    → CountsBlock monitor plan condition (guard_measure which.guard) block held
-    → IsValidQuery monitor (still_query monitor plan.kept (guard_measure (waiting_guard monitor condition)) condition block (takes_at monitor condition block) gives)
-still_so monitor plan condition block which held gives guard there has counts =
-    let takes = takes_is monitor condition block held there in
-    subst (IsValidQuery monitor) (λ i. still_query monitor plan.kept (guard_measure (sym guard i)) condition block (sym takes i) (has i)) counts.still
-
-first_so : (monitor : MonitorParts) (plan : Plan) (condition block : ℕ) (which : Condition) (held : Block) → waiting_guard monitor condition ≡ which.guard
-    → slice_get monitor.blocks block ≡ Some held → has_note (notes_at plan block) condition ≡ true → waits_at monitor condition block ≡ false
-    → CountsBlock monitor plan condition (guard_measure which.guard) block held
-    → IsValidQuery monitor (fresh_query monitor plan.kept (guard_measure (waiting_guard monitor condition)) condition block)
-first_so monitor plan condition block which held guard there has other counts =
-    let takes = takes_is monitor condition block held there in
-    subst (IsValidQuery monitor) (λ i. fresh_query monitor plan.kept (guard_measure (sym guard i)) condition block) (counts.fresh has (sym takes ∙ other))
-
-questions_told : GuardsStay → (monitor : MonitorParts) (plan : Plan) (condition : ℕ) (which : Condition) → IsCondition monitor condition which
-    → reads_inputs which.guard ≡ false → ReadsNone monitor condition → IsCountedByGuard monitor plan condition which.guard
-    → All (IsAnswered monitor plan) (counting_questions monitor plan condition)
-questions_told stay monitor plan condition which is plain reads counted = each_block P monitor plan condition (λ block within.
-    let found = at_place monitor.blocks block within in
-    each_question P monitor plan condition block
-    (λ cast has. ((within, reads), still_so monitor plan condition block which found.0 true guard found.1 has (of_block block found.0 found.1 cast)))
-    (λ cast has other. ((within, reads), first_so monitor plan condition block which found.0 guard found.1 has other (of_block block found.0 found.1 cast)))
-    (λ cast none. ((within, reads), still_so monitor plan condition block which found.0 false guard found.1 none (of_block block found.0 found.1 cast))))
+questions_told : (monitor : MonitorParts) (plan : Plan) (condition row : ℕ) → ReadsNone monitor condition → HasRowAt monitor condition row
+    → AreToldRight monitor plan condition row → All (IsAnswered monitor plan) (counting_questions monitor plan condition row)
+questions_told monitor plan condition row reads has told = each_block P monitor plan condition row (λ block within.
+    let may : MayBeAsked monitor condition row block = record { is_block = within; reads_none = reads; has_row = has } in
+    each_question P monitor plan condition row block
+    (λ cast noted. (may, (noted_so block cast noted (told block within)).gives))
+    (λ cast noted other. (may, (noted_so block cast noted (told block within)).first other))
+    (λ cast none. (may, (unnoted_so block cast none (told block within)).counts)))
   where
     P : Question → Type 0
     P = IsAnswered monitor plan
 
-    guard : waiting_guard monitor condition ≡ which.guard
-    guard = guard_at stay monitor condition which is plain
+    noted_so : (block : ℕ) → has_broadcast (notes_at plan block) condition ≡ false → has_note (notes_at plan block) condition ≡ true
+        → IsToldRight monitor plan condition row block → CountsWithOne monitor plan condition row block
+    noted_so block cast noted (inl all) = absurd (true≢false (sym all ∙ cast))
+    noted_so block cast noted (inr (inl none)) = absurd (true≢false (sym noted ∙ none.none))
+    noted_so block cast noted (inr (inr one)) = one
 
-    of_block : (block : ℕ) (held : Block) → slice_get monitor.blocks block ≡ Some held → has_broadcast (notes_at plan block) condition ≡ false
-        → CountsBlock monitor plan condition (guard_measure which.guard) block held
-    of_block block held there none = elim (counted.each block held there) [
-      | inl cast ↦ absurd (true≢false (sym cast ∙ none))
-      | inr counts ↦ counts
-    ]
+    unnoted_so : (block : ℕ) → has_broadcast (notes_at plan block) condition ≡ false → has_note (notes_at plan block) condition ≡ false
+        → IsToldRight monitor plan condition row block → CountsWithNone monitor plan condition row block
+    unnoted_so block cast none (inl all) = absurd (true≢false (sym all ∙ cast))
+    unnoted_so block cast none (inr (inl unnoted)) = unnoted
+    unnoted_so block cast none (inr (inr one)) = absurd (true≢false (sym one.one ∙ none))
 
 -- ---- what is found of a lawful plan
 
 -- a condition that is passed on is not found to be uncounted
-passed_found : (monitor : MonitorParts) (plan : Plan) (condition : ℕ) → IsMonitor monitor → IsPlanOf monitor plan → IsCommonLawful monitor plan → IsLawfulAtSight monitor plan
-    → HasNoOpenClaim monitor plan.kept → IsPassedOn monitor plan condition → IsNotPassedOn monitor plan condition → ⊥
-passed_found monitor plan condition rule of own sight none passed is =
-    let told = all_at (IsTold monitor plan) (passing_claims monitor plan condition) is.place is.claim is.here (passing_told monitor plan condition rule of own sight passed) in
-    none is.claim told.0 (is.unproved told.1)
+passed_found : (monitor : MonitorParts) (plan : Plan) (condition : ℕ) (claim : Claim) → IsMonitor monitor → IsPlanOf monitor plan → IsCommonLawful monitor plan → IsLawfulAtSight monitor plan
+    → HasNoOpenClaim monitor plan.kept → IsPassedOn monitor plan condition → IsNotPassedOn monitor plan condition claim → ⊥
+passed_found monitor plan condition claim rule of own sight none passed is =
+    let told = all_at (IsTold monitor plan) (passing_claims monitor plan condition) is.place claim is.here (passing_told monitor plan condition rule of own sight passed) in
+    none claim told.0 (is.unproved told.1)
 
-two_kinds : (o : Option CondKind) → o ≡ Some kinds.Broadcast → o ≡ Some kinds.Signal → ⊥
-two_kinds o is also = cc
-
--- a condition that is counted is not
-counted_found : GuardsStay → (monitor : MonitorParts) (plan : Plan) (question : Question) (which : Condition) → IsMonitor monitor → IsPlanOf monitor plan
-    → HasNoOpenQuestion monitor plan.kept → (is : IsFirstUncounted monitor plan question) → IsCondition monitor is.condition which
-    → IsCountedByGuard monitor plan is.condition which.guard → ⊥
-counted_found stay monitor plan question which rule of none is at counted =
-    let plain : reads_inputs which.guard ≡ false = by_reads (reads_inputs which.guard) refl in
-    let told = all_at (IsAnswered monitor plan) (counting_questions monitor plan is.condition) is.place question is.here
-    (questions_told stay monitor plan is.condition which at plain reads counted) in
-    none question told.0 (is.unproved told.1)
-  where
-    by_reads : (reads : Bool) → reads_inputs which.guard ≡ reads → reads_inputs which.guard ≡ false
-    by_reads true it = absurd (two_kinds (condition_kind plan is.condition) (is.sight.reading is.condition which at it).kind is.kind)
-    by_reads false it = it
-
-    reads : ReadsNone monitor is.condition
-    reads = signal_reads monitor plan is.condition rule of is.sight is.there is.kind
+-- a condition that is counted by a row that is tried is not
+counted_found : (monitor : MonitorParts) (plan : Plan) (question : Question) → IsMonitor monitor → IsPlanOf monitor plan
+    → HasNoOpenQuestion monitor plan.kept → (is : IsFirstUncounted monitor plan question) → IsCountedByTried monitor plan is.condition → ⊥
+counted_found monitor plan question rule of none is counted =
+    let reads = signal_reads monitor plan is.condition rule of is.sight is.there is.kind in
+    let found = is.uncounted counted.row counted.tried in
+    let told = all_at (IsAnswered monitor plan) (counting_questions monitor plan is.condition counted.row) found.1.place found.0 found.1.here
+    (questions_told monitor plan is.condition counted.row reads counted.tried.has counted.told) in
+    none found.0 told.0 (found.1.unproved told.1)
 
 found_of_common : (monitor : MonitorParts) (plan : Plan) (finding : Finding) → IsPlanOf monitor plan → HasNoOpenClaim monitor plan.kept
     → IsCommonLawful monitor plan
@@ -199,16 +166,16 @@ found_of_common monitor plan (findings.Unproved claim) of none own reading broad
     absurd (none claim told.0 (is.unproved told.1))
 found_of_common monitor plan (findings.Uncounted question) of none own reading broadcasts counted is = absurd (counted question is)
 
-pub found_by_guards : GuardsStay → (monitor : MonitorParts) (plan : Plan) (finding : Finding) → IsMonitor monitor → IsPlanOf monitor plan → HasNoOpenClaim monitor plan.kept
-    → HasNoOpenQuestion monitor plan.kept → IsLawfulByGuards monitor plan → IsCountedFinding monitor plan finding → finding ≡ findings.Lawful
-found_by_guards stay monitor plan finding rule of none no_question lawful =
+pub found_by_rows : (monitor : MonitorParts) (plan : Plan) (finding : Finding) → IsMonitor monitor → IsPlanOf monitor plan → HasNoOpenClaim monitor plan.kept
+    → HasNoOpenQuestion monitor plan.kept → IsLawfulByRows monitor plan → IsCountedFinding monitor plan finding → finding ≡ findings.Lawful
+found_by_rows monitor plan finding rule of none no_question lawful =
     let own : IsCommonLawful monitor plan = record { inductive = lawful.inductive; noted = lawful.noted } in
     found_of_common monitor plan finding of none own lawful.reading lawful.broadcasts (λ question is.
     let which = at_place monitor.conditions (is.condition - 1) (omega (arith, is.there.0, is.there.1)) in
     let at : IsCondition monitor is.condition which.0 = record { numbered = is.there.0; there = which.1 } in
     elim (lawful.signals is.condition which.0 at is.kind) [
-      | inl passed ↦ passed_found monitor plan is.condition rule of own is.sight none passed is.other_way
-      | inr counted ↦ counted_found stay monitor plan question which.0 rule of no_question is at counted
+      | inl passed ↦ passed_found monitor plan is.condition is.claim rule of own is.sight none passed is.other_way
+      | inr counted ↦ counted_found monitor plan question rule of no_question is counted
     ])
 
 -- each block of a condition of kind signal of a lawful plan passes on
@@ -223,4 +190,4 @@ pub counted_found_of_lawful : (monitor : MonitorParts) (plan : Plan) (finding : 
 counted_found_of_lawful monitor plan finding rule of none lawful =
     let own : IsCommonLawful monitor plan = record { inductive = lawful.inductive; noted = lawful.noted } in
     found_of_common monitor plan finding of none own lawful.reading lawful.broadcasts (λ question is.
-    passed_found monitor plan is.condition rule of own is.sight none (passes_on monitor plan is.condition lawful is.kind) is.other_way)
+    passed_found monitor plan is.condition is.claim rule of own is.sight none (passes_on monitor plan is.condition lawful is.kind) is.other_way)
