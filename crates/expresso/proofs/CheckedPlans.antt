@@ -1,5 +1,5 @@
 -- What `recheck` accepts and `audit` calls lawful loses no wake-up.
-use Rattle.std.proofs.Common.{◌≡◌, ℕ, Bool, true, false, List, [], ◌∷◌, Option, Some, refl, subst, true≢false}
+use Rattle.std.proofs.Common.{◌≡◌, ℕ, Bool, true, false, List, [], ◌∷◌, Option, Some, None, refl, subst, true≢false}
 use Rattle.std.specs.Prelude.{All}
 use Rattle.std.proofs.lemmas.List.Elements.{All-nil, All-cons}
 use Rattle.lang_tree.specs.declared.tree.MonitorTree.{MonitorTree}
@@ -74,10 +74,10 @@ lawful_reading true monitor plan lawful = lawful.reading
 
 -- ---- reports
 
-none_marked : (counted : List Bool) → counts_some counted ≡ false → All (λ mark. mark ≡ false) counted
-none_marked [] none = All-nil (λ mark. mark ≡ false)
-none_marked (true ∷ counted) none = absurd (true≢false none)
-none_marked (false ∷ counted) none = All-cons (λ mark. mark ≡ false) false counted refl (none_marked counted none)
+none_counted : (counted : List (Option ℕ)) → counts_some counted ≡ false → All (λ row. row ≡ None) counted
+none_counted [] none = All-nil (λ row. row ≡ None)
+none_counted (Some row ∷ counted) none = absurd (true≢false none)
+none_counted (None ∷ counted) none = All-cons (λ row. row ≡ None) None counted refl (none_counted counted none)
 
 -- the plan of an accepted report is lawful, or where some condition is counted, by counting
 accepted_lawful : (monitor : MonitorParts) (report : CountedReport) → IsCountedAccepted monitor report → IsLawfulBy (counts_some report.counted) monitor report.plan
@@ -85,7 +85,7 @@ accepted_lawful monitor report accepted = by_marks (counts_some report.counted) 
   where
     by_marks : (some : Bool) → counts_some report.counted ≡ some → IsLawfulBy some monitor report.plan
     by_marks true is = accepted.lawful
-    by_marks false is = accepted.plain (none_marked report.counted is)
+    by_marks false is = accepted.plain (none_counted report.counted is)
 
 -- ---- files
 

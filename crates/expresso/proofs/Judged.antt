@@ -70,12 +70,14 @@ CountedTexts = (monitor : MonitorParts) (placed : PlacedPlan) (counted : Counted
 
 pub is_counting_of : (monitor : MonitorParts) (placed : PlacedPlan) (counted : CountedPlan) → IsCounting monitor placed counted → IsCountingOf monitor placed counted
 is_counting_of monitor placed counted is = record {
+  is = is.placement.is;
   fits = is.placement.fits;
   proofs = is.proofs.claims;
   counted_fits = is.fits;
   from = subst (IsCountedFrom monitor placed.plan) (sym is.by.made) is.by.table.counted;
   plan = is.by.made;
   backed = is.by.table.backed;
+  broadcasts = is.broadcasts;
 }
 
 pub counted_report_done : CountedTexts → (file : List ℕ) (tree : MonitorTree) (monitor : MonitorParts) (placed : PlacedPlan) (counted : CountedPlan) (files files_now : FilesSeen) (result : Status) (out out_now : SinkSeen)

@@ -20,9 +20,9 @@ use Rattle.plan_counted.specs.declared.counted.CountedPlan.{CountedPlan}
 use Rattle.plan_place.specs.Relayed.{RelayedPlansAreLawful, RelayedPlansFit, RelayedPlansOmitNoMore, relay_of}
 use Rattle.front_command.specs.declared.plan_choice.PlanChoice.{PlanChoice}
 use Rattle.front_command.specs.declared.plan_choice.PlanChoice.TheVariants.{Placed, Relayed, Counted, CountedAndRelayed}
-use Rattle.plan_counted.specs.declared.counted.Told.{Told}
+use Rattle.plan_counted.specs.declared.counted.Column.{Column}
 use Rattle.plan_counted.specs.Counted.{AreBacked, IsCountedFrom, counted_of}
-use Rattle.plan_counted.specs.CountedAndRelayed.{IsCountedAndRelayed, OmitsNoMore, counted_and_relayed}
+use Rattle.plan_counted.specs.CountedAndRelayed.{CountsBroadcasts, IsCountedAndRelayed, OmitsNoMore, counted_and_relayed}
 use Rattle.plan_counted.specs.Exact.{HasNoOpenQuestion, IsExactlyCounted}
 use Rattle.expresso.specs.Placements.{IsChosen, IsCountTable, IsCounting, IsLawfulChoice, IsPlacement}
 use Rattle.expresso.specs.PlacedRuns.{IsPlacedRun}
@@ -66,7 +66,7 @@ relayed_chosen fit are_lawful omit_no_more choice monitor placed plan is placeme
     }))
 
 -- what is known of a plan that was counted, and of the table that made it
-count_table : (monitor : MonitorParts) (placed counted : Plan) (columns : List (Option (List Told))) → counted ≡ counted_of placed columns → IsCountedFrom monitor placed counted
+count_table : (monitor : MonitorParts) (placed counted : Plan) (columns : List (Option Column)) → counted ≡ counted_of placed columns → IsCountedFrom monitor placed counted
     → (HasNoOpenQuestion monitor placed.kept → IsExactlyCounted monitor placed counted) → AreBacked monitor placed columns → IsCountTable monitor placed columns
 count_table monitor placed counted columns is from exact backed = record {
   counted = subst (IsCountedFrom monitor placed) is from;
@@ -75,7 +75,7 @@ count_table monitor placed counted columns is from exact backed = record {
 }
 
 -- that plan counted
-counted_choice : (monitor : MonitorParts) (placed plan : Plan) (columns : List (Option (List Told))) → IsPlacement monitor placed → plan ≡ counted_of placed columns
+counted_choice : (monitor : MonitorParts) (placed plan : Plan) (columns : List (Option Column)) → IsPlacement monitor placed → plan ≡ counted_of placed columns
     → IsCountedFrom monitor placed plan → (HasNoOpenQuestion monitor placed.kept → IsExactlyCounted monitor placed plan) → AreBacked monitor placed columns
     → FitsPlan monitor plan → IsLawfulByCounting monitor plan → OmitsNoMore placed plan → IsChosen Counted monitor plan
 counted_choice monitor placed plan columns placement made from exact backed fits lawful omits = record {
@@ -87,14 +87,14 @@ counted_choice monitor placed plan columns placement made from exact backed fits
   omits = omits;
 }
 
-pub counted_chosen : (choice : PlanChoice) (monitor : MonitorParts) (placed plan : Plan) (columns : List (Option (List Told))) → choice ≡ Counted → IsPlacement monitor placed → plan ≡ counted_of placed columns
+pub counted_chosen : (choice : PlanChoice) (monitor : MonitorParts) (placed plan : Plan) (columns : List (Option Column)) → choice ≡ Counted → IsPlacement monitor placed → plan ≡ counted_of placed columns
     → IsCountedFrom monitor placed plan → (HasNoOpenQuestion monitor placed.kept → IsExactlyCounted monitor placed plan) → AreBacked monitor placed columns
     → FitsPlan monitor plan → IsLawfulByCounting monitor plan → OmitsNoMore placed plan → IsChosen choice monitor plan
 counted_chosen choice monitor placed plan columns is placement made from exact backed fits lawful omits =
     subst (λ (c : PlanChoice). IsChosen c monitor plan) (sym is) (counted_choice monitor placed plan columns placement made from exact backed fits lawful omits)
 
 -- that plan counted, with the reasons that were found
-pub count_explained : (monitor : MonitorParts) (placed plan : Plan) (columns : List (Option (List Told))) (reasons : List Reason) (broadcasts : List BroadcastReason) → IsPlacement monitor placed → plan ≡ counted_of placed columns
+pub count_explained : (monitor : MonitorParts) (placed plan : Plan) (columns : List (Option Column)) (reasons : List Reason) (broadcasts : List BroadcastReason) → IsPlacement monitor placed → plan ≡ counted_of placed columns
     → IsCountedFrom monitor placed plan → (HasNoOpenQuestion monitor placed.kept → IsExactlyCounted monitor placed plan) → AreBacked monitor placed columns
     → FitsPlan monitor plan → IsLawfulByCounting monitor plan → OmitsNoMore placed plan
     → map (λ reason. reason.thing) reasons ≡ things_of monitor plan → All (IsCountedReason monitor placed plan) reasons
@@ -109,7 +109,7 @@ count_explained monitor placed plan columns reasons broadcasts placement made fr
 }
 
 -- that plan counted, with the signals relayed on each condition that is not counted
-pub both_chosen : (choice : PlanChoice) (monitor : MonitorParts) (placed counted plan : Plan) (columns : List (Option (List Told))) → choice ≡ CountedAndRelayed → IsPlacement monitor placed
+pub both_chosen : (choice : PlanChoice) (monitor : MonitorParts) (placed counted plan : Plan) (columns : List (Option Column)) → choice ≡ CountedAndRelayed → IsPlacement monitor placed
     → counted ≡ counted_of placed columns → IsCountedFrom monitor placed counted → (HasNoOpenQuestion monitor placed.kept → IsExactlyCounted monitor placed counted) → AreBacked monitor placed columns
     → plan ≡ counted_and_relayed monitor placed columns → IsCountedAndRelayed monitor placed counted plan
     → FitsPlan monitor plan → IsLawfulByCounting monitor plan → OmitsNoMore placed plan → IsChosen choice monitor plan
@@ -140,12 +140,13 @@ choice_counts CountedAndRelayed monitor plan lawful = lawful
 pub counting_is : (monitor : MonitorParts) (placed : PlacedPlan) (counted : CountedPlan) → IsPlacement monitor placed.plan
     → AreProofs monitor placed.plan.kept (backed_claims monitor placed.plan) placed.proofs → counted.plan ≡ counted_of placed.plan counted.columns → IsCountedFrom monitor placed.plan counted.plan
     → (HasNoOpenQuestion monitor placed.plan.kept → IsExactlyCounted monitor placed.plan counted.plan) → AreBacked monitor placed.plan counted.columns
-    → FitsPlan monitor counted.plan → IsLawfulByCounting monitor counted.plan → All (λ proof. HasTypedNumbers proof.cert) placed.proofs → All HasTypedColumn counted.columns
-    → IsCounting monitor placed counted
-counting_is monitor placed counted placement proofs made from exact backed fits lawful typed typed_columns = record {
+    → CountsBroadcasts monitor placed.plan counted.columns → FitsPlan monitor counted.plan → IsLawfulByCounting monitor counted.plan → All (λ proof. HasTypedNumbers proof.cert) placed.proofs
+    → All HasTypedColumn counted.columns → IsCounting monitor placed counted
+counting_is monitor placed counted placement proofs made from exact backed broadcasts fits lawful typed typed_columns = record {
   placement = placement;
   proofs = proofs;
   by = record { table = count_table monitor placed.plan counted.plan counted.columns made from exact backed; made = made };
+  broadcasts = broadcasts;
   fits = fits;
   lawful = lawful;
   typed = typed;

@@ -28,9 +28,10 @@ use Rattle.report_recheck.proofs.PlacedTexts.{placed_report}
 use Rattle.report_tally.specs.declared.report.CountedReport.{CountedReport}
 use Rattle.report_tally.specs.CountedReadings.{IsCountedRead}
 use Rattle.report_tally.specs.CountedReports.{counted_report_text}
-use Rattle.report_tally.specs.CountedTexts.{counted_report_of, counted_text}
+use Rattle.report_tally.specs.CountedTexts.{IsCountingOf, counted_report_of, counted_text}
 use Rattle.report_tally.specs.CountedVerdicts.{IsCountedAccepted, IsCountedVerdict}
 use Rattle.report_tally.specs.EasyCountings.{IsEasyCounting}
+use Rattle.report_tally.proofs.PrintedCounts.{no_open_claims, no_open_questions}
 use Rattle.report_tally.specs.UncountedReports.{uncounted}
 use Rattle.report_fits.specs.declared.fit.Fit.{Fit}
 use Rattle.report_fits.specs.FitParts.{AreParts, GoesOnWithFit}
@@ -167,13 +168,16 @@ counted_accepted texts none_open reads accepts held file text is easy asked = re
   many = refl;
 }
   where
+    counting : IsCountingOf is.monitor is.placed is.counted
+    counting = is_counting_of is.monitor is.placed is.counted is.counting
+
     own : IsEasyCounting is.monitor is.placed is.counted
     own = record {
-      is = is.counting.placement.is;
-      claims = none_open is.monitor is.placed.plan.kept (record { candidates = is.counting.placement.fits.kept; starts = is.counting.placement.lawful.inductive.starts }) easy;
-      questions = asked;
+      claims = no_open_claims is.monitor is.placed is.counted counting is.counting.lawful
+          (none_open is.monitor is.placed.plan.kept (record { candidates = is.counting.placement.fits.kept; starts = is.counting.placement.lawful.inductive.starts }) easy);
+      questions = no_open_questions is.monitor is.placed is.counted counting asked;
       lawful = is.counting.placement.lawful;
-      counting = is_counting_of is.monitor is.placed is.counted is.counting;
+      counting = counting;
       counted_lawful = is.counting.lawful;
       proofs = is.counting.proofs;
       typed = is.counting.typed;

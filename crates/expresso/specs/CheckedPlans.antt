@@ -1,5 +1,5 @@
 -- What is true of the plans that `recheck` accepts and `audit` calls lawful.
-use Rattle.std.specs.Prelude.{ℕ, Bool, true, false, List}
+use Rattle.std.specs.Prelude.{ℕ, Bool, true, false, List, Option, is_some}
 use Rattle.std.specs.List.{list_any}
 use Rattle.lang_tree.specs.declared.tree.MonitorTree.{MonitorTree}
 use Rattle.lang_monitor.specs.MonitorParts.{MonitorParts, IsMonitor}
@@ -51,8 +51,8 @@ pub record LosesNoWakeup (count : Bool) (monitor : MonitorParts) (plan : Plan) :
   pub threads : ThreadsLoseNone monitor plan
 
 -- some condition is counted
-abbrev pub counts_some : List Bool → Bool
-counts_some counted = list_any (λ mark. mark) counted
+abbrev pub counts_some : List (Option ℕ) → Bool
+counts_some counted = list_any is_some counted
 
 -- The bytes are a monitor's, and those of a report of it: its certificates refute what they should,
 -- and its plan loses no wake-up: it is lawful, or where some condition is counted, by counting. (No

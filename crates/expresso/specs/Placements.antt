@@ -15,9 +15,10 @@ use Rattle.plan_place.specs.Backing.{AreProofs, IsBacked, backed_claims}
 use Rattle.plan_place.specs.Exact.{IsExact, IsLicensed}
 use Rattle.plan_place.specs.Relayed.{relay_of}
 use Rattle.plan_counted.specs.declared.counted.CountedPlan.{CountedPlan}
-use Rattle.plan_counted.specs.declared.counted.Told.{Told}
+use Rattle.plan_counted.specs.declared.counted.Column.{Column}
 use Rattle.plan_counted.specs.Counted.{AreBacked, IsCountedFrom, counted_of}
-use Rattle.plan_counted.specs.CountedAndRelayed.{IsCountedAndRelayed, counted_and_relayed}
+use Rattle.plan_counted.specs.CountedAndRelayed.{CountsBroadcasts, IsCountedAndRelayed}
+use Rattle.plan_counted.specs.CountedAndRelayed.{counted_and_relayed}
 use Rattle.plan_counted.specs.Exact.{HasNoOpenQuestion, IsExactlyCounted}
 use Rattle.report_tally.specs.CountedTexts.{HasTypedColumn}
 
@@ -37,7 +38,7 @@ pub record IsPlacement (monitor : MonitorParts) (plan : Plan) : Type 0 where
 
 -- what a table says of the conditions that are counted, and of each block on each of them
 pub record IsCountTable (monitor : MonitorParts) (placed : Plan)
-    (columns : List (Option (List Told))) : Type 0 where
+    (columns : List (Option Column)) : Type 0 where
   -- the plan that it makes is the placed one, counted: it falls short of counting what may be
   -- counted, and of the fewest notes, only where a query may stay open
   pub counted : IsCountedFrom monitor placed (counted_of placed columns)
@@ -49,13 +50,13 @@ pub record IsCountTable (monitor : MonitorParts) (placed : Plan)
 
 -- the table makes this plan of the placed one
 pub record IsCountedBy (monitor : MonitorParts) (placed plan : Plan)
-    (columns : List (Option (List Told))) : Type 0 where
+    (columns : List (Option Column)) : Type 0 where
   pub table : IsCountTable monitor placed columns
   pub made : plan ≡ counted_of placed columns
 
 -- it makes this one, with the signals relayed on each condition that is not counted
 pub record IsCountedAndRelayedBy (monitor : MonitorParts) (placed plan : Plan)
-    (columns : List (Option (List Told))) : Type 0 where
+    (columns : List (Option Column)) : Type 0 where
   pub table : IsCountTable monitor placed columns
   pub made : plan ≡ counted_and_relayed monitor placed columns
   pub mixed : IsCountedAndRelayed monitor placed (counted_of placed columns) plan
@@ -67,6 +68,7 @@ pub record IsCounting (monitor : MonitorParts) (placed : PlacedPlan) (counted : 
   pub placement : IsPlacement monitor placed.plan
   pub proofs : AreProofs monitor placed.plan.kept (backed_claims monitor placed.plan) placed.proofs
   pub by : IsCountedBy monitor placed.plan counted.plan counted.columns
+  pub broadcasts : CountsBroadcasts monitor placed.plan counted.columns
   pub fits : FitsPlan monitor counted.plan
   pub lawful : IsLawfulByCounting monitor counted.plan
   pub typed : All (λ proof. HasTypedNumbers proof.cert) placed.proofs
@@ -79,9 +81,9 @@ abbrev pub IsChosenFrom : PlanChoice → MonitorParts → Plan → Plan → Type
 IsChosenFrom Placed monitor placed plan = plan ≡ placed
 IsChosenFrom Relayed monitor placed plan = plan ≡ relay_of monitor placed
 IsChosenFrom Counted monitor placed plan =
-    (columns : List (Option (List Told))) × IsCountedBy monitor placed plan columns
+    (columns : List (Option Column)) × IsCountedBy monitor placed plan columns
 IsChosenFrom CountedAndRelayed monitor placed plan =
-    (columns : List (Option (List Told))) × IsCountedAndRelayedBy monitor placed plan columns
+    (columns : List (Option Column)) × IsCountedAndRelayedBy monitor placed plan columns
 
 -- the choice counts no condition
 abbrev pub CountsNothing : PlanChoice → Type 0
