@@ -1,6 +1,8 @@
 -- Plans that are asked for, and a machine that ended closed under one.
 use Rattle.std.proofs.Common.{◌≡◌, ℕ, Bool, true, false, List, All, map, Option, Result, Ok, Err, IfOk, refl, sym, ap, subst, ◌∙◌, true≢false}
+use Rattle.std.specs.List.{enumerate_from}
 use Rattle.lang_monitor.specs.MonitorParts.{MonitorParts}
+use Rattle.lang_monitor.specs.declared.candidate.Candidate.{Candidate}
 use Rattle.machine_implicit.specs.declared.script.Client.{Client}
 use Rattle.machine_implicit.specs.Scripted.{AreClients}
 use Rattle.machine_implicit.specs.Runs.{IsRun, Ends}
@@ -21,7 +23,7 @@ use Rattle.plan_place.specs.Relayed.{RelayedPlansAreLawful, RelayedPlansFit, Rel
 use Rattle.front_command.specs.declared.plan_choice.PlanChoice.{PlanChoice}
 use Rattle.front_command.specs.declared.plan_choice.PlanChoice.TheVariants.{Placed, Relayed, Counted, CountedAndRelayed}
 use Rattle.plan_counted.specs.declared.counted.Column.{Column}
-use Rattle.plan_counted.specs.Counted.{AreBacked, IsCountedFrom, counted_of}
+use Rattle.plan_counted.specs.Counted.{AreBacked, IsColumnBacked, IsCountedFrom, counted_of}
 use Rattle.plan_counted.specs.CountedAndRelayed.{CountsBroadcasts, IsCountedAndRelayed, OmitsNoMore, counted_and_relayed}
 use Rattle.plan_counted.specs.Exact.{HasNoOpenQuestion, IsExactlyCounted}
 use Rattle.expresso.specs.Placements.{IsChosen, IsCountTable, IsCounting, IsLawfulChoice, IsPlacement}
@@ -93,15 +95,22 @@ pub counted_chosen : (choice : PlanChoice) (monitor : MonitorParts) (placed plan
 counted_chosen choice monitor placed plan columns is placement made from exact backed fits lawful omits =
     subst (λ (c : PlanChoice). IsChosen c monitor plan) (sym is) (counted_choice monitor placed plan columns placement made from exact backed fits lawful omits)
 
+-- a table that is backed for a plan is so for another that keeps the same
+pub backed_for : (monitor : MonitorParts) (placed plan : Plan) (columns : List (Option Column)) → plan.kept ≡ placed.kept → AreBacked monitor placed columns → AreBacked monitor plan columns
+backed_for monitor placed plan columns kept backed = record {
+  many = backed.many;
+  each = subst (λ (k : List Candidate). All (λ one. IsColumnBacked monitor k one.0 one.1) (enumerate_from 1 columns)) (sym kept) backed.each;
+}
+
 -- that plan counted, with the reasons that were found
-pub count_explained : (monitor : MonitorParts) (placed plan : Plan) (columns : List (Option Column)) (reasons : List Reason) (broadcasts : List BroadcastReason) → IsPlacement monitor placed → plan ≡ counted_of placed columns
-    → IsCountedFrom monitor placed plan → (HasNoOpenQuestion monitor placed.kept → IsExactlyCounted monitor placed plan) → AreBacked monitor placed columns
-    → FitsPlan monitor plan → IsLawfulByCounting monitor plan → OmitsNoMore placed plan
-    → map (λ reason. reason.thing) reasons ≡ things_of monitor plan → All (IsCountedReason monitor placed plan) reasons
-    → map (λ reason. reason.broadcast) broadcasts ≡ broadcasts_of placed plan → All (IsBroadcastReason monitor plan) broadcasts → IsCountExplained monitor plan reasons broadcasts
+pub count_explained : (monitor : MonitorParts) (placed : Plan) (counted : CountedPlan) (reasons : List Reason) (broadcasts : List BroadcastReason) → IsPlacement monitor placed → counted.plan ≡ counted_of placed counted.columns
+    → IsCountedFrom monitor placed counted.plan → (HasNoOpenQuestion monitor placed.kept → IsExactlyCounted monitor placed counted.plan) → AreBacked monitor placed counted.columns
+    → FitsPlan monitor counted.plan → IsLawfulByCounting monitor counted.plan → OmitsNoMore placed counted.plan
+    → map (λ reason. reason.thing) reasons ≡ things_of monitor counted.plan → All (IsCountedReason monitor counted) reasons
+    → map (λ reason. reason.broadcast) broadcasts ≡ broadcasts_of counted → All (IsBroadcastReason monitor counted) broadcasts → IsCountExplained monitor counted.plan reasons broadcasts
 unfolding counted_choice
-count_explained monitor placed plan columns reasons broadcasts placement made from exact backed fits lawful omits things each listed each_listed = record {
-  chosen = counted_choice monitor placed plan columns placement made from exact backed fits lawful omits;
+count_explained monitor placed counted reasons broadcasts placement made from exact backed fits lawful omits things each listed each_listed = record {
+  chosen = counted_choice monitor placed counted.plan counted.columns placement made from exact backed fits lawful omits;
   things = things;
   each = each;
   listed = listed;

@@ -28,7 +28,7 @@ use Rattle.front_command.specs.CommandLine.{Command, check, turns, compile, simu
 use Rattle.front_command.specs.CommandLine.{report, recheck, block, audit, explain, emit}
 use Rattle.front_command.specs.CommandLine.{Takes, TakesNone, files_of}
 use Rattle.machine_stress.specs.LargeInput.{buffer_of, capacity_of, producers_and_consumers}
-use Rattle.expresso.specs.Placements.{IsChosen, IsCounting, IsPlacement}
+use Rattle.expresso.specs.Placements.{IsChosen, IsCounting, IsPlacement, table_of}
 use Rattle.expresso.specs.PlacedRuns.{IsPlacedRun}
 use Rattle.expresso.specs.Simulations.{IsSimulation}
 use Rattle.machine_events.specs.Configurations.{system_under}
@@ -257,9 +257,10 @@ pub record IsCountExplainText (held : List ℕ → Option (List ℕ)) (file text
   pub holds : HoldsMonitor held file tree monitor
   pub chosen : IsChosen Counted monitor plan
   pub things : map (λ reason. reason.thing) reasons ≡ things_of monitor plan
-  pub each : All (IsCountedReason monitor chosen.placed plan) reasons
-  pub listed : map (λ reason. reason.broadcast) broadcasts ≡ broadcasts_of chosen.placed plan
-  pub each_listed : All (IsBroadcastReason monitor plan) broadcasts
+  pub each : All (IsCountedReason monitor (table_of monitor plan chosen)) reasons
+  pub listed : map (λ reason. reason.broadcast) broadcasts
+      ≡ broadcasts_of (table_of monitor plan chosen)
+  pub each_listed : All (IsBroadcastReason monitor (table_of monitor plan chosen)) broadcasts
   pub printed : text ≡ count_explained_text tree monitor plan reasons broadcasts
 
 -- after a text, a line for each block of which no certificate was found that it keeps 64 bits, with

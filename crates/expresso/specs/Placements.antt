@@ -112,3 +112,8 @@ pub record IsChosen (choice : PlanChoice) (monitor : MonitorParts) (plan : Plan)
   -- where it has no note, the placed plan has none, with a certificate that none is needed
   pub omits : (block condition : ℕ) → has_note (notes_at plan block) condition ≡ false
       → has_note (notes_at placed block) condition ≡ false
+
+-- a counted plan, with the table that makes it
+abbrev pub table_of : (monitor : MonitorParts) (plan : Plan) → IsChosen Counted monitor plan
+    → CountedPlan
+table_of monitor plan chosen = record { plan = plan; columns = chosen.is.0 }

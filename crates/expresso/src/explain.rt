@@ -98,8 +98,8 @@ pub(crate) fn count_explanation_of(
 {
     let placed = placed_of(alloc, monitor)?.plan;
     let counted = count_plan(alloc, monitor, &placed)?;
-    let reasons = counted_reasons(alloc, monitor, &placed, &counted.plan)?;
-    let broadcasts = broadcast_reasons(alloc, monitor, &placed, &counted.plan)?;
+    let reasons = counted_reasons(alloc, monitor, &counted)?;
+    let broadcasts = broadcast_reasons(alloc, monitor, &counted)?;
     let plan = counted.plan;
     let explanation = Explanation { plan, reasons };
     Ok(CountExplanation {

@@ -9,7 +9,7 @@ use Rattle.plan_needs.specs.declared.broadcasts.BroadcastReason.{BroadcastReason
 use Rattle.plan_needs.specs.CountedReasons.{IsBroadcastReason, IsCountedReason}
 use Rattle.plan_needs.specs.Needs.{broadcasts_of}
 use Rattle.front_command.specs.declared.plan_choice.PlanChoice.TheVariants.{Counted}
-use Rattle.expresso.specs.Placements.{IsChosen, IsPlacement}
+use Rattle.expresso.specs.Placements.{IsChosen, IsPlacement, table_of}
 
 -- a plan that the monitor is compiled to, and why each thing stands in it that costs something
 pub record IsExplained (monitor : MonitorParts) (plan : Plan) (reasons : List Reason) : Type 0 where
@@ -23,6 +23,7 @@ pub record IsCountExplained (monitor : MonitorParts) (plan : Plan) (reasons : Li
     (broadcasts : List BroadcastReason) : Type 0 where
   pub chosen : IsChosen Counted monitor plan
   pub things : map (λ reason. reason.thing) reasons ≡ things_of monitor plan
-  pub each : All (IsCountedReason monitor chosen.placed plan) reasons
-  pub listed : map (λ reason. reason.broadcast) broadcasts ≡ broadcasts_of chosen.placed plan
-  pub each_listed : All (IsBroadcastReason monitor plan) broadcasts
+  pub each : All (IsCountedReason monitor (table_of monitor plan chosen)) reasons
+  pub listed : map (λ reason. reason.broadcast) broadcasts
+      ≡ broadcasts_of (table_of monitor plan chosen)
+  pub each_listed : All (IsBroadcastReason monitor (table_of monitor plan chosen)) broadcasts
