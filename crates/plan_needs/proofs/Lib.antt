@@ -1,5 +1,5 @@
 mod Among
-mod Counted
+mod ByRows
 mod Sparing
 mod Needed
 mod Listed

@@ -3,37 +3,36 @@ use Rattle.std.proofs.Common.{◌≡◌, ◌⊎◌, inl, inr, ℕ, ◌+◌, ◌<
 use Rattle.std.specs.Prelude.{slice_get}
 use Rattle.lang_monitor.specs.declared.monitor.Block.{Block}
 use Rattle.lang_monitor.specs.MonitorParts.{MonitorParts}
-use Rattle.machine_events.specs.declared.plan.Plan.{Plan}
 use Rattle.logic_solve.specs.declared.valuation.Solution.{Solution}
-use Rattle.plan_why.specs.declared.failing.Failure.{Failure}
 use Rattle.plan_why.specs.declared.reason.Thing.{Thing}
 use Rattle.plan_why.specs.Failures.{IsFailureAmong}
 use Rattle.plan_why.specs.Things.{is_block_of, IsBlockOf}
 use Rattle.plan_why.proofs.Blocks as blocks
+use Rattle.plan_counted.specs.declared.counted.CountedPlan.{CountedPlan}
 use Rattle.plan_needs.specs.CountedReasons.{IsCountedShown, IsCountedUndecided}
 use Rattle.plan_needs.specs.Needs.{sparing_queries}
 use Rattle.plan_needs.specs.inner.Asked.{AreSparedBefore, IsAskedOf, IsSparedAt}
 
-pub not_about : (monitor : MonitorParts) (placed counted : Plan) (thing : Thing) (block : ℕ) (held : Block) (test : Bool) → slice_get monitor.blocks block ≡ Some held → test ≡ is_block_of thing block held.condition → test ≡ false
-    → IsAskedOf monitor placed counted thing block None
-not_about monitor placed counted thing block held test there is other about = absurd (blocks.other_block monitor thing block held test there is other about)
+pub not_about : (monitor : MonitorParts) (counted : CountedPlan) (thing : Thing) (block : ℕ) (held : Block) (test : Bool) → slice_get monitor.blocks block ≡ Some held → test ≡ is_block_of thing block held.condition → test ≡ false
+    → IsAskedOf monitor counted thing block None
+not_about monitor counted thing block held test there is other about = absurd (blocks.other_block monitor thing block held test there is other about)
 
-pub spared_there : (monitor : MonitorParts) (placed counted : Plan) (thing : Thing) (block : ℕ) → IsFailureAmong monitor (sparing_queries monitor placed counted thing block) None → IsAskedOf monitor placed counted thing block None
-spared_there monitor placed counted thing block spared about = spared
+pub spared_there : (monitor : MonitorParts) (counted : CountedPlan) (thing : Thing) (block : ℕ) → IsFailureAmong monitor (sparing_queries monitor counted thing block) None → IsAskedOf monitor counted thing block None
+spared_there monitor counted thing block spared about = spared
 
-pub shown_there : (monitor : MonitorParts) (placed counted : Plan) (thing : Thing) (block : ℕ) (before : Solution) (after : Option Solution) → IsBlockOf monitor thing block
-    → IsFailureAmong monitor (sparing_queries monitor placed counted thing block) (Some (record { before = before; after = after })) → IsCountedShown monitor placed counted thing block before after
-shown_there monitor placed counted thing block before after about found = record { about = about; fails = found }
+pub shown_there : (monitor : MonitorParts) (counted : CountedPlan) (thing : Thing) (block : ℕ) (before : Solution) (after : Option Solution) → IsBlockOf monitor thing block
+    → IsFailureAmong monitor (sparing_queries monitor counted thing block) (Some (record { before = before; after = after })) → IsCountedShown monitor counted thing block before after
+shown_there monitor counted thing block before after about found = record { about = about; fails = found }
 
-pub none_before : (monitor : MonitorParts) (placed counted : Plan) (thing : Thing) → AreSparedBefore monitor placed counted thing 0
-none_before monitor placed counted thing block h = absurd (omega arith)
+pub none_before : (monitor : MonitorParts) (counted : CountedPlan) (thing : Thing) → AreSparedBefore monitor counted thing 0
+none_before monitor counted thing block h = absurd (omega arith)
 
-pub one_more_spared : (monitor : MonitorParts) (placed counted : Plan) (thing : Thing) (count : ℕ) → AreSparedBefore monitor placed counted thing count → IsAskedOf monitor placed counted thing count None → AreSparedBefore monitor placed counted thing (count + 1)
-one_more_spared monitor placed counted thing count before asked block h about = by (blocks.before_or_this block count h)
+pub one_more_spared : (monitor : MonitorParts) (counted : CountedPlan) (thing : Thing) (count : ℕ) → AreSparedBefore monitor counted thing count → IsAskedOf monitor counted thing count None → AreSparedBefore monitor counted thing (count + 1)
+one_more_spared monitor counted thing count before asked block h about = by (blocks.before_or_this block count h)
   where
-    by : (block < count) ⊎ (count ≡ block) → IsSparedAt monitor placed counted thing block
+    by : (block < count) ⊎ (count ≡ block) → IsSparedAt monitor counted thing block
     by (inl l) = before block l about
-    by (inr same) = subst (IsSparedAt monitor placed counted thing) same (asked (subst (IsBlockOf monitor thing) (sym same) about))
+    by (inr same) = subst (IsSparedAt monitor counted thing) same (asked (subst (IsBlockOf monitor thing) (sym same) about))
 
-pub all_spared : (monitor : MonitorParts) (placed counted : Plan) (thing : Thing) (count : ℕ) → length monitor.blocks ≤ count → AreSparedBefore monitor placed counted thing count → IsCountedUndecided monitor placed counted thing
-all_spared monitor placed counted thing count h spared block about = let within = blocks.block_within monitor thing block about in spared block (omega arith) about
+pub all_spared : (monitor : MonitorParts) (counted : CountedPlan) (thing : Thing) (count : ℕ) → length monitor.blocks ≤ count → AreSparedBefore monitor counted thing count → IsCountedUndecided monitor counted thing
+all_spared monitor counted thing count h spared block about = let within = blocks.block_within monitor thing block about in spared block (omega arith) about

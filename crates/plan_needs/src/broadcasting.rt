@@ -1,12 +1,13 @@
 //! Whether the broadcasts of blocks on counted conditions are needed.
 
-ghost use Rattle.std.specs.Prelude.{◌≡◌, ◌++◌, ◌∷◌, [], ◌≤◌, All, IfOk, length, map, true};
+ghost use Rattle.std.specs.Prelude.{◌≡◌, ◌++◌, ◌∷◌, [], ◌≤◌, All, IfOk, IfSome, Some, length};
+ghost use Rattle.std.specs.Prelude.{map, true};
 ghost use Rattle.std.specs.List.{enumerate_from, flat_map, list_all};
 ghost use Rattle.lang_base.specs.Limits.{BLOCKS};
 ghost use Rattle.machine_events.specs.Plans.{FitsPlan};
 ghost use Rattle.logic_wp.specs.Expressible.{is_expressible};
 ghost use Rattle.plan_count.specs.Questions.{MayBeAsked};
-ghost use Rattle.plan_counted.specs.Counted.{IsCountedFrom};
+ghost use Rattle.plan_counted.specs.Counted.{AreBacked};
 ghost use Rattle.plan_why.specs.Failures.{IsFailureAmong};
 ghost use Rattle.plan_needs.specs.Needs.{broadcasts_of, broadcasts_of_block, signal_queries};
 ghost use Rattle.plan_needs.specs.CountedReasons.{IsBroadcastReason};
@@ -14,10 +15,11 @@ ghost use Rattle.plan_needs.specs.inner.Asked.{IsAskable};
 
 use super::asking::question_failure;
 use super::broadcasts::{BlockBroadcast, BroadcastReason};
-use super::counting::is_counted;
+use super::rows::counted_row;
 use lang_monitor::{Candidate, Monitor};
-use machine_events::{Note, NoteList, Plan};
+use machine_events::{Note, NoteList};
 use plan_count::Question;
+use plan_counted::{Column, CountedPlan};
 use plan_prune::candidates_have_formulas;
 use plan_why::Failure;
 use std::alloc::{AllocError, Global};
@@ -27,15 +29,14 @@ use std::alloc::{AllocError, Global};
 /// Adds the note of the block, where it is a broadcast on a counted condition.
 fn push_broadcast(
     all: &mut Vec<BlockBroadcast>,
-    placed: &Plan,
-    counted: &Plan,
+    columns: &[Option<Column>],
     block: u32,
     note: Note,
 ) -> Result<(), AllocError>
     ensures { IfOk result (λ done. all.new.items
-        ≡ all.old.items ++ broadcasts_of_block placed.now counted.now block (note ∷ [])) }
+        ≡ all.old.items ++ broadcasts_of_block columns.now block (note ∷ [])) }
 {
-    if note.all && is_counted(placed, counted, note.condition) {
+    if note.all && counted_row(columns, note.condition).is_some() {
         all.push(BlockBroadcast {
             block,
             condition: note.condition,
@@ -47,65 +48,85 @@ fn push_broadcast(
 /// Adds those of a block.
 fn push_broadcasts(
     all: &mut Vec<BlockBroadcast>,
-    placed: &Plan,
-    counted: &Plan,
+    columns: &[Option<Column>],
     block: u32,
     notes: &[Note],
 ) -> Result<(), AllocError>
     ensures { IfOk result (λ done. all.new.items
-        ≡ all.old.items ++ broadcasts_of_block placed.now counted.now block notes.now) }
+        ≡ all.old.items ++ broadcasts_of_block columns.now block notes.now) }
 {
     for note in notes {
-        push_broadcast(all, placed, counted, block, *note)?;
+        push_broadcast(all, columns, block, *note)?;
     }
     Ok(())
 }
 
 /// Those of each block.
-fn broadcasts_of(
-    alloc: Global,
-    placed: &Plan,
-    counted: &Plan,
-) -> Result<Vec<BlockBroadcast>, AllocError>
-    requires { length counted.now.notes ≤ BLOCKS }
-    ensures { IfOk result (λ all. all.items ≡ broadcasts_of placed.now counted.now) }
+fn broadcasts_of(alloc: Global, counted: &CountedPlan) -> Result<Vec<BlockBroadcast>, AllocError>
+    requires { length counted.now.plan.notes ≤ BLOCKS }
+    ensures { IfOk result (λ all. all.items ≡ broadcasts_of counted.now) }
 {
-    let lists = counted.notes.items();
+    let lists = counted.plan.notes.items();
+    let columns = counted.columns.items();
     let mut all = Vec::new(alloc);
     for index in 0..lists.len() {
-        push_broadcasts(
-            &mut all,
-            placed,
-            counted,
-            index as u32,
-            lists[index].notes(),
-        )?;
+        push_broadcasts(&mut all, columns, index as u32, lists[index].notes())?;
     }
     Ok(all)
 }
 
 // ---- reasons
 
+/// A failure of counting by the row with a signal, where one is found.
+fn signal_failure_by(
+    alloc: Global,
+    monitor: &Monitor,
+    kept: &[Candidate],
+    condition: u32,
+    row: u32,
+    block: u32,
+) -> Result<Option<Failure>, AllocError>
+    requires kept { list_all is_expressible kept.now ≡ true }
+    requires may { MayBeAsked monitor.now condition row block }
+    ensures { IfOk result (IsFailureAmong monitor.now
+        (signal_queries monitor.now kept.now (Some row) condition block)) }
+{
+    let question = Question::Gives {
+        condition,
+        row,
+        block,
+    };
+    match question_failure(alloc, monitor, kept, question)? {
+        Some(failure) => Ok(Some(failure)),
+        None => {
+            let question = Question::First {
+                condition,
+                row,
+                block,
+            };
+            Ok(question_failure(alloc, monitor, kept, question)?)
+        }
+    }
+}
+
 /// A failure with a signal in place of the broadcast, where one is found.
 fn signal_failure(
     alloc: Global,
     monitor: &Monitor,
     kept: &[Candidate],
-    condition: u32,
-    block: u32,
+    row: Option<u32>,
+    broadcast: BlockBroadcast,
 ) -> Result<Option<Failure>, AllocError>
     requires kept { list_all is_expressible kept.now ≡ true }
-    requires may { MayBeAsked monitor.now condition block }
+    requires may { IfSome row (λ row.
+        MayBeAsked monitor.now broadcast.condition row broadcast.block) }
     ensures { IfOk result (IsFailureAmong monitor.now
-        (signal_queries monitor.now kept.now condition block)) }
+        (signal_queries monitor.now kept.now row broadcast.condition broadcast.block)) }
 {
-    let question = Question::Gives { condition, block };
-    match question_failure(alloc, monitor, kept, question)? {
-        Some(failure) => Ok(Some(failure)),
-        None => {
-            let question = Question::First { condition, block };
-            Ok(question_failure(alloc, monitor, kept, question)?)
-        }
+    let (condition, block) = (broadcast.condition, broadcast.block);
+    match row {
+        None => Ok(None),
+        Some(row) => Ok(signal_failure_by(alloc, monitor, kept, condition, row, block)?),
     }
 }
 
@@ -119,25 +140,25 @@ fn signal_failure(
 pub fn broadcast_reasons(
     alloc: Global,
     monitor: &Monitor,
-    placed: &Plan,
-    counted: &Plan,
+    counted: &CountedPlan,
 ) -> Result<Vec<BroadcastReason>, AllocError>
-    requires fits { FitsPlan monitor.now counted.now }
-    requires counted { IsCountedFrom monitor.now placed.now counted.now }
+    requires fits { FitsPlan monitor.now counted.now.plan }
+    requires backed { AreBacked monitor.now counted.now.plan counted.now.columns }
     ensures broadcasts { IfOk result (λ reasons.
-        map (λ reason. reason.broadcast) reasons.items ≡ broadcasts_of placed.now counted.now) }
+        map (λ reason. reason.broadcast) reasons.items ≡ broadcasts_of counted.now) }
     ensures each { IfOk result (λ reasons.
         All (IsBroadcastReason monitor.now counted.now) reasons.items) }
 {
     let _blocks = monitor.blocks();
     candidates_have_formulas(monitor);
-    let kept = counted.kept.items();
-    let broadcasts = broadcasts_of(alloc, placed, counted)?;
+    let kept = counted.plan.kept.items();
+    let columns = counted.columns.items();
+    let broadcasts = broadcasts_of(alloc, counted)?;
     let mut reasons = Vec::new(alloc);
     for index in 0..broadcasts.len() {
         let broadcast = broadcasts[index];
-        let (condition, block) = (broadcast.condition, broadcast.block);
-        let failure = signal_failure(alloc, monitor, kept, condition, block)?;
+        let row = counted_row(columns, broadcast.condition);
+        let failure = signal_failure(alloc, monitor, kept, row, broadcast)?;
         reasons.push(BroadcastReason { broadcast, failure })?;
     }
     Ok(reasons)

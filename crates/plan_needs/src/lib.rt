@@ -10,7 +10,7 @@ mod answering;
 mod asking;
 mod broadcasting;
 mod broadcasts;
-mod counting;
+mod rows;
 
 pub use answering::counted_reasons;
 pub use broadcasting::broadcast_reasons;

@@ -5,5 +5,5 @@ use Rattle.plan_needs.proofs.answering.counted_reasons.Given as goal
 abbrev pub invariant-loop-index : goal.invariant-loop-index
 invariant-loop-index l = record {
   things : map (λ reason. reason.thing) l.reasons.items ≡ take l.index l.things.items;
-  each : All (IsCountedReason l.monitor l.placed l.counted) l.reasons.items;
+  each : All (IsCountedReason l.monitor l.counted) l.reasons.items;
 }

@@ -8,11 +8,11 @@ use Rattle.plan_needs.proofs.answering.note_failure.Goals as goal
 pub returns-in-Some : goal.returns-in-Some
 returns-in-Some c =
     let query = none_needed_query c.args.monitor.now c.args.kept.now c.args.block c.args.condition in
-    among_first c.args.monitor.now query (count_queries c.args.monitor.now c.args.kept.now c.args.counts c.args.block c.args.condition) c.in-Some.failure
+    among_first c.args.monitor.now query (count_queries c.args.monitor.now c.args.kept.now c.args.row c.args.block c.args.condition) c.in-Some.failure
     (subst (IsFailureAmong c.args.monitor.now (query ∷ [])) c.in-Some.is c.in_ok-failure.ensures)
 
 pub returns-in_ok-count_failure-in-None : goal.returns-in_ok-count_failure-in-None
 returns-in_ok-count_failure-in-None c =
     let query = none_needed_query c.args.monitor.now c.args.kept.now c.args.block c.args.condition in
-    among_later c.args.monitor.now query (count_queries c.args.monitor.now c.args.kept.now c.args.counts c.args.block c.args.condition) c.in_ok-count_failure-in-None.field-0
+    among_later c.args.monitor.now query (count_queries c.args.monitor.now c.args.kept.now c.args.row c.args.block c.args.condition) c.in_ok-count_failure-in-None.field-0
     (subst (IsFailureAmong c.args.monitor.now (query ∷ [])) c.in-None.is c.in_ok-failure.ensures) c.in_ok-count_failure-in-None.ensures
