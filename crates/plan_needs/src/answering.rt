@@ -187,11 +187,12 @@ fn answer_of(
 ///
 /// A note on a condition that is counted by a row of its guard is spared where its block makes the
 /// guard true for no client that waits, and leaves the condition counted by that row with none; a
-/// condition of kind broadcast, where each block that waits at it leaves it counted with none by the
-/// first row of its guard, or where this has none, leaves it false. All else is spared as in the placed plan (`specs/Needs`). A thing that is needed is shown with a valuation in whole numbers
-/// at which one of these triples fails, after a block that the thing is about. It is undecided only
-/// where each of them is valid or not plain (`specs/CountedReasons`). It fails only for want of
-/// memory.
+/// condition of kind broadcast, where each block that waits at it leaves it counted with none by
+/// the first row of its guard, or leaves the guard false where it has no row. All else is spared as
+/// in the placed plan (`specs/Needs`). A thing that is needed is shown with a valuation in whole
+/// numbers at which one of these triples fails, after a block that the thing is about. It is
+/// undecided only where each of them is valid or not plain (`specs/CountedReasons`). It fails only
+/// for want of memory.
 pub fn counted_reasons(
     alloc: Global,
     monitor: &Monitor,

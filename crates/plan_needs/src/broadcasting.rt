@@ -134,8 +134,8 @@ fn signal_failure(
 /// is not enough.
 ///
 /// It would be enough where with one the block leaves the condition counted, and where nobody could
-/// pass before, at most one client may (`specs/Needs`). A failure is a valuation in whole numbers at
-/// which one of these triples fails; none is given only where each of them is valid or not plain
+/// pass before, at most one client may (`specs/Needs`). A failure is a valuation in whole numbers
+/// at which one of these triples fails; none is given only where each of them is valid or not plain
 /// (`specs/CountedReasons`). It fails only for want of memory.
 pub fn broadcast_reasons(
     alloc: Global,

@@ -352,8 +352,8 @@ const GATE: &[u8] = b"monitor Gate {
 }
 ";
 
-// Any number may pass where the gate is closed: `close` broadcasts, and so does `resume`, which lets
-// in as many as `n` says. `give` lets in one.
+// Any number may pass where the gate is closed: `close` broadcasts, and so does `resume`, which
+// lets in as many as `n` says. `give` lets in one.
 const GATE_COUNTED: &[u8] = b"plan Gate
 keep n >= 0
 condition 1 signal: n > 0 && run || closed
