@@ -85,7 +85,8 @@ IsCertified monitor kept question = (cert : Cert) × Certifies monitor kept ques
 pub record IsProvedCounted (monitor : MonitorParts) (plan : Plan) (condition : ℕ) : Type 0 where
   pub row : ℕ
   pub tried : IsTried monitor condition row
-  pub certified : All (IsCertified monitor plan.kept) (counting_questions monitor plan condition row)
+  pub certified : All (IsCertified monitor plan.kept)
+      (counting_questions monitor plan condition row)
 
 -- they show that, or that it is passed on
 abbrev pub IsSignalProved : MonitorParts → Plan → ℕ → Type 0

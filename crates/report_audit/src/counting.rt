@@ -1,6 +1,7 @@
 //! Conditions of kind signal that are neither passed on nor counted by a row that is tried.
 
-ghost use Rattle.std.specs.Prelude.{◌≡◌, ◌++◌, ◌≤◌, IfOk, OnOk, All, None, Some, if◌then◌else◌, true};
+ghost use Rattle.std.specs.Prelude.{◌≡◌, ◌++◌, ◌≤◌, IfOk, OnOk, All, None, Some, true};
+ghost use Rattle.std.specs.Prelude.{if◌then◌else◌};
 ghost use Rattle.std.specs.List.{list_all};
 ghost use Rattle.machine_events.specs.Plans.{has_broadcast, notes_at};
 ghost use Rattle.plan_place.specs.Backing.{backed_claims};

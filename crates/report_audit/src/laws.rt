@@ -25,8 +25,8 @@ pub fn lawful_plans_are_found()
 }
 
 /// Where signals may be counted, what is found of a plan that is lawful by rows of its guards that
-/// are tried is that it is lawful, if no query may stay open; and what is found of a lawful plan, if
-/// none of a claim may.
+/// are tried is that it is lawful, if no query may stay open; and what is found of a lawful plan,
+/// if none of a claim may.
 pub fn counted_plans_are_found()
     ensures counted { (monitor : MonitorParts) (plan : Plan) (finding : Finding)
         → IsMonitor monitor → IsPlanOf monitor plan → HasNoOpenClaim monitor plan.kept

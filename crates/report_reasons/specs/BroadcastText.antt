@@ -15,8 +15,8 @@ needed_text tree monitor broadcast failure =
     noted_text tree monitor (valuation_of failure.before) broadcast.block broadcast.condition
     ++ codes " broadcast:" ++ change_text monitor failure.before failure.after
 
--- a broadcast that is shown to be needed, by a state in which one signal is not enough, or for which
--- none was found
+-- a broadcast that is shown to be needed, by a state in which one signal is not enough, or for
+-- which none was found
 abbrev pub enough_text : MonitorTree → MonitorParts → BlockBroadcast → Option Failure → List ℕ
 enough_text tree monitor broadcast (Some failure) = needed_text tree monitor broadcast failure
 enough_text tree monitor broadcast None =

@@ -22,8 +22,8 @@ use std::alloc::{AllocError, Global};
 /// fails only for want of memory, however deep certificates nest.
 ///
 /// Where no condition is counted the text is that of the plain report. A condition is counted whose
-/// kind is signal, and of which no line says that one waiter is enough; by the row that the lines of
-/// its questions name, which is the first where they name none.
+/// kind is signal, and of which no line says that one waiter is enough; by the row that the lines
+/// of its questions name, which is the first where they name none.
 pub fn read_counted_report(
     alloc: Global,
     monitor: &Monitor,

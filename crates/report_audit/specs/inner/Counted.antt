@@ -40,9 +40,11 @@ pub record IsUnansweredAt (monitor : MonitorParts) (kept : List Candidate)
   pub unproved : IsUnanswered monitor kept question
 
 -- the first of these questions without a certificate, or none
-abbrev pub IsFirstUnanswered : MonitorParts → List Candidate → List Question → Option Question → Type 0
+abbrev pub IsFirstUnanswered : MonitorParts → List Candidate → List Question → Option Question
+    → Type 0
 IsFirstUnanswered monitor kept questions None = All (IsCertified monitor kept) questions
-IsFirstUnanswered monitor kept questions (Some question) = IsUnansweredAt monitor kept questions question
+IsFirstUnanswered monitor kept questions (Some question) =
+    IsUnansweredAt monitor kept questions question
 
 -- the condition is counted by a row after the first, or by none that is tried
 abbrev pub IsByOthers : MonitorParts → Plan → ℕ → Bool → Type 0

@@ -1,7 +1,5 @@
-use Rattle.std.proofs.Common.{ap, sym, subst, ◌∙◌}
+use Rattle.std.proofs.Common.{sym, subst, ◌∙◌}
 use Rattle.std.specs.Prelude.{All}
-use Rattle.std.specs.List.{list_all}
-use Rattle.logic_wp.specs.Expressible.{is_expressible}
 use Rattle.plan_count.specs.Questions.{MayAskQuestion}
 use Rattle.report_audit.proofs.CountAsked.{questions_askable}
 use Rattle.report_audit.proofs.Uncounted.{by_row}

@@ -1,7 +1,6 @@
-use Rattle.std.proofs.Common.{sym, subst, ap, ◌∙◌}
+use Rattle.std.proofs.Common.{sym, ap, ◌∙◌}
 use Rattle.std.proofs.lemmas.Bool.{true≢false}
 use Rattle.plan_count.specs.declared.question.Question.TheVariants as questions
-use Rattle.report_audit.specs.inner.Counted.{IsByRow}
 use Rattle.report_audit.proofs.Uncounted.{by_both, counted_first, rowless}
 use Rattle.report_audit.proofs.counting.uncounted_by_rows.Goals as goal
 
