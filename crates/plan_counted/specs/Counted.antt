@@ -1,8 +1,8 @@
 -- Counted plans: as a placed plan, but conditions of kind broadcast that may be counted by a row of
--- their guards are of kind signal, with a note of a block where its question with no note is open, and a broadcast where
--- those with one signal are.
-use Rattle.std.specs.Prelude.{◌≡◌, ◌⊎◌, ℕ, ◌-◌, ◌<◌, ◌≤◌, Bool, true, false, List, map, Option, Some}
-use Rattle.std.specs.Prelude.{None, length, All, slice_get, unwrap_or}
+-- their guards are of kind signal, with a note of a block where its question with no note is open,
+-- and a broadcast where those with one signal are.
+use Rattle.std.specs.Prelude.{◌≡◌, ◌⊎◌, ℕ, ◌-◌, ◌<◌, ◌≤◌, Bool, true, false, List, map, Option}
+use Rattle.std.specs.Prelude.{Some, None, length, All, slice_get, unwrap_or}
 use Rattle.std.specs.List.{flat_map, enumerate_from, range_with_len}
 use Rattle.std.specs.Option.{option_map_or, option_to_list}
 use Rattle.logic_cert.specs.declared.cert.Cert.{Cert}
@@ -148,7 +148,8 @@ told_by condition (Some told) placed = told_note condition told placed
 -- what a block has on a condition: the placed note, or what its column says
 abbrev pub told_on : ℕ → ℕ → Option Column → Option Note → Option Note
 told_on condition block None placed = placed
-told_on condition block (Some column) placed = told_by condition (slice_get column.told block) placed
+told_on condition block (Some column) placed =
+    told_by condition (slice_get column.told block) placed
 
 -- the column of a condition
 abbrev pub column_at : List (Option Column) → ℕ → Option Column

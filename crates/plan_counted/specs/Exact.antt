@@ -27,8 +27,8 @@ pub record IsOneEnough (monitor : MonitorParts) (plan : Plan) (condition row blo
     pub first : IsSo monitor plan.kept (questions.First condition row block)
 
 -- what a block has on a condition that was of kind broadcast and is of kind signal
-pub record IsExactlyTold (monitor : MonitorParts) (placed counted : Plan) (condition row block : ℕ) :
-    Type 0 where
+pub record IsExactlyTold (monitor : MonitorParts) (placed counted : Plan)
+    (condition row block : ℕ) : Type 0 where
   -- no note exactly where none was placed, and the block leaves it counted with none
   pub unnoted : (note_on (notes_at counted block) condition
       ≡ None) ↔ IsUnnoted monitor placed condition row block
