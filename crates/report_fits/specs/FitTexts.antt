@@ -2,6 +2,7 @@
 use Rattle.std.specs.Prelude.{ℕ, ◌+◌, ◌<◌, ◌≤◌, List, [], ◌∷◌, ◌++◌, length, Option, Some, None}
 use Rattle.std.specs.Prelude.{codes}
 use Rattle.std.specs.List.{enumerate_from, flat_map}
+use Rattle.lang_base.specs.Limits.{BLOCKS}
 use Rattle.logic_cert.specs.declared.cert.Cert.{Cert}
 use Rattle.logic_cert.specs.CertText.{cert_text}
 use Rattle.lang_monitor.specs.MonitorParts.{MonitorParts}
@@ -9,6 +10,10 @@ use Rattle.machine_events.specs.PlanText.{block_name}
 use Rattle.report_fits.specs.declared.fit.Fit.{Fit}
 
 -- ---- fits
+
+-- a monitor has so many such lines at most, one for each block
+abbrev pub MOST_LINES : ℕ
+MOST_LINES = BLOCKS
 
 -- the blocks rise from the first number on, and each is below the last
 abbrev pub AreFrom : ℕ → ℕ → List Fit → Type 0

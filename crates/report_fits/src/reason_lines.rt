@@ -1,12 +1,12 @@
 //! The lines of blocks that may leave 64 bits.
 
 ghost use Rattle.std.specs.Prelude.{◌≤◌, ◌++◌, codes, length};
-ghost use Rattle.lang_base.specs.Limits.{BLOCKS};
 ghost use Rattle.base_io.specs.Writing.{Wrote};
 ghost use Rattle.logic_solve.specs.Solutions.{valuation_of};
 ghost use Rattle.report_reasons.specs.ReasonText.{fields_text, running_text};
 ghost use Rattle.report_fits.specs.FitReasonTexts.{fit_reason_text, fit_reasons_text};
 ghost use Rattle.report_fits.specs.FitReasonTexts.{leaves_text, undecided_text};
+ghost use Rattle.report_fits.specs.FitTexts.{MOST_LINES};
 
 use super::reasons::FitReason;
 use base_io::{Sink, SinkFailed, write_piece};
@@ -26,7 +26,7 @@ pub fn write_fit_reasons<S: Sink>(
     found: &[FitReason],
     out: &mut S,
 ) -> Result<(), SinkFailed>
-    requires { length found.now ≤ BLOCKS }
+    requires { length found.now ≤ MOST_LINES }
     ensures { Wrote (S.seen out.old) (S.seen out.new) result
         (fit_reasons_text tree.now monitor.now found.now) }
 {

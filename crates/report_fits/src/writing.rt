@@ -2,10 +2,10 @@
 
 ghost use Rattle.std.specs.Prelude.{◌≡◌, ◌≤◌, ◌++◌, codes, length};
 ghost use Rattle.std.specs.List.{flat_map};
-ghost use Rattle.lang_base.specs.Limits.{BLOCKS};
 ghost use Rattle.base_io.specs.Writing.{Wrote};
 ghost use Rattle.machine_events.specs.PlanText.{block_name};
-ghost use Rattle.report_fits.specs.FitTexts.{certified, fit_if, fit_line, fit_text, fits_text};
+ghost use Rattle.report_fits.specs.FitTexts.{MOST_LINES, certified, fit_if, fit_line, fit_text};
+ghost use Rattle.report_fits.specs.FitTexts.{fits_text};
 ghost use Rattle.report_fits.specs.FitVerdicts.{fitting_text, named_text, names_text, sign_before};
 
 use super::fit::Fit;
@@ -23,7 +23,7 @@ pub fn write_fits<S: Sink>(
     answers: &[Option<Cert>],
     out: &mut S,
 ) -> Result<(), SinkFailed>
-    requires { length answers.now ≤ BLOCKS }
+    requires { length answers.now ≤ MOST_LINES }
     ensures { Wrote (S.seen out.old) (S.seen out.new) result
         (fits_text monitor.now (certified answers.now)) }
 {
