@@ -5,8 +5,8 @@ ghost use Rattle.plan_count.specs.Questions.{AnswersCount};
 use logic_wp::guard_without_inputs_stays;
 
 /// A condition that reads no inputs is counted by a row of its guard where each block has a
-/// broadcast on it, or no note and leaves it counted with none, or a note and leaves it counted with
-/// one.
+/// broadcast on it, or no note and leaves it counted with none, or a note and leaves it counted
+/// with one.
 pub fn answers_count()
     ensures { AnswersCount }
 {
