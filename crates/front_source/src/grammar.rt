@@ -71,8 +71,19 @@ pub(crate) fn misspelled<'a>(place: &Around<'a>) -> Option<Hint<'a>> {
 
 /// The keyword from which a word differs in one letter.
 fn slip_of<'a>(word: &'a [u8]) -> Option<Hint<'a>> {
-    let near = KEYWORDS.iter().find(|keyword| is_near(keyword, word))?;
+    let near = near_keyword(word)?;
     Some(Hint::of_two(b"`", word, b"` is no keyword; `", near, b"`?"))
+}
+
+/// The first keyword that differs in one letter.
+fn near_keyword(word: &[u8]) -> Option<&'static [u8]> {
+    for index in 0..KEYWORDS.len() {
+        let keyword = KEYWORDS[index];
+        if is_near(keyword, word) {
+            return Some(keyword);
+        }
+    }
+    None
 }
 
 /// Whether a statement or another part stands behind the word.
