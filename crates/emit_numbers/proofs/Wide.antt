@@ -27,7 +27,8 @@ use Rattle.lang_forms.proofs.FormValues.{value, value_of_product}
 use Rattle.lang_forms.proofs.LimitedForms.{both_true}
 use Rattle.lang_forms.proofs.SoundSenses.{product_fine, small_number}
 use Rattle.lang_types.proofs.NamedPlaces.{named_is_found}
-use Rattle.emit_numbers.specs.Widths.{IsWide, Worked, WorkedPart, made_on}
+use Rattle.emit_numbers.specs.Widths.{IsWide, Worked, WorkedPart, made_between, made_on, sums_made}
+use Rattle.emit_rust.specs.Expressions.{is_pieced}
 use Rattle.emit_numbers.proofs.SumLengths.{has_short_sums, short_step}
 use Rattle.emit_numbers.proofs.Short.{FoundPlain, IsShort, found_plain}
 use Rattle.emit_numbers.proofs.Bounds.{IsBounded, IsLow, UNIT, abs_negative, abs_plus, form_low, form_worth, low_wide, part_low, parts_wide}
@@ -151,6 +152,22 @@ module _ (scope : List Entry) (valuation : Valuation) (bounded : IsBounded scope
       All-append IsWide (made_by_addend x.0).made (next ∷ made_on ◌+ℤ◌ next (map made_by_addend (map (λ x. x.0) rest))) own.0
       (All-cons IsWide next (made_on ◌+ℤ◌ next (map made_by_addend (map (λ x. x.0) rest))) (parts_wide (parts + 1) next (omega arith) whole) later)
 
+  between_wide : (rest : List AddendPart) (first : ℤ) → unsigned_abs first ≤ UNIT → 1 + length rest ≤ 65537 → AreFine kinds.Int (map (λ addend. addend.of) (map sense_of_addend (map (λ x. x.0) rest)))
+      → all_true (map short_addend (map (λ x. x.0) rest)) ≡ true → All IsWide (made_between first (map made_by_addend (map (λ x. x.0) rest)))
+  between_wide [] first low few fine short = All-nil IsWide
+  between_wide (x ∷ rest) first low few fine short =
+      let both = both_true (short_addend x.0) (all_true (map short_addend (map (λ x. x.0) rest))) short in
+      let own = x.1 fine.0 both.0 in
+      let part = (made_by_addend x.0).value in
+      let parts = map made_by_addend (map (λ x. x.0) rest) in
+      All-append IsWide (made_on ◌+ℤ◌ first (made_by_addend x.0 ∷ parts)) (part ∷ made_between part parts) (sums_wide (x ∷ rest) 1 first (omega arith) few fine short)
+      (All-cons IsWide part (made_between part parts) (low_wide part own.1) (between_wide rest part own.1 (omega arith) fine.1 both.1))
+
+  pieces_wide : (pieced : Bool) (rest : List AddendPart) (first : ℤ) → unsigned_abs first ≤ UNIT → 1 + length rest ≤ 65537 → AreFine kinds.Int (map (λ addend. addend.of) (map sense_of_addend (map (λ x. x.0) rest)))
+      → all_true (map short_addend (map (λ x. x.0) rest)) ≡ true → All IsWide (sums_made pieced first (map made_by_addend (map (λ x. x.0) rest)))
+  pieces_wide true rest first low few fine short = between_wide rest first low few fine short
+  pieces_wide false rest first low few fine short = sums_wide rest 1 first (omega arith) few fine short
+
   truths_wide : (parts : List Part) → AreFine kinds.Bool (map sense_of (map (λ x. x.0) parts)) → all_true (map has_short_sums (map (λ x. x.0) parts)) ≡ true
       → All IsWide (flat_map (λ part. part.made) (map made_by (map (λ x. x.0) parts)))
   truths_wide [] fine short = All-nil IsWide
@@ -206,8 +223,10 @@ module _ (scope : List Entry) (valuation : Valuation) (bounded : IsBounded scope
       let long : length tests ≡ length rest = length-map (map (λ x. x.0) rest) short_addend ∙ length-map rest (λ x. x.0) in
       let few = short_enough (length tests) counted.0 in
       let low = int_low first.0 fine.0 in
-      All-append IsWide (made_by first.0).made (made_on ◌+ℤ◌ number (map made_by_addend (map (λ x. x.0) rest))) (first.1 fine.0.0 both.0)
-      (sums_wide rest 1 number (omega arith) (omega arith) fine.1 both.1)
+      let parts = map made_by_addend (map (λ x. x.0) rest) in
+      let pieced = is_pieced (length parts) in
+      All-append IsWide (made_by first.0).made (sums_made pieced number parts) (first.1 fine.0.0 both.0)
+      (pieces_wide pieced rest number low (omega arith) fine.1 both.1)
   layer_wide (Compare op left right) none short =
       let l = sense_of left.0 in
       let r = sense_of right.0 in

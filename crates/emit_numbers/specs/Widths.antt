@@ -1,5 +1,6 @@
 -- Which numbers are made on the way to what an expression stands for, from left to right.
-use Rattle.std.specs.Prelude.{◌^◌, ℤ, pos, neg_ℤ, ◌+ℤ◌, ◌*ℤ◌, ◌≤ℤ◌, ◌<ℤ◌, List, [], ◌∷◌, ◌++◌}
+use Rattle.std.specs.Prelude.{◌^◌, ℤ, pos, neg_ℤ, ◌+ℤ◌, ◌*ℤ◌, ◌≤ℤ◌, ◌<ℤ◌, Bool, true, false}
+use Rattle.std.specs.Prelude.{List, [], ◌∷◌, ◌++◌, length}
 use Rattle.std.specs.List.{flat_map}
 use Rattle.lang_tree.specs.declared.tree.Expr.{Expr}
 use Rattle.lang_tree.specs.declared.tree.Expr.TheOpen.{Expr-F, Addend-F, Factor-F, Number, Truth}
@@ -10,6 +11,7 @@ use Rattle.logic_linear.specs.Truth.{Valuation}
 use Rattle.lang_forms.specs.declared.scope.Entry.{Entry}
 use Rattle.lang_forms.specs.Scope.{signed, entry_named}
 use Rattle.lang_forms.specs.Plain.{Plain, number_in, plain_step, entry_value}
+use Rattle.emit_rust.specs.Expressions.{is_pieced}
 
 -- what an expression stands for, and the numbers that are made on the way, with its own
 pub record Worked : Type 0 where
@@ -27,6 +29,19 @@ made_on join so_far [] = []
 made_on join so_far (part ∷ rest) =
     part.made ++ (join so_far part.value ∷ made_on join (join so_far part.value) rest)
 
+-- the same of sums of parts that stand next to each other, from the first one on and from each
+-- later one, with its sign
+abbrev pub made_between : ℤ → List WorkedPart → List ℤ
+made_between first [] = []
+made_between first (part ∷ rest) =
+    made_on ◌+ℤ◌ first (part ∷ rest) ++ (part.value ∷ made_between part.value rest)
+
+-- A sum in pieces: each of its pieces is worked out from its own first part on, and what is made
+-- then is one of these, whatever the pieces are.
+abbrev pub sums_made : Bool → ℤ → List WorkedPart → List ℤ
+sums_made true first rest = made_between first rest
+sums_made false first rest = made_on ◌+ℤ◌ first rest
+
 -- the numbers of one layer, given how its parts are worked out
 abbrev pub made_step : List Entry → Valuation → Expr-F Worked WorkedPart WorkedPart → List ℤ
 made_step scope valuation (Number at value) = pos value ∷ []
@@ -38,7 +53,7 @@ made_step scope valuation (Not at of) = of.made
 made_step scope valuation (Product first rest) =
     first.made ++ made_on ◌*ℤ◌ (number_in first.value) rest
 made_step scope valuation (Sum first rest) =
-    first.made ++ made_on ◌+ℤ◌ (number_in first.value) rest
+    first.made ++ sums_made (is_pieced (length rest)) (number_in first.value) rest
 made_step scope valuation (Compare op left right) = left.made ++ right.made
 made_step scope valuation (Both parts) = flat_map (λ part. part.made) parts
 made_step scope valuation (Either parts) = flat_map (λ part. part.made) parts
