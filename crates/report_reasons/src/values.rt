@@ -57,11 +57,7 @@ fn write_field<S: Sink>(
 /// Writes each field, by what stands at its place: ` readers=0 writing=false`. It takes no memory.
 ///
 /// After `SinkFailed` the first bytes of the text were taken, fewer than all and maybe none.
-pub fn write_fields<S: Sink>(
-    at: &Solution,
-    fields: &[Field],
-    out: &mut S,
-) -> Result<(), SinkFailed>
+pub fn write_fields<S: Sink>(at: &Solution, fields: &[Field], out: &mut S) -> Result<(), SinkFailed>
     requires { length fields.now ≤ FIELDS }
     ensures { Wrote (S.seen out.old) (S.seen out.new) result
         (fields_text (valuation_of at.now) fields.now) }
