@@ -44,4 +44,4 @@ returns-in-Ok-whole_blocks-clause-ended g c =
     (g.F.Files.seen c.args.files.now) (g.F.Files.seen c.text_of.new.files) _ (g.S.Sink.seen c.args.out.now) _ holds c.in-Ok-plan_of.ensures
     (subst (λ (all : List Bool). AreWhole found.monitor plan.kept all) (sym c.as_slice-whole.ensures.value) fits) c.in-Ok.ensures.quiet.steady
     (written_since Done (rust_text text.bytes.items found.tree found.monitor plan told) _ _ _ _ c.in-Ok.ensures.quiet.silent
-    (subst (λ (said : List ℕ). IsWritten Done said _ _ _) same c.show_module.ensures))
+    (subst (λ (said : List ℕ). IsWritten Done said c.show_module.result (g.S.Sink.seen c.text_of.new.out) (g.S.Sink.seen c.show_module.new.out)) same c.show_module.ensures))
