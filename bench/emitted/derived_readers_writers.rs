@@ -15,14 +15,14 @@ keep readers >= -1
 keep queued >= 0
 keep queued >= -1
 keep queued >= -2
-condition 1 broadcast: !writing && queued == 0 && readers < MOST
+condition 1 signal: !writing && queued == 0 && readers < MOST
 condition 2 signal: readers > 0
 condition 3 broadcast: true
 condition 4 signal: readers == 0 && !writing && queued > 0
 condition 5 signal: writing
 condition 6 signal: queued != 0
 block startRead: 2 signal
-block endRead: 1 broadcast tested, 4 signal tested
+block endRead: 1 signal tested, 4 signal tested
 block ask: 4 signal tested, 6 signal
 block startWrite: 5 signal
 block endWrite: 1 broadcast tested, 4 signal tested
@@ -118,7 +118,7 @@ impl ReadersWriters {
         let copy = *inner;
         drop(inner);
         if copy.asleep_start_read > 0 && copy.state.can_start_read() {
-            self.can_start_read.notify_all();
+            self.can_start_read.notify_one();
         }
         if copy.asleep_start_write > 0 && copy.state.can_start_write() {
             self.can_start_write.notify_one();
@@ -139,7 +139,7 @@ impl ReadersWriters {
         let copy = *inner;
         drop(inner);
         if copy.asleep_start_read > 0 && copy.state.can_start_read() {
-            self.can_start_read.notify_all();
+            self.can_start_read.notify_one();
         }
         if copy.asleep_start_write > 0 && copy.state.can_start_write() {
             self.can_start_write.notify_one();
