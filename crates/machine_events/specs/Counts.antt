@@ -5,7 +5,8 @@ use Rattle.std.specs.Prelude.{if◌then◌else◌}
 use Rattle.logic_linear.specs.Linear.{Linear}
 use Rattle.logic_linear.specs.declared.formula.Formula.{Formula}
 use Rattle.logic_linear.specs.declared.formula.Formula.TheVariants as formulas
-use Rattle.logic_linear.specs.declared.formula.Formula.TheOpen.{Formula-F, Row, Flag, All, Any as Some_of}
+use Rattle.logic_linear.specs.declared.formula.Formula.TheOpen.{Formula-F, Row, Flag, All}
+use Rattle.logic_linear.specs.declared.formula.Formula.TheOpen.{Any as Some_of}
 use Rattle.logic_linear.specs.declared.formula.Formula.TheViews.{out-Formula}
 use Rattle.logic_linear.specs.declared.formula.Formula.TheFolds.{fold-Formula}
 use Rattle.std.specs.List.{filter, flat_map, list_any}
