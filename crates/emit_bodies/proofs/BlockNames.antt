@@ -13,10 +13,10 @@ use Rattle.lang_base.proofs.Members.{in_map}
 use Rattle.lang_tree.specs.declared.tree.MethodTree.{MethodTree}
 use Rattle.lang_tree.specs.declared.tree.MonitorTree.{MonitorTree}
 use Rattle.lang_tree.specs.Names.{declared_name}
-use Rattle.emit_rust.specs.declared.style.Style.TheVariants as styles
-use Rattle.emit_rust.specs.Words.{KEYWORDS}
-use Rattle.emit_rust.specs.Names.{member_name, members}
-use Rattle.emit_rust.proofs.Apart.{members_apart}
+use Rattle.emit_names.specs.declared.style.Style.TheVariants as styles
+use Rattle.emit_names.specs.Words.{KEYWORDS}
+use Rattle.emit_names.specs.Names.{member_name, members}
+use Rattle.emit_names.proofs.Apart.{members_apart}
 use Rattle.emit_bodies.specs.Blocks.{block_mark}
 use Rattle.emit_bodies.specs.Laws.{BLOCK_WORDS, BlockNamesAreNoKeywords, BlockNamesStayApart, IsBlockNumber, IsBlockWord}
 

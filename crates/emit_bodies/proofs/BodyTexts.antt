@@ -11,9 +11,9 @@ use Rattle.lang_tree.specs.declared.tree.StmtTree.{StmtTree, out-StmtTree}
 use Rattle.lang_tree.specs.declared.tree.StmtTree.TheVariants.{Set, If, Return, rolls-Set, rolls-If, rolls-Return}
 use Rattle.lang_tree.specs.declared.tree.StmtTree.TheOpen as layers
 use Rattle.lang_tree.specs.declared.tree.StmtTree.TheViews.{out-roll-StmtTree}
-use Rattle.emit_rust.specs.Scopes.{ScopeParts}
-use Rattle.emit_rust.specs.Expressions.{written}
-use Rattle.emit_rust.specs.Values.{value_text}
+use Rattle.emit_expressions.specs.Scopes.{ScopeParts}
+use Rattle.emit_expressions.specs.Expressions.{written}
+use Rattle.emit_expressions.specs.Values.{value_text}
 use Rattle.emit_bodies.specs.declared.traces.Trace.{Trace}
 use Rattle.emit_bodies.specs.Blocks.{kind_text}
 use Rattle.emit_bodies.specs.Traces.{body_trace}

@@ -3,8 +3,8 @@ use Rattle.std.proofs.Common.{◌≡◌, ℕ, Bool, ◌++◌, codes, false, ap}
 use Rattle.lang_tree.specs.declared.tree.Expr.{Expr}
 use Rattle.lang_tree.specs.declared.tree.MethodTree.{MethodTree}
 use Rattle.lang_tree.specs.declared.tree.MonitorTree.{MonitorTree}
-use Rattle.emit_rust.specs.declared.scope.Reach.{Reach}
-use Rattle.emit_rust.specs.Expressions.{plain_text}
+use Rattle.emit_expressions.specs.declared.scope.Reach.{Reach}
+use Rattle.emit_expressions.specs.Expressions.{plain_text}
 use Rattle.emit_bodies.specs.Guards.{guard_head, guard_reach, guard_text}
 
 pub guard_says : (tree : MonitorTree) (method : MethodTree) (number : ℕ) (reads : Bool) (guard : Expr) (reach : Reach) → reach ≡ guard_reach reads

@@ -7,9 +7,9 @@ use Rattle.lang_tree.specs.declared.tree.StmtTree.{StmtTree}
 use Rattle.lang_tree.specs.declared.tree.StmtTree.TheVariants.{Set, If, Return, rolls-Set, rolls-If, rolls-Return}
 use Rattle.lang_tree.specs.declared.tree.StmtTree.TheOpen as layers
 use Rattle.lang_tree.specs.declared.tree.StmtTree.TheFolds.{fold-roll-StmtTree}
-use Rattle.emit_rust.specs.Scopes.{ScopeParts, name_text}
-use Rattle.emit_rust.specs.Expressions.{plain_text}
-use Rattle.emit_rust.specs.Values.{value_text}
+use Rattle.emit_expressions.specs.Scopes.{ScopeParts, name_text}
+use Rattle.emit_expressions.specs.Expressions.{plain_text}
+use Rattle.emit_expressions.specs.Values.{value_text}
 use Rattle.emit_bodies.specs.Statements.{indent, statement_text, statement_step, statements_text}
 use Rattle.emit_bodies.specs.inner.Printing.{block_text, else_text}
 

@@ -6,8 +6,8 @@ use Rattle.lang_tree.specs.declared.tree.Decl.{Decl}
 use Rattle.lang_tree.specs.declared.tree.InputTree.{InputTree}
 use Rattle.lang_tree.specs.declared.tree.MethodTree.{MethodTree}
 use Rattle.lang_tree.specs.Names.{declared_name}
-use Rattle.emit_rust.specs.declared.scope.Reach.{Reach}
-use Rattle.emit_rust.specs.Names.{input_name}
+use Rattle.emit_expressions.specs.declared.scope.Reach.{Reach}
+use Rattle.emit_names.specs.Names.{input_name}
 use Rattle.emit_bodies.specs.Blocks.{all_inputs_text, kind_declared, kind_text, lending_text, local_text, parameter_text, taken_text}
 
 pub inputs_says : (method : MethodTree) (reach : Reach) (inputs : List InputTree) (locals : List Decl) → inputs ≡ method.inputs → locals ≡ method.locals

@@ -7,7 +7,7 @@ use Rattle.lang_tree.specs.declared.tree.StmtTree.{StmtTree}
 use Rattle.lang_tree.specs.declared.tree.StmtTree.TheVariants.{Set, If, Return, rolls-Set, rolls-If, rolls-Return}
 use Rattle.lang_tree.specs.declared.tree.StmtTree.TheOpen as layers
 use Rattle.lang_tree.specs.declared.tree.StmtTree.TheFolds.{fold-roll-StmtTree}
-use Rattle.emit_rust.specs.Scopes.{ScopeParts, declares}
+use Rattle.emit_expressions.specs.Scopes.{ScopeParts, declares}
 use Rattle.emit_bodies.specs.declared.traces.Trace.{Trace}
 use Rattle.emit_bodies.specs.Traces.{and_then, body_trace, in_turn, nothing, or_else, statement_trace, trace_step, value_trace}
 

@@ -9,10 +9,10 @@ use Rattle.lang_tree.specs.declared.tree.InputTree.{InputTree}
 use Rattle.lang_tree.specs.declared.tree.MethodTree.{MethodTree}
 use Rattle.lang_tree.specs.declared.tree.MonitorTree.{MonitorTree}
 use Rattle.lang_tree.specs.Names.{declared_name}
-use Rattle.emit_rust.specs.declared.style.Style.TheVariants as styles
-use Rattle.emit_rust.specs.declared.scope.Reach.{Reach}
-use Rattle.emit_rust.specs.declared.scope.Reach.TheVariants as reaches
-use Rattle.emit_rust.specs.Names.{member_name, input_name}
+use Rattle.emit_names.specs.declared.style.Style.TheVariants as styles
+use Rattle.emit_expressions.specs.declared.scope.Reach.{Reach}
+use Rattle.emit_expressions.specs.declared.scope.Reach.TheVariants as reaches
+use Rattle.emit_names.specs.Names.{member_name, input_name}
 
 abbrev pub kind_text : Kind → List ℕ
 kind_text kinds.Int = codes "i64"

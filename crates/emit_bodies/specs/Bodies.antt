@@ -8,10 +8,10 @@ use Rattle.lang_tree.specs.declared.tree.MethodTree.{MethodTree}
 use Rattle.lang_tree.specs.declared.tree.MonitorTree.{MonitorTree}
 use Rattle.lang_tree.specs.declared.tree.StmtTree.{StmtTree, out-StmtTree}
 use Rattle.lang_tree.specs.declared.tree.StmtTree.TheOpen.{StmtTree-F, Set, If, Return}
-use Rattle.emit_rust.specs.declared.scope.Reach.TheVariants as reaches
-use Rattle.emit_rust.specs.Scopes.{ScopeParts}
-use Rattle.emit_rust.specs.Expressions.{written, plain_text}
-use Rattle.emit_rust.specs.Values.{value_text}
+use Rattle.emit_expressions.specs.declared.scope.Reach.TheVariants as reaches
+use Rattle.emit_expressions.specs.Scopes.{ScopeParts}
+use Rattle.emit_expressions.specs.Expressions.{written, plain_text}
+use Rattle.emit_expressions.specs.Values.{value_text}
 use Rattle.emit_bodies.specs.declared.traces.Trace.{Trace}
 use Rattle.emit_bodies.specs.Blocks.{all_inputs_text, block_name, kind_text}
 use Rattle.emit_bodies.specs.Statements.{statements_text}

@@ -3,10 +3,10 @@ use Rattle.std.specs.Prelude.{ℕ, Bool, true, false, List, ◌++◌, codes}
 use Rattle.lang_tree.specs.declared.tree.Expr.{Expr}
 use Rattle.lang_tree.specs.declared.tree.MethodTree.{MethodTree}
 use Rattle.lang_tree.specs.declared.tree.MonitorTree.{MonitorTree}
-use Rattle.emit_rust.specs.declared.scope.Reach.{Reach}
-use Rattle.emit_rust.specs.declared.scope.Reach.TheVariants as reaches
-use Rattle.emit_rust.specs.Scopes.{ScopeParts}
-use Rattle.emit_rust.specs.Expressions.{plain_text}
+use Rattle.emit_expressions.specs.declared.scope.Reach.{Reach}
+use Rattle.emit_expressions.specs.declared.scope.Reach.TheVariants as reaches
+use Rattle.emit_expressions.specs.Scopes.{ScopeParts}
+use Rattle.emit_expressions.specs.Expressions.{plain_text}
 use Rattle.emit_bodies.specs.Blocks.{block_name, inputs_text}
 
 -- a guard reaches inputs by value, or not at all

@@ -2,7 +2,7 @@
 use Rattle.std.specs.Prelude.{◌≡◌, ℕ, ◌≤◌, ◌<◌, ◌^◌, ◌⊎◌, List, [], ◌∷◌, ◌++◌, codes, Contains}
 use Rattle.lang_tree.specs.declared.tree.MethodTree.{MethodTree}
 use Rattle.lang_tree.specs.declared.tree.MonitorTree.{MonitorTree}
-use Rattle.emit_rust.specs.Words.{KEYWORDS}
+use Rattle.emit_names.specs.Words.{KEYWORDS}
 use Rattle.emit_bodies.specs.Blocks.{block_name}
 
 -- The word of a test of a guard, and of the condition variable beside it, of a function that runs a

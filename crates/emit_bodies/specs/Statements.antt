@@ -4,9 +4,9 @@ use Rattle.std.specs.List.{flat_map}
 use Rattle.lang_tree.specs.declared.tree.StmtTree.{StmtTree}
 use Rattle.lang_tree.specs.declared.tree.StmtTree.TheOpen.{StmtTree-F, Set, If, Return}
 use Rattle.lang_tree.specs.declared.tree.StmtTree.TheFolds.{fold-StmtTree}
-use Rattle.emit_rust.specs.Scopes.{ScopeParts, name_text}
-use Rattle.emit_rust.specs.Expressions.{plain_text}
-use Rattle.emit_rust.specs.Values.{value_text}
+use Rattle.emit_expressions.specs.Scopes.{ScopeParts, name_text}
+use Rattle.emit_expressions.specs.Expressions.{plain_text}
+use Rattle.emit_expressions.specs.Values.{value_text}
 
 -- four blanks for each level
 abbrev pub indent : ℕ → List ℕ

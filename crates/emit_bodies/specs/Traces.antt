@@ -5,9 +5,9 @@ use Rattle.std.specs.List.{list_any}
 use Rattle.lang_tree.specs.declared.tree.StmtTree.{StmtTree}
 use Rattle.lang_tree.specs.declared.tree.StmtTree.TheOpen.{StmtTree-F, Set, If, Return}
 use Rattle.lang_tree.specs.declared.tree.StmtTree.TheFolds.{fold-StmtTree}
-use Rattle.emit_rust.specs.Scopes.{ScopeParts, declares}
+use Rattle.emit_expressions.specs.Scopes.{ScopeParts, declares}
 use Rattle.lang_tree.specs.declared.tree.Expr.{Expr}
-use Rattle.emit_rust.specs.Values.{is_shortened, is_tested}
+use Rattle.emit_expressions.specs.Values.{is_shortened, is_tested}
 use Rattle.emit_bodies.specs.declared.traces.Trace.{Trace}
 
 abbrev pub nothing : Trace

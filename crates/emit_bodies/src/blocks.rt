@@ -8,7 +8,8 @@ ghost use Rattle.emit_bodies.specs.Blocks.{local_text, parameter_text, taken_tex
 ghost use Rattle.base_io.specs.Writing.{Wrote};
 
 use base_io::{Sink, SinkFailed, write_piece, write_pieces};
-use emit_rust::{Reach, Style, write_input, write_member};
+use emit_expressions::Reach;
+use emit_names::{Style, write_input, write_member};
 use itoa::Buffer;
 use lang_base::{Kind, Name, Named};
 use lang_tree::{Decl, InputTree, MethodTree, MonitorTree};

@@ -2,9 +2,9 @@
 
 ghost use Rattle.std.specs.Prelude.{◌≡◌, ◌++◌, [], codes};
 ghost use Rattle.std.specs.Option.{option_map_or};
-ghost use Rattle.emit_rust.specs.Scopes.{seen};
-ghost use Rattle.emit_rust.specs.Expressions.{plain_text};
-ghost use Rattle.emit_rust.specs.Values.{value_text};
+ghost use Rattle.emit_expressions.specs.Scopes.{seen};
+ghost use Rattle.emit_expressions.specs.Expressions.{plain_text};
+ghost use Rattle.emit_expressions.specs.Values.{value_text};
 ghost use Rattle.emit_bodies.specs.Bodies.{answer_line, answer_text, arrow_plain, arrow_text};
 ghost use Rattle.emit_bodies.specs.Bodies.{body_fails, body_head, body_scope, body_shortens};
 ghost use Rattle.emit_bodies.specs.Bodies.{body_text, braced, copied_lines, done_text, end_text};
@@ -18,7 +18,7 @@ use crate::depth::Depth;
 use crate::statements::write_statements;
 use crate::traces::{Trace, trace_body};
 use base_io::{Sink, SinkFailed, write_piece, write_pieces};
-use emit_rust::{Reach, Scope, narrows, write_plain, write_value};
+use emit_expressions::{Reach, Scope, narrows, write_plain, write_value};
 use lang_base::Kind;
 use lang_tree::{Expr, MethodTree, MonitorTree, StmtTree};
 

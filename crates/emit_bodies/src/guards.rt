@@ -6,7 +6,7 @@ ghost use Rattle.base_io.specs.Writing.{Wrote};
 
 use crate::blocks::{write_block_name, write_inputs};
 use base_io::{Sink, SinkFailed, write_piece};
-use emit_rust::{Reach, Scope, write_plain};
+use emit_expressions::{Reach, Scope, write_plain};
 use lang_tree::{Expr, MethodTree, MonitorTree};
 
 /// Writes the function that tests the guard of a block, by the number of the block in its method,

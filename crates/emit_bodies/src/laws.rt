@@ -6,7 +6,7 @@ ghost use Rattle.emit_bodies.specs.Laws.{BlockNamesAreNoKeywords, BlockNamesStay
 /// alike, and no two counts of those that sleep (`asleep_put`). Condition variables are named as
 /// tests are. None of these names is a keyword, or that of
 /// what else stands there. The methods of the type that threads share stand elsewhere, and have
-/// laws of their own (`emit_rust::names_stay_apart`).
+/// laws of their own (`emit_names::names_stay_apart`).
 pub fn block_names_stay_apart()
     ensures names { BlockNamesStayApart }
     ensures words { BlockNamesAreNoKeywords }

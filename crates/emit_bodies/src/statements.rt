@@ -1,9 +1,9 @@
 //! The statements of a body, each on lines of its own.
 
 ghost use Rattle.std.specs.Prelude.{◌++◌, codes};
-ghost use Rattle.emit_rust.specs.Scopes.{name_text, seen};
-ghost use Rattle.emit_rust.specs.Expressions.{plain_text};
-ghost use Rattle.emit_rust.specs.Values.{value_text};
+ghost use Rattle.emit_expressions.specs.Scopes.{name_text, seen};
+ghost use Rattle.emit_expressions.specs.Expressions.{plain_text};
+ghost use Rattle.emit_expressions.specs.Values.{value_text};
 ghost use Rattle.emit_bodies.specs.Statements.{indent, statement_text, statements_text};
 ghost use Rattle.emit_bodies.specs.inner.Depths.{levels};
 ghost use Rattle.emit_bodies.specs.inner.Printing.{block_text, else_text};
@@ -11,7 +11,7 @@ ghost use Rattle.base_io.specs.Writing.{Wrote};
 
 use crate::depth::{Depth, write_indent};
 use base_io::{Sink, SinkFailed, write_piece};
-use emit_rust::{Scope, write_name, write_plain, write_value};
+use emit_expressions::{Scope, write_name, write_plain, write_value};
 use lang_base::Name;
 use lang_tree::{Expr, StmtTree};
 

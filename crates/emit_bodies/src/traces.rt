@@ -2,11 +2,11 @@
 
 ghost use Rattle.std.specs.Prelude.{◌≡◌, ◌&&◌, ◌||◌};
 ghost use Rattle.std.specs.List.{list_any};
-ghost use Rattle.emit_rust.specs.Scopes.{declares, seen};
+ghost use Rattle.emit_expressions.specs.Scopes.{declares, seen};
 ghost use Rattle.emit_bodies.specs.Traces.{and_then, body_trace, nothing, or_else};
 ghost use Rattle.emit_bodies.specs.Traces.{statement_trace, value_trace};
 
-use emit_rust::{Scope, is_shortened, is_tested};
+use emit_expressions::{Scope, is_shortened, is_tested};
 use lang_base::Named;
 use lang_tree::{Decl, Expr, StmtTree};
 

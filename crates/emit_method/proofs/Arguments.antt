@@ -5,8 +5,8 @@ use Rattle.lang_tree.specs.declared.tree.Decl.{Decl}
 use Rattle.lang_tree.specs.declared.tree.InputTree.{InputTree}
 use Rattle.lang_tree.specs.declared.tree.MethodTree.{MethodTree}
 use Rattle.lang_tree.specs.Names.{declared_name}
-use Rattle.emit_rust.specs.declared.scope.Reach.{Reach}
-use Rattle.emit_rust.specs.Names.{input_name}
+use Rattle.emit_expressions.specs.declared.scope.Reach.{Reach}
+use Rattle.emit_names.specs.Names.{input_name}
 use Rattle.emit_bodies.specs.Blocks.{lending_text}
 use Rattle.emit_method.specs.Conditions.{arguments_text, comma_text, handed_local, handed_parameter}
 use Rattle.emit_comments.proofs.Numbered.{numbered}

@@ -1,7 +1,7 @@
 -- Calls of a method, by what stands for their parts.
 use Rattle.std.proofs.Common.{◌≡◌, ℕ, ◌+◌, ◌==◌, Bool, true, false, ◌&&◌, ◌∙◌, codes, ap}
 use Rattle.machine_events.specs.Configurations.{block_condition}
-use Rattle.emit_rust.specs.declared.scope.Reach.TheVariants as reaches
+use Rattle.emit_expressions.specs.declared.scope.Reach.TheVariants as reaches
 use Rattle.emit_method.specs.Sources.{reads_inputs}
 use Rattle.emit_method.specs.Conditions.{around_name}
 use Rattle.emit_method.specs.Statements.{MethodParts, own_call, test_text}

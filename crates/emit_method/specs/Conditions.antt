@@ -9,8 +9,8 @@ use Rattle.lang_tree.specs.declared.tree.MethodTree.{MethodTree}
 use Rattle.lang_tree.specs.Names.{declared_name}
 use Rattle.lang_monitor.specs.declared.monitor.Block.{Block}
 use Rattle.lang_monitor.specs.MonitorParts.{MonitorParts, first_in}
-use Rattle.emit_rust.specs.declared.scope.Reach.{Reach}
-use Rattle.emit_rust.specs.Names.{input_name}
+use Rattle.emit_expressions.specs.declared.scope.Reach.{Reach}
+use Rattle.emit_names.specs.Names.{input_name}
 use Rattle.emit_bodies.specs.Blocks.{block_name, lending_text}
 use Rattle.emit_method.specs.Sources.{SourceParts}
 

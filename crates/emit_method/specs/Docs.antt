@@ -9,8 +9,8 @@ use Rattle.lang_printer.specs.Canonical.{expression_text}
 use Rattle.machine_events.specs.Configurations.{block_condition}
 use Rattle.emit_code.specs.Code.{is_waited_on}
 use Rattle.emit_comments.specs.Comments.{leading_docs, line_of}
-use Rattle.emit_rust.specs.declared.style.Style.TheVariants as styles
-use Rattle.emit_rust.specs.Names.{member_name}
+use Rattle.emit_names.specs.declared.style.Style.TheVariants as styles
+use Rattle.emit_names.specs.Names.{member_name}
 use Rattle.emit_method.specs.Statements.{MethodParts}
 
 -- ---- what a block waits for, by its number among those of its method, from 0

@@ -11,8 +11,8 @@ use Rattle.lang_printer.specs.Canonical.{literal_text, truth_text}
 use Rattle.lang_monitor.specs.MonitorParts.{MonitorParts, first_in, count_in}
 use Rattle.machine_events.specs.Configurations.{block_condition}
 use Rattle.emit_code.specs.Code.{Op, is_waited_on, code_of}
-use Rattle.emit_rust.specs.declared.style.Style.TheVariants as styles
-use Rattle.emit_rust.specs.Names.{is_try_free, input_name, member_name, try_name}
+use Rattle.emit_names.specs.declared.style.Style.TheVariants as styles
+use Rattle.emit_names.specs.Names.{is_try_free, input_name, member_name, try_name}
 use Rattle.emit_bodies.specs.Blocks.{kind_declared, kind_text, parameter_text}
 use Rattle.emit_bodies.specs.Bodies.{answer_text, arrow_text}
 use Rattle.emit_method.specs.Sources.{SourceParts, answer_of}

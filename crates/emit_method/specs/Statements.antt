@@ -11,8 +11,8 @@ use Rattle.machine_events.specs.declared.plan.Note.{Note}
 use Rattle.machine_events.specs.Configurations.{block_condition}
 use Rattle.emit_code.specs.Code.{Op}
 use Rattle.emit_code.specs.Code.Op.{Lock, WaitUntil, ElseRefuse, Run, Release, Notify, Unlock}
-use Rattle.emit_rust.specs.declared.scope.Reach.{Reach}
-use Rattle.emit_rust.specs.declared.scope.Reach.TheVariants as reaches
+use Rattle.emit_expressions.specs.declared.scope.Reach.{Reach}
+use Rattle.emit_expressions.specs.declared.scope.Reach.TheVariants as reaches
 use Rattle.emit_bodies.specs.Blocks.{block_name}
 use Rattle.emit_bodies.specs.Bodies.{body_fails, body_shortens}
 use Rattle.emit_method.specs.declared.source.Calls.{Calls}

@@ -12,7 +12,8 @@ ghost use Rattle.emit_method.specs.Conditions.{word_name};
 use crate::source::{Source, first_block, first_of};
 use base_io::{Sink, SinkFailed, write_piece, write_pieces};
 use emit_bodies::{lending_bytes, write_block_name};
-use emit_rust::{Reach, write_input};
+use emit_expressions::Reach;
+use emit_names::write_input;
 use lang_base::Named;
 use lang_tree::{Decl, InputTree, MethodTree};
 

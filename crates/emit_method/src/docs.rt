@@ -14,7 +14,7 @@ ghost use Rattle.emit_method.specs.Docs.{waiting_docs, waiting_text, waits_until
 use crate::source::{Calls, condition_of, is_waited_on};
 use base_io::{Sink, SinkFailed, write_piece};
 use emit_comments::{line_of, write_leading};
-use emit_rust::{Style, write_member};
+use emit_names::{Style, write_member};
 use lang_printer::write_around;
 use lang_tree::{BlockTree, MethodTree};
 

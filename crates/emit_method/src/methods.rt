@@ -19,7 +19,7 @@ use crate::source::{Calls, Source, answer_of, condition_of, count_of, first_of, 
 use crate::statements::{method_fails, write_blocks, write_end};
 use base_io::{Sink, SinkFailed, write_piece, write_pieces};
 use emit_bodies::{kind_bytes, write_arrow, write_parameters};
-use emit_rust::{Style, is_try_free, write_input, write_member, write_try_name};
+use emit_names::{Style, is_try_free, write_input, write_member, write_try_name};
 use lang_base::{Kind, Named};
 use lang_monitor::Monitor;
 use lang_tree::{Decl, MethodTree};

@@ -27,7 +27,7 @@ use crate::source::{
 };
 use base_io::{Sink, SinkFailed, write_piece, write_pieces};
 use emit_bodies::{fails, shortens, write_block_name};
-use emit_rust::Reach;
+use emit_expressions::Reach;
 use lang_base::Kind;
 use lang_tree::{BlockTree, MethodTree};
 use machine_events::Note;

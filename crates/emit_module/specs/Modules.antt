@@ -16,9 +16,9 @@ use Rattle.machine_events.specs.Configurations.{block_condition}
 use Rattle.emit_code.specs.Code.{is_always, is_waited_on}
 use Rattle.emit_comments.specs.Comments.{comment_docs, first_line, has_comments, leading_docs}
 use Rattle.emit_comments.specs.Comments.{line_of}
-use Rattle.emit_rust.specs.declared.style.Style.TheVariants as styles
-use Rattle.emit_rust.specs.Names.{member_name, type_name}
-use Rattle.emit_rust.specs.Lints.{has_odd_name}
+use Rattle.emit_names.specs.declared.style.Style.TheVariants as styles
+use Rattle.emit_names.specs.Names.{member_name, type_name}
+use Rattle.emit_names.specs.Lints.{has_odd_name}
 use Rattle.emit_bodies.specs.Blocks.{kind_declared, kind_text}
 use Rattle.emit_bodies.specs.Bodies.{body_text}
 use Rattle.emit_bodies.specs.Guards.{guard_text}

@@ -5,7 +5,7 @@ ghost use Rattle.base_io.specs.Writing.{Wrote};
 ghost use Rattle.emit_module.specs.Modules.{is_field, lints_text};
 
 use base_io::{Sink, SinkFailed, write_piece};
-use emit_rust::has_odd_name;
+use emit_names::has_odd_name;
 use lang_tree::{Decl, MonitorTree};
 
 /// Writes what keeps lints from names that are written as they stand.

@@ -13,7 +13,7 @@ use crate::declared::is_field;
 use base_io::{Sink, SinkFailed, write_piece, write_pieces};
 use emit_bodies::{kind_bytes, kind_declared};
 use emit_method::{Source, is_always, write_around_count, write_around_name, write_start};
-use emit_rust::{Style, write_member};
+use emit_names::{Style, write_member};
 use lang_base::Named;
 use lang_monitor::Condition;
 use lang_tree::{Decl, MonitorTree};

@@ -29,7 +29,7 @@ use emit_comments::{first_line, has_comments, line_of, write_comments, write_lea
 use emit_method::{
     Source, has_try, is_always, method_fails, method_shortens, write_methods_of, write_typed_start,
 };
-use emit_rust::{Style, write_member, write_type};
+use emit_names::{Style, write_member, write_type};
 use lang_base::Named;
 use lang_monitor::{Condition, Monitor};
 use lang_tree::{Decl, MethodTree, MonitorTree};

@@ -21,9 +21,9 @@ use Rattle.lang_forms.specs.Plain.{Plain, number_in, plain_step, plain_value, ad
 use Rattle.lang_forms.proofs.FineParts.{no_fault, or_else_none, parts_fine}
 use Rattle.lang_forms.proofs.SenseLayers.{found_addend, found_factor}
 use Rattle.lang_monitor.specs.Bodies.{Memory, reading}
-use Rattle.emit_rust.specs.Scopes.{ScopeParts}
-use Rattle.emit_rust.specs.Expressions as writing
-use Rattle.emit_rust.specs.Expressions.{Written, Later, written, written_step}
+use Rattle.emit_expressions.specs.Scopes.{ScopeParts}
+use Rattle.emit_expressions.specs.Expressions as writing
+use Rattle.emit_expressions.specs.Expressions.{Written, Later, written, written_step}
 use Rattle.lang_base.specs.declared.value.Value.{Value}
 use Rattle.lang_types.proofs.NamedPlaces.{named_is_found}
 use Rattle.emit_numbers.specs.Calls.{entries, as_value, plain_now, value_now}

@@ -18,7 +18,7 @@ use Rattle.lang_monitor.specs.Bodies.{Effect, Memory, body_effect, fits_64, fits
 use Rattle.lang_types.specs.Typed.{result_layer, result_of, result_of_kind, statement_of, statement_of_step}
 use Rattle.lang_types.proofs.FineTrees.{append_none, no_places}
 use Rattle.lang_types.proofs.PlainExpressions.{has_kind}
-use Rattle.emit_rust.specs.Expressions.{written}
+use Rattle.emit_expressions.specs.Expressions.{written}
 use Rattle.emit_numbers.specs.Calls.{Outcome, and_then, answer_by, answer_of, body_call, call_step, entries, in_order, keeps_64, statement_call, value_now}
 use Rattle.emit_numbers.specs.Calls.Outcome.{goes_on, stops}
 use Rattle.emit_numbers.proofs.Short.{HasShort}

@@ -15,7 +15,7 @@ use Rattle.lang_forms.specs.declared.scope.Meaning.TheVariants as meanings
 use Rattle.lang_forms.specs.declared.scope.Entry.{Entry}
 use Rattle.lang_forms.specs.Scope.{declared_from, inputs_from, input_meaning}
 use Rattle.lang_types.proofs.NamedPlaces.{found}
-use Rattle.emit_rust.specs.Scopes.{ScopeParts, declares}
+use Rattle.emit_expressions.specs.Scopes.{ScopeParts, declares}
 use Rattle.emit_numbers.specs.Calls.{entries}
 
 -- no place of a field

@@ -33,8 +33,8 @@ use Rattle.lang_types.specs.Typed.{assignment, set_of, statement_of, statement_o
 use Rattle.lang_types.proofs.FineTrees.{append_none, no_fault, no_places}
 use Rattle.lang_types.proofs.NamedPlaces.{named_is_found}
 use Rattle.lang_types.proofs.PlainExpressions.{bool_value, has_kind, int_value}
-use Rattle.emit_rust.specs.Scopes.{ScopeParts}
-use Rattle.emit_rust.specs.Expressions.{written}
+use Rattle.emit_expressions.specs.Scopes.{ScopeParts}
+use Rattle.emit_expressions.specs.Expressions.{written}
 use Rattle.emit_numbers.specs.Calls.{Outcome, and_then, assigned, as_value, call_step, entries, in_order, keeps_64, plain_now, statement_call, tested, value_now, with_meaning}
 use Rattle.emit_numbers.specs.Calls.Outcome.{goes_on, stops}
 use Rattle.emit_numbers.specs.Laws.{AreShort}

@@ -20,9 +20,9 @@ use Rattle.lang_forms.proofs.LimitedForms.{both_true}
 use Rattle.lang_forms.proofs.SenseLayers.{found_addend, found_factor}
 use Rattle.lang_monitor.specs.Bodies.{fits_64, reading}
 use Rattle.lang_types.proofs.NamedPlaces.{named_is_found}
-use Rattle.emit_rust.specs.Scopes.{ScopeParts}
-use Rattle.emit_rust.specs.Expressions.{Written, written}
-use Rattle.emit_rust.specs.Values.{is_atom, is_atom_in, is_single, is_single_in, is_variable, is_variable_in}
+use Rattle.emit_expressions.specs.Scopes.{ScopeParts}
+use Rattle.emit_expressions.specs.Expressions.{Written, written}
+use Rattle.emit_expressions.specs.Values.{is_atom, is_atom_in, is_single, is_single_in, is_variable, is_variable_in}
 use Rattle.emit_numbers.specs.Calls.{all_fit, as_value, entries, keeps_64, plain_now, value_now}
 use Rattle.emit_numbers.specs.Widths.{Worked, WorkedPart, worked_addend, worked_factor, worked_step}
 use Rattle.emit_numbers.proofs.Short.{FoundPlain, IsShort, found_plain, natural_short}

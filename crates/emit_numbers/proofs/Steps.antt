@@ -16,7 +16,7 @@ use Rattle.lang_types.proofs.KeptMeanings.{fine_at}
 use Rattle.lang_types.proofs.PlacedBlocks.{belong}
 use Rattle.machine_implicit.specs.Steps.{reply_of}
 use Rattle.machine_implicit.specs.declared.commit.Reply.TheVariants as replies
-use Rattle.emit_rust.specs.Scopes.{ScopeParts}
+use Rattle.emit_expressions.specs.Scopes.{ScopeParts}
 use Rattle.emit_bodies.specs.Traces.{body_trace}
 use Rattle.emit_numbers.specs.Calls.{Outcome, answer_of, body_call, entries, left_by, state_left}
 use Rattle.emit_numbers.specs.Calls.Outcome.{goes_on, stops}

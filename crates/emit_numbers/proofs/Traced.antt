@@ -14,8 +14,8 @@ use Rattle.lang_forms.specs.Scope.{entry_named}
 use Rattle.lang_forms.specs.Plain.{truth_in}
 use Rattle.lang_monitor.specs.Bodies.{Memory, with_value}
 use Rattle.lang_types.proofs.NamedPlaces.{named_is_found}
-use Rattle.emit_rust.specs.Scopes.{ScopeParts, declares}
-use Rattle.emit_rust.specs.Values.{is_tested}
+use Rattle.emit_expressions.specs.Scopes.{ScopeParts, declares}
+use Rattle.emit_expressions.specs.Values.{is_tested}
 use Rattle.lang_tree.specs.declared.tree.Expr.{Expr}
 use Rattle.emit_bodies.specs.Traces.{nothing, trace_step, statement_trace, body_trace}
 use Rattle.emit_bodies.specs.Traces.{and_then as trace_then, in_turn as traces_in_turn}

@@ -28,7 +28,7 @@ use Rattle.lang_forms.proofs.LimitedForms.{both_true}
 use Rattle.lang_forms.proofs.SoundSenses.{product_fine, small_number}
 use Rattle.lang_types.proofs.NamedPlaces.{named_is_found}
 use Rattle.emit_numbers.specs.Widths.{IsWide, Worked, WorkedPart, made_between, made_on, sums_made}
-use Rattle.emit_rust.specs.Expressions.{is_pieced}
+use Rattle.emit_expressions.specs.Expressions.{is_pieced}
 use Rattle.emit_numbers.proofs.SumLengths.{has_short_sums, short_step}
 use Rattle.emit_numbers.proofs.Short.{FoundPlain, IsShort, found_plain}
 use Rattle.emit_numbers.proofs.Bounds.{IsBounded, IsLow, UNIT, abs_negative, abs_plus, form_low, form_worth, low_wide, part_low, parts_wide}

@@ -17,9 +17,9 @@ use Rattle.lang_monitor.specs.Bodies.{Inputs, Memory, memory_of, reading, with_v
 use Rattle.machine_implicit.specs.Steps.{reply_of}
 use Rattle.machine_implicit.specs.declared.commit.Reply.{Reply}
 use Rattle.machine_implicit.specs.declared.commit.Reply.TheVariants as replies
-use Rattle.emit_rust.specs.Scopes.{ScopeParts}
-use Rattle.emit_rust.specs.Expressions.{written}
-use Rattle.emit_rust.specs.Values.{is_single}
+use Rattle.emit_expressions.specs.Scopes.{ScopeParts}
+use Rattle.emit_expressions.specs.Expressions.{written}
+use Rattle.emit_expressions.specs.Values.{is_single}
 use Rattle.emit_bodies.specs.Traces.{body_trace}
 use Rattle.emit_numbers.specs.Widths.{worked}
 

@@ -16,7 +16,7 @@ use Rattle.lang_types.specs.Typed.{IsTyped, PlacedBlock, blocks_from}
 use Rattle.lang_types.specs.KeptMeaning.{expressions_in}
 use Rattle.machine_implicit.specs.Steps.{BlockSteps, condition_truth, guard_truth}
 use Rattle.machine_implicit.specs.declared.commit.Reply.TheVariants as replies
-use Rattle.emit_rust.specs.Scopes.{ScopeParts}
+use Rattle.emit_expressions.specs.Scopes.{ScopeParts}
 use Rattle.emit_bodies.specs.Bodies.{body_fails, body_scope}
 use Rattle.emit_numbers.specs.Calls.{Left, entries, printed_call}
 use Rattle.emit_numbers.specs.Tests.{printed_test}

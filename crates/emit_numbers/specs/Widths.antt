@@ -11,7 +11,7 @@ use Rattle.logic_linear.specs.Truth.{Valuation}
 use Rattle.lang_forms.specs.declared.scope.Entry.{Entry}
 use Rattle.lang_forms.specs.Scope.{signed, entry_named}
 use Rattle.lang_forms.specs.Plain.{Plain, number_in, plain_step, entry_value}
-use Rattle.emit_rust.specs.Expressions.{is_pieced}
+use Rattle.emit_expressions.specs.Expressions.{is_pieced}
 
 -- what an expression stands for, and the numbers that are made on the way, with its own
 pub record Worked : Type 0 where

@@ -1,7 +1,7 @@
 -- The texts of parts of statements, for their writers.
 use Rattle.std.specs.Prelude.{ℕ, ◌+◌, List, ◌++◌, map, codes}
 use Rattle.lang_tree.specs.declared.tree.StmtTree.{StmtTree}
-use Rattle.emit_rust.specs.Scopes.{ScopeParts}
+use Rattle.emit_expressions.specs.Scopes.{ScopeParts}
 use Rattle.emit_bodies.specs.Statements.{indent, otherwise, statement_text, statements_text}
 
 -- statements one level deeper, and the brace that ends them

@@ -5,8 +5,8 @@ use Rattle.lang_tree.specs.declared.tree.MonitorTree.{MonitorTree}
 use Rattle.lang_tree.specs.Names.{declared_name}
 use Rattle.lang_monitor.specs.declared.monitor.Condition.{Condition}
 use Rattle.emit_code.specs.Code.{is_always}
-use Rattle.emit_rust.specs.declared.style.Style.TheVariants as styles
-use Rattle.emit_rust.specs.Names.{member_name}
+use Rattle.emit_names.specs.declared.style.Style.TheVariants as styles
+use Rattle.emit_names.specs.Names.{member_name}
 use Rattle.emit_bodies.specs.Blocks.{kind_declared, kind_text}
 use Rattle.emit_method.specs.Sources.{SourceParts}
 use Rattle.emit_method.specs.Conditions.{around_count, around_name}

@@ -1,6 +1,6 @@
 use Rattle.std.proofs.Common.{[]}
 use Rattle.std.specs.Option.{option_map_or}
-use Rattle.emit_rust.specs.Scopes.{seen}
+use Rattle.emit_expressions.specs.Scopes.{seen}
 use Rattle.emit_bodies.specs.Statements.{statements_text}
 use Rattle.emit_bodies.specs.Bodies.{kept_end_text, last_of}
 use Rattle.base_io.proofs.Writing.{wrote_both, wrote_fails, wrote_longer}

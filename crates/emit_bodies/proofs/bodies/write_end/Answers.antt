@@ -1,4 +1,4 @@
-use Rattle.emit_rust.specs.Scopes.{seen}
+use Rattle.emit_expressions.specs.Scopes.{seen}
 use Rattle.emit_bodies.specs.Bodies.{done_text, end_text, last_of}
 use Rattle.std.proofs.Common.{◌∙◌}
 use Rattle.emit_bodies.proofs.BodyTexts.{last_none, last_some}

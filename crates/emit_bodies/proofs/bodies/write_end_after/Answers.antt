@@ -1,5 +1,5 @@
 use Rattle.std.proofs.Common.{◌∙◌}
-use Rattle.emit_rust.specs.Scopes.{seen}
+use Rattle.emit_expressions.specs.Scopes.{seen}
 use Rattle.emit_bodies.proofs.BodyTexts.{end-none, end-Return}
 use Rattle.base_io.proofs.Writing.{wrote_same}
 use Rattle.emit_bodies.proofs.bodies.write_end_after.Goals as goal

@@ -1,5 +1,5 @@
 use Rattle.std.proofs.Common.{codes}
-use Rattle.emit_rust.specs.declared.scope.Reach.TheVariants as reaches
+use Rattle.emit_expressions.specs.declared.scope.Reach.TheVariants as reaches
 use Rattle.emit_bodies.specs.Blocks.{all_inputs_text, block_name}
 use Rattle.emit_bodies.specs.Bodies.{arrow_text}
 use Rattle.base_io.proofs.Writing.{wrote_both, wrote_fails, wrote_longer}

@@ -1,5 +1,5 @@
 use Rattle.std.proofs.Common.{ap, refl}
-use Rattle.emit_rust.specs.Scopes.{seen}
+use Rattle.emit_expressions.specs.Scopes.{seen}
 use Rattle.emit_bodies.specs.Statements.{statements_text}
 use Rattle.emit_bodies.proofs.Depths.{levels-second}
 use Rattle.base_io.proofs.Writing.{wrote_same}

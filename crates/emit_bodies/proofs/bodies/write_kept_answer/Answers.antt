@@ -1,4 +1,4 @@
-use Rattle.emit_rust.specs.Scopes.{seen}
+use Rattle.emit_expressions.specs.Scopes.{seen}
 use Rattle.std.proofs.Common.{true}
 use Rattle.emit_bodies.specs.Bodies.{answer_line}
 use Rattle.emit_bodies.proofs.BodyTexts.{kept_plain, kept_tested}

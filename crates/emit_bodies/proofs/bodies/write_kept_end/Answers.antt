@@ -1,4 +1,4 @@
-use Rattle.emit_rust.specs.Scopes.{seen}
+use Rattle.emit_expressions.specs.Scopes.{seen}
 use Rattle.std.proofs.Common.{[], rules}
 use Rattle.emit_bodies.specs.Bodies.{kept_end_text, last_of}
 use Rattle.emit_bodies.proofs.BodyTexts.{last_none, last_some}

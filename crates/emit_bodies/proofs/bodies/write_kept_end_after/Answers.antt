@@ -1,4 +1,4 @@
-use Rattle.emit_rust.specs.Scopes.{seen}
+use Rattle.emit_expressions.specs.Scopes.{seen}
 use Rattle.emit_bodies.proofs.BodyTexts.{kept-none, kept-Return}
 use Rattle.base_io.proofs.Writing.{wrote_same}
 use Rattle.emit_bodies.proofs.bodies.write_kept_end_after.Goals as goal

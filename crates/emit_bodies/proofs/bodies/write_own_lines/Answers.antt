@@ -1,5 +1,5 @@
 use Rattle.std.specs.Option.{option_map_or}
-use Rattle.emit_rust.specs.Scopes.{seen}
+use Rattle.emit_expressions.specs.Scopes.{seen}
 use Rattle.emit_bodies.specs.Bodies.{done_text, end_text, last_of}
 use Rattle.base_io.proofs.Writing.{wrote_both, wrote_fails, wrote_longer}
 use Rattle.emit_bodies.proofs.bodies.write_own_lines.Goals as goal

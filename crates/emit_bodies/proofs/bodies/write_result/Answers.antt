@@ -1,7 +1,7 @@
 use Rattle.std.proofs.Common.{[]}
-use Rattle.emit_rust.specs.Scopes.{seen}
-use Rattle.emit_rust.specs.Expressions.{plain_text, written}
-use Rattle.emit_rust.specs.Values.{value_text}
+use Rattle.emit_expressions.specs.Scopes.{seen}
+use Rattle.emit_expressions.specs.Expressions.{plain_text, written}
+use Rattle.emit_expressions.specs.Values.{value_text}
 use Rattle.std.proofs.Common.{◌∙◌, sym}
 use Rattle.emit_bodies.proofs.BodyTexts.{result_narrow, result_plain, result_wrapped}
 use Rattle.base_io.proofs.Writing.{wrote_same}

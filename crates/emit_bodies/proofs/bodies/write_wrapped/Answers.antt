@@ -1,6 +1,6 @@
 use Rattle.std.proofs.Common.{codes}
-use Rattle.emit_rust.specs.Scopes.{seen}
-use Rattle.emit_rust.specs.Expressions.{plain_text}
+use Rattle.emit_expressions.specs.Scopes.{seen}
+use Rattle.emit_expressions.specs.Expressions.{plain_text}
 use Rattle.base_io.proofs.Writing.{wrote_both, wrote_fails, wrote_longer}
 use Rattle.emit_bodies.proofs.bodies.write_wrapped.Goals as goal
 

@@ -1,5 +1,5 @@
 use Rattle.std.proofs.Common.{codes, false}
-use Rattle.emit_rust.specs.Expressions.{plain_text}
+use Rattle.emit_expressions.specs.Expressions.{plain_text}
 use Rattle.base_io.proofs.Writing.{wrote_both, wrote_fails, wrote_longer, wrote_same, wrote_until}
 use Rattle.emit_bodies.proofs.GuardTexts.{guard_says}
 use Rattle.emit_bodies.proofs.guards.write_guard.Goals as goal

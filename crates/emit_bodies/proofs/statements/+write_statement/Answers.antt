@@ -2,7 +2,7 @@ use Rattle.std.proofs.Common.{◌≤◌, ap, refl, codes, length, arith, rules}
 use Rattle.emit_bodies.specs.Statements.{statement_text, statements_text}
 use Rattle.emit_bodies.specs.inner.Depths.{levels}
 use Rattle.emit_bodies.specs.inner.Printing.{block_text, else_text}
-use Rattle.emit_rust.specs.Scopes.{seen}
+use Rattle.emit_expressions.specs.Scopes.{seen}
 use Rattle.base_io.proofs.Rows.{row_stopped}
 use Rattle.emit_bodies.proofs.Depths.{levels-Below}
 use Rattle.emit_bodies.proofs.StatementTexts.{text-Set, text-If, text-Return, else_text-some}

@@ -1,5 +1,5 @@
 use Rattle.std.proofs.Common.{Ok, take}
-use Rattle.emit_rust.specs.Scopes.{seen}
+use Rattle.emit_expressions.specs.Scopes.{seen}
 use Rattle.emit_bodies.specs.inner.Depths.{levels}
 use Rattle.emit_bodies.specs.Statements.{statements_text}
 use Rattle.base_io.specs.Writing.{Wrote}

@@ -1,6 +1,6 @@
 use Rattle.std.proofs.Common.{codes}
-use Rattle.emit_rust.specs.Scopes.{name_text, seen}
-use Rattle.emit_rust.specs.Values.{value_text}
+use Rattle.emit_expressions.specs.Scopes.{name_text, seen}
+use Rattle.emit_expressions.specs.Values.{value_text}
 use Rattle.base_io.proofs.Writing.{wrote_both, wrote_fails, wrote_longer}
 use Rattle.emit_bodies.proofs.statements.write_assignment.Goals as goal
 

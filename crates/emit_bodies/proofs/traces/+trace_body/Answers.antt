@@ -1,5 +1,5 @@
 use Rattle.std.proofs.Common.{◌∙◌}
-use Rattle.emit_rust.specs.Scopes.{seen}
+use Rattle.emit_expressions.specs.Scopes.{seen}
 use Rattle.emit_bodies.specs.Traces.{statement_trace}
 use Rattle.emit_bodies.proofs.Turns.{trace-If, trace-Return, trace-Set, turn_ends, turn_goes}
 use Rattle.emit_bodies.proofs.traces.+trace_body.Goals as goal

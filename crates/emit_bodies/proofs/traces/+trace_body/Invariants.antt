@@ -1,5 +1,5 @@
 use Rattle.std.proofs.Common.{◌≡◌, map, take}
-use Rattle.emit_rust.specs.Scopes.{seen}
+use Rattle.emit_expressions.specs.Scopes.{seen}
 use Rattle.emit_bodies.specs.Traces.{in_turn, nothing, statement_trace}
 use Rattle.emit_bodies.proofs.traces.+trace_body.Given as goal
 

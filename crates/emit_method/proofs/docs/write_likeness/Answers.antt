@@ -1,7 +1,7 @@
 use Rattle.std.proofs.Common.{codes}
 use Rattle.emit_method.specs.Docs.{first_guard}
-use Rattle.emit_rust.specs.Names.{member_name}
-use Rattle.emit_rust.specs.declared.style.Style.TheVariants as styles
+use Rattle.emit_names.specs.Names.{member_name}
+use Rattle.emit_names.specs.declared.style.Style.TheVariants as styles
 use Rattle.base_io.proofs.Writing.{wrote_both, wrote_fails, wrote_longer}
 use Rattle.emit_method.proofs.docs.write_likeness.Goals as goal
 

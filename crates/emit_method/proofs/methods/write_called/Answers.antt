@@ -1,7 +1,7 @@
 use Rattle.base_io.proofs.Writing.{wrote_same}
 use Rattle.emit_method.proofs.Choices.{if_false, if_true}
-use Rattle.emit_rust.specs.Names.{member_name, try_name}
-use Rattle.emit_rust.specs.declared.style.Style.TheVariants as styles
+use Rattle.emit_names.specs.Names.{member_name, try_name}
+use Rattle.emit_names.specs.declared.style.Style.TheVariants as styles
 use Rattle.emit_method.proofs.methods.write_called.Goals as goal
 
 pub returns-then-it : goal.returns-then-it

@@ -1,7 +1,7 @@
 use Rattle.std.proofs.Common.{codes}
 use Rattle.base_io.proofs.Writing.{wrote_both, wrote_fails, wrote_longer}
 use Rattle.emit_method.specs.Statements.{method_seen, own_call}
-use Rattle.emit_rust.specs.declared.scope.Reach.TheVariants as reaches
+use Rattle.emit_expressions.specs.declared.scope.Reach.TheVariants as reaches
 use Rattle.emit_method.proofs.statements.write_call.Goals as goal
 
 pub returns-in_err-write_piece : goal.returns-in_err-write_piece

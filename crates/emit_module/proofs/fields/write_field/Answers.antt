@@ -1,9 +1,9 @@
 use Rattle.std.proofs.Common.{codes, ap}
 use Rattle.base_io.proofs.Writing.{wrote_both, wrote_fails, wrote_longer, wrote_same}
 use Rattle.emit_module.specs.inner.Lines.{said_at}
-use Rattle.emit_rust.specs.Names.{member_name}
+use Rattle.emit_names.specs.Names.{member_name}
 use Rattle.lang_tree.specs.Names.{declared_name}
-use Rattle.emit_rust.specs.declared.style.Style.TheVariants as styles
+use Rattle.emit_names.specs.declared.style.Style.TheVariants as styles
 use Rattle.emit_module.proofs.fields.write_field.Goals as goal
 
 pub returns-in_err-write_piece : goal.returns-in_err-write_piece

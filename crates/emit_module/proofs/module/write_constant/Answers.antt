@@ -1,8 +1,8 @@
 use Rattle.std.proofs.Common.{codes, ap}
 use Rattle.emit_method.specs.Methods.{typed_start}
-use Rattle.emit_rust.specs.Names.{member_name}
+use Rattle.emit_names.specs.Names.{member_name}
 use Rattle.lang_tree.specs.Names.{declared_name}
-use Rattle.emit_rust.specs.declared.style.Style.TheVariants as styles
+use Rattle.emit_names.specs.declared.style.Style.TheVariants as styles
 use Rattle.emit_module.specs.Modules.{constant_docs}
 use Rattle.std.proofs.Common.{ℕ}
 use Rattle.base_io.proofs.Writing.{wrote_both, wrote_fails, wrote_longer, wrote_same}

@@ -1,5 +1,5 @@
 use Rattle.emit_module.specs.Fixed.{DEBUG, DEBUG_END}
-use Rattle.emit_rust.specs.Names.{type_name}
+use Rattle.emit_names.specs.Names.{type_name}
 use Rattle.base_io.proofs.Writing.{wrote_both, wrote_fails, wrote_longer, wrote_same}
 use Rattle.emit_module.proofs.module.write_debug.Goals as goal
 

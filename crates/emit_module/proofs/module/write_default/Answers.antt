@@ -1,6 +1,6 @@
 use Rattle.base_io.proofs.Writing.{wrote_both, wrote_fails, wrote_longer, wrote_same}
 use Rattle.emit_module.specs.Fixed.{DEFAULT}
-use Rattle.emit_rust.specs.Names.{type_name}
+use Rattle.emit_names.specs.Names.{type_name}
 use Rattle.emit_module.proofs.module.write_default.Goals as goal
 
 pub returns-in_err-write_piece : goal.returns-in_err-write_piece

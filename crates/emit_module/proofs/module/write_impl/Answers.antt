@@ -4,7 +4,7 @@ use Rattle.emit_comments.proofs.Numbered.{numbered}
 use Rattle.emit_method.specs.Methods.{methods_text}
 use Rattle.emit_module.specs.Modules.{constants_text, lints_text, new_text}
 use Rattle.emit_method.specs.Sources.{seen}
-use Rattle.emit_rust.specs.Names.{type_name}
+use Rattle.emit_names.specs.Names.{type_name}
 use Rattle.lang_tree.specs.declared.tree.MethodTree.{MethodTree}
 use Rattle.std.specs.List.{enumerate_from, flat_map}
 use Rattle.emit_module.proofs.module.write_impl.Goals as goal

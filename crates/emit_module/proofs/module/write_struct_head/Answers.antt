@@ -1,6 +1,6 @@
 use Rattle.std.proofs.Common.{codes}
 use Rattle.base_io.proofs.Writing.{wrote_both, wrote_fails, wrote_longer}
-use Rattle.emit_rust.specs.Names.{type_name}
+use Rattle.emit_names.specs.Names.{type_name}
 use Rattle.emit_module.proofs.module.write_struct_head.Goals as goal
 
 pub returns-in_err-write_piece : goal.returns-in_err-write_piece

@@ -1,0 +1,4 @@
+pub mod Meanings
+pub mod ValueTexts
+pub mod Numbered
+pub mod Written

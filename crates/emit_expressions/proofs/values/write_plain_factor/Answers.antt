@@ -1,0 +1,10 @@
+use Rattle.emit_expressions.specs.Expressions.{plain_text}
+use Rattle.base_io.proofs.Writing.{wrote_both, wrote_fails, wrote_longer}
+use Rattle.emit_expressions.specs.Scopes.{seen}
+use Rattle.emit_expressions.proofs.values.write_plain_factor.Goals as goal
+
+pub returns-in_err-write_piece : goal.returns-in_err-write_piece
+returns-in_err-write_piece g c = wrote_fails _ c.from_residual.ensures.0 (wrote_longer (plain_text (seen c.args.scope.now) c.args.factor.now.of) c.in_err-write_piece.ensures)
+
+pub returns : goal.returns
+returns g c = wrote_both c.in_ok-write_piece.ensures c.write_plain.ensures

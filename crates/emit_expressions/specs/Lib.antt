@@ -1,0 +1,4 @@
+pub mod Scopes
+pub mod Expressions
+pub mod Values
+pub mod inner

@@ -1,0 +1,11 @@
+use Rattle.emit_names.specs.declared.style.Style.TheVariants as styles
+use Rattle.emit_names.specs.Names.{member_name}
+use Rattle.base_io.proofs.Writing.{wrote_both, wrote_fails, wrote_longer}
+use Rattle.emit_names.proofs.trying.write_try_name.Goals as goal
+
+pub returns-in_err-write_piece : goal.returns-in_err-write_piece
+returns-in_err-write_piece g c =
+    wrote_fails _ c.from_residual.ensures.0 (wrote_longer (member_name c.args.tree.now styles.Snake c.args.name.now) c.in_err-write_piece.ensures)
+
+pub returns : goal.returns
+returns g c = wrote_both c.in_ok-write_piece.ensures c.write_member.ensures

@@ -1,0 +1,68 @@
+-- What follows from the definitions alone.
+use Rattle.std.specs.Prelude.{◌≡◌, ℕ, true, List, ◌++◌, Contains}
+use Rattle.lang_tree.specs.declared.tree.MethodTree.{MethodTree}
+use Rattle.lang_tree.specs.declared.tree.MonitorTree.{MonitorTree}
+use Rattle.emit_names.specs.declared.style.Style.{Style}
+use Rattle.emit_names.specs.Names.{rust_name, members, member_name, inputs_of, input_name, type_name}
+use Rattle.emit_names.specs.Names.{member_names, try_name, is_try_free}
+use Rattle.emit_names.specs.Words.{KEYWORDS, TYPE_WORDS, MEMBER_WORDS, INPUT_WORDS}
+
+-- two names of a scope that are written alike are one, in whatever style each of them is written
+abbrev pub NamesStayApart : Type 0
+NamesStayApart =
+    (words scope : List (List ℕ)) (style other_style : Style) (name other : List ℕ)
+    → Contains scope name → Contains scope other
+    → rust_name words scope style name ≡ rust_name words scope other_style other
+    → name ≡ other
+
+-- so are two constants, fields or methods of a monitor
+abbrev pub MembersStayApart : Type 0
+MembersStayApart =
+    (tree : MonitorTree) (style other_style : Style) (name other : List ℕ)
+    → Contains (members tree) name → Contains (members tree) other
+    → member_name tree style name ≡ member_name tree other_style other
+    → name ≡ other
+
+-- and two parameters or locals of a method
+abbrev pub InputsStayApart : Type 0
+InputsStayApart =
+    (method : MethodTree) (name other : List ℕ)
+    → Contains (inputs_of method) name → Contains (inputs_of method) other
+    → input_name method name ≡ input_name method other
+    → name ≡ other
+
+-- the name of a type is no keyword, and not that of another type of the module
+abbrev pub TypesAreNoKeywords : Type 0
+TypesAreNoKeywords = (tree : MonitorTree) → Contains (KEYWORDS ++ TYPE_WORDS) (type_name tree) → ⊥
+
+-- so for constants, fields and methods
+abbrev pub MembersAreNoKeywords : Type 0
+MembersAreNoKeywords =
+    (tree : MonitorTree) (style : Style) (name : List ℕ)
+    → Contains (KEYWORDS ++ MEMBER_WORDS) (member_name tree style name) → ⊥
+
+-- and for parameters and locals
+abbrev pub InputsAreNoKeywords : Type 0
+InputsAreNoKeywords =
+    (method : MethodTree) (name : List ℕ)
+    → Contains (KEYWORDS ++ INPUT_WORDS) (input_name method name) → ⊥
+
+-- the methods that try are named apart from one another
+abbrev pub TriesStayApart : Type 0
+TriesStayApart =
+    (tree : MonitorTree) (name other : List ℕ)
+    → Contains (members tree) name → Contains (members tree) other
+    → try_name tree name ≡ try_name tree other
+    → name ≡ other
+
+-- a name that is free is not that of a constant, a field or a method
+abbrev pub TriesStandFree : Type 0
+TriesStandFree =
+    (tree : MonitorTree) (name : List ℕ)
+    → is_try_free tree name ≡ true → Contains (member_names tree) (try_name tree name) → ⊥
+
+-- and no method that tries is named by a word that has a meaning
+abbrev pub TriesAreNoKeywords : Type 0
+TriesAreNoKeywords =
+    (tree : MonitorTree) (name : List ℕ)
+    → Contains (KEYWORDS ++ MEMBER_WORDS) (try_name tree name) → ⊥

@@ -1,0 +1,31 @@
+//! What follows from the definitions alone.
+
+ghost use Rattle.emit_names.specs.Laws.{InputsStayApart, MembersStayApart, NamesStayApart};
+ghost use Rattle.emit_names.specs.Laws.{InputsAreNoKeywords, MembersAreNoKeywords};
+ghost use Rattle.emit_names.specs.Laws.{TriesAreNoKeywords, TriesStandFree, TriesStayApart};
+ghost use Rattle.emit_names.specs.Laws.{TypesAreNoKeywords};
+
+/// Two names of one scope that Rust's text writes alike are one name: no two become one by another
+/// case, by a `_` before an upper-case letter, or by the `_` after a word that has a meaning. So
+/// for the constants, fields and methods of a monitor, and for the parameters and locals of a
+/// method.
+pub fn names_stay_apart()
+    ensures names { NamesStayApart }
+    ensures members { MembersStayApart }
+    ensures inputs { InputsStayApart }
+{}
+
+/// No name is written as a keyword of Rust, or as a word that has another meaning where it stands.
+pub fn names_are_no_keywords()
+    ensures types { TypesAreNoKeywords }
+    ensures members { MembersAreNoKeywords }
+    ensures inputs { InputsAreNoKeywords }
+{}
+
+/// The methods that try are named apart from one another, from each constant, field and method
+/// where their name is free, and from the words that have a meaning.
+pub fn try_names_stay_apart()
+    ensures tries { TriesStayApart }
+    ensures members { TriesStandFree }
+    ensures words { TriesAreNoKeywords }
+{}

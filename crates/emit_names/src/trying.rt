@@ -1,0 +1,84 @@
+//! The names of the methods that try.
+
+ghost use Rattle.std.specs.Prelude.{◌≡◌, ◌||◌, not};
+ghost use Rattle.std.specs.List.{list_any};
+ghost use Rattle.std.specs.Str.{bytes_eq};
+ghost use Rattle.emit_names.specs.Names.{declared_style, declared_text, is_try_free};
+ghost use Rattle.emit_names.specs.Names.{method_name, try_name};
+ghost use Rattle.emit_names.specs.declared.style.Style.TheVariants as styles;
+ghost use Rattle.emit_names.specs.inner.Spellings.{spelling_text};
+ghost use Rattle.base_io.specs.Writing.{Wrote};
+
+use crate::names::{member_spelling, write_member};
+use crate::spelling::{Spelling, is_same};
+use crate::style::Style;
+use base_io::{Sink, SinkFailed, write_piece};
+use lang_base::{Name, Named};
+use lang_tree::{Decl, MethodTree, MonitorTree};
+
+/// Writes the name of the method that tries what the method of this name waits for. It takes no
+/// memory.
+///
+/// After `SinkFailed` the first bytes were taken, fewer than all and maybe none.
+pub fn write_try_name<S: Sink>(
+    tree: &MonitorTree,
+    name: &Name,
+    out: &mut S,
+) -> Result<(), SinkFailed>
+    ensures { Wrote (S.seen out.old) (S.seen out.new) result (try_name tree.now name.now) }
+{
+    write_piece(b"try_", out)?;
+    write_member(tree, Style::Snake, name, out)
+}
+
+/// Whether no constant, field or method of the monitor is written as the method that tries.
+pub fn is_try_free(tree: &MonitorTree, name: &Name) -> bool
+    ensures { result ≡ is_try_free tree.now name.now }
+{
+    let tried = member_spelling(tree, b"try_", Style::Snake, name);
+    let declared = any_declared_is(tree, tree.decls.items(), tried);
+    let method = any_method_is(tree, tree.methods.items(), tried);
+    is_neither(declared, method)
+}
+
+fn is_neither(one: bool, other: bool) -> bool
+    ensures { result ≡ not (one || other) }
+{
+    !(one || other)
+}
+
+fn any_declared_is(tree: &MonitorTree, declared: &[Decl], it: Spelling) -> bool
+    ensures { result ≡ list_any
+        (λ one. bytes_eq (spelling_text it.entry) (declared_text tree.now one)) declared.now }
+{
+    declared.iter().any(|one| declared_is(tree, one, it))
+}
+
+fn declared_is(tree: &MonitorTree, declared: &Decl, it: Spelling) -> bool
+    ensures { result ≡ bytes_eq (spelling_text it.entry) (declared_text tree.now declared.now) }
+{
+    let style = declared_style(declared);
+    is_same(it, member_spelling(tree, b"", style, declared.name()))
+}
+
+fn declared_style(declared: &Decl) -> Style
+    ensures { result ≡ declared_style declared.now }
+{
+    match declared {
+        Decl::Const { .. } => Style::Upper,
+        Decl::Int { .. } | Decl::Flag { .. } => Style::Snake,
+    }
+}
+
+fn any_method_is(tree: &MonitorTree, methods: &[MethodTree], it: Spelling) -> bool
+    ensures { result ≡ list_any
+        (λ method. bytes_eq (spelling_text it.entry) (method_name tree.now method)) methods.now }
+{
+    methods.iter().any(|method| method_is(tree, method, it))
+}
+
+fn method_is(tree: &MonitorTree, method: &MethodTree, it: Spelling) -> bool
+    ensures { result ≡ bytes_eq (spelling_text it.entry) (method_name tree.now method.now) }
+{
+    is_same(it, member_spelling(tree, b"", Style::Snake, &method.name))
+}
