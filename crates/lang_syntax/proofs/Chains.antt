@@ -3,7 +3,8 @@ use Rattle.std.proofs.Common.{◌≡◌, ℕ, zero, suc, ◌<◌, Bool, true, fa
 use Rattle.lang_tree.specs.declared.tree.Expr.{Expr}
 use Rattle.lang_tokens.specs.Words.{Word}
 use Rattle.lang_syntax.specs.Grammar.{chain}
-use Rattle.lang_syntax.specs.inner.Reading.{◌>>=◌, Read, ◌⊗◌, made_at, many_at, each_at, chain_of}
+use Rattle.lang_cursor.specs.Reading.{◌>>=◌, Read, ◌⊗◌, made_at, many_at, each_at}
+use Rattle.lang_syntax.specs.inner.Reading.{chain_of}
 
 abbrev done : {A : Type 0} → A → List Word → Read A
 done x rest = Ok (x, rest)

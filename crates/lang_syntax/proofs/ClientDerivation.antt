@@ -15,7 +15,8 @@ use Rattle.lang_tree.specs.declared.tree.ClientsTree.{ClientsTree}
 use Rattle.lang_tree.specs.Offsets.{unplaced_argument, item_step, unplaced_item, unplaced_client, unplaced_clients}
 use Rattle.lang_tokens.specs.Words.{Word, ident, numeral, mark}
 use Rattle.lang_syntax.specs.Grammar.{Rule, ◌⌢◌, IsBlock, IsIdent, IsNumeral, IsMarkAt, IsMark, truth_word}
-use Rattle.lang_syntax.specs.ClientGrammar.{negative, plain, IsArgument, AreArguments, IsCalled, IsCall, IsRepeat, IsItem, IsClient, IsClientFile}
+use Rattle.lang_cursor.specs.Arguments.{negative, plain}
+use Rattle.lang_syntax.specs.ClientGrammar.{IsArgument, AreArguments, IsCalled, IsCall, IsRepeat, IsItem, IsClient, IsClientFile}
 use Rattle.lang_syntax.proofs.CanonicalWords.{bare}
 use Rattle.lang_syntax.proofs.ClientWords.{argument_words, arguments_words, try_words, item_words, item_block_words, client_words, clients_words, words_Call, words_Repeat}
 use Rattle.lang_syntax.proofs.PrintedWords.{Cut, Again, each_again, no_words, alone, cut_mark, cut_mark_at, cut_ident, cut_numeral, cut_tree, last_mark}

@@ -6,12 +6,13 @@ use Rattle.lang_tokens.specs.declared.token.Token.{Token}
 use Rattle.lang_tree.specs.declared.tree.Item.{Item}
 use Rattle.lang_tree.specs.declared.tree.ClientTree.{ClientTree}
 use Rattle.lang_tree.specs.declared.tree.ClientsTree.{ClientsTree}
-use Rattle.lang_syntax.specs.declared.word.PlacedName.{PlacedName}
+use Rattle.lang_cursor.specs.declared.word.PlacedName.{PlacedName}
 use Rattle.lang_tokens.specs.Words.{Word, words}
 use Rattle.lang_syntax.specs.Grammar.{Rule, ◌⌢◌, Each, IsBlock, IsIdent, IsMark}
 use Rattle.lang_syntax.specs.ClientGrammar.{IsItem, IsClient, IsClientFile}
 use Rattle.lang_syntax.specs.Fault.{IsFaultAt}
-use Rattle.lang_syntax.specs.inner.Reading.{first_offset, Read, ◌⊗◌, made_at, each_at, mark_at, ident_at, begins, items_at, item_at, client_of, client_at, clients_at, clients_of, client_file}
+use Rattle.lang_cursor.specs.Reading.{first_offset, Read, ◌⊗◌, made_at, each_at, mark_at, ident_at, begins}
+use Rattle.lang_syntax.specs.inner.Reading.{items_at, item_at, client_of, client_at, clients_at, clients_of, client_file}
 use Rattle.lang_syntax.proofs.Readers.{Reads, Anything, Both, made_reads, each_reads, whole_found, whole_again, whole_fault}
 use Rattle.lang_syntax.proofs.WordReads.{IsPlacedName, begins_heads}
 use Rattle.lang_syntax.proofs.Openings.{Opens, mark_opens, then_opens, begins_none, begins_at}

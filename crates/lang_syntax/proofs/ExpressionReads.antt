@@ -14,7 +14,8 @@ use Rattle.lang_tree.specs.declared.tree.Addend.{Addend, out-Addend, out-roll-Ad
 use Rattle.lang_tree.specs.declared.tree.Factor.{Factor, out-Factor, out-roll-Factor, roll-out-Factor}
 use Rattle.lang_tokens.specs.Words.{Word}
 use Rattle.lang_syntax.specs.Grammar.{Rule, ◌⌢◌, Maybe, IsChain, IsMarkAt, IsMark, truth_word, op_sign, sum_sign, IsFactor, IsProduct, IsAddend, IsSum, IsCompared, IsComparison, IsConjunction, IsDisjunction, IsAtom, IsOpened, IsUnary, IsExpression}
-use Rattle.lang_syntax.specs.inner.Reading.{Read, ◌⊗◌, made_at, choice_at, pure_at, placed_at, mark_at, listed_at, op_of, minus_of, begins, begins_listed, factor_of, factor_at, factors_at, product_at, addend_of, addend_at, addends_at, sum_at, comparison_of, compared_at, comparison_at, part_of, sign_of, node_of, part_at, parts_at, joined_at, conjunction_at, disjunction_at, inner_at, atom_at, minus_of_unary, not_of_unary, inner_of, minus_unary_at, not_unary_at, group_at, opened_at, unary_at, expression_at}
+use Rattle.lang_cursor.specs.Reading.{Read, ◌⊗◌, made_at, choice_at, pure_at, placed_at, mark_at, listed_at, op_of, minus_of, begins, begins_listed, atom_at}
+use Rattle.lang_syntax.specs.inner.Reading.{factor_of, factor_at, factors_at, product_at, addend_of, addend_at, addends_at, sum_at, comparison_of, compared_at, comparison_at, part_of, sign_of, node_of, part_at, parts_at, joined_at, conjunction_at, disjunction_at, inner_at, minus_of_unary, not_of_unary, inner_of, minus_unary_at, not_unary_at, group_at, opened_at, unary_at, expression_at}
 use Rattle.lang_syntax.proofs.Readers.{Reads, Anything, Both, pair_reads, made_reads, pure_reads, choice_reads, before}
 use Rattle.lang_syntax.proofs.WordReads.{is_minus, op_reads, minus_reads, atom_reads, begins_heads, listed_heads}
 use Rattle.lang_syntax.proofs.Openings.{Opens, At, mark_opens, placed_opens, then_opens, atom_opens, begins_none, listed_none, begins_at, begun, listed_begun}

@@ -6,7 +6,7 @@ use Rattle.lang_tokens.specs.declared.token.Token.{Token}
 use Rattle.lang_tokens.specs.Words.{Word, word, words}
 use Rattle.lang_syntax.specs.Grammar.{Rule}
 use Rattle.lang_syntax.specs.Fault.{IsUnfit, IsFaultAt}
-use Rattle.lang_syntax.specs.inner.Reading.{first_offset}
+use Rattle.lang_cursor.specs.Reading.{first_offset}
 use Rattle.lang_syntax.proofs.Readers.{IsFault}
 
 -- the tokens whose words are the ones before a place, and those after it

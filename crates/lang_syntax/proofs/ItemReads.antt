@@ -5,11 +5,12 @@ use Rattle.lang_tokens.specs.declared.token.TokenKind.TheVariants as kinds
 use Rattle.lang_tree.specs.declared.tree.Arg.{Arg}
 use Rattle.lang_tree.specs.declared.tree.Item.{Item}
 use Rattle.lang_syntax.specs.declared.item_parser.CallHead.{CallHead}
-use Rattle.lang_syntax.specs.declared.word.PlacedNumber.{PlacedNumber}
+use Rattle.lang_cursor.specs.declared.word.PlacedNumber.{PlacedNumber}
 use Rattle.lang_tokens.specs.Words.{Word, ident, numeral}
 use Rattle.lang_syntax.specs.Grammar.{Rule, ◌⌢◌, Each, IsBlock, IsIdent, IsNumeral, IsMarkAt, IsMark, truth_word}
 use Rattle.lang_syntax.specs.ClientGrammar.{IsArgument, AreArguments, IsCalled, IsCall, IsRepeat, IsItem}
-use Rattle.lang_syntax.specs.inner.Reading.{Read, ◌⊗◌, made_at, choice_at, pure_at, each_at, placed_at, mark_at, ident_at, numeral_at, begins, begins_ident, begins_item, negative_argument_of, negative_argument_at, plain_argument_at, argument_at, later_argument_of, later_argument_at, later_arguments_at, arguments_of, some_arguments_at, arguments_at, tried_of, tried_at, untried_of, called_at, call_of, call_at, items_at, repeat_of, repeat_at, item_at}
+use Rattle.lang_cursor.specs.Reading.{Read, ◌⊗◌, made_at, choice_at, pure_at, each_at, placed_at, mark_at, ident_at, numeral_at, begins, begins_ident, plain_argument_at}
+use Rattle.lang_syntax.specs.inner.Reading.{begins_item, negative_argument_of, negative_argument_at, argument_at, later_argument_of, later_argument_at, later_arguments_at, arguments_of, some_arguments_at, arguments_at, tried_of, tried_at, untried_of, called_at, call_of, call_at, items_at, repeat_of, repeat_at, item_at}
 use Rattle.lang_syntax.proofs.Readers.{Reads, Anything, Both, pair_reads, made_reads, pure_reads, choice_reads, each_reads, before}
 use Rattle.lang_syntax.proofs.WordReads.{IsPlacedName, IsPlacedNumber, IsPlainArgument, mark_reads, ident_reads, numeral_reads, plain_argument_reads, begins_heads, item_heads}
 use Rattle.lang_syntax.proofs.Openings.{Opens, At, mark_opens, placed_opens, ident_opens, numeral_opens, then_opens, begins_none, begins_at}

@@ -9,7 +9,6 @@ pub mod MonitorReads
 pub mod ItemReads
 pub mod ClientReads
 pub mod ListItems
-pub mod Rounds
 pub mod Chains
 pub mod Outcomes
 pub mod CanonicalWords

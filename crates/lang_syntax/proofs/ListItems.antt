@@ -5,8 +5,9 @@ use Rattle.lang_syntax.specs.declared.expression_parser.Join.{Join}
 use Rattle.lang_tokens.specs.Words.{Word}
 use Rattle.lang_syntax.specs.Grammar.{Rule, IsFactor, IsAddend, IsUnary, IsStatement, IsDeclaration, IsLocal, IsGuarded, IsMethod}
 use Rattle.lang_syntax.specs.ClientGrammar.{IsItem, IsClient}
-use Rattle.lang_syntax.specs.inner.Reading.{Read, begins, begins_listed, begins_statement, begins_declaration, minus_of, sign_of, inner_at, part_at, factor_at, addend_at, unary_at, statement_at, declaration_at, later_input_at, local_at, guarded_at, method_at, begins_item, later_argument_at, item_at, client_at}
-use Rattle.lang_syntax.specs.inner.Calls.{AreItems}
+use Rattle.lang_cursor.specs.Reading.{Read, begins, begins_listed, minus_of}
+use Rattle.lang_syntax.specs.inner.Reading.{begins_statement, begins_declaration, sign_of, inner_at, part_at, factor_at, addend_at, unary_at, statement_at, declaration_at, later_input_at, local_at, guarded_at, method_at, begins_item, later_argument_at, item_at, client_at}
+use Rattle.lang_cursor.specs.Calls.{AreItems}
 use Rattle.lang_syntax.proofs.Readers.{Reads, Anything, shorter}
 use Rattle.lang_syntax.proofs.Openings.{begins_none, listed_none}
 use Rattle.lang_syntax.proofs.ExpressionReads.{NoStar, IsPart, IsInner, AfterInner, factor_reads, factor_begins, addend_reads, addend_begins, part_reads, part_begins, inner_reads, unary_reads}

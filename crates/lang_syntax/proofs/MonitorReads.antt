@@ -16,11 +16,12 @@ use Rattle.lang_tree.specs.declared.tree.StmtTree.{StmtTree}
 use Rattle.lang_tree.specs.declared.tree.BlockTree.{BlockTree}
 use Rattle.lang_tree.specs.declared.tree.MethodTree.{MethodTree}
 use Rattle.lang_tree.specs.declared.tree.MonitorTree.{MonitorTree}
-use Rattle.lang_syntax.specs.declared.word.PlacedName.{PlacedName}
+use Rattle.lang_cursor.specs.declared.word.PlacedName.{PlacedName}
 use Rattle.lang_tokens.specs.Words.{Word, numeral, words}
 use Rattle.lang_syntax.specs.Grammar.{Rule, ◌⌢◌, Each, OneOrMore, IsIdent, IsNumeral, IsMarkAt, IsMark, truth_word, kind_word, IsExpression, IsBlock, IsStatement, after_minus, IsLiteral, IsDeclaration, IsInput, AreInputs, IsLocal, IsGuarded, IsMethod, IsMonitorFile}
 use Rattle.lang_syntax.specs.Fault.{IsFaultAt}
-use Rattle.lang_syntax.specs.inner.Reading.{first_offset, Read, ◌⊗◌, made_at, pure_at, each_at, placed_at, mark_at, ident_at, numeral_at, listed_at, truth_of, kind_of, begins, begins_listed, begins_declaration, condition_at, block_at, statement_at, literal_of, negative_of, literal_at, Declared, constant_of, int_of, flag_of, declared_at, constant_at, int_at, flag_at, variable_at, declaration_at, declarations_at, input_of, input_at, later_input_of, later_input_at, later_inputs_at, inputs_of, some_inputs_at, inputs_at, head_of, head_at, local_of, local_at, locals_at, guarded_of, guarded_at, later_blocks_at, blocks_of, blocks_at, method_of, method_at, methods_at, monitor_of, monitor_at, monitor_file}
+use Rattle.lang_cursor.specs.Reading.{first_offset, Read, ◌⊗◌, made_at, pure_at, each_at, placed_at, mark_at, ident_at, numeral_at, listed_at, truth_of, kind_of, begins, begins_listed}
+use Rattle.lang_syntax.specs.inner.Reading.{begins_declaration, condition_at, block_at, statement_at, literal_of, negative_of, literal_at, Declared, constant_of, int_of, flag_of, declared_at, constant_at, int_at, flag_at, variable_at, declaration_at, declarations_at, input_of, input_at, later_input_of, later_input_at, later_inputs_at, inputs_of, some_inputs_at, inputs_at, head_of, head_at, local_of, local_at, locals_at, guarded_of, guarded_at, later_blocks_at, blocks_of, blocks_at, method_of, method_at, methods_at, monitor_of, monitor_at, monitor_file}
 use Rattle.lang_syntax.proofs.Readers.{Reads, Anything, Both, pair_reads, made_reads, pure_reads, choice_reads, each_reads, before, whole_found, whole_again, whole_fault}
 use Rattle.lang_syntax.proofs.WordReads.{IsPlacedName, IsPlacedNumber, ident_reads, numeral_reads, truth_reads, kind_reads, begins_heads, listed_heads, declaration_heads}
 use Rattle.lang_syntax.proofs.Openings.{Opens, At, mark_opens, placed_opens, numeral_opens, then_opens, items_open, begins_none, begins_at, begun}

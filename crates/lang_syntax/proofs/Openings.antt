@@ -4,7 +4,7 @@ use Rattle.lang_tokens.specs.declared.token.TokenKind.{TokenKind}
 use Rattle.lang_tree.specs.declared.tree.Expr.{Expr}
 use Rattle.lang_tokens.specs.Words.{Word, ident, numeral, mark}
 use Rattle.lang_syntax.specs.Grammar.{Rule, ◌⌢◌, Each, IsIdent, IsNumeral, IsMarkAt, IsMark, truth_word, IsAtom}
-use Rattle.lang_syntax.specs.inner.Reading.{is_listed, begins, begins_listed, begins_ident}
+use Rattle.lang_cursor.specs.Reading.{is_listed, begins, begins_listed, begins_ident}
 use Rattle.lang_syntax.proofs.WordReads.{same_kind, same_is_kind, IfListed}
 
 -- the fact holds of these words, whatever comes after

@@ -1,13 +1,13 @@
 -- What a parser answers, from what the words give.
 use Rattle.std.proofs.Common.{◌≡◌, ℕ, ◌-◌, List, length, drop, Result, Ok, Err, refl, sym, subst, ◌∙◌}
 use Rattle.lang_tokens.specs.declared.token.Token.{Token}
-use Rattle.lang_syntax.specs.declared.fault.Stop.{Stop}
-use Rattle.lang_syntax.specs.declared.fault.Stop.TheVariants as stops
+use Rattle.lang_cursor.specs.declared.fault.Stop.{Stop}
+use Rattle.lang_cursor.specs.declared.fault.Stop.TheVariants as stops
 use Rattle.lang_base.specs.declared.source_fault.SourceError.{SourceError}
 use Rattle.lang_tokens.specs.Spelling.{Spells}
 use Rattle.lang_syntax.specs.Grammar.{Rule}
 use Rattle.lang_syntax.specs.Fault.{IsFault, IsFaultAt, Parses}
-use Rattle.lang_syntax.specs.inner.Reading.{Fails, IsFaultOf, AreTokens, first_offset}
+use Rattle.lang_cursor.specs.Reading.{Fails, IsFaultOf, AreTokens, first_offset}
 use Rattle.lang_syntax.proofs.Readers.{ok_is}
 use Rattle.lang_tokens.proofs.Numerals.{tokens_are}
 

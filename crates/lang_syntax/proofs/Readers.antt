@@ -7,7 +7,7 @@ use Rattle.std.proofs.lemmas.Bool.{eqb-true}
 use Rattle.std.proofs.lemmas.List.{append-nil, length-append, nil_from_length}
 use Rattle.lang_tokens.specs.Words.{Word}
 use Rattle.lang_syntax.specs.Grammar.{Rule, ◌⌢◌, Each}
-use Rattle.lang_syntax.specs.inner.Reading.{◌>>=◌, Read, ◌⊗◌, made_at, choice_at, pure_at, many_at, each_at, whole}
+use Rattle.lang_cursor.specs.Reading.{◌>>=◌, Read, ◌⊗◌, made_at, choice_at, pure_at, many_at, each_at, whole}
 
 -- the words begin alike, or both are at the end: all that a reader sees past what it takes
 abbrev pub SameHead : List Word → List Word → Type 0

@@ -5,7 +5,8 @@ use Rattle.lang_tree.specs.declared.tree.Expr.{Expr}
 use Rattle.lang_tokens.specs.Words.{Word}
 use Rattle.lang_tokens.specs.declared.token.TokenKind.TheVariants as kinds
 use Rattle.lang_syntax.specs.Grammar.{Rule, ◌⌢◌, Each, IsBlock, IsMarkAt, IsMark, IsChain}
-use Rattle.lang_syntax.specs.inner.Reading.{Read, ◌⊗◌, made_at, each_at, placed_at, mark_at, ident_at, numeral_at, body_of, braces_at, chain_of}
+use Rattle.lang_cursor.specs.Reading.{Read, ◌⊗◌, made_at, each_at, placed_at, mark_at, ident_at, numeral_at, body_of, braces_at}
+use Rattle.lang_syntax.specs.inner.Reading.{chain_of}
 use Rattle.lang_syntax.proofs.Readers.{Reads, Anything, Heads, Both, pair_reads, made_reads, each_reads}
 use Rattle.lang_syntax.proofs.WordReads.{IsPlacedName, IsPlacedNumber, placed_reads, mark_reads, ident_reads, numeral_reads}
 use Rattle.lang_syntax.proofs.Openings.{Opens, At, mark_opens, each_opens}

@@ -7,7 +7,8 @@ use Rattle.lang_tree.specs.declared.tree.StmtTree.{StmtTree}
 use Rattle.lang_tree.specs.declared.tree.StmtTree.TheVariants as statements
 use Rattle.lang_tokens.specs.Words.{Word, ident, numeral, mark}
 use Rattle.lang_syntax.specs.Grammar.{Rule, ◌⌢◌, IsIdent, IsMarkAt, IsMark, IsExpression, IsBlock, IsElse, IsSimple, IsIf, IsStatement}
-use Rattle.lang_syntax.specs.inner.Reading.{Read, ◌⊗◌, made_at, choice_at, pure_at, placed_at, mark_at, ident_at, begins, begins_ident, begins_statement, expression_at, condition_at, block_at, else_of, else_at, set_of, set_at, return_of, return_at, if_of, if_at, simple_at, statement_at}
+use Rattle.lang_cursor.specs.Reading.{Read, ◌⊗◌, made_at, choice_at, pure_at, placed_at, mark_at, ident_at, begins, begins_ident}
+use Rattle.lang_syntax.specs.inner.Reading.{begins_statement, expression_at, condition_at, block_at, else_of, else_at, set_of, set_at, return_of, return_at, if_of, if_at, simple_at, statement_at}
 use Rattle.lang_syntax.proofs.Readers.{Reads, Anything, Both, pair_reads, made_reads, pure_reads, choice_reads, before}
 use Rattle.lang_syntax.proofs.WordReads.{IsPlacedName, begins_heads, statement_heads}
 use Rattle.lang_syntax.proofs.Openings.{Opens, At, mark_opens, placed_opens, ident_opens, then_opens, begins_at}

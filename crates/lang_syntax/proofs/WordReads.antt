@@ -12,12 +12,13 @@ use Rattle.lang_tree.specs.declared.tree.Expr.{Expr}
 use Rattle.lang_tree.specs.declared.tree.Expr.TheVariants as exprs
 use Rattle.lang_tree.specs.declared.tree.Arg.{Arg}
 use Rattle.lang_tree.specs.declared.tree.Arg.TheVariants as args
-use Rattle.lang_syntax.specs.declared.word.PlacedName.{PlacedName}
-use Rattle.lang_syntax.specs.declared.word.PlacedNumber.{PlacedNumber}
+use Rattle.lang_cursor.specs.declared.word.PlacedName.{PlacedName}
+use Rattle.lang_cursor.specs.declared.word.PlacedNumber.{PlacedNumber}
 use Rattle.lang_tokens.specs.Words.{Word, ident, numeral, mark}
 use Rattle.lang_syntax.specs.Grammar.{Rule, IsIdent, IsNumeral, IsMarkAt, IsMark, truth_word, op_sign, sum_sign, kind_word, IsAtom}
-use Rattle.lang_syntax.specs.ClientGrammar.{plain}
-use Rattle.lang_syntax.specs.inner.Reading.{code, is_kind, placed_at, mark_at, ident_at, numeral_at, listed_at, truth_of, op_of, minus_of, kind_of, begins, is_listed, begins_listed, begins_ident, begins_statement, begins_item, begins_declaration, atom_at, plain_argument_at}
+use Rattle.lang_cursor.specs.Arguments.{plain}
+use Rattle.lang_cursor.specs.Reading.{code, is_kind, placed_at, mark_at, ident_at, numeral_at, listed_at, truth_of, op_of, minus_of, kind_of, begins, is_listed, begins_listed, begins_ident, atom_at, plain_argument_at}
+use Rattle.lang_syntax.specs.inner.Reading.{begins_statement, begins_item, begins_declaration}
 use Rattle.lang_syntax.proofs.Readers.{Reads, Anything, Heads, One, one_reads}
 
 -- ---- kinds

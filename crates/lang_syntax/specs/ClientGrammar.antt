@@ -11,18 +11,12 @@ use Rattle.lang_tree.specs.declared.tree.ClientTree.{ClientTree}
 use Rattle.lang_tree.specs.declared.tree.ClientsTree.{ClientsTree}
 use Rattle.lang_tokens.specs.Spelling.{Spells}
 use Rattle.lang_tokens.specs.Words.{Word, words}
+use Rattle.lang_cursor.specs.Arguments.{negative, plain}
 use Rattle.lang_syntax.specs.Grammar.{Rule, ◌⌢◌, Each, IsBlock}
 use Rattle.lang_syntax.specs.Grammar.{IsIdent, IsNumeral, IsMarkAt, IsMark}
 use Rattle.lang_syntax.specs.Grammar.{truth_word}
 
 -- ---- arguments
-
--- a number after a minus sign at `at`, and one without a sign
-abbrev pub negative : ℕ → ℕ → ℕ → Arg
-negative at digits place = args.Int at (record { at = place; minus = true; digits = digits })
-
-abbrev pub plain : ℕ → ℕ → Arg
-plain at digits = args.Int at (record { at = at; minus = false; digits = digits })
 
 -- argument = ["-"] NUM | "true" | "false"
 abbrev pub IsArgument : Rule Arg

@@ -2,17 +2,16 @@
 //! as the levels that are left, so no input overflows the stack.
 
 ghost use Rattle.std.specs.Prelude.{◌≡◌, ◌≢◌, [], IfOk};
-ghost use Rattle.lang_syntax.specs.inner.Reading.{IsMarkKind, addend_at, addends_at, chain_of};
+ghost use Rattle.lang_cursor.specs.Reading.{IsMarkKind};
+ghost use Rattle.lang_syntax.specs.inner.Reading.{addend_at, addends_at, chain_of};
 ghost use Rattle.lang_syntax.specs.inner.Reading.{comparison_at, expression_at, factor_at};
 ghost use Rattle.lang_syntax.specs.inner.Reading.{factors_at, group_at, inner_at, joined_at};
 ghost use Rattle.lang_syntax.specs.inner.Reading.{minus_unary_at, node_of, not_unary_at, part_at};
 ghost use Rattle.lang_syntax.specs.inner.Reading.{parts_at, product_at, sign_of, sum_at, unary_at};
-ghost use Rattle.lang_syntax.specs.inner.Takes.{Takes};
+ghost use Rattle.lang_cursor.specs.Takes.{Takes};
 
-use super::cursor::Cursor;
-use super::fault::Stop;
-use super::many::{many, with_first};
 use base_list::{Boxed, Seq};
+use lang_cursor::{Cursor, Stop, many, with_first};
 use lang_tokens::TokenKind;
 use lang_tree::{Addend, Expr, Factor};
 use std::alloc::{AllocError, Global};

@@ -2,18 +2,16 @@
 
 ghost use Rattle.std.specs.Prelude.{◌≡◌, ◌<◌, ◌-◌, ℕ, List};
 ghost use Rattle.lang_syntax.specs.inner.Reading.{argument_at, arguments_at, begins_item, call_at};
-ghost use Rattle.lang_syntax.specs.inner.Reading.{called_at, each_at, item_at, items_at};
+ghost use Rattle.lang_cursor.specs.Reading.{each_at};
+ghost use Rattle.lang_syntax.specs.inner.Reading.{called_at, item_at, items_at};
 ghost use Rattle.lang_syntax.specs.inner.Reading.{later_argument_at, later_arguments_at};
 ghost use Rattle.lang_syntax.specs.inner.Reading.{negative_argument_at, repeat_at};
 ghost use Rattle.lang_syntax.specs.inner.Reading.{some_arguments_at, tried_at};
-ghost use Rattle.lang_syntax.specs.inner.Takes.{Takes};
+ghost use Rattle.lang_cursor.specs.Takes.{Takes};
 
-use super::cursor::Cursor;
-use super::fault::Stop;
-use super::many::{many, with_first};
-use super::word::{PlacedName, PlacedNumber};
 use base_list::Seq;
 use lang_base::Name;
+use lang_cursor::{Cursor, PlacedName, PlacedNumber, Stop, many, with_first};
 use lang_tokens::TokenKind;
 use lang_tree::{Arg, Item, Lit};
 use std::alloc::Global;

@@ -9,15 +9,11 @@
 #![tactic(auto)]
 
 mod clients_parser;
-mod cursor;
 mod expression_parser;
-mod fault;
 mod item_parser;
 mod laws;
-mod many;
 mod monitor_parser;
 mod statement_parser;
-mod word;
 
 pub use clients_parser::parse_clients;
 pub use lang_printer::{print_clients, print_monitor};

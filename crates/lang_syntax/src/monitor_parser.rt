@@ -6,7 +6,8 @@ ghost use Rattle.lang_tokens.specs.Spelling.{Spells};
 ghost use Rattle.lang_tokens.specs.Words.{words};
 ghost use Rattle.lang_syntax.specs.Grammar.{IsMonitorFile, Derives};
 ghost use Rattle.lang_syntax.specs.Fault.{AnswersEach, IsFault};
-ghost use Rattle.lang_syntax.specs.inner.Reading.{AreTokens, Gives, begins_declaration, blocks_at};
+ghost use Rattle.lang_cursor.specs.Reading.{AreTokens, Gives};
+ghost use Rattle.lang_syntax.specs.inner.Reading.{begins_declaration, blocks_at};
 ghost use Rattle.lang_syntax.specs.inner.Reading.{constant_at, declaration_at, declarations_at};
 ghost use Rattle.lang_syntax.specs.inner.Reading.{flag_at, guarded_at, head_at, input_at};
 ghost use Rattle.lang_syntax.specs.inner.Reading.{inputs_at, int_at, later_blocks_at};
@@ -14,16 +15,13 @@ ghost use Rattle.lang_syntax.specs.inner.Reading.{later_input_at, later_inputs_a
 ghost use Rattle.lang_syntax.specs.inner.Reading.{local_at, locals_at, method_at, methods_at};
 ghost use Rattle.lang_syntax.specs.inner.Reading.{monitor_at, monitor_file, some_inputs_at};
 ghost use Rattle.lang_syntax.specs.inner.Reading.{variable_at};
-ghost use Rattle.lang_syntax.specs.inner.Takes.{Takes};
+ghost use Rattle.lang_cursor.specs.Takes.{Takes};
 
-use super::cursor::Cursor;
-use super::fault::{Stop, fault_of};
-use super::many::{many, with_first};
 use super::statement_parser::{block, condition};
-use super::word::{PlacedName, PlacedNumber};
 use base_list::Seq;
 use lang_base::SourceError;
 use lang_base::limits::LEVELS;
+use lang_cursor::{Cursor, PlacedName, PlacedNumber, Stop, fault_of, many, with_first};
 use lang_tokens::{Token, TokenKind};
 use lang_tree::{BlockTree, Decl, InputTree, Lit, MethodTree, MonitorTree};
 use std::alloc::Global;

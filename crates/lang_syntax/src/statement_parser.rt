@@ -1,17 +1,15 @@
 //! The parser of statements and blocks. The recursion is as deep as the levels that are left.
 
 ghost use Rattle.std.specs.Prelude.{◌≡◌, ◌<◌, ◌-◌, ℕ, List};
-ghost use Rattle.lang_syntax.specs.inner.Reading.{begins_statement, each_at, condition_at};
+ghost use Rattle.lang_cursor.specs.Reading.{each_at};
+ghost use Rattle.lang_syntax.specs.inner.Reading.{begins_statement, condition_at};
 ghost use Rattle.lang_syntax.specs.inner.Reading.{block_at, else_at, set_at, return_at, if_at};
 ghost use Rattle.lang_syntax.specs.inner.Reading.{simple_at, statement_at};
-ghost use Rattle.lang_syntax.specs.inner.Takes.{Takes};
+ghost use Rattle.lang_cursor.specs.Takes.{Takes};
 
-use super::cursor::Cursor;
 use super::expression_parser::expression;
-use super::fault::Stop;
-use super::many::many;
-use super::word::PlacedName;
 use base_list::Seq;
+use lang_cursor::{Cursor, PlacedName, Stop, many};
 use lang_tokens::TokenKind;
 use lang_tree::{Expr, StmtTree};
 use std::alloc::Global;

@@ -1,6 +1,7 @@
 use Rattle.std.proofs.Common.{◌≡◌, refl, rules, Ok}
 use Rattle.lang_tokens.specs.declared.token.TokenKind.TheVariants as kinds
-use Rattle.lang_syntax.specs.inner.Reading.{begins, client_at, clients_at}
+use Rattle.lang_cursor.specs.Reading.{begins}
+use Rattle.lang_syntax.specs.inner.Reading.{client_at, clients_at}
 use Rattle.lang_syntax.proofs.ListItems.{client_items}
 use Rattle.lang_syntax.proofs.clients_parser.clients.Goals as goal
 

@@ -1,6 +1,7 @@
 use Rattle.std.proofs.Common.{◌≡◌, refl, rules, Ok}
 use Rattle.lang_tokens.specs.declared.token.TokenKind.TheVariants as kinds
-use Rattle.lang_syntax.specs.inner.Reading.{begins, begins_listed, minus_of, unary_at, factor_at, factors_at, addend_at, addends_at, sign_of, inner_at, part_at, parts_at}
+use Rattle.lang_cursor.specs.Reading.{begins, begins_listed, minus_of}
+use Rattle.lang_syntax.specs.inner.Reading.{unary_at, factor_at, factors_at, addend_at, addends_at, sign_of, inner_at, part_at, parts_at}
 use Rattle.lang_syntax.proofs.ListItems.{factor_items, addend_items, part_items}
 use Rattle.lang_syntax.proofs.expression_parser.+expression.Goals as goal
 

@@ -1,6 +1,7 @@
 use Rattle.std.proofs.Common.{◌≡◌, refl, rules, Ok}
 use Rattle.lang_tokens.specs.declared.token.TokenKind.TheVariants as kinds
-use Rattle.lang_syntax.specs.inner.Reading.{begins, later_argument_at, later_arguments_at}
+use Rattle.lang_cursor.specs.Reading.{begins}
+use Rattle.lang_syntax.specs.inner.Reading.{later_argument_at, later_arguments_at}
 use Rattle.lang_syntax.proofs.ListItems.{later_argument_items}
 use Rattle.lang_syntax.proofs.item_parser.later_arguments.Goals as goal
 

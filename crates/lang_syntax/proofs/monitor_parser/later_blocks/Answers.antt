@@ -1,6 +1,7 @@
 use Rattle.std.proofs.Common.{◌≡◌, refl, rules, Ok}
 use Rattle.lang_tokens.specs.declared.token.TokenKind.TheVariants as kinds
-use Rattle.lang_syntax.specs.inner.Reading.{begins, guarded_at, later_blocks_at}
+use Rattle.lang_cursor.specs.Reading.{begins}
+use Rattle.lang_syntax.specs.inner.Reading.{guarded_at, later_blocks_at}
 use Rattle.lang_syntax.proofs.ListItems.{guarded_items}
 use Rattle.lang_syntax.proofs.monitor_parser.later_blocks.Goals as goal
 

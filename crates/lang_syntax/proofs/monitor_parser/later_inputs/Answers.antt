@@ -1,6 +1,7 @@
 use Rattle.std.proofs.Common.{◌≡◌, refl, rules, Ok}
 use Rattle.lang_tokens.specs.declared.token.TokenKind.TheVariants as kinds
-use Rattle.lang_syntax.specs.inner.Reading.{begins, later_input_at, later_inputs_at}
+use Rattle.lang_cursor.specs.Reading.{begins}
+use Rattle.lang_syntax.specs.inner.Reading.{later_input_at, later_inputs_at}
 use Rattle.lang_syntax.proofs.ListItems.{later_input_items}
 use Rattle.lang_syntax.proofs.monitor_parser.later_inputs.Goals as goal
 

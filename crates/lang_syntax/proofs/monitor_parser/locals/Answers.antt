@@ -1,6 +1,7 @@
 use Rattle.std.proofs.Common.{◌≡◌, refl, rules, Ok}
 use Rattle.lang_tokens.specs.declared.token.TokenKind.TheVariants as kinds
-use Rattle.lang_syntax.specs.inner.Reading.{begins, local_at, locals_at}
+use Rattle.lang_cursor.specs.Reading.{begins}
+use Rattle.lang_syntax.specs.inner.Reading.{local_at, locals_at}
 use Rattle.lang_syntax.proofs.ListItems.{local_items}
 use Rattle.lang_syntax.proofs.monitor_parser.locals.Goals as goal
 

@@ -1,6 +1,7 @@
 use Rattle.std.proofs.Common.{◌≡◌, refl, rules, Ok}
 use Rattle.lang_tokens.specs.declared.token.TokenKind.TheVariants as kinds
-use Rattle.lang_syntax.specs.inner.Reading.{begins, method_at, methods_at}
+use Rattle.lang_cursor.specs.Reading.{begins}
+use Rattle.lang_syntax.specs.inner.Reading.{method_at, methods_at}
 use Rattle.lang_syntax.proofs.ListItems.{method_items}
 use Rattle.lang_syntax.proofs.monitor_parser.methods.Goals as goal
 

@@ -1,9 +1,9 @@
 use Rattle.std.proofs.Common.{Bool, List, length}
 use Rattle.lang_tokens.specs.Words.{Word}
-use Rattle.lang_syntax.specs.inner.Reading.{Read, each_at}
-use Rattle.lang_syntax.specs.inner.Calls.{Answers, AreItems, Reads}
-use Rattle.lang_syntax.proofs.Rounds.{Going}
-use Rattle.lang_syntax.proofs.many.many.Given as goal
+use Rattle.lang_cursor.specs.Reading.{Read, each_at}
+use Rattle.lang_cursor.specs.Calls.{Answers, AreItems, Reads}
+use Rattle.lang_cursor.proofs.Rounds.{Going}
+use Rattle.lang_cursor.proofs.items.many.Given as goal
 
 abbrev pub invariant-items : goal.invariant-items
 invariant-items g l = (starts : List Word → Bool) (read : List Word → Read g.row.T.Denot)

@@ -1,9 +1,9 @@
 use Rattle.std.proofs.Common.{rules, Ok, Err}
 use Rattle.std.proofs.lemmas.Result.{err_from_is_err_and}
 use Rattle.std.specs.Fn.{FnReturnsAt}
-use Rattle.lang_syntax.specs.inner.Calls.{CallsAtMut}
-use Rattle.lang_syntax.proofs.Rounds.{round_goes, round_stops, rounds_end}
-use Rattle.lang_syntax.proofs.many.many.Goals as goal
+use Rattle.lang_cursor.specs.Calls.{CallsAtMut}
+use Rattle.lang_cursor.proofs.Rounds.{round_goes, round_stops, rounds_end}
+use Rattle.lang_cursor.proofs.items.many.Goals as goal
 
 pub returns-in_err-item : goal.returns-in_err-item
 returns-in_err-item g c starts read answers reads items =

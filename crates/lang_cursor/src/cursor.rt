@@ -2,11 +2,11 @@
 
 ghost use Rattle.std.specs.Prelude.{◌≡◌, ◌==◌, ℕ, List, length};
 ghost use Rattle.lang_tokens.specs.Words.{words};
-ghost use Rattle.lang_syntax.specs.inner.Reading.{AreTokens, IsMarkKind, atom_at, begins};
-ghost use Rattle.lang_syntax.specs.inner.Reading.{begins_ident, begins_listed, ident_at, kind_of};
-ghost use Rattle.lang_syntax.specs.inner.Reading.{listed_at, mark_at, minus_of, numeral_at, op_of};
-ghost use Rattle.lang_syntax.specs.inner.Reading.{placed_at, plain_argument_at, truth_of};
-ghost use Rattle.lang_syntax.specs.inner.Takes.{Takes};
+ghost use Rattle.lang_cursor.specs.Reading.{AreTokens, IsMarkKind, atom_at, begins};
+ghost use Rattle.lang_cursor.specs.Reading.{begins_ident, begins_listed, ident_at, kind_of};
+ghost use Rattle.lang_cursor.specs.Reading.{listed_at, mark_at, minus_of, numeral_at, op_of};
+ghost use Rattle.lang_cursor.specs.Reading.{placed_at, plain_argument_at, truth_of};
+ghost use Rattle.lang_cursor.specs.Takes.{Takes};
 
 use super::fault::{Stop, stop_before};
 use super::word::{
@@ -29,7 +29,7 @@ pub struct Cursor<'a> {
 impl<'a> Model for Cursor<'a> {
     ghost use Rattle.std.specs.Prelude.{List};
     ghost use Rattle.lang_tokens.specs.Words.{Word, words};
-    ghost use Rattle.lang_syntax.specs.inner.Reading.{AreTokens};
+    ghost use Rattle.lang_cursor.specs.Reading.{AreTokens};
 
     ghost Value = { List Word };
 
@@ -90,7 +90,7 @@ impl<'a> Cursor<'a> {
     // ---- what comes next
 
     /// Whether this keyword or sign comes next.
-    #[tactic(auto, unfolding(crate::specs::inner::Reading::begins))]
+    #[tactic(auto, unfolding(crate::specs::Reading::begins))]
     pub fn begins(&self, kind: TokenKind) -> bool
         requires { IsMarkKind kind }
         ensures { result ≡ begins kind self.now }
@@ -102,7 +102,7 @@ impl<'a> Cursor<'a> {
     }
 
     /// Whether an identifier comes next.
-    #[tactic(auto, unfolding(crate::specs::inner::Reading::begins_ident))]
+    #[tactic(auto, unfolding(crate::specs::Reading::begins_ident))]
     pub fn begins_ident(&self) -> bool
         ensures { result ≡ begins_ident self.now }
     {
@@ -116,7 +116,7 @@ impl<'a> Cursor<'a> {
     }
 
     /// Whether a sign of a comparison comes next.
-    #[tactic(auto, unfolding(crate::specs::inner::Reading::begins_listed))]
+    #[tactic(auto, unfolding(crate::specs::Reading::begins_listed))]
     pub fn begins_op(&self) -> bool
         ensures { result ≡ begins_listed op_of self.now }
     {
@@ -124,7 +124,7 @@ impl<'a> Cursor<'a> {
     }
 
     /// Whether a plus or a minus comes next.
-    #[tactic(auto, unfolding(crate::specs::inner::Reading::begins_listed))]
+    #[tactic(auto, unfolding(crate::specs::Reading::begins_listed))]
     pub fn begins_sum_sign(&self) -> bool
         ensures { result ≡ begins_listed minus_of self.now }
     {
@@ -132,7 +132,7 @@ impl<'a> Cursor<'a> {
     }
 
     /// Whether the kind of a parameter comes next.
-    #[tactic(auto, unfolding(crate::specs::inner::Reading::begins_listed))]
+    #[tactic(auto, unfolding(crate::specs::Reading::begins_listed))]
     pub fn begins_input(&self) -> bool
         ensures { result ≡ begins_listed kind_of self.now }
     {
@@ -142,7 +142,7 @@ impl<'a> Cursor<'a> {
     // ---- one word
 
     /// A keyword or a sign, with its offset.
-    #[tactic(auto, unfolding(crate::specs::inner::Reading::placed_at, crate::specs::inner::Reading::AreTokens))]
+    #[tactic(auto, unfolding(crate::specs::Reading::placed_at, crate::specs::Reading::AreTokens))]
     pub fn placed(&mut self, kind: TokenKind) -> Result<u32, Stop>
         requires { IsMarkKind kind }
         ensures { Takes result self.new (placed_at kind self.old) }
@@ -160,7 +160,7 @@ impl<'a> Cursor<'a> {
     }
 
     /// A keyword or a sign.
-    #[tactic(auto, unfolding(crate::specs::inner::Reading::mark_at, crate::specs::inner::Reading::AreTokens))]
+    #[tactic(auto, unfolding(crate::specs::Reading::mark_at, crate::specs::Reading::AreTokens))]
     pub fn mark(&mut self, kind: TokenKind) -> Result<(), Stop>
         requires { IsMarkKind kind }
         ensures { Takes result self.new (mark_at kind self.old) }
@@ -178,7 +178,7 @@ impl<'a> Cursor<'a> {
     }
 
     /// ID
-    #[tactic(auto, unfolding(crate::specs::inner::Reading::ident_at, crate::specs::inner::Reading::AreTokens))]
+    #[tactic(auto, unfolding(crate::specs::Reading::ident_at, crate::specs::Reading::AreTokens))]
     pub fn ident(&mut self, alloc: Global) -> Result<PlacedName, Stop>
         ensures { Takes result self.new (ident_at self.old) }
     {
@@ -196,7 +196,7 @@ impl<'a> Cursor<'a> {
     }
 
     /// NUM
-    #[tactic(auto, unfolding(crate::specs::inner::Reading::numeral_at, crate::specs::inner::Reading::AreTokens))]
+    #[tactic(auto, unfolding(crate::specs::Reading::numeral_at, crate::specs::Reading::AreTokens))]
     pub fn numeral(&mut self) -> Result<PlacedNumber, Stop>
         ensures { Takes result self.new (numeral_at self.old) }
     {
@@ -217,7 +217,7 @@ impl<'a> Cursor<'a> {
     }
 
     /// "==" | "!=" | "<" | "<=" | ">" | ">="
-    #[tactic(auto, unfolding(crate::specs::inner::Reading::listed_at, crate::specs::inner::Reading::AreTokens))]
+    #[tactic(auto, unfolding(crate::specs::Reading::listed_at, crate::specs::Reading::AreTokens))]
     pub fn op(&mut self) -> Result<Op, Stop>
         ensures { Takes result self.new (listed_at op_of self.old) }
     {
@@ -225,7 +225,7 @@ impl<'a> Cursor<'a> {
     }
 
     /// "+" | "-": whether it is a minus.
-    #[tactic(auto, unfolding(crate::specs::inner::Reading::listed_at, crate::specs::inner::Reading::AreTokens))]
+    #[tactic(auto, unfolding(crate::specs::Reading::listed_at, crate::specs::Reading::AreTokens))]
     pub fn sum_sign(&mut self) -> Result<bool, Stop>
         ensures { Takes result self.new (listed_at minus_of self.old) }
     {
@@ -233,7 +233,7 @@ impl<'a> Cursor<'a> {
     }
 
     /// "true" | "false"
-    #[tactic(auto, unfolding(crate::specs::inner::Reading::listed_at, crate::specs::inner::Reading::AreTokens))]
+    #[tactic(auto, unfolding(crate::specs::Reading::listed_at, crate::specs::Reading::AreTokens))]
     pub fn truth(&mut self) -> Result<bool, Stop>
         ensures { Takes result self.new (listed_at truth_of self.old) }
     {
@@ -241,7 +241,7 @@ impl<'a> Cursor<'a> {
     }
 
     /// "int" | "bool"
-    #[tactic(auto, unfolding(crate::specs::inner::Reading::listed_at, crate::specs::inner::Reading::AreTokens))]
+    #[tactic(auto, unfolding(crate::specs::Reading::listed_at, crate::specs::Reading::AreTokens))]
     pub fn input_kind(&mut self) -> Result<Kind, Stop>
         ensures { Takes result self.new (listed_at kind_of self.old) }
     {
@@ -249,7 +249,7 @@ impl<'a> Cursor<'a> {
     }
 
     /// NUM | "true" | "false"
-    #[tactic(auto, unfolding(crate::specs::inner::Reading::plain_argument_at, crate::specs::inner::Reading::AreTokens))]
+    #[tactic(auto, unfolding(crate::specs::Reading::plain_argument_at, crate::specs::Reading::AreTokens))]
     pub fn plain_argument(&mut self) -> Result<Arg, Stop>
         ensures { Takes result self.new (plain_argument_at self.old) }
     {
@@ -269,7 +269,7 @@ impl<'a> Cursor<'a> {
     }
 
     /// NUM | "true" | "false" | ID
-    #[tactic(auto, unfolding(crate::specs::inner::Reading::atom_at, crate::specs::inner::Reading::AreTokens))]
+    #[tactic(auto, unfolding(crate::specs::Reading::atom_at, crate::specs::Reading::AreTokens))]
     pub fn atom(&mut self, alloc: Global) -> Result<Expr, Stop>
         ensures { Takes result self.new (atom_at self.old) }
     {

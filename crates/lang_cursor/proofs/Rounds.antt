@@ -1,11 +1,11 @@
 -- The rounds of the loop that reads item after item.
 use Rattle.std.proofs.Common.{◌≡◌, ℕ, zero, suc, ◌<◌, ◌≤◌, Bool, true, false, List, [], ◌∷◌, ◌++◌, length, Ok, Err, refl, sym, ap, ◌∙◌, append_assoc, arith}
 use Rattle.std.proofs.lemmas.List.{append-nil}
-use Rattle.lang_syntax.specs.declared.fault.Stop.{Stop}
-use Rattle.lang_syntax.specs.declared.fault.Stop.TheVariants as stops
+use Rattle.lang_cursor.specs.declared.fault.Stop.{Stop}
+use Rattle.lang_cursor.specs.declared.fault.Stop.TheVariants as stops
 use Rattle.lang_tokens.specs.Words.{Word}
-use Rattle.lang_syntax.specs.inner.Reading.{◌>>=◌, Read, Fails, many_at}
-use Rattle.lang_syntax.specs.inner.Calls.{AreItems}
+use Rattle.lang_cursor.specs.Reading.{◌>>=◌, Read, Fails, many_at}
+use Rattle.lang_cursor.specs.Calls.{AreItems}
 
 abbrev pub with_front : {A : Type 0} → List A → Read (List A) → Read (List A)
 with_front front (Ok x) = Ok (front ++ x.0, x.1)

@@ -2,9 +2,9 @@
 
 ghost use Rattle.std.specs.Prelude.{◌≡◌, ◌∷◌, Bool, IfOk, List};
 ghost use Rattle.lang_tokens.specs.Words.{Word};
-ghost use Rattle.lang_syntax.specs.inner.Reading.{Read, each_at};
-ghost use Rattle.lang_syntax.specs.inner.Calls.{Answers, AreItems, Reads, Shortens};
-ghost use Rattle.lang_syntax.specs.inner.Takes.{Takes};
+ghost use Rattle.lang_cursor.specs.Reading.{Read, each_at};
+ghost use Rattle.lang_cursor.specs.Calls.{Answers, AreItems, Reads, Shortens};
+ghost use Rattle.lang_cursor.specs.Takes.{Takes};
 
 use super::cursor::Cursor;
 use super::fault::Stop;

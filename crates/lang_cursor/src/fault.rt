@@ -2,8 +2,8 @@
 
 ghost use Rattle.std.specs.Prelude.{◌≡◌, ◌≤◌, ◌-◌, length, drop};
 ghost use Rattle.lang_base.specs.Limits.{FILE_BYTES};
-ghost use Rattle.lang_syntax.specs.declared.fault.Stop.TheVariants as stops;
-ghost use Rattle.lang_syntax.specs.inner.Reading.{IsFaultOf, first_offset};
+ghost use Rattle.lang_cursor.specs.declared.fault.Stop.TheVariants as stops;
+ghost use Rattle.lang_cursor.specs.Reading.{IsFaultOf, first_offset};
 
 use lang_base::{Refusal, SourceError, SourceFault};
 use lang_tokens::Token;

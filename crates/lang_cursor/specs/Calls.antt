@@ -3,10 +3,10 @@ use Rattle.std.specs.Prelude.{◌≡◌, ◌<◌, Bool, true, List, Result, Ok, 
 use Rattle.std.specs.Fn.{FnReturnsAt}
 use denote.Ref.{Bor, MutBor}
 use denote.Param.Members.{Shared}
-use Rattle.lang_syntax.specs.declared.fault.Stop.{Stop}
+use Rattle.lang_cursor.specs.declared.fault.Stop.{Stop}
 use Rattle.lang_tokens.specs.Words.{Word}
-use Rattle.lang_syntax.specs.inner.Reading.{Read}
-use Rattle.lang_syntax.specs.inner.Takes.{Takes}
+use Rattle.lang_cursor.specs.Reading.{Read}
+use Rattle.lang_cursor.specs.Takes.{Takes}
 
 -- at a `&mut` to x, it may give r and leave x' there
 pub record CallsAtMut {F T R : Type 0} (g : Shared F (MutBor T × Unit {0}) (R

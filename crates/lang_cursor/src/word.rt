@@ -3,8 +3,8 @@
 ghost use Rattle.std.specs.Prelude.{◌≡◌, IfOk};
 ghost use Rattle.lang_tokens.specs.Spelling.{IsDecimal, text_of};
 ghost use Rattle.lang_tokens.specs.Words.{decimal_value};
-ghost use Rattle.lang_syntax.specs.ClientGrammar.{plain};
-ghost use Rattle.lang_syntax.specs.inner.Reading.{is_kind, kind_of, minus_of, op_of, truth_of};
+ghost use Rattle.lang_cursor.specs.Arguments.{plain};
+ghost use Rattle.lang_cursor.specs.Reading.{is_kind, kind_of, minus_of, op_of, truth_of};
 
 use lang_base::{Kind, Name};
 use lang_tokens::{Token, TokenKind, decimal_value};
