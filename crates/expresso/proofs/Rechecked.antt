@@ -12,12 +12,11 @@ use Rattle.lang_monitor.specs.declared.candidate.Candidate.{Candidate}
 use Rattle.lang_monitor.specs.MonitorParts.{MonitorParts, IsMonitor}
 use Rattle.machine_events.specs.PlanText.{block_name}
 use Rattle.machine_events.specs.Plans.{FitsPlan, IsLawful}
-use Rattle.plan_prune.specs.Hardness.{HasNoHardClaim, HasNoOpenClaim, MayBeKept}
+use Rattle.plan_prune.specs.Hardness.{HasNoHardClaim}
 use Rattle.plan_place.specs.declared.placed.PlacedPlan.{PlacedPlan}
 use Rattle.plan_place.specs.declared.placed.Proof.{Proof}
 use Rattle.plan_place.specs.Backing.{AreProofs, backed_claims}
 use Rattle.plan_counted.specs.declared.counted.CountedPlan.{CountedPlan}
-use Rattle.plan_counted.specs.Exact.{HasNoOpenQuestion}
 use Rattle.report_recheck.specs.declared.report.Report.{Report}
 use Rattle.report_recheck.specs.declared.report.Verdict.{Verdict}
 use Rattle.report_recheck.specs.declared.report.Verdict.TheVariants as verdicts
@@ -30,8 +29,7 @@ use Rattle.report_tally.specs.CountedReadings.{IsCountedRead}
 use Rattle.report_tally.specs.CountedReports.{counted_report_text}
 use Rattle.report_tally.specs.CountedTexts.{IsCountingOf, counted_report_of, counted_text}
 use Rattle.report_tally.specs.CountedVerdicts.{IsCountedAccepted, IsCountedVerdict}
-use Rattle.report_tally.specs.EasyCountings.{IsEasyCounting}
-use Rattle.report_tally.proofs.PrintedCounts.{no_open_claims, no_open_questions}
+use Rattle.report_tally.specs.EasyCountings.{IsEasyCounting, OwesNothingOpen}
 use Rattle.report_tally.specs.UncountedReports.{uncounted}
 use Rattle.report_fits.specs.declared.fit.Fit.{Fit}
 use Rattle.report_fits.specs.FitParts.{AreParts, GoesOnWithFit}
@@ -154,12 +152,9 @@ abbrev pub AcceptsCounted : Type 0
 AcceptsCounted = (monitor : MonitorParts) (placed : PlacedPlan) (counted : CountedPlan) (verdict : Verdict) (report : CountedReport) → IsEasyCounting monitor placed counted
     → report ≡ counted_report_of placed counted → IsCountedVerdict monitor report verdict → verdict ≡ verdicts.Accepted (length report.proofs + length report.answers)
 
-abbrev pub NoneOpen : Type 0
-NoneOpen = (monitor : MonitorParts) (kept : List Candidate) → MayBeKept monitor kept → HasNoHardClaim monitor → HasNoOpenClaim monitor kept
-
-pub counted_accepted : CountedTexts → NoneOpen → ReadsCounted → AcceptsCounted → (held : List ℕ → Option (List ℕ)) (file text : List ℕ) (is : IsCountedReportText held file text) → HasNoHardClaim is.monitor
-    → HasNoOpenQuestion is.monitor is.placed.plan.kept → IsSureReport is.monitor text (counted_report_of is.placed is.counted) (counted_many is.placed is.counted)
-counted_accepted texts none_open reads accepts held file text is easy asked = record {
+pub counted_accepted : CountedTexts → ReadsCounted → AcceptsCounted → (held : List ℕ → Option (List ℕ)) (file text : List ℕ) (is : IsCountedReportText held file text)
+    → OwesNothingOpen is.monitor is.placed.plan.kept is.counted → IsSureReport is.monitor text (counted_report_of is.placed is.counted) (counted_many is.placed is.counted)
+counted_accepted texts reads accepts held file text is owes = record {
   is = is.counting.placement.is;
   says = sym is.printed;
   reads = λ read told. reads is.monitor is.placed is.counted read own
@@ -173,9 +168,7 @@ counted_accepted texts none_open reads accepts held file text is easy asked = re
 
     own : IsEasyCounting is.monitor is.placed is.counted
     own = record {
-      claims = no_open_claims is.monitor is.placed is.counted counting is.counting.lawful
-          (none_open is.monitor is.placed.plan.kept (record { candidates = is.counting.placement.fits.kept; starts = is.counting.placement.lawful.inductive.starts }) easy);
-      questions = no_open_questions is.monitor is.placed is.counted counting asked;
+      owes = owes;
       lawful = is.counting.placement.lawful;
       counting = counting;
       counted_lawful = is.counting.lawful;

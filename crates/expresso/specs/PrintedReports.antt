@@ -5,8 +5,8 @@ use Rattle.front_command.specs.declared.plan_choice.PlanChoice.{PlanChoice}
 use Rattle.expresso.specs.declared.status.Status.{Status}
 use Rattle.plan_place.specs.declared.placed.PlacedPlan.{PlacedPlan}
 use Rattle.plan_counted.specs.declared.counted.CountedPlan.{CountedPlan}
-use Rattle.plan_counted.specs.Exact.{HasNoOpenQuestion}
 use Rattle.report_tally.specs.CountedTexts.{counted_report_of}
+use Rattle.report_tally.specs.EasyCountings.{OwesNothingOpen}
 use Rattle.expresso.specs.Answers.{HasFits, IsCountedReportText, IsReportText}
 use Rattle.expresso.specs.Headline.{IsHeadlineText}
 use Rattle.expresso.specs.ReportFiles.{OTHER_BYTES}
@@ -27,18 +27,18 @@ counted_many placed counted =
     length (counted_report_of placed counted).proofs
     + length (counted_report_of placed counted).answers
 
--- The text is what `report --count` printed of such a file, and with what its plan keeps no
--- question of the monitor may stay open; the files as before.
+-- The text is what `report --count` printed of a file, and nothing may stay open that its counted
+-- plan rests on; the files as before.
 pub record IsPrintedCountedReport (held later : List ℕ
     → Option (List ℕ)) (file report_file text : List ℕ) : Type 0 where
   pub printed : IsCountedReportText held file text
-  pub easy : HasNoHardClaim printed.monitor
-  pub asked : HasNoOpenQuestion printed.monitor printed.placed.plan.kept
+  pub owes : OwesNothingOpen printed.monitor printed.placed.plan.kept printed.counted
   pub short : length text ≤ OTHER_BYTES
   pub same : later file ≡ Some printed.holds.bytes
   pub there : later report_file ≡ Some text
 
--- The text is what `report --fits` printed of such a file, without `--count`.
+-- The text is what `report --fits` printed of a file, no claim of whose monitor is hard, without
+-- `--count`.
 pub record IsPrintedFitsReport (held later : List ℕ
     → Option (List ℕ)) (file report_file text : List ℕ) : Type 0 where
   pub front : List ℕ
@@ -49,14 +49,14 @@ pub record IsPrintedFitsReport (held later : List ℕ
   pub same : later file ≡ Some printed.holds.bytes
   pub there : later report_file ≡ Some text
 
--- The text is what `report --count --fits` printed of one where no question may stay open.
+-- The text is what `report --count --fits` printed of one where nothing may stay open that its
+-- counted plan rests on.
 pub record IsPrintedCountedFitsReport (held later : List ℕ
     → Option (List ℕ)) (file report_file text : List ℕ) : Type 0 where
   pub front : List ℕ
   pub printed : IsCountedReportText held file front
   pub fits : HasFits printed.monitor printed.counted.plan.kept front text
-  pub easy : HasNoHardClaim printed.monitor
-  pub asked : HasNoOpenQuestion printed.monitor printed.placed.plan.kept
+  pub owes : OwesNothingOpen printed.monitor printed.placed.plan.kept printed.counted
   pub short : length text ≤ OTHER_BYTES
   pub same : later file ≡ Some printed.holds.bytes
   pub there : later report_file ≡ Some text

@@ -34,7 +34,6 @@ use lang_tokens::one_spelling;
 use machine_events::counting_loses_no_wakeup;
 use machine_simulate::{one_drawn_log, one_log_by_rounds};
 use plan_place::one_exact_plan;
-use plan_prune::easy_monitors_have_no_open_claim;
 use report_recheck::easy_reports_are_accepted;
 use report_tally::{
     counted_text_is_report_text, printed_counted_reports_are_accepted, reports_are_uncounted,
@@ -115,9 +114,10 @@ pub fn printed_reports_are_rechecked()
     reports_are_uncounted();
 }
 
-/// What `report --count` printed of a monitor without a hard claim, where no question that may be
-/// asked of it may stay open, is never refused by `recheck`, which prints that it accepts as many
-/// claims and questions as have certificates.
+/// What `report --count` printed of a monitor, where no claim and no question may stay open that
+/// the counted plan rests on, is never refused by `recheck`, which prints that it accepts as many
+/// claims and questions as have certificates. So it is where no claim of the monitor is hard and no
+/// question may stay open, by `easy_countings_owe_nothing_open`.
 pub fn printed_counted_reports_are_rechecked()
     ensures refusals { (held later : List ℕ → Option (List ℕ))
         (file report_file text line : List ℕ)
@@ -132,7 +132,6 @@ pub fn printed_counted_reports_are_rechecked()
 {
     one_spelling();
     derives_one_tree();
-    easy_monitors_have_no_open_claim();
     counted_text_is_report_text();
     printed_counted_reports_are_accepted();
 }
@@ -165,7 +164,6 @@ pub fn printed_fits_are_rechecked()
     derives_one_tree();
     easy_reports_are_accepted();
     reports_are_uncounted();
-    easy_monitors_have_no_open_claim();
     counted_text_is_report_text();
     printed_counted_reports_are_accepted();
 }

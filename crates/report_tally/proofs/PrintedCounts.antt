@@ -40,7 +40,7 @@ use Rattle.report_tally.specs.CountedReadings.{IsCountedRead, IsReadableReport, 
 use Rattle.report_tally.specs.CountedReports.{answers_of, is_owed, owed_claims, owed_proofs, owed_questions}
 use Rattle.report_tally.specs.CountedTexts.{HasTypedColumn, IsCountingOf, IsTypedTold, column_certs, column_row, counted_report_of, counted_text, is_still_owed, still_owed_proofs, told_certs}
 use Rattle.report_tally.specs.CountedVerdicts.{IsAnswer, IsAnswered, IsCountedVerdict, IsUnanswered}
-use Rattle.report_tally.specs.EasyCountings.{IsEasyCounting, IsNoOpenClaim, IsNoOpenQuestion}
+use Rattle.report_tally.specs.EasyCountings.{IsEasyCounting, IsNoOpenClaim, IsNoOpenQuestion, OwesNothingOpen}
 use Rattle.report_tally.proofs.AskedQuestions.{questions_askable}
 use Rattle.report_tally.proofs.AnswerLines.{column_questions, condition_many, told_many, told_questions}
 use Rattle.report_tally.proofs.CountingReports.{report_of, same_claims, same_questions, text_of}
@@ -55,18 +55,20 @@ query_limits monitor query none = by_limits (cases_Bool (is_within_limits monito
     by_limits (inr beyond) = absurd (none (limits beyond))
 
 -- where no claim and no question of the monitor may stay open, none may that is owed
-pub no_open_claims : (monitor : MonitorParts) (placed : PlacedPlan) (counted : CountedPlan) → IsCountingOf monitor placed counted → IsLawfulByCounting monitor counted.plan
-    → HasNoOpenClaim monitor placed.plan.kept → All (IsNoOpenClaim monitor placed.plan.kept) (owed_claims monitor counted.plan (map column_row counted.columns))
-no_open_claims monitor placed counted is lawful none =
-    let sight : IsLawfulAtSight monitor counted.plan = record { starts = lawful.inductive.starts; reading = lawful.reading; broadcasts = lawful.broadcasts } in
-    All-filter (is_owed (map column_row counted.columns)) (IsNoOpenClaim monitor placed.plan.kept) (backed_claims monitor counted.plan)
-    (All-weaker (IsClaimOf monitor) (IsNoOpenClaim monitor placed.plan.kept) none (backed_claims monitor counted.plan) (claims_are monitor counted.plan is.is is.counted_fits sight))
+pub nothing_open : (monitor : MonitorParts) (placed : PlacedPlan) (counted : CountedPlan) → IsCountingOf monitor placed counted → IsLawfulByCounting monitor counted.plan
+    → HasNoOpenClaim monitor placed.plan.kept → HasNoOpenQuestion monitor placed.plan.kept → OwesNothingOpen monitor placed.plan.kept counted
+nothing_open monitor placed counted is lawful no_claim no_question = record {
+  claims = All-filter (is_owed rows) (IsNoOpenClaim monitor placed.plan.kept) (backed_claims monitor counted.plan)
+      (All-weaker (IsClaimOf monitor) (IsNoOpenClaim monitor placed.plan.kept) no_claim (backed_claims monitor counted.plan) (claims_are monitor counted.plan is.is is.counted_fits sight));
+  questions = All-weaker (MayAskQuestion monitor) (IsNoOpenQuestion monitor placed.plan.kept) no_question (owed_questions monitor counted.plan rows)
+      (questions_askable monitor counted.plan rows (report_of monitor placed counted is).counted);
+}
+  where
+    rows : List (Option ℕ)
+    rows = map column_row counted.columns
 
-pub no_open_questions : (monitor : MonitorParts) (placed : PlacedPlan) (counted : CountedPlan) → IsCountingOf monitor placed counted
-    → HasNoOpenQuestion monitor placed.plan.kept → All (IsNoOpenQuestion monitor placed.plan.kept) (owed_questions monitor counted.plan (map column_row counted.columns))
-no_open_questions monitor placed counted is none =
-    All-weaker (MayAskQuestion monitor) (IsNoOpenQuestion monitor placed.plan.kept) none (owed_questions monitor counted.plan (map column_row counted.columns))
-    (questions_askable monitor counted.plan (map column_row counted.columns) (report_of monitor placed counted is).counted)
+    sight : IsLawfulAtSight monitor counted.plan
+    sight = record { starts = lawful.inductive.starts; reading = lawful.reading; broadcasts = lawful.broadcasts }
 
 -- ---- what the counted plan is at sight
 
@@ -121,7 +123,7 @@ checked monitor placed counted is =
 
     owed : All (IsNoOpenClaim monitor kept) (map (λ proof. proof.claim) some)
     owed =
-        subst (All (IsNoOpenClaim monitor kept)) (sym (sym (still_owed_claims counted.columns placed.proofs) ∙ same_claims monitor placed counted is.counting)) is.claims
+        subst (All (IsNoOpenClaim monitor kept)) (sym (sym (still_owed_claims counted.columns placed.proofs) ∙ same_claims monitor placed counted is.counting)) is.owes.claims
 
     each : All (λ proof. IsNoOpenClaim monitor kept proof.claim) some
     each = all_mapped (IsNoOpenClaim monitor kept) (λ (proof : Proof). proof.claim) some owed
@@ -197,7 +199,7 @@ answered : (monitor : MonitorParts) (placed : PlacedPlan) (counted : CountedPlan
     → All (IsAnswered monitor counted.plan.kept) (answers_of monitor (counted_report_of placed counted))
 answered monitor placed counted is =
     subst (λ (own : List Candidate). All (IsAnswered monitor own) (answers_of monitor (counted_report_of placed counted))) (sym is.counting.from.kept)
-    (zip_within monitor kept asked (flat_map column_certs counted.columns) is.questions
+    (zip_within monitor kept asked (flat_map column_certs counted.columns) is.owes.questions
     (subst (λ (all : List Question). All (IsAnswer monitor kept) (zip all (flat_map column_certs counted.columns))) (same_questions monitor placed counted is.counting)
     (columns_answers monitor kept 1 counted.columns is.counting.backed.each)))
   where

@@ -23,15 +23,19 @@ IsNoOpenClaim monitor kept claim = MayStayOpen monitor (query_of monitor kept cl
 abbrev pub IsNoOpenQuestion : MonitorParts → List Candidate → Question → Type 0
 IsNoOpenQuestion monitor kept question = IsOpen monitor kept question → ⊥
 
--- With what the plan keeps, no claim and no question may stay open that the counted plan rests on.
--- The lawful plan was placed with a proof of each claim that it rests on, and counted it is lawful
--- by counting.
+-- With these lines kept, no claim and no question may stay open that the counted plan rests on.
+pub record OwesNothingOpen (monitor : MonitorParts) (kept : List Candidate)
+    (counted : CountedPlan) : Type 0 where
+  pub claims : All (IsNoOpenClaim monitor kept)
+      (owed_claims monitor counted.plan (map column_row counted.columns))
+  pub questions : All (IsNoOpenQuestion monitor kept)
+      (owed_questions monitor counted.plan (map column_row counted.columns))
+
+-- Nothing may stay open that the counted plan rests on. The lawful plan was placed with a proof of
+-- each claim that it rests on, and counted it is lawful by counting.
 pub record IsEasyCounting (monitor : MonitorParts) (placed : PlacedPlan) (counted : CountedPlan) :
     Type 0 where
-  pub claims : All (IsNoOpenClaim monitor placed.plan.kept)
-      (owed_claims monitor counted.plan (map column_row counted.columns))
-  pub questions : All (IsNoOpenQuestion monitor placed.plan.kept)
-      (owed_questions monitor counted.plan (map column_row counted.columns))
+  pub owes : OwesNothingOpen monitor placed.plan.kept counted
   pub lawful : IsLawful monitor placed.plan
   pub counting : IsCountingOf monitor placed counted
   pub counted_lawful : IsLawfulByCounting monitor counted.plan

@@ -3,7 +3,10 @@
 ghost use Rattle.std.specs.Prelude.{◌≡◌, ◌↔◌, ℕ, ◌+◌, All, List, Option, Some, length};
 ghost use Rattle.lang_monitor.specs.MonitorParts.{MonitorParts};
 ghost use Rattle.plan_place.specs.declared.placed.PlacedPlan.{PlacedPlan};
+ghost use Rattle.machine_events.specs.Counts.{IsLawfulByCounting};
+ghost use Rattle.plan_prune.specs.Hardness.{HasNoOpenClaim};
 ghost use Rattle.plan_counted.specs.declared.counted.CountedPlan.{CountedPlan};
+ghost use Rattle.plan_counted.specs.Exact.{HasNoOpenQuestion};
 ghost use Rattle.report_recheck.specs.declared.report.Report.{Report};
 ghost use Rattle.report_recheck.specs.declared.report.Verdict.{Verdict};
 ghost use Rattle.report_recheck.specs.declared.report.Verdict.TheVariants.{Accepted};
@@ -15,7 +18,7 @@ ghost use Rattle.report_tally.specs.CountedReadings.{IsCountedRead};
 ghost use Rattle.report_tally.specs.CountedReports.{IsCountedReport, counted_report_text};
 ghost use Rattle.report_tally.specs.CountedTexts.{IsCountingOf, counted_report_of, counted_text};
 ghost use Rattle.report_tally.specs.CountedVerdicts.{IsCountedVerdict};
-ghost use Rattle.report_tally.specs.EasyCountings.{IsEasyCounting};
+ghost use Rattle.report_tally.specs.EasyCountings.{IsEasyCounting, OwesNothingOpen};
 ghost use Rattle.report_tally.specs.UncountedReports.{uncounted};
 
 /// What [`write_counted_report`] writes of a plan that was placed and then counted is the text of
@@ -46,6 +49,15 @@ pub fn printed_counted_reports_are_accepted()
         (verdict : Verdict) (report : CountedReport) → IsEasyCounting monitor placed counted
         → report ≡ counted_report_of placed counted → IsCountedVerdict monitor report verdict
         → verdict ≡ Accepted (length report.proofs + length report.answers) }
+{}
+
+/// Where no claim and no question of the monitor may stay open, none may that a counted plan rests
+/// on.
+pub fn easy_countings_owe_nothing_open()
+    ensures { (monitor : MonitorParts) (placed : PlacedPlan) (counted : CountedPlan)
+        → IsCountingOf monitor placed counted → IsLawfulByCounting monitor counted.plan
+        → HasNoOpenClaim monitor placed.plan.kept → HasNoOpenQuestion monitor placed.plan.kept
+        → OwesNothingOpen monitor placed.plan.kept counted }
 {}
 
 /// A report is a counted one none of whose conditions is counted: its text is that one's, bytes

@@ -20,7 +20,8 @@ mod writing;
 
 pub use checking::recheck_counted;
 pub use laws::{
-    counted_text_is_report_text, printed_counted_reports_are_accepted, reports_are_uncounted,
+    counted_text_is_report_text, easy_countings_owe_nothing_open,
+    printed_counted_reports_are_accepted, reports_are_uncounted,
 };
 pub use numbers::read_column_numbers;
 pub use reading::read_counted_report;

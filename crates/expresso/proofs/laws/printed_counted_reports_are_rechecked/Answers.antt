@@ -6,12 +6,12 @@ pub returns-clause-refusals : goal.returns-clause-refusals
 returns-clause-refusals c = λ held later file report_file text line is.
     none_refused c.one_spelling.ensures.one c.one_spelling.ensures.stuck c.derives_one_tree.ensures.monitors held later file report_file text is.printed.tree is.printed.monitor is.printed.holds _ _ []
     (alone is.printed.monitor text _ _
-    (counted_accepted c.counted_text_is_report_text.ensures.text c.easy_monitors_have_no_open_claim.ensures c.printed_counted_reports_are_accepted.ensures.read c.printed_counted_reports_are_accepted.ensures.accepted
-    held file text is.printed is.easy is.asked)) is.short is.same is.there line
+    (counted_accepted c.counted_text_is_report_text.ensures.text c.printed_counted_reports_are_accepted.ensures.read c.printed_counted_reports_are_accepted.ensures.accepted
+    held file text is.printed is.owes)) is.short is.same is.there line
 
 pub returns-clause-lines : goal.returns-clause-lines
 returns-clause-lines c = λ held later file report_file text line is done.
     line_of c.one_spelling.ensures.one c.one_spelling.ensures.stuck c.derives_one_tree.ensures.monitors held later file report_file text is.printed.tree is.printed.monitor is.printed.holds _ _ []
     (alone is.printed.monitor text _ _
-    (counted_accepted c.counted_text_is_report_text.ensures.text c.easy_monitors_have_no_open_claim.ensures c.printed_counted_reports_are_accepted.ensures.read c.printed_counted_reports_are_accepted.ensures.accepted
-    held file text is.printed is.easy is.asked)) is.short is.same is.there line done ∙ append-nil _
+    (counted_accepted c.counted_text_is_report_text.ensures.text c.printed_counted_reports_are_accepted.ensures.read c.printed_counted_reports_are_accepted.ensures.accepted
+    held file text is.printed is.owes)) is.short is.same is.there line done ∙ append-nil _

@@ -18,12 +18,12 @@ pub returns-clause-counted_refusals : goal.returns-clause-counted_refusals
 returns-clause-counted_refusals c = λ held later file report_file text line is.
     none_refused c.one_spelling.ensures.one c.one_spelling.ensures.stuck c.derives_one_tree.ensures.monitors held later file report_file text is.printed.tree is.printed.monitor is.printed.holds _ _ _
     (with_fits is.printed.monitor is.front text _ _ is.printed.counted.plan.kept
-    (counted_accepted c.counted_text_is_report_text.ensures.text c.easy_monitors_have_no_open_claim.ensures c.printed_counted_reports_are_accepted.ensures.read c.printed_counted_reports_are_accepted.ensures.accepted
-    held file is.front is.printed is.easy is.asked) refl is.fits) is.short is.same is.there line
+    (counted_accepted c.counted_text_is_report_text.ensures.text c.printed_counted_reports_are_accepted.ensures.read c.printed_counted_reports_are_accepted.ensures.accepted
+    held file is.front is.printed is.owes) refl is.fits) is.short is.same is.there line
 
 pub returns-clause-counted_lines : goal.returns-clause-counted_lines
 returns-clause-counted_lines c = λ held later file report_file text line is.
     line_of c.one_spelling.ensures.one c.one_spelling.ensures.stuck c.derives_one_tree.ensures.monitors held later file report_file text is.printed.tree is.printed.monitor is.printed.holds _ _ _
     (with_fits is.printed.monitor is.front text _ _ is.printed.counted.plan.kept
-    (counted_accepted c.counted_text_is_report_text.ensures.text c.easy_monitors_have_no_open_claim.ensures c.printed_counted_reports_are_accepted.ensures.read c.printed_counted_reports_are_accepted.ensures.accepted
-    held file is.front is.printed is.easy is.asked) refl is.fits) is.short is.same is.there line
+    (counted_accepted c.counted_text_is_report_text.ensures.text c.printed_counted_reports_are_accepted.ensures.read c.printed_counted_reports_are_accepted.ensures.accepted
+    held file is.front is.printed is.owes) refl is.fits) is.short is.same is.there line
