@@ -7,8 +7,8 @@ use Rattle.lang_base.specs.Limits.{MOST_SPURIOUS, WORKERS}
 use Rattle.front_command.specs.declared.plan_choice.PlanChoice.{PlanChoice}
 use Rattle.front_command.specs.declared.schedule.Schedule.{Schedule}
 use Rattle.front_command.specs.declared.schedule.Schedule.TheVariants.{Rounds, Drawn}
-use Rattle.front_command.specs.CommandLine.{Command, check, turns, compile, simulate, run, stress, report, recheck, block, audit, explain, emit, Given, GREATEST_UNSIGNED, HasNoChoice, HasNoOptions, HasNoSchedule, IsSpurious, IsSchedule, IsWorkers, Asks, choice_in}
-use Rattle.front_command.specs.inner.Asked.{number_if, spurious_if, schedule_if, some_workers, workers_if, has_choice, has_schedule, has_settings, counted_if, plain_if, compile_if, stress_if, run_if, simulate_if, single_if, pair_if, command_of_values, command_if, fitting_if, fitting_of_values}
+use Rattle.front_command.specs.CommandLine.{Command, check, turns, compile, simulate, run, stress, report, recheck, block, audit, explain, emit, version, Given, GREATEST_UNSIGNED, HasNoChoice, HasNoOptions, HasNoSchedule, IsSpurious, IsSchedule, IsWorkers, Asks, choice_in}
+use Rattle.front_command.specs.inner.Asked.{number_if, spurious_if, schedule_if, some_workers, workers_if, has_choice, has_schedule, has_settings, counted_if, plain_if, compile_if, stress_if, run_if, simulate_if, single_if, pair_if, is_named, command_of_values, command_if, fitting_if, fitting_of_values, named_if, version_if, version_of_values}
 use Rattle.front_command.proofs.Written.{chosen, cond_second, number_found, number_is}
 
 abbrev Text : Type 0
@@ -138,95 +138,113 @@ stress_found given word number workers large rounds is plain =
     λ i. cond (unused i || placed i) None (option_and_then (λ n. option_map (λ k. stress n k) (found i)) (large i))
 
 -- by the name alone
-single_named : Text → Given → Text → Option Command
+single_named : Option Text → Given → Text → Option Command
 single_named name given value =
-    cond (bytes_eq name (codes "check")) (plain_if given (check value))
-    (cond (bytes_eq name (codes "compile")) (compile_if given value)
-    (cond (bytes_eq name (codes "stress")) (stress_if given value)
-    (cond (bytes_eq name (codes "report")) (counted_if given (report value given.count false))
-    (cond (bytes_eq name (codes "explain")) (counted_if given (explain value given.count false))
-    (cond (bytes_eq name (codes "emit")) (plain_if given (emit value)) None)))))
+    cond (is_named name (codes "check")) (plain_if given (check value))
+    (cond (is_named name (codes "compile")) (compile_if given value)
+    (cond (is_named name (codes "stress")) (stress_if given value)
+    (cond (is_named name (codes "report")) (counted_if given (report value given.count false))
+    (cond (is_named name (codes "explain")) (counted_if given (explain value given.count false))
+    (cond (is_named name (codes "emit")) (plain_if given (emit value)) None)))))
 
-pair_named : Text → Given → Text → Text → Option Command
+pair_named : Option Text → Given → Text → Text → Option Command
 pair_named name given monitor clients =
-    cond (bytes_eq name (codes "turns")) (plain_if given (turns monitor clients))
-    (cond (bytes_eq name (codes "simulate")) (simulate_if given monitor clients)
-    (cond (bytes_eq name (codes "run")) (run_if given monitor clients)
-    (cond (bytes_eq name (codes "recheck")) (plain_if given (recheck monitor clients))
-    (cond (bytes_eq name (codes "block")) (counted_if given (block monitor clients (choice_in given)))
-    (cond (bytes_eq name (codes "audit")) (counted_if given (audit monitor clients given.count)) None)))))
+    cond (is_named name (codes "turns")) (plain_if given (turns monitor clients))
+    (cond (is_named name (codes "simulate")) (simulate_if given monitor clients)
+    (cond (is_named name (codes "run")) (run_if given monitor clients)
+    (cond (is_named name (codes "recheck")) (plain_if given (recheck monitor clients))
+    (cond (is_named name (codes "block")) (counted_if given (block monitor clients (choice_in given)))
+    (cond (is_named name (codes "audit")) (counted_if given (audit monitor clients given.count)) None)))))
 
--- where `--fits` is not used
-unfit : (given : Given) (found : Option Command) → given.fits ≡ false → command_of_values given given.values ≡ found → command_if given ≡ found
-unfit given found no_fits same = ap (λ (b : Bool). cond b (fitting_of_values given given.values) (command_of_values given given.values)) no_fits ∙ same
+-- where `--version` is not used
+unasked : (given : Given) (found : Option Command) → given.version ≡ false → named_if given ≡ found → command_if given ≡ found
+unasked given found no_version same = ap (λ (b : Bool). cond b (version_of_values given given.values) (named_if given)) no_version ∙ same
 
-single_found : (given : Given) (name value : Text) (command : Command) → given.fits ≡ false → given.command ≡ name → given.values ≡ value ∷ []
+-- and `--fits` is not, either
+unfit : (given : Given) (found : Option Command) → given.version ≡ false → given.fits ≡ false → command_of_values given given.values ≡ found → command_if given ≡ found
+unfit given found no_version no_fits same =
+    unasked given found no_version (ap (λ (b : Bool). cond b (fitting_of_values given given.values) (command_of_values given given.values)) no_fits ∙ same)
+
+single_found : (given : Given) (name : Option Text) (value : Text) (command : Command) → given.version ≡ false → given.fits ≡ false → given.command ≡ name → given.values ≡ value ∷ []
     → single_named name given value ≡ Some command → command_if given ≡ Some command
 unfolding single_named
-single_found given name value command no_fits is values found =
-    unfit given (Some command) no_fits (ap (command_of_values given) values ∙ ap (λ (n : Text). single_named n given value) is ∙ found)
+single_found given name value command no_version no_fits is values found =
+    unfit given (Some command) no_version no_fits (ap (command_of_values given) values ∙ ap (λ (n : Option Text). single_named n given value) is ∙ found)
 
-pair_found : (given : Given) (name monitor clients : Text) (command : Command) → given.fits ≡ false → given.command ≡ name → given.values ≡ monitor ∷ clients ∷ []
+pair_found : (given : Given) (name : Option Text) (monitor clients : Text) (command : Command) → given.version ≡ false → given.fits ≡ false → given.command ≡ name → given.values ≡ monitor ∷ clients ∷ []
     → pair_named name given monitor clients ≡ Some command → command_if given ≡ Some command
 unfolding pair_named
-pair_found given name monitor clients command no_fits is values found =
-    unfit given (Some command) no_fits (ap (command_of_values given) values ∙ ap (λ (n : Text). pair_named n given monitor clients) is ∙ found)
+pair_found given name monitor clients command no_version no_fits is values found =
+    unfit given (Some command) no_version no_fits (ap (command_of_values given) values ∙ ap (λ (n : Option Text). pair_named n given monitor clients) is ∙ found)
 
 -- where it is
-fitting_named : Text → Given → Text → Option Command
+fitting_named : Option Text → Given → Text → Option Command
 fitting_named name given value =
-    cond (bytes_eq name (codes "report")) (counted_if given (report value given.count true))
-    (cond (bytes_eq name (codes "explain")) (counted_if given (explain value given.count true)) None)
+    cond (is_named name (codes "report")) (counted_if given (report value given.count true))
+    (cond (is_named name (codes "explain")) (counted_if given (explain value given.count true)) None)
 
-fitting_found : (given : Given) (name value : Text) (command : Command) → given.fits ≡ true → given.command ≡ name → given.values ≡ value ∷ []
+fitting_found : (given : Given) (name : Option Text) (value : Text) (command : Command) → given.version ≡ false → given.fits ≡ true → given.command ≡ name → given.values ≡ value ∷ []
     → fitting_named name given value ≡ Some command → command_if given ≡ Some command
 unfolding fitting_named
-fitting_found given name value command fits is values found =
-    ap (λ (b : Bool). cond b (fitting_of_values given given.values) (command_of_values given given.values)) fits
-    ∙ ap (fitting_of_values given) values ∙ ap (λ (n : Text). fitting_named n given value) is ∙ found
+fitting_found given name value command no_version fits is values found =
+    unasked given (Some command) no_version (ap (λ (b : Bool). cond b (fitting_of_values given given.values) (command_of_values given given.values)) fits
+    ∙ ap (fitting_of_values given) values ∙ ap (λ (n : Option Text). fitting_named n given value) is ∙ found)
+
+-- where `--version` is
+version_found : (given : Given) → given.version ≡ true → given.fits ≡ false → given.command ≡ None → given.values ≡ [] → HasNoOptions given → command_if given ≡ Some version
+version_found given asked no_fits none values unused =
+    ap (λ (b : Bool). cond b (version_of_values given given.values) (named_if given)) asked
+    ∙ ap (version_of_values given) values
+    ∙ (λ i. cond (is_some (none i) || no_fits i) None (plain_if given version))
+    ∙ plain_found given version unused
 
 pub command_found : (given : Given) (command : Command) → Asks given command → command_if given ≡ Some command
 unfolding single_named pair_named fitting_named
-command_found given (check m) asks = single_found given (codes "check") m (check m) asks.has_fits asks.name asks.has_values (plain_found given (check m) asks.has_options)
+command_found given (check m) asks = single_found given (Some (codes "check")) m (check m) asks.has_version asks.has_fits asks.name asks.has_values (plain_found given (check m) asks.has_options)
 command_found given (compile m p) asks =
     let (rounds, no_workers, chosen_is) = asks.has_options in
-    single_found given (codes "compile") m (compile m p) asks.has_fits asks.name asks.has_values (compile_found given m p rounds no_workers chosen_is)
+    single_found given (Some (codes "compile")) m (compile m p) asks.has_version asks.has_fits asks.name asks.has_values (compile_found given m p rounds no_workers chosen_is)
 command_found given (report m n false) asks =
     let (rounds, no_workers, no_relay, count_is) = asks.has_options in
-    single_found given (codes "report") m (report m n false) asks.has_fits asks.name asks.has_values (counted_found given (λ count. report m count false) n rounds no_workers no_relay count_is)
+    single_found given (Some (codes "report")) m (report m n false) asks.has_version asks.has_fits asks.name asks.has_values (counted_found given (λ count. report m count false) n rounds no_workers no_relay count_is)
 command_found given (report m n true) asks =
     let (rounds, no_workers, no_relay, count_is) = asks.has_options in
-    fitting_found given (codes "report") m (report m n true) asks.has_fits asks.name asks.has_values (counted_found given (λ count. report m count true) n rounds no_workers no_relay count_is)
+    fitting_found given (Some (codes "report")) m (report m n true) asks.has_version asks.has_fits asks.name asks.has_values (counted_found given (λ count. report m count true) n rounds no_workers no_relay count_is)
 command_found given (explain m n false) asks =
     let (rounds, no_workers, no_relay, count_is) = asks.has_options in
-    single_found given (codes "explain") m (explain m n false) asks.has_fits asks.name asks.has_values (counted_found given (λ count. explain m count false) n rounds no_workers no_relay count_is)
+    single_found given (Some (codes "explain")) m (explain m n false) asks.has_version asks.has_fits asks.name asks.has_values (counted_found given (λ count. explain m count false) n rounds no_workers no_relay count_is)
 command_found given (explain m n true) asks =
     let (rounds, no_workers, no_relay, count_is) = asks.has_options in
-    fitting_found given (codes "explain") m (explain m n true) asks.has_fits asks.name asks.has_values (counted_found given (λ count. explain m count true) n rounds no_workers no_relay count_is)
-command_found given (emit m) asks = single_found given (codes "emit") m (emit m) asks.has_fits asks.name asks.has_values (plain_found given (emit m) asks.has_options)
-command_found given (recheck m r) asks = pair_found given (codes "recheck") m r (recheck m r) asks.has_fits asks.name asks.has_values (plain_found given (recheck m r) asks.has_options)
+    fitting_found given (Some (codes "explain")) m (explain m n true) asks.has_version asks.has_fits asks.name asks.has_values (counted_found given (λ count. explain m count true) n rounds no_workers no_relay count_is)
+command_found given (emit m) asks = single_found given (Some (codes "emit")) m (emit m) asks.has_version asks.has_fits asks.name asks.has_values (plain_found given (emit m) asks.has_options)
+command_found given version asks = version_found given asks.has_version asks.has_fits asks.name asks.has_values asks.has_options
+command_found given (recheck m r) asks = pair_found given (Some (codes "recheck")) m r (recheck m r) asks.has_version asks.has_fits asks.name asks.has_values (plain_found given (recheck m r) asks.has_options)
 command_found given (block m c p) asks =
     let (rounds, no_workers, no_relay, chosen_is) = asks.has_options in
-    pair_found given (codes "block") m c (block m c p) asks.has_fits asks.name asks.has_values (block_found given m c p rounds no_workers no_relay chosen_is)
+    pair_found given (Some (codes "block")) m c (block m c p) asks.has_version asks.has_fits asks.name asks.has_values (block_found given m c p rounds no_workers no_relay chosen_is)
 command_found given (audit m p n) asks =
     let (rounds, no_workers, no_relay, count_is) = asks.has_options in
-    pair_found given (codes "audit") m p (audit m p n) asks.has_fits asks.name asks.has_values (counted_found given (audit m p) n rounds no_workers no_relay count_is)
-command_found given (turns m c) asks = pair_found given (codes "turns") m c (turns m c) asks.has_fits asks.name asks.has_values (plain_found given (turns m c) asks.has_options)
+    pair_found given (Some (codes "audit")) m p (audit m p n) asks.has_version asks.has_fits asks.name asks.has_values (counted_found given (audit m p) n rounds no_workers no_relay count_is)
+command_found given (turns m c) asks = pair_found given (Some (codes "turns")) m c (turns m c) asks.has_version asks.has_fits asks.name asks.has_values (plain_found given (turns m c) asks.has_options)
 command_found given (simulate m c s p) asks =
     let (is, no_workers, chosen_is) = asks.has_options in
-    pair_found given (codes "simulate") m c (simulate m c s p) asks.has_fits asks.name asks.has_values (simulate_found given m c s p is no_workers chosen_is)
+    pair_found given (Some (codes "simulate")) m c (simulate m c s p) asks.has_version asks.has_fits asks.name asks.has_values (simulate_found given m c s p is no_workers chosen_is)
 command_found given (run m c n p) asks =
     let (rounds, is, chosen_is) = asks.has_options in
-    pair_found given (codes "run") m c (run m c n p) asks.has_fits asks.name asks.has_values (run_found given m c n p rounds is chosen_is)
+    pair_found given (Some (codes "run")) m c (run m c n p) asks.has_version asks.has_fits asks.name asks.has_values (run_found given m c n p rounds is chosen_is)
 command_found given (stress n k) asks =
     let (word, values, large) = asks.has_values in
     let (rounds, is, plain) = asks.has_options in
-    single_found given (codes "stress") word (stress n k) asks.has_fits asks.name values (stress_found given word n k (number_found GREATEST_UNSIGNED word n large) rounds is plain)
+    single_found given (Some (codes "stress")) word (stress n k) asks.has_version asks.has_fits asks.name values (stress_found given word n k (number_found GREATEST_UNSIGNED word n large) rounds is plain)
 
 -- ---- what is found is asked for
 
-named : (given : Given) (name : Text) → bytes_eq given.command name ≡ true → given.command ≡ name
-named given name e = (bytes_eq-Decides given.command name).0 e
+is_that : (word : Option Text) (name : Text) → is_named word name ≡ true → word ≡ Some name
+is_that None name e = absurd (true≢false (sym e))
+is_that (Some word) name e = ap Some ((bytes_eq-Decides word name).0 e)
+
+named : (given : Given) (name : Text) → is_named given.command name ≡ true → given.command ≡ Some name
+named given name = is_that given.command name
 
 plain_is : (given : Given) (command found : Command) → plain_if given command ≡ Some found → HasNoOptions given × (command ≡ found)
 plain_is given command found e =
@@ -244,21 +262,21 @@ counted_is given command found e =
     let (rounds, no_workers) = neither (has_schedule given) (is_some given.workers) settings in
     (no_schedule given rounds, none_given given.workers no_workers, no_relay, same_Some command found same)
 
-block_asks : (given : Given) (monitor clients : Text) (found : Command) → given.fits ≡ false → given.command ≡ codes "block" → given.values ≡ monitor ∷ clients ∷ []
+block_asks : (given : Given) (monitor clients : Text) (found : Command) → given.version ≡ false → given.fits ≡ false → given.command ≡ Some (codes "block") → given.values ≡ monitor ∷ clients ∷ []
     → counted_if given (block monitor clients (choice_in given)) ≡ Some found → Asks given found
-block_asks given monitor clients found no_fits name values e =
+block_asks given monitor clients found no_version no_fits name values e =
     let (rounds, no_workers, no_relay, same) = counted_is given (block monitor clients (choice_in given)) found e in
-    subst (Asks given) same (record { name = name; has_values = values; has_options = (rounds, no_workers, no_relay, refl); has_fits = no_fits })
+    subst (Asks given) same (record { name = name; has_values = values; has_options = (rounds, no_workers, no_relay, refl); has_fits = no_fits; has_version = no_version })
 
-audit_asks : (given : Given) (monitor plan_file : Text) (found : Command) → given.fits ≡ false → given.command ≡ codes "audit" → given.values ≡ monitor ∷ plan_file ∷ []
+audit_asks : (given : Given) (monitor plan_file : Text) (found : Command) → given.version ≡ false → given.fits ≡ false → given.command ≡ Some (codes "audit") → given.values ≡ monitor ∷ plan_file ∷ []
     → counted_if given (audit monitor plan_file given.count) ≡ Some found → Asks given found
-audit_asks given monitor plan_file found no_fits name values e =
+audit_asks given monitor plan_file found no_version no_fits name values e =
     let (rounds, no_workers, no_relay, same) = counted_is given (audit monitor plan_file given.count) found e in
-    subst (Asks given) same (record { name = name; has_values = values; has_options = (rounds, no_workers, no_relay, refl); has_fits = no_fits })
+    subst (Asks given) same (record { name = name; has_values = values; has_options = (rounds, no_workers, no_relay, refl); has_fits = no_fits; has_version = no_version })
 
-compile_asks : (given : Given) (monitor : Text) (found : Command) → given.fits ≡ false → given.command ≡ codes "compile" → given.values ≡ monitor ∷ []
+compile_asks : (given : Given) (monitor : Text) (found : Command) → given.version ≡ false → given.fits ≡ false → given.command ≡ Some (codes "compile") → given.values ≡ monitor ∷ []
     → compile_if given monitor ≡ Some found → Asks given found
-compile_asks given monitor found no_fits name values e =
+compile_asks given monitor found no_version no_fits name values e =
     let (settings, same) = cond_second (has_settings given) (Some (compile monitor (choice_in given))) found e in
     let (rounds, no_workers) = neither (has_schedule given) (is_some given.workers) settings in
     subst (Asks given) (same_Some (compile monitor (choice_in given)) found same) (record {
@@ -266,11 +284,12 @@ compile_asks given monitor found no_fits name values e =
       has_values = values;
       has_options = (no_schedule given rounds, none_given given.workers no_workers, refl);
       has_fits = no_fits;
+      has_version = no_version;
     })
 
-simulate_asks : (given : Given) (monitor clients : Text) (found : Command) → given.fits ≡ false → given.command ≡ codes "simulate" → given.values ≡ monitor ∷ clients ∷ []
+simulate_asks : (given : Given) (monitor clients : Text) (found : Command) → given.version ≡ false → given.fits ≡ false → given.command ≡ Some (codes "simulate") → given.values ≡ monitor ∷ clients ∷ []
     → simulate_if given monitor clients ≡ Some found → Asks given found
-simulate_asks given monitor clients found no_fits name values e =
+simulate_asks given monitor clients found no_version no_fits name values e =
     let (unused, more) = cond_second (is_some given.workers) (option_map (λ s. simulate monitor clients s (choice_in given)) (schedule_if given.seed given.spurious)) found e in
     map_is (λ s. simulate monitor clients s (choice_in given)) (schedule_if given.seed given.spurious) found more
     (λ schedule is same. subst (Asks given) same (record {
@@ -278,11 +297,12 @@ simulate_asks given monitor clients found no_fits name values e =
       has_values = values;
       has_options = (schedule_is given.seed given.spurious schedule is, none_given given.workers unused, refl);
       has_fits = no_fits;
+      has_version = no_version;
     }))
 
-run_asks : (given : Given) (monitor clients : Text) (found : Command) → given.fits ≡ false → given.command ≡ codes "run" → given.values ≡ monitor ∷ clients ∷ []
+run_asks : (given : Given) (monitor clients : Text) (found : Command) → given.version ≡ false → given.fits ≡ false → given.command ≡ Some (codes "run") → given.values ≡ monitor ∷ clients ∷ []
     → run_if given monitor clients ≡ Some found → Asks given found
-run_asks given monitor clients found no_fits name values e =
+run_asks given monitor clients found no_version no_fits name values e =
     let (unused, more) = cond_second (has_schedule given) (option_map (λ n. run monitor clients n (choice_in given)) (workers_if given.workers)) found e in
     map_is (λ n. run monitor clients n (choice_in given)) (workers_if given.workers) found more
     (λ workers is same. subst (Asks given) same (record {
@@ -290,11 +310,12 @@ run_asks given monitor clients found no_fits name values e =
       has_values = values;
       has_options = (no_schedule given unused, workers_is given.workers workers is, refl);
       has_fits = no_fits;
+      has_version = no_version;
     }))
 
-stress_asks : (given : Given) (word : Text) (found : Command) → given.fits ≡ false → given.command ≡ codes "stress" → given.values ≡ word ∷ []
+stress_asks : (given : Given) (word : Text) (found : Command) → given.version ≡ false → given.fits ≡ false → given.command ≡ Some (codes "stress") → given.values ≡ word ∷ []
     → stress_if given word ≡ Some found → Asks given found
-stress_asks given word found no_fits name values e =
+stress_asks given word found no_version no_fits name values e =
     let rest : ℕ → Option Command = λ n. option_map (λ k. stress n k) (workers_if given.workers) in
     let (unused, more) = cond_second (has_schedule given || has_choice given) (option_and_then rest (number_if GREATEST_UNSIGNED word)) found e in
     let (rounds, plain) = neither (has_schedule given) (has_choice given) unused in
@@ -305,77 +326,92 @@ stress_asks given word found no_fits name values e =
       has_values = (word, values, number_is GREATEST_UNSIGNED word number large);
       has_options = (no_schedule given rounds, workers_is given.workers workers is, no_choice given plain);
       has_fits = no_fits;
+      has_version = no_version;
     })))
 
-single_asks : (given : Given) (value : Text) (found : Command) → given.fits ≡ false → given.values ≡ value ∷ [] → single_if given value ≡ Some found → Asks given found
-single_asks given value found no_fits values e =
-    chosen (bytes_eq given.command (codes "check")) _ _ found e
+single_asks : (given : Given) (value : Text) (found : Command) → given.version ≡ false → given.fits ≡ false → given.values ≡ value ∷ [] → single_if given value ≡ Some found → Asks given found
+single_asks given value found no_version no_fits values e =
+    chosen (is_named given.command (codes "check")) _ _ found e
     (λ is made.
     let (unused, same) = plain_is given (check value) found made in
-    subst (Asks given) same (record { name = named given (codes "check") is; has_values = values; has_options = unused; has_fits = no_fits }))
-    (λ no more. chosen (bytes_eq given.command (codes "compile")) _ _ found more
-    (λ is made. compile_asks given value found no_fits (named given (codes "compile") is) values made)
-    (λ no_compile rest. chosen (bytes_eq given.command (codes "stress")) _ _ found rest
-    (λ is made. stress_asks given value found no_fits (named given (codes "stress") is) values made)
-    (λ no_stress others. chosen (bytes_eq given.command (codes "report")) _ _ found others
+    subst (Asks given) same (record { name = named given (codes "check") is; has_values = values; has_options = unused; has_fits = no_fits; has_version = no_version }))
+    (λ no more. chosen (is_named given.command (codes "compile")) _ _ found more
+    (λ is made. compile_asks given value found no_version no_fits (named given (codes "compile") is) values made)
+    (λ no_compile rest. chosen (is_named given.command (codes "stress")) _ _ found rest
+    (λ is made. stress_asks given value found no_version no_fits (named given (codes "stress") is) values made)
+    (λ no_stress others. chosen (is_named given.command (codes "report")) _ _ found others
     (λ is made.
     let (rounds, no_workers, no_relay, same) = counted_is given (report value given.count false) found made in
-    subst (Asks given) same (record { name = named given (codes "report") is; has_values = values; has_options = (rounds, no_workers, no_relay, refl); has_fits = no_fits }))
-    (λ no_report later. chosen (bytes_eq given.command (codes "explain")) _ _ found later
+    subst (Asks given) same (record { name = named given (codes "report") is; has_values = values; has_options = (rounds, no_workers, no_relay, refl); has_fits = no_fits; has_version = no_version }))
+    (λ no_report later. chosen (is_named given.command (codes "explain")) _ _ found later
     (λ is made.
     let (rounds, no_workers, no_relay, same) = counted_is given (explain value given.count false) found made in
-    subst (Asks given) same (record { name = named given (codes "explain") is; has_values = values; has_options = (rounds, no_workers, no_relay, refl); has_fits = no_fits }))
-    (λ no_explain last. chosen (bytes_eq given.command (codes "emit")) _ _ found last
+    subst (Asks given) same (record { name = named given (codes "explain") is; has_values = values; has_options = (rounds, no_workers, no_relay, refl); has_fits = no_fits; has_version = no_version }))
+    (λ no_explain last. chosen (is_named given.command (codes "emit")) _ _ found last
     (λ is made.
     let (unused, same) = plain_is given (emit value) found made in
-    subst (Asks given) same (record { name = named given (codes "emit") is; has_values = values; has_options = unused; has_fits = no_fits }))
+    subst (Asks given) same (record { name = named given (codes "emit") is; has_values = values; has_options = unused; has_fits = no_fits; has_version = no_version }))
     (λ no_emit none. absurd (none-some found none)))))))
 
-pair_asks : (given : Given) (monitor clients : Text) (found : Command) → given.fits ≡ false → given.values ≡ monitor ∷ clients ∷ [] → pair_if given monitor clients ≡ Some found → Asks given found
-pair_asks given monitor clients found no_fits values e =
-    chosen (bytes_eq given.command (codes "turns")) _ _ found e
+pair_asks : (given : Given) (monitor clients : Text) (found : Command) → given.version ≡ false → given.fits ≡ false → given.values ≡ monitor ∷ clients ∷ [] → pair_if given monitor clients ≡ Some found → Asks given found
+pair_asks given monitor clients found no_version no_fits values e =
+    chosen (is_named given.command (codes "turns")) _ _ found e
     (λ is made.
     let (unused, same) = plain_is given (turns monitor clients) found made in
-    subst (Asks given) same (record { name = named given (codes "turns") is; has_values = values; has_options = unused; has_fits = no_fits }))
-    (λ no more. chosen (bytes_eq given.command (codes "simulate")) _ _ found more
-    (λ is made. simulate_asks given monitor clients found no_fits (named given (codes "simulate") is) values made)
-    (λ no_simulate rest. chosen (bytes_eq given.command (codes "run")) _ _ found rest
-    (λ is made. run_asks given monitor clients found no_fits (named given (codes "run") is) values made)
-    (λ no_run others. chosen (bytes_eq given.command (codes "recheck")) _ _ found others
+    subst (Asks given) same (record { name = named given (codes "turns") is; has_values = values; has_options = unused; has_fits = no_fits; has_version = no_version }))
+    (λ no more. chosen (is_named given.command (codes "simulate")) _ _ found more
+    (λ is made. simulate_asks given monitor clients found no_version no_fits (named given (codes "simulate") is) values made)
+    (λ no_simulate rest. chosen (is_named given.command (codes "run")) _ _ found rest
+    (λ is made. run_asks given monitor clients found no_version no_fits (named given (codes "run") is) values made)
+    (λ no_run others. chosen (is_named given.command (codes "recheck")) _ _ found others
     (λ is made.
     let (unused, same) = plain_is given (recheck monitor clients) found made in
-    subst (Asks given) same (record { name = named given (codes "recheck") is; has_values = values; has_options = unused; has_fits = no_fits }))
-    (λ no_recheck later. chosen (bytes_eq given.command (codes "block")) _ _ found later
-    (λ is made. block_asks given monitor clients found no_fits (named given (codes "block") is) values made)
-    (λ no_block last. chosen (bytes_eq given.command (codes "audit")) _ _ found last
-    (λ is made. audit_asks given monitor clients found no_fits (named given (codes "audit") is) values made)
+    subst (Asks given) same (record { name = named given (codes "recheck") is; has_values = values; has_options = unused; has_fits = no_fits; has_version = no_version }))
+    (λ no_recheck later. chosen (is_named given.command (codes "block")) _ _ found later
+    (λ is made. block_asks given monitor clients found no_version no_fits (named given (codes "block") is) values made)
+    (λ no_block last. chosen (is_named given.command (codes "audit")) _ _ found last
+    (λ is made. audit_asks given monitor clients found no_version no_fits (named given (codes "audit") is) values made)
     (λ no_audit none. absurd (none-some found none)))))))
 
-values_ask : (given : Given) (values : List Text) (found : Command) → given.fits ≡ false → given.values ≡ values → command_of_values given values ≡ Some found → Asks given found
-values_ask given [] found no_fits is e = absurd (none-some found e)
-values_ask given (value ∷ []) found no_fits is e = single_asks given value found no_fits is e
-values_ask given (monitor ∷ clients ∷ []) found no_fits is e = pair_asks given monitor clients found no_fits is e
-values_ask given (value ∷ other ∷ another ∷ more) found no_fits is e = absurd (none-some found e)
+values_ask : (given : Given) (values : List Text) (found : Command) → given.version ≡ false → given.fits ≡ false → given.values ≡ values → command_of_values given values ≡ Some found → Asks given found
+values_ask given [] found no_version no_fits is e = absurd (none-some found e)
+values_ask given (value ∷ []) found no_version no_fits is e = single_asks given value found no_version no_fits is e
+values_ask given (monitor ∷ clients ∷ []) found no_version no_fits is e = pair_asks given monitor clients found no_version no_fits is e
+values_ask given (value ∷ other ∷ another ∷ more) found no_version no_fits is e = absurd (none-some found e)
 
-fitting_asks : (given : Given) (value : Text) (found : Command) → given.fits ≡ true → given.values ≡ value ∷ [] → fitting_if given value ≡ Some found → Asks given found
-fitting_asks given value found fits values e =
-    chosen (bytes_eq given.command (codes "report")) _ _ found e
+fitting_asks : (given : Given) (value : Text) (found : Command) → given.version ≡ false → given.fits ≡ true → given.values ≡ value ∷ [] → fitting_if given value ≡ Some found → Asks given found
+fitting_asks given value found no_version fits values e =
+    chosen (is_named given.command (codes "report")) _ _ found e
     (λ is made.
     let (rounds, no_workers, no_relay, same) = counted_is given (report value given.count true) found made in
-    subst (Asks given) same (record { name = named given (codes "report") is; has_values = values; has_options = (rounds, no_workers, no_relay, refl); has_fits = fits }))
-    (λ no more. chosen (bytes_eq given.command (codes "explain")) _ _ found more
+    subst (Asks given) same (record { name = named given (codes "report") is; has_values = values; has_options = (rounds, no_workers, no_relay, refl); has_fits = fits; has_version = no_version }))
+    (λ no more. chosen (is_named given.command (codes "explain")) _ _ found more
     (λ is made.
     let (rounds, no_workers, no_relay, same) = counted_is given (explain value given.count true) found made in
-    subst (Asks given) same (record { name = named given (codes "explain") is; has_values = values; has_options = (rounds, no_workers, no_relay, refl); has_fits = fits }))
+    subst (Asks given) same (record { name = named given (codes "explain") is; has_values = values; has_options = (rounds, no_workers, no_relay, refl); has_fits = fits; has_version = no_version }))
     (λ no_explain none. absurd (none-some found none)))
 
-fitting_ask : (given : Given) (values : List Text) (found : Command) → given.fits ≡ true → given.values ≡ values → fitting_of_values given values ≡ Some found → Asks given found
-fitting_ask given [] found fits is e = absurd (none-some found e)
-fitting_ask given (value ∷ []) found fits is e = fitting_asks given value found fits is e
-fitting_ask given (value ∷ other ∷ more) found fits is e = absurd (none-some found e)
+fitting_ask : (given : Given) (values : List Text) (found : Command) → given.version ≡ false → given.fits ≡ true → given.values ≡ values → fitting_of_values given values ≡ Some found → Asks given found
+fitting_ask given [] found no_version fits is e = absurd (none-some found e)
+fitting_ask given (value ∷ []) found no_version fits is e = fitting_asks given value found no_version fits is e
+fitting_ask given (value ∷ other ∷ more) found no_version fits is e = absurd (none-some found e)
+
+named_asks : (given : Given) (found : Command) → given.version ≡ false → named_if given ≡ Some found → Asks given found
+named_asks given found no_version e =
+    chosen given.fits (fitting_of_values given given.values) (command_of_values given given.values) found e
+    (λ fits made. fitting_ask given given.values found no_version fits refl made)
+    (λ no_fits made. values_ask given given.values found no_version no_fits refl made)
+
+version_asks : (given : Given) (values : List Text) (found : Command) → given.version ≡ true → given.values ≡ values → version_of_values given values ≡ Some found → Asks given found
+version_asks given [] found asked values e =
+    let (unused, more) = cond_second (is_some given.command || given.fits) (plain_if given version) found e in
+    let (none, no_fits) = neither (is_some given.command) given.fits unused in
+    let (plain, same) = plain_is given version found more in
+    subst (Asks given) same (record { name = none_given given.command none; has_values = values; has_options = plain; has_fits = no_fits; has_version = asked })
+version_asks given (value ∷ more) found asked values e = absurd (none-some found e)
 
 pub command_asks : (given : Given) (found : Command) → command_if given ≡ Some found → Asks given found
 command_asks given found e =
-    chosen given.fits (fitting_of_values given given.values) (command_of_values given given.values) found e
-    (λ fits made. fitting_ask given given.values found fits refl made)
-    (λ no_fits made. values_ask given given.values found no_fits refl made)
+    chosen given.version (version_of_values given given.values) (named_if given) found e
+    (λ asked made. version_asks given given.values found asked refl made)
+    (λ no_version made. named_asks given found no_version made)

@@ -11,7 +11,7 @@ use Rattle.front_command.proofs.Asking.{command_found, command_asks}
 -- the words give one thing for each argument
 given_same : (words : List (List ℕ)) (one other : Given) → IsGiven words one → IsGiven words other → one ≡ other
 given_same words one other is also =
-    let command : one.command ≡ other.command = same_Some one.command other.command (sym is.command_is ∙ also.command_is) in
+    let command : one.command ≡ other.command = sym is.command_is ∙ also.command_is in
     let values : one.values ≡ other.values = sym is.values_are ∙ also.values_are in
     let seed : one.seed ≡ other.seed = sym is.seed_is ∙ also.seed_is in
     let spurious : one.spurious ≡ other.spurious = sym is.spurious_is ∙ also.spurious_is in
@@ -19,7 +19,8 @@ given_same words one other is also =
     let relay : one.relay ≡ other.relay = sym is.relay_is ∙ also.relay_is in
     let count : one.count ≡ other.count = sym is.count_is ∙ also.count_is in
     let fits : one.fits ≡ other.fits = sym is.fits_is ∙ also.fits_is in
-    λ i. record { command = command i; values = values i; seed = seed i; spurious = spurious i; workers = workers i; relay = relay i; count = count i; fits = fits i }
+    let version : one.version ≡ other.version = sym is.version_is ∙ also.version_is in
+    λ i. record { command = command i; values = values i; seed = seed i; spurious = spurious i; workers = workers i; relay = relay i; count = count i; fits = fits i; version = version i }
 
 -- what words take is what is computed of what they give
 taken_found : (words : List (List ℕ)) (given : Given) (command : Command) → IsGiven words given → Takes words command → command_if given ≡ Some command

@@ -45,12 +45,14 @@ pub data Command : Type 0 where
   explain : List ℕ → Bool → Bool → Command
   -- compiles a monitor to a plan, and prints it under that plan as a module of Rust
   emit : List ℕ → Command
+  -- tells the program's name and version
+  version : Command
 
 -- ---- the arguments
 
--- the command's name, which must be given
+-- the command's name, which may be left out
 abbrev pub command_rule : Rule
-command_rule = record (new_rule (codes "command")) { required = true; action = Some Set }
+command_rule = record (new_rule (codes "command")) { action = Some Set }
 
 -- any number of values after it
 abbrev pub values_rule : Rule
@@ -67,13 +69,17 @@ option_rule name = record (new_rule name) { long = Some name; action = Some Set 
 abbrev pub flag_rule : Text → Rule
 flag_rule name = record (new_rule name) { long = Some name; action = Some SetTrue }
 
+-- `--version`, or `-V`
+abbrev pub version_rule : Rule
+version_rule = record (flag_rule (codes "version")) { short = Some 86 }
+
 -- the command line, as `clap` defines it
 abbrev pub program : App
 program = with_rule (with_rule (with_rule (with_rule (with_rule (with_rule (with_rule (with_rule
-    (new_app (codes "expresso")) command_rule) values_rule)
+    (with_rule (new_app (codes "expresso")) command_rule) values_rule)
     (option_rule (codes "seed"))) (option_rule (codes "spurious")))
     (option_rule (codes "workers"))) (flag_rule (codes "relay"))) (flag_rule (codes "count")))
-    (flag_rule (codes "fits"))
+    (flag_rule (codes "fits"))) version_rule
 
 -- a flag is used, of which `clap` gives this text: `true` where it is, else `false`
 abbrev pub is_used : Option Text → Bool
@@ -82,7 +88,7 @@ is_used (Some text) = bytes_eq text (codes "true")
 
 -- what is given for each argument
 pub record Given : Type 0 where
-  pub command : Text
+  pub command : Option Text
   pub values : List Text
   pub seed : Option Text
   pub spurious : Option Text
@@ -93,11 +99,13 @@ pub record Given : Type 0 where
   pub count : Bool
   -- `--fits` is used
   pub fits : Bool
+  -- `--version` is used
+  pub version : Bool
 
 -- `clap` takes the words, the program's name first, and its matches are these
 pub record IsGiven (words : List Text) (given : Given) : Type 0 where
   pub taken : fault_of program words ≡ []
-  pub command_is : first_of (codes "command") (matches_of program words) ≡ Some given.command
+  pub command_is : first_of (codes "command") (matches_of program words) ≡ given.command
   pub values_are : unwrap_or (all_of (codes "values") (matches_of program words)) [] ≡ given.values
   pub seed_is : first_of (codes "seed") (matches_of program words) ≡ given.seed
   pub spurious_is : first_of (codes "spurious") (matches_of program words) ≡ given.spurious
@@ -105,6 +113,7 @@ pub record IsGiven (words : List Text) (given : Given) : Type 0 where
   pub relay_is : is_used (first_of (codes "relay") (matches_of program words)) ≡ given.relay
   pub count_is : is_used (first_of (codes "count") (matches_of program words)) ≡ given.count
   pub fits_is : is_used (first_of (codes "fits") (matches_of program words)) ≡ given.fits
+  pub version_is : is_used (first_of (codes "version") (matches_of program words)) ≡ given.version
 
 -- ---- numbers
 
@@ -161,20 +170,21 @@ choice_in given = choice_of given.relay given.count
 
 -- ---- commands
 
--- the word that names a command
-abbrev pub name_of : Command → Text
-name_of (check monitor) = codes "check"
-name_of (turns monitor clients) = codes "turns"
-name_of (compile monitor choice) = codes "compile"
-name_of (simulate monitor clients schedule choice) = codes "simulate"
-name_of (run monitor clients workers choice) = codes "run"
-name_of (stress number workers) = codes "stress"
-name_of (report monitor count fits) = codes "report"
-name_of (recheck monitor report_file) = codes "recheck"
-name_of (block monitor clients choice) = codes "block"
-name_of (audit monitor plan_file count) = codes "audit"
-name_of (explain monitor count fits) = codes "explain"
-name_of (emit monitor) = codes "emit"
+-- the word that names a command; the version is asked for by an option
+abbrev pub name_of : Command → Option Text
+name_of (check monitor) = Some (codes "check")
+name_of (turns monitor clients) = Some (codes "turns")
+name_of (compile monitor choice) = Some (codes "compile")
+name_of (simulate monitor clients schedule choice) = Some (codes "simulate")
+name_of (run monitor clients workers choice) = Some (codes "run")
+name_of (stress number workers) = Some (codes "stress")
+name_of (report monitor count fits) = Some (codes "report")
+name_of (recheck monitor report_file) = Some (codes "recheck")
+name_of (block monitor clients choice) = Some (codes "block")
+name_of (audit monitor plan_file count) = Some (codes "audit")
+name_of (explain monitor count fits) = Some (codes "explain")
+name_of (emit monitor) = Some (codes "emit")
+name_of version = None
 
 -- the values are those of the command, as many as it has
 abbrev pub HasValues : List Text → Command → Type 0
@@ -191,6 +201,7 @@ HasValues values (block monitor clients choice) = values ≡ monitor ∷ clients
 HasValues values (audit monitor plan_file count) = values ≡ monitor ∷ plan_file ∷ []
 HasValues values (explain monitor count fits) = values ≡ monitor ∷ []
 HasValues values (emit monitor) = values ≡ monitor ∷ []
+HasValues values version = values ≡ []
 
 abbrev pub HasNoSchedule : Given → Type 0
 HasNoSchedule given = (given.seed ≡ None) × (given.spurious ≡ None)
@@ -207,9 +218,14 @@ wants_fits (report monitor count fits) = fits
 wants_fits (explain monitor count fits) = fits
 wants_fits command = false
 
--- the options but for `--fits` are the command's own: a schedule for `simulate`, workers for `run`
--- and `stress`, `--relay` for `compile`, `simulate` and `run`, and `--count` for these, `report`,
--- `block`, `audit` and `explain`
+-- whether the command is to tell the version
+abbrev pub is_version : Command → Bool
+is_version version = true
+is_version command = false
+
+-- the options but for `--fits` and `--version` are the command's own: a schedule for `simulate`,
+-- workers for `run` and `stress`, `--relay` for `compile`, `simulate` and `run`, and `--count` for
+-- these, `report`, `block`, `audit` and `explain`
 abbrev pub HasOptions : Given → Command → Type 0
 HasOptions given (check monitor) = HasNoOptions given
 HasOptions given (turns monitor clients) = HasNoOptions given
@@ -233,6 +249,7 @@ HasOptions given (audit monitor plan_file count) =
 HasOptions given (explain monitor count fits) =
     HasNoSchedule given × (given.workers ≡ None) × (given.relay ≡ false) × (given.count ≡ count)
 HasOptions given (emit monitor) = HasNoOptions given
+HasOptions given version = HasNoOptions given
 
 -- the arguments ask for the command
 pub record Asks (given : Given) (command : Command) : Type 0 where
@@ -240,6 +257,7 @@ pub record Asks (given : Given) (command : Command) : Type 0 where
   pub has_values : HasValues given.values command
   pub has_options : HasOptions given command
   pub has_fits : given.fits ≡ wants_fits command
+  pub has_version : given.version ≡ is_version command
 
 -- ---- words
 
@@ -265,6 +283,7 @@ files_of (block monitor clients choice) = monitor ∷ clients ∷ []
 files_of (audit monitor plan_file count) = monitor ∷ plan_file ∷ []
 files_of (explain monitor count fits) = monitor ∷ []
 files_of (emit monitor) = monitor ∷ []
+files_of version = []
 
 -- each file that the words name is one that may be read
 abbrev pub MayReadFiles : (List ℕ → Type 0) → List (List ℕ) → Type 0

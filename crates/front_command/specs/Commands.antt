@@ -2,7 +2,7 @@
 use Rattle.front_command.specs.declared.command.Command.{Command as Words}
 use Rattle.front_command.specs.declared.command.Command.TheVariants as read
 use Rattle.front_command.specs.CommandLine.{Command, check, turns, compile, simulate, run, stress}
-use Rattle.front_command.specs.CommandLine.{report, recheck, block, audit, explain, emit}
+use Rattle.front_command.specs.CommandLine.{report, recheck, block, audit, explain, emit, version}
 
 -- the command that one of the code stands for
 abbrev pub command_meant : Words → Command
@@ -20,3 +20,4 @@ command_meant (read.Block monitor clients choice) = block monitor.now clients.no
 command_meant (read.Audit monitor plan_file count) = audit monitor.now plan_file.now count
 command_meant (read.Explain monitor count fits) = explain monitor.now count fits
 command_meant (read.Emit monitor) = emit monitor.now
+command_meant read.Version = version

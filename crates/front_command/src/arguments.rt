@@ -4,7 +4,7 @@ ghost use Rattle.std.specs.Prelude.{◌≡◌, [], false, IfOk, codes, map, opti
 ghost use Rattle.std.specs.Prelude.{unwrap_or};
 ghost use Rattle.clap.specs.Words.{FailsBy, all_of, app_of, fault_of, found_of, matches_of, rows_of, rule_of};
 ghost use Rattle.front_command.specs.CommandLine.{IsGiven, command_rule, flag_rule, is_used, option_rule};
-ghost use Rattle.front_command.specs.CommandLine.{program, values_rule};
+ghost use Rattle.front_command.specs.CommandLine.{program, values_rule, version_rule};
 ghost use Rattle.front_command.specs.CommandLine.{Given as Arguments};
 ghost use Rattle.front_command.specs.inner.Given.{given_meant};
 
@@ -16,7 +16,7 @@ use std::alloc::{AllocError, Global};
 /// What the words give for each argument.
 #[derive(Drop)]
 pub(crate) struct Given<'a> {
-    pub(crate) command: &'a str,
+    pub(crate) command: Option<&'a str>,
     pub(crate) values: Vec<&'a str>,
     pub(crate) seed: Option<&'a str>,
     pub(crate) spurious: Option<&'a str>,
@@ -24,6 +24,7 @@ pub(crate) struct Given<'a> {
     pub(crate) relay: bool,
     pub(crate) count: bool,
     pub(crate) fits: bool,
+    pub(crate) version: bool,
 }
 
 /// What the words, the program's name first, give; `Usage` where `clap` refuses them or they ask
@@ -46,11 +47,8 @@ pub(crate) fn given_of<'a>(alloc: Global, words: &'a [String]) -> Result<Given<'
     let Ok(values) = values_of(alloc, &matches) else {
         return Err(CommandFault::OutOfMemory);
     };
-    let Some(command) = matches.get_str("command") else {
-        return Err(CommandFault::Usage);
-    };
     Ok(Given {
-        command,
+        command: matches.get_str("command"),
         values,
         seed: matches.get_str("seed"),
         spurious: matches.get_str("spurious"),
@@ -58,6 +56,7 @@ pub(crate) fn given_of<'a>(alloc: Global, words: &'a [String]) -> Result<Given<'
         relay: is_used(matches.get_str("relay")),
         count: is_used(matches.get_str("count")),
         fits: is_used(matches.get_str("fits")),
+        version: is_used(matches.get_str("version")),
     })
 }
 
@@ -104,17 +103,16 @@ fn program<'a>(alloc: Global) -> Result<clap::Command<'a>, AllocError>
         .arg(option(alloc, "workers"))?
         .arg(flag(alloc, "relay"))?
         .arg(flag(alloc, "count"))?
-        .arg(flag(alloc, "fits"))
+        .arg(flag(alloc, "fits"))?
+        .arg(version_argument(alloc))
 }
 
-/// The command's name.
+/// The command's name, which `--version` may stand in place of.
 fn command_argument<'a>(alloc: Global) -> Arg<'a>
     ensures rule { rule_of result ≡ command_rule }
     ensures local { result.global ≡ false }
 {
-    Arg::new(alloc, "command")
-        .required(true)
-        .action(ArgAction::Set)
+    Arg::new(alloc, "command").action(ArgAction::Set)
 }
 
 /// Any number of values.
@@ -141,4 +139,12 @@ fn flag<'a>(alloc: Global, name: &'a str) -> Arg<'a>
     ensures local { result.global ≡ false }
 {
     Arg::new(alloc, name).long(name).action(ArgAction::SetTrue)
+}
+
+/// `--version`, or `-V`.
+fn version_argument<'a>(alloc: Global) -> Arg<'a>
+    ensures rule { rule_of result ≡ version_rule }
+    ensures local { result.global ≡ false }
+{
+    flag(alloc, "version").short('V')
 }

@@ -6,6 +6,8 @@ ghost use Rattle.front_command.specs.inner.Given.{given_meant};
 ghost use Rattle.front_command.specs.CommandLine.{choice_in};
 ghost use Rattle.front_command.specs.inner.Asked.{command_if, command_of_values, compile_if};
 ghost use Rattle.front_command.specs.inner.Asked.{counted_if, fitting_if, fitting_of_values};
+ghost use Rattle.front_command.specs.inner.Asked.{is_named, named_if, version_if};
+ghost use Rattle.front_command.specs.inner.Asked.{version_of_values};
 ghost use Rattle.front_command.specs.inner.Asked.{has_choice, has_schedule, has_settings};
 ghost use Rattle.front_command.specs.inner.Asked.{pair_if, plain_if};
 ghost use Rattle.front_command.specs.inner.Asked.{run_if, simulate_if, single_if, some_workers};
@@ -24,6 +26,39 @@ pub const DEFAULT_WORKERS: u32 = 4;
 /// The command that the arguments ask for; nothing where a rule refuses them.
 pub(crate) fn command_asked<'a>(given: &Given<'a>) -> Option<Command<'a>>
     ensures { option_map command_meant result ≡ command_if (given_meant given.now) }
+{
+    if given.version {
+        version_of_values(given)
+    } else {
+        named_asked(given)
+    }
+}
+
+/// What the values ask for where `--version` is used: it stands with no values.
+fn version_of_values<'a>(given: &Given<'a>) -> Option<Command<'a>>
+    ensures { option_map command_meant result
+        ≡ version_of_values (given_meant given.now) (given_meant given.now).values }
+{
+    match given.values.as_slice() {
+        [] => version_asked(given),
+        _ => None,
+    }
+}
+
+/// The version, where neither a command nor an option is given beside it.
+fn version_asked<'a>(given: &Given<'a>) -> Option<Command<'a>>
+    ensures { option_map command_meant result ≡ version_if (given_meant given.now) }
+{
+    if given.command.is_some() || given.fits {
+        None
+    } else {
+        plain_asked(given, Command::Version)
+    }
+}
+
+/// The command that is named.
+fn named_asked<'a>(given: &Given<'a>) -> Option<Command<'a>>
+    ensures { option_map command_meant result ≡ named_if (given_meant given.now) }
 {
     if given.fits {
         fitting_of_values(given)
@@ -47,7 +82,7 @@ fn fitting_of_values<'a>(given: &Given<'a>) -> Option<Command<'a>>
 fn fitting_asked<'a>(given: &Given<'a>, value: &'a str) -> Option<Command<'a>>
     ensures { option_map command_meant result ≡ fitting_if (given_meant given.now) value.now }
 {
-    if given.command == "report" {
+    if is_named(given.command, "report") {
         counted_asked(
             given,
             Command::Report {
@@ -56,7 +91,7 @@ fn fitting_asked<'a>(given: &Given<'a>, value: &'a str) -> Option<Command<'a>>
                 fits: true,
             },
         )
-    } else if given.command == "explain" {
+    } else if is_named(given.command, "explain") {
         counted_asked(
             given,
             Command::Explain {
@@ -86,13 +121,13 @@ fn command_of_values<'a>(given: &Given<'a>) -> Option<Command<'a>>
 fn single_asked<'a>(given: &Given<'a>, value: &'a str) -> Option<Command<'a>>
     ensures { option_map command_meant result ≡ single_if (given_meant given.now) value.now }
 {
-    if given.command == "check" {
+    if is_named(given.command, "check") {
         plain_asked(given, Command::Check { monitor: value })
-    } else if given.command == "compile" {
+    } else if is_named(given.command, "compile") {
         compile_asked(given, value)
-    } else if given.command == "stress" {
+    } else if is_named(given.command, "stress") {
         stress_asked(given, value)
-    } else if given.command == "report" {
+    } else if is_named(given.command, "report") {
         counted_asked(
             given,
             Command::Report {
@@ -101,7 +136,7 @@ fn single_asked<'a>(given: &Given<'a>, value: &'a str) -> Option<Command<'a>>
                 fits: false,
             },
         )
-    } else if given.command == "explain" {
+    } else if is_named(given.command, "explain") {
         counted_asked(
             given,
             Command::Explain {
@@ -110,7 +145,7 @@ fn single_asked<'a>(given: &Given<'a>, value: &'a str) -> Option<Command<'a>>
                 fits: false,
             },
         )
-    } else if given.command == "emit" {
+    } else if is_named(given.command, "emit") {
         plain_asked(given, Command::Emit { monitor: value })
     } else {
         None
@@ -122,7 +157,7 @@ fn pair_asked<'a>(given: &Given<'a>, monitor: &'a str, other: &'a str) -> Option
     ensures { option_map command_meant result
         ≡ pair_if (given_meant given.now) monitor.now other.now }
 {
-    if given.command == "turns" {
+    if is_named(given.command, "turns") {
         plain_asked(
             given,
             Command::Turns {
@@ -130,11 +165,11 @@ fn pair_asked<'a>(given: &Given<'a>, monitor: &'a str, other: &'a str) -> Option
                 clients: other,
             },
         )
-    } else if given.command == "simulate" {
+    } else if is_named(given.command, "simulate") {
         simulate_asked(given, monitor, other)
-    } else if given.command == "run" {
+    } else if is_named(given.command, "run") {
         run_asked(given, monitor, other)
-    } else if given.command == "recheck" {
+    } else if is_named(given.command, "recheck") {
         plain_asked(
             given,
             Command::Recheck {
@@ -142,7 +177,7 @@ fn pair_asked<'a>(given: &Given<'a>, monitor: &'a str, other: &'a str) -> Option
                 report: other,
             },
         )
-    } else if given.command == "block" {
+    } else if is_named(given.command, "block") {
         counted_asked(
             given,
             Command::Block {
@@ -151,7 +186,7 @@ fn pair_asked<'a>(given: &Given<'a>, monitor: &'a str, other: &'a str) -> Option
                 choice: choice_in(given),
             },
         )
-    } else if given.command == "audit" {
+    } else if is_named(given.command, "audit") {
         counted_asked(
             given,
             Command::Audit {
@@ -162,6 +197,16 @@ fn pair_asked<'a>(given: &Given<'a>, monitor: &'a str, other: &'a str) -> Option
         )
     } else {
         None
+    }
+}
+
+/// Whether the word for a command is this name.
+fn is_named(word: Option<&str>, name: &str) -> bool
+    ensures { result ≡ is_named (option_map (λ word. word.now) word.entry) name.now }
+{
+    match word {
+        Some(word) => word == name,
+        None => false,
     }
 }
 

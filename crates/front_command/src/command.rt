@@ -86,6 +86,8 @@ pub enum Command<'a> {
     Emit {
         monitor: &'a str,
     },
+    /// Tells the program's name and version.
+    Version,
 }
 
 /// Why words gave no command.

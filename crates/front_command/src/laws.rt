@@ -2,7 +2,7 @@
 
 ghost use Rattle.std.specs.Prelude.{◌≡◌, ℕ, false, true, List, [], ◌∷◌, codes};
 ghost use Rattle.front_command.specs.CommandLine.{Command, Takes, TakesNone, block, check, compile};
-ghost use Rattle.front_command.specs.CommandLine.{explain, report, run};
+ghost use Rattle.front_command.specs.CommandLine.{explain, report, run, version};
 ghost use Rattle.front_command.specs.CommandLine.{DEFAULT_WORKERS};
 ghost use Rattle.front_command.specs.declared.plan_choice.PlanChoice.TheVariants.{Counted, Placed};
 ghost use Rattle.front_command.specs.declared.plan_choice.PlanChoice.TheVariants.{Relayed};
@@ -16,7 +16,8 @@ pub fn one_command()
 
 /// What some words are: an option left out, before the values, as one word, twice, or without the
 /// other that it wants; `--` before a value; an asked help text; a number out of range; an option
-/// without a text, used and where it may not be.
+/// without a text, used and where it may not be; the version, in either form and beside a command;
+/// no words.
 pub fn words_taken()
     ensures default_workers { Takes
         (codes "expresso" ∷ codes "run" ∷ codes "M" ∷ codes "C" ∷ [])
@@ -62,4 +63,9 @@ pub fn words_taken()
         (explain (codes "M") true true) }
     ensures no_fits { TakesNone (codes "expresso" ∷ codes "recheck" ∷ codes "M" ∷ codes "R"
         ∷ codes "--fits" ∷ []) }
+    ensures long_version { Takes (codes "expresso" ∷ codes "--version" ∷ []) version }
+    ensures short_version { Takes (codes "expresso" ∷ codes "-V" ∷ []) version }
+    ensures no_version { TakesNone (codes "expresso" ∷ codes "check" ∷ codes "M"
+        ∷ codes "--version" ∷ []) }
+    ensures no_command { TakesNone (codes "expresso" ∷ []) }
 {}

@@ -1,6 +1,6 @@
 //! The command line: which command the words ask for.
 //!
-//! [`command_of`] reads the words by `clap` as one simple command, a name with values and six
+//! [`command_of`] reads the words by `clap` as one simple command, a name with values and seven
 //! options, and asks the rules of the product. `specs/CommandLine` says which command words are
 //! (`Takes`): what `clap` gives for them (`IsGiven`), and what those arguments ask for (`Asks`).
 //! `specs/Commands` says which one a [`Command`] of the code stands for. Words are at most one

@@ -10,7 +10,7 @@ use Rattle.lang_tokens.specs.Words.{decimal_value}
 use Rattle.front_command.specs.declared.schedule.Schedule.{Schedule}
 use Rattle.front_command.specs.declared.schedule.Schedule.TheVariants.{Rounds, Drawn}
 use Rattle.front_command.specs.CommandLine.{Given, Command, check, turns, compile, simulate, run}
-use Rattle.front_command.specs.CommandLine.{stress, report, recheck, block, audit, explain, emit}
+use Rattle.front_command.specs.CommandLine.{stress, report, recheck, block, audit, explain, emit, version}
 use Rattle.front_command.specs.CommandLine.{GREATEST_UNSIGNED, DEFAULT_WORKERS, MOST_DIGITS}
 use Rattle.front_command.specs.CommandLine.{choice_in}
 
@@ -84,28 +84,33 @@ counted_if given command = cond (has_settings given || given.relay) None (Some c
 abbrev pub plain_if : Given → Command → Option Command
 plain_if given command = cond given.count None (counted_if given command)
 
+-- the word is this name
+abbrev pub is_named : Option (List ℕ) → List ℕ → Bool
+is_named None name = false
+is_named (Some word) name = bytes_eq word name
+
 -- the command of one value
 abbrev pub single_if : Given → List ℕ → Option Command
 single_if given value =
-    cond (bytes_eq given.command (codes "check")) (plain_if given (check value))
-    (cond (bytes_eq given.command (codes "compile")) (compile_if given value)
-    (cond (bytes_eq given.command (codes "stress")) (stress_if given value)
-    (cond (bytes_eq given.command (codes "report"))
+    cond (is_named given.command (codes "check")) (plain_if given (check value))
+    (cond (is_named given.command (codes "compile")) (compile_if given value)
+    (cond (is_named given.command (codes "stress")) (stress_if given value)
+    (cond (is_named given.command (codes "report"))
     (counted_if given (report value given.count false))
-    (cond (bytes_eq given.command (codes "explain"))
+    (cond (is_named given.command (codes "explain"))
     (counted_if given (explain value given.count false))
-    (cond (bytes_eq given.command (codes "emit")) (plain_if given (emit value)) None)))))
+    (cond (is_named given.command (codes "emit")) (plain_if given (emit value)) None)))))
 
 -- the command of two values
 abbrev pub pair_if : Given → List ℕ → List ℕ → Option Command
 pair_if given monitor other =
-    cond (bytes_eq given.command (codes "turns")) (plain_if given (turns monitor other))
-    (cond (bytes_eq given.command (codes "simulate")) (simulate_if given monitor other)
-    (cond (bytes_eq given.command (codes "run")) (run_if given monitor other)
-    (cond (bytes_eq given.command (codes "recheck")) (plain_if given (recheck monitor other))
-    (cond (bytes_eq given.command (codes "block"))
+    cond (is_named given.command (codes "turns")) (plain_if given (turns monitor other))
+    (cond (is_named given.command (codes "simulate")) (simulate_if given monitor other)
+    (cond (is_named given.command (codes "run")) (run_if given monitor other)
+    (cond (is_named given.command (codes "recheck")) (plain_if given (recheck monitor other))
+    (cond (is_named given.command (codes "block"))
     (counted_if given (block monitor other (choice_in given)))
-    (cond (bytes_eq given.command (codes "audit"))
+    (cond (is_named given.command (codes "audit"))
     (counted_if given (audit monitor other given.count))
     None)))))
 
@@ -119,9 +124,9 @@ command_of_values given (value ∷ other ∷ another ∷ more) = None
 -- the command of one value that says which blocks keep 64 bits
 abbrev pub fitting_if : Given → List ℕ → Option Command
 fitting_if given value =
-    cond (bytes_eq given.command (codes "report"))
+    cond (is_named given.command (codes "report"))
     (counted_if given (report value given.count true))
-    (cond (bytes_eq given.command (codes "explain"))
+    (cond (is_named given.command (codes "explain"))
     (counted_if given (explain value given.count true)) None)
 
 -- the command of these values that does
@@ -130,6 +135,19 @@ fitting_of_values given [] = None
 fitting_of_values given (value ∷ []) = fitting_if given value
 fitting_of_values given (value ∷ other ∷ more) = None
 
-abbrev pub command_if : Given → Option Command
-command_if given =
+-- the command that is named
+abbrev pub named_if : Given → Option Command
+named_if given =
     cond given.fits (fitting_of_values given given.values) (command_of_values given given.values)
+
+-- the version, where neither a command nor `--fits` is given beside it
+abbrev pub version_if : Given → Option Command
+version_if given = cond (is_some given.command || given.fits) None (plain_if given version)
+
+-- what these values ask for where `--version` is used
+abbrev pub version_of_values : Given → List (List ℕ) → Option Command
+version_of_values given [] = version_if given
+version_of_values given (value ∷ more) = None
+
+abbrev pub command_if : Given → Option Command
+command_if given = cond given.version (version_of_values given given.values) (named_if given)

@@ -6,7 +6,7 @@ use Rattle.front_command.specs.CommandLine.{Given}
 -- the arguments that those of the code stand for
 abbrev pub given_meant : Read → Given
 given_meant read = record {
-  command = read.command.now;
+  command = option_map (λ word. word.now) read.command;
   values = map (λ value. value.now) read.values.items;
   seed = option_map (λ word. word.now) read.seed;
   spurious = option_map (λ word. word.now) read.spurious;
@@ -14,4 +14,5 @@ given_meant read = record {
   relay = read.relay;
   count = read.count;
   fits = read.fits;
+  version = read.version;
 }

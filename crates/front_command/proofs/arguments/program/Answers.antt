@@ -13,4 +13,5 @@ returns c =
     let worked = c.in_ok-arg-5.ensures.shape c.option-3.ensures.local ∙ ap₂ with_rule woken c.option-3.ensures.rule in
     let relayed = c.in_ok-arg-6.ensures.shape c.flag.ensures.local ∙ ap₂ with_rule worked c.flag.ensures.rule in
     let counted = c.in_ok-arg-7.ensures.shape c.flag-2.ensures.local ∙ ap₂ with_rule relayed c.flag-2.ensures.rule in
-    IfOk-weaker c.arg-8.result _ _ (λ (r : Command) h. h.shape c.flag-3.ensures.local ∙ ap₂ with_rule counted c.flag-3.ensures.rule) c.arg-8.ensures
+    let fitted = c.in_ok-arg-8.ensures.shape c.flag-3.ensures.local ∙ ap₂ with_rule counted c.flag-3.ensures.rule in
+    IfOk-weaker c.arg-9.result _ _ (λ (r : Command) h. h.shape c.version_argument.ensures.local ∙ ap₂ with_rule fitted c.version_argument.ensures.rule) c.arg-9.ensures
