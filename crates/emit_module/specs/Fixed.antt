@@ -1,7 +1,7 @@
 -- The texts that are the same in every module.
 use Rattle.std.specs.Prelude.{ℕ, List, ◌++◌, codes}
 
--- the program's version
+-- the program's version: the one place where it stands, of which tools read it, too
 abbrev pub VERSION : List ℕ
 VERSION = codes "0.2.0"
 

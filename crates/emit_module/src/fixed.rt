@@ -4,8 +4,8 @@ ghost use Rattle.std.specs.Prelude.{◌≡◌};
 ghost use Rattle.emit_module.specs.Fixed.{DEBUG, DEBUG_END, DEFAULT, FAILED, HEAD, INNER, LOCK};
 ghost use Rattle.emit_module.specs.Fixed.{NEW, OVERFLOW, REFUSED, STATE, STATE_IMPL, VERSION, WAIT, WHOLE};
 
-/// The program's version.
-pub(crate) fn version_bytes() -> &'static [u8]
+/// The program's version, which the head of a module names.
+pub fn version_bytes() -> &'static [u8]
     ensures { result.now ≡ VERSION }
 {
     b"0.2.0"

@@ -12,4 +12,5 @@ mod fixed;
 mod module;
 mod state;
 
+pub use fixed::version_bytes;
 pub use module::write_rust;
