@@ -109,6 +109,7 @@ expresso block FILE CLIENTS [--count]
 expresso audit FILE PLAN [--count]
 expresso explain FILE [--count] [--fits]
 expresso emit FILE
+expresso --version
 """
 
 SUMMARY = b"calls 16384\ndone\nstate count=0\n"

@@ -5,7 +5,7 @@
 # tools/install.sh [PREFIX] --remove         takes away what stands there
 #
 # It builds in a folder of its own. Nothing below PREFIX changes before the program is there and has
-# printed its usage, and a second call does nothing where nothing has changed. After a failure the
+# printed its usage and version, and a second call does nothing where nothing has changed. After a failure the
 # proofs made so far are kept, in ~/.cache/expresso, and the next call goes on from there.
 here=$PWD
 cd "$(dirname "$0")/.." || exit 1
@@ -239,7 +239,7 @@ if [ -z "$was_given" ] && [ "$(program='' && sum)" != "$wanted" ]; then
 fi
 place "$wanted"
 [ -n "$was_given" ] || rm -rf "$cache"
-say "expresso $(tools/manual.py version) stands in $prefix: bin/expresso, its manual page, and completions for bash, zsh and fish."
+say "$("$prefix/bin/expresso" --version) stands in $prefix: bin/expresso, its manual page, and completions for bash, zsh and fish."
 case :$PATH: in
     *:"$prefix/bin":*) ;;
     *) say "Put $prefix/bin on your path: export PATH=\"$prefix/bin:\$PATH\"" ;;

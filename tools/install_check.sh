@@ -1,6 +1,6 @@
 #!/usr/bin/env bash
 # Checks the manual, and tools/install.sh on a copy of the checkout: with an `rt` that proves
-# nothing, since `rt ci` does, and leaves a program that only prints its usage. Fails where an
+# nothing, since `rt ci` does, and leaves a program that prints its usage and version alone. Fails where an
 # installed file is missing or wrong, where a second call does something, or where a call that fails
 # leaves anything below its prefix.
 #
@@ -67,7 +67,14 @@ case $1 in
     run)
         mkdir -p out
         [ "$fails" != link ] || exit 1
-        { echo '#!/bin/sh'; echo 'cat <<END'; cat "$MADE/usage"; echo END; echo 'exit 2'; } >out/expresso_cli
+        {
+            echo '#!/bin/sh'
+            echo "[ \"\$1\" != --version ] || { echo 'expresso $(cat "$MADE/version")'; exit; }"
+            echo 'cat <<END'
+            cat "$MADE/usage"
+            echo END
+            echo 'exit 2'
+        } >out/expresso_cli
         chmod +x out/expresso_cli
         out/expresso_cli
         ;;
@@ -75,6 +82,7 @@ esac
 STUB
 chmod +x "$RT"
 { echo usage:; sed -n '/^% usage$/,/^$/p' tools/manual.txt | sed '1d;$d'; } >"$made/usage"
+sed -n 's/^VERSION = codes "\(.*\)"$/\1/p' crates/emit_module/specs/Fixed.antt >"$made/version"
 mkdir "$made/home" "$made/copy"
 tar -c --exclude=out --exclude=.git --exclude=proofs . | tar -x -C "$made/copy" || exit 1
 installer=$made/copy/tools/install.sh
@@ -105,11 +113,17 @@ echo usage: >usage
 breaks "a program with another usage" "not the usage that" "$installer" prefix
 same "a program with another usage"
 mv whole_usage usage
+mv version whole_version
+echo 9.9.9 >version
+breaks "a program of another version" "the page has another version than" "$installer" prefix
+same "a program of another version"
+mv whole_version version
 
 : >"$made/calls"
 holds "an install" "$installer" prefix
 grep -q "^Proving .* crates, .* at a time: about .* minutes" "$made/said" || fail "an install: how long does it take?"
 grep -q "^\([0-9]*\) of \1: expresso_cli, [0-9]* minutes$" "$made/said" || fail "an install: how far is it?"
+grep -q "^expresso $(cat version) stands in " "$made/said" || fail "an install: of which version?"
 [ ! -e "$XDG_CACHE_HOME/expresso" ] || fail "an install: its folder is left"
 prefix/bin/expresso | cmp - usage || fail "an install: not the program that was built"
 for file in bin/expresso $("$made/copy/tools/manual.py" list); do
@@ -196,6 +210,8 @@ expresso run lock.mon locks.cl --w|--workers
 expresso run lock.mon locks.cl --|--count --relay --workers
 expresso run lock.mon locks.cl --relay --|--count --workers
 expresso simulate lock.mon locks.cl --s|--seed --spurious
+expresso --|--help --version
+expresso --v|--version
 expresso check --|
 expresso check lock.mon lo|
 expresso stress lo|

@@ -2,10 +2,10 @@
 """Makes the manual page and the completions of `expresso` from tools/manual.txt.
 
 `tools/manual.py write FOLDER` writes them below FOLDER, each where an installed program's stands.
-`tools/manual.py list` prints where that is, and `tools/manual.py version` the program's version.
+`tools/manual.py list` prints where that is.
 `tools/manual.py check [PROGRAM]` fails where manual.txt hasn't the usage of README.md, or of what PROGRAM prints; where
-it describes a command, a value or an option that the usage hasn't, or lacks one that it has; and where its exit
-statuses are not those of the program's sources.
+it describes a command, a value or an option that the usage hasn't, or lacks one that it has; where its exit statuses
+are not those of the program's sources; and where PROGRAM prints another version than the page.
 """
 
 import itertools
@@ -49,7 +49,8 @@ class Manual:
             elif self.entries:
                 self.entries[-1].lines.append(line)
         self.usage = next(it for it in self.entries if it.kind == "usage").text()
-        self.forms = [form_of(line) for line in self.usage]
+        self.forms = [form_of(line) for line in self.usage if not is_alone(line)]
+        self.alone = [line.split()[1] for line in self.usage if is_alone(line)] + ["--help"]
         self.globs = {}
         for value in self.of_kind("value"):
             name, _, glob = value.name.partition(" ")
@@ -61,6 +62,11 @@ class Manual:
     def words(self, kind):
         """The few words of each entry of a kind, by its name's first word."""
         return {it.name.split()[0]: it.words for it in self.of_kind(kind)}
+
+
+def is_alone(line):
+    """Whether a line of the usage is an option that stands with no command."""
+    return line.split()[1].startswith("-")
 
 
 def form_of(line):
@@ -223,7 +229,7 @@ complete -F _expresso expresso
 
 
 def bash_of(manual):
-    options = ["        '') options='--help' ;;"]
+    options = [f"        '') options='{' '.join(manual.alone)}' ;;"]
     for command, found in options_of(manual).items():
         if found:
             options.append(f"        {command}) options='{' '.join(option for option, _ in found)}' ;;")
@@ -250,8 +256,9 @@ def plain(text):
 
 def zsh_of(manual):
     about, values = manual.words("option"), manual.words("value")
+    alone = " ".join(quoted(f"{option}[{plain(about[option])}]") for option in manual.alone)
     made = ["#compdef expresso", f"# {MADE}", "", "local context state state_descr line", "typeset -A opt_args", "",
-            "_arguments -C '--help[print the usage]' '1:command:->command' '*::argument:->argument'", "",
+            f"_arguments -C {alone} '1:command:->command' '*::argument:->argument'", "",
             "case $state in", "    command)", "        local -a commands=("]
     commands = manual.words("command")
     made += ["            " + quoted(f"{command}:{plain(commands[command])}") for command, _, _ in manual.forms]
@@ -309,16 +316,17 @@ function __expresso_is
 end
 
 complete -c expresso -f
-complete -c expresso -n 'test (count (__expresso_words)) = 0' -l help -d 'print the usage'
 """
 
 
 def fish_of(manual):
     made = [FISH.format(made=MADE, numbers=" ".join(with_numbers(manual)))]
     commands, about, values = manual.words("command"), manual.words("option"), manual.words("value")
+    first = "complete -c expresso -n 'test (count (__expresso_words)) = 0'"
+    for option in manual.alone:
+        made.append(f"{first} -l {option.removeprefix('--')} -d {quoted(plain(about[option]))}\n")
     for command, _, _ in manual.forms:
-        made.append(f"complete -c expresso -n 'test (count (__expresso_words)) = 0' -a {command} "
-                    f"-d {quoted(plain(commands[command]))}\n")
+        made.append(f"{first} -a {command} -d {quoted(plain(commands[command]))}\n")
     takers, places = {}, {}
     for command, names, options in manual.forms:
         for option, value in options:
@@ -365,12 +373,15 @@ def faults(manual, program):
         printed = subprocess.run([program, "--help"], capture_output=True, text=True, check=False)
         if printed.stdout != usage or printed.returncode != 2:
             yield f"tools/manual.txt: not the usage that {program} prints, with status 2"
+        printed = subprocess.run([program, "--version"], capture_output=True, text=True, check=False)
+        if printed.stdout != f"expresso {version()}\n" or printed.returncode != 0:
+            yield f"tools/manual.txt: the page has another version than {program}"
     names = [it.name for it in manual.of_kind("command")]
     yield from compared("the command", names, [command for command, _, _ in manual.forms])
     if names != [command for command, _, _ in manual.forms]:
         yield "tools/manual.txt: the commands stand in another order than in the usage"
     options = {f"{option} {value}".strip() for _, _, options in manual.forms for option, value in options}
-    yield from compared("the option", [it.name for it in manual.of_kind("option")], [*options, "--help"])
+    yield from compared("the option", [it.name for it in manual.of_kind("option")], [*options, *manual.alone])
     values = {value for _, values, _ in manual.forms for value in values}
     values |= {value for _, _, options in manual.forms for _, value in options if value}
     yield from compared("the value", [it.name.split()[0] for it in manual.of_kind("value")], values)
@@ -383,9 +394,6 @@ def main(words):
         found = [*faults(manual, words[1] if words[1:] else None)]
         print("\n".join(found or ["the manual has the usage, with each command, option, value and exit status"]))
         return 1 if found else 0
-    if words == ["version"]:
-        print(version())
-        return 0
     if words == ["list"]:
         print("\n".join(PLACES.values()))
         return 0

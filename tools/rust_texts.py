@@ -1,6 +1,8 @@
 """Texts that are the same in every module of a monitor in Rust."""
 
-VERSION = "0.2.0"
+import manual
+
+VERSION = manual.version()
 
 HEAD = """\
 // The monitor `%s` as a module of Rust, made by `expresso emit` %s.

@@ -25,7 +25,7 @@ use Rattle.front_command.specs.declared.plan_choice.PlanChoice.{PlanChoice}
 use Rattle.front_command.specs.declared.plan_choice.PlanChoice.TheVariants.{Counted, Placed}
 use Rattle.front_command.specs.declared.schedule.Schedule.{Schedule}
 use Rattle.front_command.specs.CommandLine.{Command, check, turns, compile, simulate, run, stress}
-use Rattle.front_command.specs.CommandLine.{report, recheck, block, audit, explain, emit}
+use Rattle.front_command.specs.CommandLine.{report, recheck, block, audit, explain, emit, version}
 use Rattle.front_command.specs.CommandLine.{Takes, TakesNone, files_of}
 use Rattle.machine_stress.specs.LargeInput.{buffer_of, capacity_of, producers_and_consumers}
 use Rattle.expresso.specs.Placements.{IsChosen, IsCounting, IsPlacement, table_of}
@@ -62,7 +62,7 @@ use Rattle.report_fits.specs.FitReasonTexts.{fit_reasons_text}
 use Rattle.report_fits.specs.FitTexts.{certified, fits_text}
 use Rattle.emit_module.specs.Modules.{rust_text}
 use Rattle.expresso.specs.PrintedPrograms.{IsAsPromised}
-use Rattle.expresso.specs.Texts.{count_explained_text, explained_text, usage_text}
+use Rattle.expresso.specs.Texts.{count_explained_text, explained_text, usage_text, version_text}
 
 -- the bytes are those held by a name, where they are told
 abbrev pub HoldsBytes : (List ℕ → Option (List ℕ)) → List ℕ → List ℕ → Type 0
@@ -318,6 +318,7 @@ IsDoneText held (audit monitor plan_file count) text =
     IsAuditText held count monitor plan_file text
 IsDoneText held (explain file count fits) text = IsExplainTextBy held count fits file text
 IsDoneText held (emit file) text = IsEmitText held file text
+IsDoneText held version text = text ≡ version_text
 
 -- the text of `turns`, `simulate`, `run` or `block` where some client has a call left; no other
 -- command stalls
@@ -341,6 +342,7 @@ IsStalledText held (block monitor clients choice) text =
 IsStalledText held (audit monitor plan_file count) text = ⊥
 IsStalledText held (explain file count fits) text = ⊥
 IsStalledText held (emit file) text = ⊥
+IsStalledText held version text = ⊥
 
 -- ---- refusals
 
@@ -397,7 +399,7 @@ abbrev pub IsAuditRefusal : (List ℕ → Option (List ℕ)) → Bool → List �
 IsAuditRefusal held count monitor plan_file text =
     IsMonitorRefusal held monitor text ⊎ IsPlanRefusal held count monitor plan_file text
 
--- the line that refuses a file of the command; `stress` has no files
+-- the line that refuses a file of the command; `stress` and `--version` have no files
 abbrev pub IsRefusedText : (List ℕ → Option (List ℕ)) → Command → List ℕ → Type 0
 IsRefusedText held (check file) text = IsMonitorRefusal held file text
 IsRefusedText held (turns monitor clients) text = IsRunRefusal held monitor clients text
@@ -415,6 +417,7 @@ IsRefusedText held (audit monitor plan_file count) text =
     IsAuditRefusal held count monitor plan_file text
 IsRefusedText held (explain file count fits) text = IsMonitorRefusal held file text
 IsRefusedText held (emit file) text = IsMonitorRefusal held file text
+IsRefusedText held version text = ⊥
 
 -- a read fault's line that names one of the command's files; which of them, no clause says
 abbrev pub IsUnreadText : Command → List ℕ → Type 0
@@ -519,7 +522,7 @@ RejectsPlan held count monitor_file plan_file =
     × ((tree : MonitorTree) (monitor : MonitorParts) (plan : Plan)
     → IsAccepted monitor_bytes tree monitor → MayBeLawful count plan_bytes monitor plan → ⊥)
 
--- the files of the command tell their bytes, which are accepted; `stress` has no files
+-- the files of the command tell their bytes, which are accepted; `stress` and `--version` have none
 abbrev pub AcceptsFiles : (List ℕ → Option (List ℕ)) → Command → Type 0
 AcceptsFiles held (check file) = AcceptsMonitor held file
 AcceptsFiles held (turns monitor clients) = AcceptsRun held monitor clients
@@ -533,6 +536,7 @@ AcceptsFiles held (block monitor clients choice) = AcceptsRun held monitor clien
 AcceptsFiles held (audit monitor plan_file count) = AcceptsPlan held count monitor plan_file
 AcceptsFiles held (explain file count fits) = AcceptsMonitor held file
 AcceptsFiles held (emit file) = AcceptsMonitor held file
+AcceptsFiles held version = Unit {0}
 
 -- they tell their bytes, and one of them is not accepted
 abbrev pub RejectsFiles : (List ℕ → Option (List ℕ)) → Command → Type 0
@@ -548,6 +552,7 @@ RejectsFiles held (block monitor clients choice) = RejectsRun held monitor clien
 RejectsFiles held (audit monitor plan_file count) = RejectsPlan held count monitor plan_file
 RejectsFiles held (explain file count fits) = RejectsMonitor held file
 RejectsFiles held (emit file) = RejectsMonitor held file
+RejectsFiles held version = ⊥
 
 -- the words are a command's whose files are accepted; or one of them is not
 abbrev pub Accepts : (List ℕ → Option (List ℕ)) → List (List ℕ) → Type 0

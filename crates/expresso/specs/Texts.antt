@@ -9,6 +9,7 @@ use Rattle.machine_events.specs.declared.plan.Plan.{Plan}
 use Rattle.machine_events.specs.PlanText.{plan_text}
 use Rattle.plan_why.specs.declared.reason.Reason.{Reason}
 use Rattle.plan_needs.specs.declared.broadcasts.BroadcastReason.{BroadcastReason}
+use Rattle.emit_module.specs.Fixed.{VERSION}
 use Rattle.report_reasons.specs.BroadcastText.{broadcast_reasons_text}
 use Rattle.report_reasons.specs.ReasonText.{reasons_text}
 
@@ -27,6 +28,11 @@ usage_text =
     ++ codes "expresso audit FILE PLAN [--count]\n"
     ++ codes "expresso explain FILE [--count] [--fits]\n"
     ++ codes "expresso emit FILE\n"
+    ++ codes "expresso --version\n"
+
+-- the program's name and version, in one line
+abbrev pub version_text : List ℕ
+version_text = codes "expresso " ++ VERSION ++ codes "\n"
 
 -- a plan, and why each thing stands in it that costs something
 abbrev pub explained_text : MonitorTree → MonitorParts → Plan → List Reason → List ℕ

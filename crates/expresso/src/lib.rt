@@ -10,7 +10,7 @@
 //! plan that was written by hand is lawful, with `--count` also by counting, or what it lacks.
 //! `explain` prints a plan, with `--count` the counted one, with a state that shows why each thing
 //! stands in it that costs something. `emit` prints a monitor under the counted plan as a module of
-//! Rust, for threads of any program to call.
+//! Rust, for threads of any program to call. `--version` prints the program's name and version.
 //!
 //! `--relay` asks for the plan with its signals relayed, and `--count` for the counted plan; of
 //! both the placed and the counted one `report` prints the certificates.
@@ -48,6 +48,7 @@ mod status;
 mod stress;
 mod text;
 mod turns;
+mod version;
 mod work;
 
 pub use laws::{

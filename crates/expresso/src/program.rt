@@ -32,6 +32,7 @@ use threads_pool::Gate;
 /// `--count` also by counting, or what it lacks. `explain FILE` writes the plan, with `--count` the
 /// counted one, and, for each thing in it that costs something, a state that shows why it stands.
 /// `emit FILE` writes a Rust module of the monitor under the plan, whose methods threads call.
+/// `--version`, or `-V`, writes the program's name and version, and stands alone.
 ///
 /// With `--relay` beside `run`, `compile` or `simulate` the plan is that one with its signals
 /// relayed.
@@ -69,9 +70,9 @@ pub fn expresso<R: Threads + Wait + Sync, F: Files, S: Sink, G: Gate>(
 }
 
 /// The program but for `run`, `stress` and `block`: what `check`, `turns`, `compile`, `simulate`,
-/// `report`, `recheck`, `audit`, `explain` and `emit` do, and what comes of other words. It starts
-/// no thread and waits for none, so it returns. A command that runs clients in threads is handed
-/// back, with nothing read and nothing written.
+/// `report`, `recheck`, `audit`, `explain`, `emit` and `--version` do, and what comes of other
+/// words. It starts no thread and waits for none, so it returns. A command that runs clients in
+/// threads is handed back, with nothing read and nothing written.
 pub fn without_threads<'a, F: Files, S: Sink>(
     alloc: Global,
     words: &'a Vec<String>,

@@ -19,6 +19,7 @@ ghost use Rattle.report_tally.specs.CountedTexts.{counted_text};
 ghost use Rattle.report_audit.specs.FindingText.{finding_text};
 ghost use Rattle.emit_module.specs.Modules.{rust_text};
 ghost use Rattle.expresso.specs.Texts.{count_explained_text, explained_text, usage_text};
+ghost use Rattle.expresso.specs.Texts.{version_text};
 ghost use Rattle.expresso.specs.inner.Auditing.{audit_status};
 ghost use Rattle.expresso.specs.inner.Ending.{IsWritten, ended, fault_status};
 
@@ -26,7 +27,7 @@ use crate::explain::{CountExplanation, Explanation};
 use crate::placement::Counting;
 use crate::status::Status;
 use base_io::{Sink, SinkFailed, write_pieces};
-use emit_module::write_rust;
+use emit_module::{version_bytes, write_rust};
 use lang_monitor::Monitor;
 use lang_printer::print_monitor;
 use lang_tree::MonitorTree;
@@ -80,10 +81,19 @@ pub(crate) fn show_usage<S: Sink>(out: &mut S) -> Status
             b"expresso audit FILE PLAN [--count]\n",
             b"expresso explain FILE [--count] [--fits]\n",
             b"expresso emit FILE\n",
+            b"expresso --version\n",
         ],
         out,
     );
     finish(Status::Usage, outcome, out)
+}
+
+/// Writes the program's name and version.
+pub(crate) fn show_version<S: Sink>(out: &mut S) -> Status
+    ensures { IsWritten Status.Done version_text result (S.seen out.old) (S.seen out.new) }
+{
+    let outcome = write_pieces(&[b"expresso ", version_bytes(), b"\n"], out);
+    finish(Status::Done, outcome, out)
 }
 
 /// The status of a fault of a file.

@@ -21,6 +21,7 @@ use crate::simulate::simulate_files;
 use crate::status::Status;
 use crate::stress::stress;
 use crate::turns::take_turns;
+use crate::version::version;
 use base_io::{Files, Sink};
 use front_command::Command;
 use std::alloc::Global;
@@ -78,6 +79,7 @@ pub(crate) fn work<'a, F: Files, S: Sink>(
             fits,
         } => Ok(explained(alloc, monitor, count, fits, files, out)),
         Command::Emit { monitor } => Ok(emit_file(alloc, monitor, files, out)),
+        Command::Version => Ok(version(out)),
         Command::Run { .. } => Err(command),
         Command::Stress { .. } => Err(command),
         Command::Block { .. } => Err(command),

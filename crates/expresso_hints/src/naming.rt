@@ -72,6 +72,7 @@ fn files_of<'a>(command: Command<'a>) -> Option<Named<'a>> {
             other: Other::Report { name: report },
         }),
         Command::Stress { .. } => None,
+        Command::Version => None,
     }
 }
 

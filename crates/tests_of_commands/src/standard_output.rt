@@ -48,6 +48,7 @@ expresso block FILE CLIENTS [--count]
 expresso audit FILE PLAN [--count]
 expresso explain FILE [--count] [--fits]
 expresso emit FILE
+expresso --version
 ";
 
 const TWO_RUN: &[u8] = b"A.1 put() = -
