@@ -231,6 +231,11 @@ WORDS = [
     (["emit", "m.mon", "-o", "m.rs"], "all is printed on standard output"),
     (["emit", "m.mon", "--count"], "`emit` has no `--count`: it always counts"),
     (["compile", "m.mon", "\u2013count"], "an option begins with two hyphens"),
+    (["version"], "no command `version`; `--version`?"),
+    (["--verison"], "no option `--verison`; `--version`?"),
+    (["--version", "--fits"], "`--version` stands alone"),
+    (["check", "m.mon", "--version"], "`check` has no `--version`"),
+    (["check", "m.mon", "-V"], "`-V` stands alone"),
 ]
 
 # names that can't be read
@@ -320,6 +325,8 @@ for words, wanted in WORDS:
         tell(words, out + hints)
 if run(["--help"])[2]:
     tell("--help", run(["--help"])[2])
+if run(["--version"])[0] or run(["--version"])[2]:
+    tell("--version", run(["--version"])[2])
 rows = len(MONITORS) + len(CLIENTS) + len(PLANS) + len(REPORTS) + len(NAMES) + len(WORDS)
 print(f"hints: {rows} inputs, {faults} without the hint that they want")
 sys.exit(1 if faults else 0)

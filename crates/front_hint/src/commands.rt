@@ -86,7 +86,7 @@ pub(crate) const COMMANDS: [CommandWords; 12] = [
 ];
 
 /// What is meant by words that are no command.
-pub(crate) const OTHER_COMMANDS: [(&[u8], &[u8]); 14] = [
+pub(crate) const OTHER_COMMANDS: [(&[u8], &[u8]); 15] = [
     (b"build", b"compile"),
     (b"plan", b"compile"),
     (b"start", b"run"),
@@ -101,10 +101,11 @@ pub(crate) const OTHER_COMMANDS: [(&[u8], &[u8]); 14] = [
     (b"why", b"explain"),
     (b"generate", b"emit"),
     (b"export", b"emit"),
+    (b"version", b"--version"),
 ];
 
 /// What is said of words that are no option.
-pub(crate) const OTHER_OPTIONS: [(&[u8], &[u8]); 7] = [
+pub(crate) const OTHER_OPTIONS: [(&[u8], &[u8]); 8] = [
     (
         b"--threads",
         b"no option `--threads`: `--workers` says how many threads run the clients",
@@ -130,6 +131,7 @@ pub(crate) const OTHER_OPTIONS: [(&[u8], &[u8]); 7] = [
         b"--output",
         b"no option `--output`: all is printed on standard output, so write `> FILE`",
     ),
+    (b"-V", b"`-V` stands alone"),
 ];
 
 /// An option: its name, and of one with a number which numbers there are, and what is said of it.
@@ -143,7 +145,7 @@ pub(crate) struct OptionWords {
 }
 
 /// The options.
-pub(crate) const OPTIONS: [OptionWords; 6] = [
+pub(crate) const OPTIONS: [OptionWords; 7] = [
     OptionWords {
         name: b"--seed",
         numbered: true,
@@ -185,5 +187,12 @@ pub(crate) const OPTIONS: [OptionWords; 6] = [
         least: 0,
         most: 0,
         said: b"`--fits` has no number",
+    },
+    OptionWords {
+        name: b"--version",
+        numbered: false,
+        least: 0,
+        most: 0,
+        said: b"`--version` stands alone",
     },
 ];

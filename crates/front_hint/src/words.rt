@@ -31,7 +31,16 @@ pub fn words_hint<'a>(words: &'a [String]) -> Option<Hint<'a>> {
 fn without_command<'a>(given: &'a [String]) -> Hint<'a> {
     match unknown_option(given) {
         Some(word) => no_option(name_in(word)),
-        None => Hint::of(b"a command is missing"),
+        None => without_option(given),
+    }
+}
+
+/// Words with no name of a command among them, and with no option that is none.
+fn without_option<'a>(given: &'a [String]) -> Hint<'a> {
+    if count_of(given, b"--version") > 0 {
+        Hint::of(b"`--version` stands alone")
+    } else {
+        Hint::of(b"a command is missing")
     }
 }
 
