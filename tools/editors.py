@@ -1,10 +1,11 @@
 #!/usr/bin/env python3
-"""Checks editors/: the TextMate grammar, and Vim's files where Vim is installed.
+"""Checks editors/: the TextMate grammar, which VS Code takes too, and Vim's files where Vim is installed.
 
 What a token is, is read from the sources of the lexer: the keywords from lang_base, the signs from lang_tokens. In every
 monitor and client file of the repository and of the rows each byte of each token has to be coloured as what it is, and
 a place at which no token starts as a fault; in examples each name by its role. So this fails where the language gains
-a keyword or a sign that the editors don't know. Vim also has to lay out monitors as the program prints them.
+a keyword or a sign that the editors don't know. Vim also has to lay out monitors as the program prints them, and so do
+VS Code's rules those whose methods have one block each and no locals.
 """
 
 import functools
@@ -20,6 +21,7 @@ from dataclasses import dataclass
 
 sys.dont_write_bytecode = True
 
+import oniguruma  # noqa: E402
 import tables  # noqa: E402
 import textmate  # noqa: E402
 
@@ -244,7 +246,7 @@ def role_of(column, name):
 def textmate_faults(files):
     package = json.loads((VSCODE / "package.json").read_text())["contributes"]
     [language], [grammar] = package["languages"], package["grammars"]
-    json.loads((VSCODE / language["configuration"]).read_text())
+    yield from textmate_layout_faults(json.loads((VSCODE / language["configuration"]).read_text())["indentationRules"])
     rules = textmate.Grammar(VSCODE / grammar["path"])
     if rules.source["scopeName"] != grammar["scopeName"]:
         yield "package.json: another scope than the grammar's"
@@ -253,6 +255,24 @@ def textmate_faults(files):
         yield from colour_faults("TextMate", name, text, list(map(kind_of_scope, rules.scopes(text))))
     for text, roles in map(example, EXAMPLES):
         yield from role_faults("TextMate", text, roles, [role_of(0, scope) for scope in rules.scopes(text)])
+    if oniguruma.library():
+        theirs = textmate.Grammar(VSCODE / grammar["path"], oniguruma.Pattern)
+        for name, text in files:
+            if theirs.scopes(text) != rules.scopes(text):
+                yield f"{name}: Oniguruma colours otherwise than Python's `re`"
+
+
+def textmate_layout_faults(rules):
+    """Each text that VS Code's rules lay out otherwise; they know nothing of a method whose head has lines of its own."""
+    more, less = re.compile(rules["increaseIndentPattern"]), re.compile(rules["decreaseIndentPattern"])
+    for text in [*canonical(), CLIENTS]:
+        lines, depth = [], 0
+        for line in map(str.strip, text.split("\n")):
+            depth -= bool(less.search(line))
+            lines.append("  " * depth * bool(line) + line)
+            depth += bool(more.search(line))
+        if "\n".join(lines) != text and not re.search("^  method [^{]*$", text, re.M):
+            yield "VS Code: lays out otherwise:\n" + "\n".join(lines)
 
 
 # ---- Vim
@@ -333,6 +353,8 @@ def main():
         faults += vim_faults(files)
     for fault in faults:
         print(fault)
+    if oniguruma.library():
+        editors[0] += " (by Python's `re` and by Oniguruma)"
     count = sum(1 for _, text in files for _ in tokens(text))
     print(f"editors: {' and '.join(editors)}: {len(files)} files of {count} tokens; {len(faults)} faults")
     if len(editors) == 1:

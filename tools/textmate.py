@@ -1,7 +1,8 @@
 """Colours texts by a TextMate grammar, as far as the grammar of editors/ needs it.
 
 Its patterns are kept to what Python's `re` takes as well, without a look behind, so these few lines do with them what
-an editor's engine does. A key of a rule that they don't know ends the program.
+an editor's engine does: tools/editors.py compares the two ways of searching where Oniguruma is installed. A key of a
+rule that they don't know ends the program.
 """
 
 import json
@@ -25,8 +26,8 @@ class Rule:
 class Grammar:
     """The rules of a grammar's file."""
 
-    def __init__(self, path):
-        self.source = json.loads(path.read_text())
+    def __init__(self, path, pattern=re.compile):
+        self.source, self.pattern = json.loads(path.read_text()), pattern
         self.made = {}
         self.top = Rule(inner=self.rules(self.source["patterns"]))
 
@@ -41,7 +42,7 @@ class Grammar:
         if "include" in pattern:
             return self.included(pattern["include"].removeprefix("#"))
         if "match" in pattern:
-            return [Rule(re.compile(pattern["match"]), pattern["name"])]
+            return [Rule(self.pattern(pattern["match"]), pattern["name"])]
         if "begin" in pattern:
             return [self.pair(pattern)]
         return self.rules(pattern["patterns"])
@@ -53,9 +54,9 @@ class Grammar:
 
     def pair(self, pattern):
         return Rule(
-            re.compile(pattern["begin"]),
+            self.pattern(pattern["begin"]),
             pattern["beginCaptures"]["0"]["name"],
-            re.compile(pattern["end"]),
+            self.pattern(pattern["end"]),
             pattern.get("endCaptures", {"0": {"name": ""}})["0"]["name"],
             self.rules(pattern["patterns"]),
         )
