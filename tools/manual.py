@@ -359,7 +359,7 @@ def compared(what, ours, theirs):
 
 def statuses_of_sources():
     """The numbers with which the program exits: those of its statuses, and those that `main` gives itself."""
-    exit_status = (ROOT / "crates" / "expresso" / "specs" / "Exit.antt").read_text()
+    exit_status = (ROOT / "crates" / "expresso_answers" / "specs" / "Exit.antt").read_text()
     main = (ROOT / "crates" / "expresso_cli" / "src" / "main.rt").read_text()
     own = re.findall(r"^const \w+: u8 = (\d+);", main, re.M)
     return re.findall(r"^exit_status \w+ = (\d+)", exit_status, re.M) + own

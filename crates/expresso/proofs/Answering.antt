@@ -2,12 +2,12 @@
 use Rattle.std.proofs.Common.{ℕ, List, refl, sym, subst, inl, inr}
 use Rattle.std.specs.Io.KnownBytes.{Appends}
 use Rattle.base_io.specs.Outside.{FilesSeen, SinkSeen}
-use Rattle.expresso.specs.declared.status.Status.{Status}
-use Rattle.expresso.specs.declared.status.Status.TheVariants as statuses
+use Rattle.expresso_answers.specs.declared.status.Status.{Status}
+use Rattle.expresso_answers.specs.declared.status.Status.TheVariants as statuses
 use Rattle.front_command.specs.CommandLine.{Command, Takes, TakesNone}
-use Rattle.expresso.specs.Texts.{usage_text}
-use Rattle.expresso.specs.Answers.{IsText, Answers}
-use Rattle.expresso.specs.inner.Ending.{AnswersCommand, IsCommandText, IsWritten}
+use Rattle.expresso_answers.specs.Texts.{usage_text}
+use Rattle.expresso_answers.specs.Answers.{IsText, Answers}
+use Rattle.expresso_answers.specs.Ending.{AnswersCommand, IsCommandText, IsWritten}
 
 -- a text that was written whole answers its status
 whole_answers : (words : List (List ℕ)) (files files_now : FilesSeen) (status : Status) (text : List ℕ) (out out_now : SinkSeen) → IsText words files files_now status text → Appends out.written out_now.written text → Answers words files files_now status out out_now

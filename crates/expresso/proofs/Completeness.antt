@@ -2,9 +2,9 @@
 use Rattle.std.proofs.Common.{◌≡◌, ℕ, List, subst}
 use Rattle.base_io.specs.Outside.{FilesSeen, SinkSeen}
 use Rattle.front_command.specs.CommandLine.{Command, Takes}
-use Rattle.expresso.specs.declared.status.Status.{Status}
-use Rattle.expresso.specs.Answers.{IsFaultless, Accepts, Rejects, AcceptsFiles, RejectsFiles, IsWorkedOrMemory, IsRefusedOrMemory, IsStoppedOrMemory}
-use Rattle.expresso.specs.inner.Ending.{CommandEnds}
+use Rattle.expresso_answers.specs.declared.status.Status.{Status}
+use Rattle.expresso_answers.specs.Answers.{IsFaultless, Accepts, Rejects, AcceptsFiles, RejectsFiles, IsWorkedOrMemory, IsRefusedOrMemory, IsStoppedOrMemory}
+use Rattle.expresso_answers.specs.Ending.{CommandEnds}
 
 -- words take one command at most
 abbrev pub OneCommand : Type 0

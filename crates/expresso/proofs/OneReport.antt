@@ -4,14 +4,14 @@ use Rattle.lang_monitor.specs.MonitorParts.{MonitorParts}
 use Rattle.machine_events.specs.declared.plan.Plan.{Plan}
 use Rattle.plan_place.specs.Backing.{AreProofs, backed_claims}
 use Rattle.front_command.specs.declared.plan_choice.PlanChoice.{PlanChoice}
-use Rattle.expresso.specs.declared.status.Status.{Status}
-use Rattle.expresso.specs.MonitorFiles.{IsAccepted}
-use Rattle.expresso.specs.Placements.{IsPlacement}
-use Rattle.expresso.specs.PrintedReports.{AreRunAndReport}
-use Rattle.expresso.proofs.FirstFaults.{OneSpelling, OneTree}
-use Rattle.expresso.proofs.OneMonitor.{one_monitor}
-use Rattle.expresso.proofs.OneSimulation.{OneExactPlan}
-use Rattle.expresso.proofs.Telling.{holds_same}
+use Rattle.expresso_answers.specs.declared.status.Status.{Status}
+use Rattle.expresso_answers.specs.MonitorFiles.{IsAccepted}
+use Rattle.expresso_answers.specs.Placements.{IsPlacement}
+use Rattle.expresso.specs.ReportedRuns.{AreRunAndReport}
+use Rattle.expresso_answers.proofs.FirstFaults.{OneSpelling, OneTree}
+use Rattle.expresso_answers.proofs.OneMonitor.{one_monitor}
+use Rattle.expresso_runs.proofs.OneSimulation.{OneExactPlan}
+use Rattle.expresso_answers.proofs.Telling.{holds_same}
 
 module _ (one_spelling : OneSpelling) (one_tree : OneTree) (one_exact : OneExactPlan) (choice : PlanChoice) (status : Status) (held : List ℕ → Option (List ℕ)) (file clients_bytes text report_text : List ℕ)
     (is : AreRunAndReport choice status held file clients_bytes text report_text) where

@@ -6,15 +6,15 @@ use Rattle.base_io.specs.Outside.{FilesSeen, SinkSeen, Rises}
 use Rattle.front_command.specs.declared.command.Command.{Command as Words}
 use Rattle.front_command.specs.CommandLine.{Command, Takes, TakesNone}
 use Rattle.front_command.specs.Commands.{command_meant}
-use Rattle.expresso.specs.declared.status.Status.{Status}
-use Rattle.expresso.specs.declared.status.Status.TheVariants as statuses
-use Rattle.expresso.specs.Texts.{usage_text}
-use Rattle.expresso.specs.Answers.{IsUsageOrMemory}
+use Rattle.expresso_answers.specs.declared.status.Status.{Status}
+use Rattle.expresso_answers.specs.declared.status.Status.TheVariants as statuses
+use Rattle.expresso_answers.specs.Texts.{usage_text}
+use Rattle.expresso_answers.specs.Answers.{IsUsageOrMemory}
 use Rattle.expresso.specs.ProgramEnds.{ProgramEnds}
-use Rattle.expresso.specs.inner.Ending.{AnswersCommand, CommandEnds, IsCommandText, IsWritten}
+use Rattle.expresso_answers.specs.Ending.{AnswersCommand, CommandEnds, IsCommandText, IsWritten}
 use Rattle.expresso.proofs.Answering.{command_answers, usage_answers}
 use Rattle.expresso.proofs.Completeness.{OneCommand, accepted_runs, rejected_refused, rejected_stops}
-use Rattle.expresso.proofs.Ending.{whole_status}
+use Rattle.expresso_answers.proofs.Ending.{whole_status}
 
 -- ---- what a status says of the sink
 

@@ -7,13 +7,13 @@ use Rattle.machine_implicit.specs.Runs.{IsFinished}
 use Rattle.machine_events.specs.Configurations.{Configuration, situation_of}
 use Rattle.front_command.specs.declared.plan_choice.PlanChoice.{PlanChoice}
 use Rattle.front_command.specs.CommandLine.{Command, Takes, run, block}
-use Rattle.expresso.specs.declared.status.Status.{Status}
-use Rattle.expresso.specs.declared.status.Status.TheVariants.{Done, Stalled}
-use Rattle.expresso.specs.MonitorFiles.{IsAccepted}
-use Rattle.expresso.specs.ClientFiles.{AreAccepted}
-use Rattle.expresso.specs.Answers.{Answers, IsDoneText, IsFinishedRunText, IsRunText, IsStalledRunText, IsStalledText}
+use Rattle.expresso_answers.specs.declared.status.Status.{Status}
+use Rattle.expresso_answers.specs.declared.status.Status.TheVariants.{Done, Stalled}
+use Rattle.expresso_answers.specs.MonitorFiles.{IsAccepted}
+use Rattle.expresso_answers.specs.ClientFiles.{AreAccepted}
+use Rattle.expresso_answers.specs.Answers.{Answers, IsDoneText, IsFinishedRunText, IsRunText, IsStalledRunText, IsStalledText}
 use Rattle.expresso.specs.Headline.{IsHeadlineText, Headline, RunInThreads}
-use Rattle.expresso.proofs.Telling.{holds_same}
+use Rattle.expresso_answers.proofs.Telling.{holds_same}
 use Rattle.expresso.proofs.Completeness.{OneCommand}
 
 done_stalled : Done ≡ Stalled → ⊥

@@ -22,11 +22,11 @@ use Rattle.report_text.specs.LogText.{log_text}
 use Rattle.machine_events.specs.Configurations.{system_under}
 use Rattle.front_command.specs.declared.plan_choice.PlanChoice.{PlanChoice}
 use Rattle.front_command.specs.CommandLine.{Takes, run, block}
-use Rattle.expresso.specs.declared.status.Status.{Status}
-use Rattle.expresso.specs.declared.status.Status.TheVariants.{Done, Stalled}
-use Rattle.expresso.specs.MonitorFiles.{IsAccepted}
-use Rattle.expresso.specs.ClientFiles.{AreAccepted}
-use Rattle.expresso.specs.Placements.{IsChosenFrom, IsLawfulChoice}
+use Rattle.expresso_answers.specs.declared.status.Status.{Status}
+use Rattle.expresso_answers.specs.declared.status.Status.TheVariants.{Done, Stalled}
+use Rattle.expresso_answers.specs.MonitorFiles.{IsAccepted}
+use Rattle.expresso_answers.specs.ClientFiles.{AreAccepted}
+use Rattle.expresso_answers.specs.Placements.{IsChosenFrom, IsLawfulChoice}
 
 -- What the text of `run` or `block` says of the bytes of the two files, with the plan that was
 -- asked for and the status that it comes with.

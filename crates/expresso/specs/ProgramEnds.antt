@@ -1,12 +1,14 @@
 -- How a call of the program ends.
-use Rattle.std.specs.Prelude.{◌≡◌, ◌<◌, ◌≤◌, ◌↔◌, ℕ, List}
+use Rattle.std.specs.Prelude.{◌≡◌, ◌<◌, ◌≤◌, ℕ, List}
 use Rattle.base_io.specs.Outside.{FilesSeen, SinkSeen, Rises}
 use Rattle.front_command.specs.CommandLine.{Command, run, stress, block, TakesNone}
-use Rattle.expresso.specs.declared.status.Status.{Status}
-use Rattle.expresso.specs.declared.status.Status.TheVariants.{ReadFault, WriteFault, OutOfMemory}
-use Rattle.expresso.specs.Answers.{Answers, Accepts, Rejects, IsFaultless, IsWorkedOrMemory}
-use Rattle.expresso.specs.Answers.{IsRefusedOrMemory, IsStoppedOrMemory, IsUsageOrMemory}
-use Rattle.expresso.specs.Answers.{IsUnreadOrMemory}
+use Rattle.expresso_answers.specs.declared.status.Status.{Status}
+use Rattle.expresso_answers.specs.declared.status.Status.TheVariants.{ReadFault, WriteFault}
+use Rattle.expresso_answers.specs.declared.status.Status.TheVariants.{OutOfMemory}
+use Rattle.expresso_answers.specs.Answers.{Answers, Accepts, Rejects, IsFaultless, IsWorkedOrMemory}
+use Rattle.expresso_answers.specs.Answers.{IsRefusedOrMemory, IsStoppedOrMemory, IsUsageOrMemory}
+use Rattle.expresso_answers.specs.Answers.{IsUnreadOrMemory}
+pub use Rattle.expresso_answers.specs.Ending.{KeepsFiles}
 
 -- the command runs clients in threads
 abbrev pub HasThreads : Command → Type 0
@@ -14,13 +16,6 @@ HasThreads (run monitor clients workers choice) = Unit {0}
 HasThreads (stress number workers) = Unit {0}
 HasThreads (block monitor clients choice) = Unit {0}
 HasThreads command = ⊥
-
--- What a call that reads leaves of files: their count of faults does not fall, and what they hold
--- and which may be read stays.
-pub record KeepsFiles (files files_now : FilesSeen) (may may_now : List ℕ → Type 0) : Type 0 where
-  pub reads : files.faults ≤ files_now.faults
-  pub held : (name : List ℕ) → files_now.held name ≡ files.held name
-  pub may_read : (name : List ℕ) → may_now name ↔ may name
 
 -- How a call on these words ended, between what was seen of the files and of the sink before it and
 -- what is seen now.

@@ -1,13 +1,11 @@
 //! `expresso check FILE`.
 
 ghost use Rattle.front_command.specs.CommandLine.{check};
-ghost use Rattle.expresso.specs.ProgramEnds.{KeepsFiles};
-ghost use Rattle.expresso.specs.inner.Ending.{CommandEnds};
+ghost use Rattle.expresso_answers.specs.Ending.{CommandEnds, KeepsFiles};
 
-use crate::input::monitor_of;
-use crate::status::Status;
 use crate::text::show_tree;
 use base_io::{Files, Sink};
+use expresso_answers::{Status, monitor_of};
 use std::alloc::Global;
 
 /// Checks a monitor file and writes its canonical form, or the line of its first fault.

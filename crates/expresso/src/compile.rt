@@ -1,14 +1,11 @@
 //! `expresso compile FILE [--count] [--relay]`.
 
 ghost use Rattle.front_command.specs.CommandLine.{compile};
-ghost use Rattle.expresso.specs.ProgramEnds.{KeepsFiles};
-ghost use Rattle.expresso.specs.inner.Ending.{CommandEnds};
+ghost use Rattle.expresso_answers.specs.Ending.{CommandEnds, KeepsFiles};
 
-use crate::input::monitor_of;
-use crate::placement::plan_of;
-use crate::status::Status;
 use crate::text::show_plan;
 use base_io::{Files, Sink};
+use expresso_answers::{Status, monitor_of, plan_of};
 use front_command::PlanChoice;
 use std::alloc::{AllocError, Global};
 

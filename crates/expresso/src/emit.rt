@@ -1,17 +1,14 @@
 //! `expresso emit FILE`.
 
 ghost use Rattle.front_command.specs.CommandLine.{emit};
-ghost use Rattle.expresso.specs.ProgramEnds.{KeepsFiles};
-ghost use Rattle.expresso.specs.inner.Ending.{CommandEnds};
+ghost use Rattle.expresso_answers.specs.Ending.{CommandEnds, KeepsFiles};
 
-use crate::input::text_of;
-use crate::placement::plan_of;
-use crate::status::Status;
 use crate::text::show_module;
 use base_io::{Files, Sink};
 use emit_code::counted_code_loses_none;
 use emit_fits::{fitting_blocks_never_overflow, moments_stay_in_64};
 use emit_numbers::{printed_bodies_step, printed_numbers_are_wide, printed_tests_hold};
+use expresso_answers::{Status, plan_of, text_of};
 use front_command::PlanChoice;
 use plan_fits::whole_blocks;
 use std::alloc::{AllocError, Global};

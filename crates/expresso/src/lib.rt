@@ -16,45 +16,30 @@
 //! both the placed and the counted one `report` prints the certificates.
 //!
 //! Its clause `headline` is `specs/Headline`: what `run` and `block` promise. `specs/ProgramEnds`
-//! says what every call promises, `specs/Answers` what each command prints, and `specs/Exit` which
-//! number stands for a [`Status`]. [`without_threads`] does what needs no threads, with no runtime:
-//! so it returns. The laws of `laws` say that bytes stand for one monitor and one list of clients,
-//! that a schedule has one simulation, that no wake-up is lost under what `recheck` accepts or
-//! `audit` calls lawful, and, of a monitor none of whose claims is hard, that a simulation has one
-//! text, that `report` prints the certificates of the plan of a run, and that `recheck` accepts
-//! them.
+//! says what every call promises; of `expresso_answers`, `specs/Answers` says what each command
+//! prints, and `specs/Exit` which number stands for a [`Status`]. [`without_threads`] does what
+//! needs no threads, with no runtime: so it returns. What runs clients is done by `expresso_runs`,
+//! and what certifies, judges and explains plans by `expresso_reports`. The laws say that bytes
+//! stand for one monitor and one list of clients, that a schedule has one simulation, that no
+//! wake-up is lost under what `recheck` accepts or `audit` calls lawful, and, of a monitor none of
+//! whose claims is hard, that a simulation has one text, that `report` prints the certificates of
+//! the plan of a run, and that `recheck` accepts them.
 #![tactic(auto)]
 
-mod audit;
-mod block;
 mod check;
-mod client_file;
 mod compile;
 mod emit;
-mod explain;
-mod fits;
-mod fits_text;
-mod input;
 mod laws;
-mod monitor_file;
-mod placement;
 mod program;
-mod reading;
-mod recheck;
-mod report;
-mod run;
-mod simulate;
-mod status;
-mod stress;
 mod text;
-mod turns;
 mod version;
 mod work;
 
-pub use laws::{
-    accepts_one_client_list, accepts_one_monitor, checked_plans_lose_no_wakeup, one_simulated_text,
-    one_simulation, printed_counted_reports_are_rechecked, printed_fits_are_rechecked,
-    printed_reports_are_rechecked, runs_are_reported,
+pub use expresso_answers::{Status, accepts_one_client_list, accepts_one_monitor, exit_status};
+pub use expresso_reports::{
+    checked_plans_lose_no_wakeup, printed_counted_reports_are_rechecked,
+    printed_fits_are_rechecked, printed_reports_are_rechecked,
 };
+pub use expresso_runs::{one_simulated_text, one_simulation};
+pub use laws::runs_are_reported;
 pub use program::{expresso, without_threads};
-pub use status::{Status, exit_status};

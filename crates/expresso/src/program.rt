@@ -5,12 +5,13 @@ ghost use Rattle.std.specs.String.{string_bytes};
 ghost use Rattle.front_command.specs.CommandLine.{MayReadFiles, Takes};
 ghost use Rattle.front_command.specs.Commands.{command_meant};
 ghost use Rattle.expresso.specs.Headline.{Headline};
-ghost use Rattle.expresso.specs.ProgramEnds.{HasThreads, KeepsFiles, ProgramEnds};
+ghost use Rattle.expresso.specs.ProgramEnds.{HasThreads, ProgramEnds};
+ghost use Rattle.expresso_answers.specs.Ending.{KeepsFiles};
 
-use crate::status::Status;
 use crate::text::show_usage;
 use crate::work::{work, work_in_threads};
 use base_io::{Files, Sink};
+use expresso_answers::Status;
 use front_command::{Command, CommandFault, command_of, one_command};
 use std::alloc::Global;
 use std::sync::Wait;

@@ -3,26 +3,21 @@
 ghost use Rattle.std.specs.Prelude.{◌≡◌, false, All, IfErr, IfOk, OnErr};
 ghost use Rattle.front_command.specs.CommandLine.{explain, files_of, report};
 ghost use Rattle.front_command.specs.Commands.{command_meant};
-ghost use Rattle.expresso.specs.ProgramEnds.{HasThreads, KeepsFiles};
-ghost use Rattle.expresso.specs.inner.Ending.{CommandEnds};
-ghost use Rattle.expresso.specs.inner.Ranges.{IsInRange};
+ghost use Rattle.expresso.specs.ProgramEnds.{HasThreads};
+ghost use Rattle.expresso_answers.specs.Ending.{CommandEnds, KeepsFiles};
+ghost use Rattle.expresso_runs.specs.Ranges.{IsInRange};
 
-use crate::audit::audit_files;
-use crate::block::block_files;
 use crate::check::check_file;
 use crate::compile::compile_file;
 use crate::emit::emit_file;
-use crate::explain::{explain_counted_file, explain_file};
-use crate::fits::{explain_fits, report_fits};
-use crate::recheck::recheck_files;
-use crate::report::report_file;
-use crate::run::run_files;
-use crate::simulate::simulate_files;
-use crate::status::Status;
-use crate::stress::stress;
-use crate::turns::take_turns;
 use crate::version::version;
 use base_io::{Files, Sink};
+use expresso_answers::Status;
+use expresso_reports::{
+    audit_files, explain_counted_file, explain_file, explain_fits, recheck_files, report_file,
+    report_fits,
+};
+use expresso_runs::{block_files, run_files, run_large, simulate_files, take_turns};
 use front_command::Command;
 use std::alloc::Global;
 use std::sync::Wait;
@@ -174,7 +169,7 @@ pub(crate) fn work_in_threads<R: Threads + Wait + Sync, F: Files, S: Sink, G: Ga
         } => run_files(
             rt, alloc, monitor, clients, workers, choice, files, out, gate,
         ),
-        Command::Stress { number, workers } => stress(rt, alloc, number, workers, out, gate),
+        Command::Stress { number, workers } => run_large(rt, alloc, number, workers, out, gate),
         Command::Block {
             monitor,
             clients,

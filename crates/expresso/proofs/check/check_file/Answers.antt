@@ -1,8 +1,8 @@
 use Rattle.lang_printer.specs.Canonical.{tree_text}
-use Rattle.expresso.specs.declared.status.Status.TheVariants.{Done}
+use Rattle.expresso_answers.specs.declared.status.Status.TheVariants.{Done}
 use Rattle.front_command.specs.CommandLine.{check}
-use Rattle.expresso.proofs.OneFile.{check_done, check_works}
-use Rattle.expresso.proofs.Outcomes.{written_since}
+use Rattle.expresso.proofs.Compiled.{check_done, check_works}
+use Rattle.expresso_answers.proofs.Outcomes.{written_since}
 use Rattle.expresso.proofs.check.check_file.Goals as goal
 
 pub returns-in-Ok-clause-ended : goal.returns-in-Ok-clause-ended

@@ -1,8 +1,8 @@
 use Rattle.machine_events.specs.PlanText.{plan_text}
-use Rattle.expresso.specs.declared.status.Status.TheVariants.{Done}
+use Rattle.expresso_answers.specs.declared.status.Status.TheVariants.{Done}
 use Rattle.front_command.specs.CommandLine.{compile}
-use Rattle.expresso.proofs.OneFile.{compile_done, compile_works}
-use Rattle.expresso.proofs.Outcomes.{written_since}
+use Rattle.expresso.proofs.Compiled.{compile_done, compile_works}
+use Rattle.expresso_answers.proofs.Outcomes.{written_since}
 use Rattle.expresso.proofs.compile.compile_file.Goals as goal
 
 pub returns-in-Err-clause-ended : goal.returns-in-Err-clause-ended

@@ -2,13 +2,13 @@ use Rattle.std.proofs.Common.{Bool, List, ap, subst, sym, ℕ}
 use Rattle.lang_monitor.specs.declared.candidate.Candidate.{Candidate}
 use Rattle.lang_monitor.specs.Candidates.{AreSomeOf, candidates_of}
 use Rattle.plan_fits.specs.Answers.{AreWhole}
-use Rattle.expresso.specs.Answers.{HoldsMonitor}
-use Rattle.expresso.specs.inner.Ending.{IsWritten}
+use Rattle.expresso_answers.specs.Answers.{HoldsMonitor}
+use Rattle.expresso_answers.specs.Ending.{IsWritten}
 use Rattle.emit_module.specs.Modules.{rust_text}
-use Rattle.expresso.specs.declared.status.Status.TheVariants.{Done}
+use Rattle.expresso_answers.specs.declared.status.Status.TheVariants.{Done}
 use Rattle.front_command.specs.CommandLine.{emit}
-use Rattle.expresso.proofs.OneFile.{PrintedLaws, emit_done, emit_works}
-use Rattle.expresso.proofs.Outcomes.{written_since}
+use Rattle.expresso.proofs.Emitted.{PrintedLaws, emit_done, emit_works}
+use Rattle.expresso_answers.proofs.Outcomes.{written_since}
 use Rattle.expresso.proofs.emit.emit_file.Goals as goal
 
 pub returns-in-Err-clause-ended : goal.returns-in-Err-clause-ended

@@ -5,7 +5,9 @@ use Rattle.base_io.specs.Outside.{FilesSeen, SinkSeen}
 use Rattle.front_command.specs.CommandLine.{files_of}
 use Rattle.front_command.specs.Commands.{command_meant}
 use Rattle.expresso.specs.ProgramEnds.{ProgramEnds}
-use Rattle.expresso.specs.inner.Ending.{CommandEnds}
+use Rattle.expresso_answers.specs.Ending.{CommandEnds}
+use Rattle.expresso_runs.specs.Ranges.{IsInRange}
+use Rattle.expresso_runs.proofs.Ranges.{in_range}
 use Rattle.expresso.proofs.ProgramEnded.{command_ended}
 use Rattle.expresso.proofs.Promised.{headline_kept}
 use Rattle.expresso.proofs.program.expresso.Given.{Over}
@@ -18,6 +20,12 @@ work_in_threads-requires-clause-files g c =
     let before : All (g.F.Files.may_read c.args.files.now) (files_of command) = c.requires command c.in-Err.ensures.taken in
     let every : All (g.F.Files.may_read c.without_threads.new.files) (files_of command) = subst (λ files. All (g.F.Files.may_read files) (files_of command)) (sym c.in-Err.ensures.unread) before in
     search (rules, every)
+
+pub work_in_threads-requires-clause-range : goal.work_in_threads-requires-clause-range
+work_in_threads-requires-clause-range g c =
+    let command = command_meant c.in-Err.command in
+    let ranged : IsInRange command = in_range (map (string_bytes {Z = Global}) c.args.words.now.items) command c.in-Err.ensures.taken in
+    search (rules, ranged)
 
 -- the command ended from where the call began
 worked : (g : Over) (c : After-work_in_threads g)

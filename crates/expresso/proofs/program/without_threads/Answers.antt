@@ -3,6 +3,7 @@ use Rattle.std.specs.Global.{Global}
 use Rattle.std.specs.String.{string_bytes}
 use Rattle.front_command.specs.CommandLine.{Takes, TakesNone, files_of}
 use Rattle.front_command.specs.Commands.{command_meant}
+use Rattle.expresso_runs.proofs.Ranges.{in_range}
 use Rattle.expresso.proofs.GivenWords.{none_of, taken_of}
 use Rattle.expresso.proofs.ProgramEnded.{each_ended, left_taken, no_words_ended, usage_ended}
 use Rattle.expresso.proofs.program.without_threads.Goals as goal
@@ -13,6 +14,12 @@ work-requires-clause-files g c =
     let taken : Takes (map (string_bytes {Z = Global}) c.args.words.now.items) command = taken_of (string_bytes {Z = Global}) c.as_slice.result.now c.args.words.now.items command c.as_slice.ensures.value c.in-Ok.ensures.taken in
     let every : All (g.F.Files.may_read c.args.files.now) (files_of command) = c.requires command taken in
     search (rules, every)
+
+pub work-requires-clause-range : goal.work-requires-clause-range
+work-requires-clause-range g c =
+    let command = command_meant c.in-Ok.command in
+    let taken : Takes (map (string_bytes {Z = Global}) c.args.words.now.items) command = taken_of (string_bytes {Z = Global}) c.as_slice.result.now c.args.words.now.items command c.as_slice.ensures.value c.in-Ok.ensures.taken in
+    in_range (map (string_bytes {Z = Global}) c.args.words.now.items) command taken
 
 pub returns-in-Ok-clause-ended : goal.returns-in-Ok-clause-ended
 returns-in-Ok-clause-ended g c =

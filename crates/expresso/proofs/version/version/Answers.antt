@@ -1,7 +1,7 @@
 use Rattle.std.proofs.Common.{true, refl}
 use Rattle.front_command.specs.CommandLine.{version}
-use Rattle.expresso.specs.Texts.{version_text}
-use Rattle.expresso.proofs.Ending.{work_ended}
+use Rattle.expresso_answers.specs.Texts.{version_text}
+use Rattle.expresso_answers.proofs.Ending.{work_ended}
 use Rattle.expresso.proofs.version.version.Goals as goal
 
 pub returns : goal.returns

@@ -1,7 +1,0 @@
-use Rattle.std.proofs.Common.{arith}
-use Rattle.expresso.proofs.fits.reasons_of.Goals as goal
-
-pub returns : goal.returns
-returns c =
-    let are = c.in_ok-reasons.ensures in
-    record { are = are; few = omega (arith, are.count, c.blocks-blocks.ensures.rule.few_blocks) }

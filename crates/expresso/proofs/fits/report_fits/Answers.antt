@@ -1,9 +1,0 @@
-use Rattle.std.proofs.Common.{true, false}
-use Rattle.expresso.proofs.Judged.{report_ended}
-use Rattle.expresso.proofs.fits.report_fits.Goals as goal
-
-pub returns-then-count-clause-ended : goal.returns-then-count-clause-ended
-returns-then-count-clause-ended g c = report_ended c.args.file.now c.args.count true true _ _ _ _ _ c.if-count.true c.report_counted_fits.ensures.ended
-
-pub returns-else-count-clause-ended : goal.returns-else-count-clause-ended
-returns-else-count-clause-ended g c = report_ended c.args.file.now c.args.count false true _ _ _ _ _ c.if-count.false c.report_placed_fits.ensures.ended

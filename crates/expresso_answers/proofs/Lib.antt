@@ -1,0 +1,10 @@
+pub mod FirstFaults
+pub mod OneMonitor
+pub mod OneClientList
+pub mod Telling
+pub mod RunFiles
+pub mod Ending
+pub mod Outcomes
+pub mod OneFile
+pub mod Placed
+pub mod Keeping

@@ -1,0 +1,15 @@
+pub mod Placements
+pub mod PlacedRuns
+pub mod Simulations
+pub mod FirstFaults
+pub mod MonitorFiles
+pub mod ClientFiles
+pub mod ReportFiles
+pub mod PlanFiles
+pub mod PrintedPrograms
+pub mod Texts
+pub mod Answers
+pub mod Exit
+pub mod Ending
+pub mod Input
+pub mod inner

@@ -1,0 +1,18 @@
+use Rattle.std.proofs.Common.{true, false}
+use Rattle.expresso_answers.specs.Texts.{count_explained_text}
+use Rattle.expresso_answers.specs.declared.status.Status.TheVariants.{Done}
+use Rattle.front_command.specs.CommandLine.{explain}
+use Rattle.expresso_reports.proofs.Explained.{count_explain_done, explain_works}
+use Rattle.expresso_answers.proofs.Outcomes.{written_since}
+use Rattle.expresso_reports.proofs.explain.explain_counted_file.Goals as goal
+
+pub returns-in-Err-clause-ended : goal.returns-in-Err-clause-ended
+returns-in-Err-clause-ended g c = c.in-Err.ensures.ended (explain c.args.file.now true false) (explain_works c.args.file.now true false)
+
+pub returns-in-Ok-count_explanation_of-clause-ended : goal.returns-in-Ok-count_explanation_of-clause-ended
+returns-in-Ok-count_explanation_of-clause-ended g c =
+    let found = c.in-Ok.found in
+    let explanation = c.in-Ok-count_explanation_of.explanation in
+    count_explain_done c.args.file.now found.tree found.monitor explanation.explanation.plan explanation.explanation.reasons.items explanation.broadcasts.items
+    (g.F.Files.seen c.args.files.now) (g.F.Files.seen c.monitor_of.new.files) _ (g.S.Sink.seen c.args.out.now) _ c.in-Ok.ensures.holds c.in-Ok-count_explanation_of.ensures c.in-Ok.ensures.quiet.steady
+    (written_since Done (count_explained_text found.tree found.monitor explanation.explanation.plan explanation.explanation.reasons.items explanation.broadcasts.items) _ _ _ _ c.in-Ok.ensures.quiet.silent c.show_count_explanation.ensures)

@@ -1,0 +1,9 @@
+use Rattle.std.proofs.Common.{true, false}
+use Rattle.expresso_reports.proofs.Judged.{report_ended}
+use Rattle.expresso_reports.proofs.report.report_file.Goals as goal
+
+pub returns-then-count-clause-ended : goal.returns-then-count-clause-ended
+returns-then-count-clause-ended g c = report_ended c.args.file.now c.args.count true false _ _ _ _ _ c.if-count.true c.report_counted.ensures.ended
+
+pub returns-else-count-clause-ended : goal.returns-else-count-clause-ended
+returns-else-count-clause-ended g c = report_ended c.args.file.now c.args.count false false _ _ _ _ _ c.if-count.false c.report_placed.ensures.ended

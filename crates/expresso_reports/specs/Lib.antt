@@ -1,0 +1,3 @@
+pub mod CheckedPlans
+pub mod PrintedReports
+pub mod inner

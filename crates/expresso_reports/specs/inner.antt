@@ -1,0 +1,4 @@
+pub mod Auditing
+pub mod Explaining
+pub mod Fitting
+pub mod Judging

@@ -1,0 +1,10 @@
+pub mod OneSimulation
+pub mod Simulating
+pub mod Simulated
+pub mod TakenTurns
+pub mod Finishing
+pub mod Worked
+pub mod LargeSummary
+pub mod Stressed
+pub mod Ranges
+pub mod PlacedRun

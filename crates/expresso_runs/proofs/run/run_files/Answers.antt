@@ -1,0 +1,19 @@
+use Rattle.machine_events.specs.Configurations.{situation_of}
+use Rattle.report_text.specs.LogText.{are_done}
+use Rattle.report_text.specs.Laws.{plan_and_log_text}
+use Rattle.front_command.specs.CommandLine.{run}
+use Rattle.expresso_answers.specs.Ending.{ended}
+use Rattle.expresso_answers.proofs.Outcomes.{written_since}
+use Rattle.expresso_runs.proofs.Worked.{run_runs, worked_ended}
+use Rattle.expresso_runs.proofs.run.run_files.Goals as goal
+
+pub returns-in-Err-clause-ended : goal.returns-in-Err-clause-ended
+returns-in-Err-clause-ended g c =
+    c.in-Err.ensures.ended (run c.args.monitor.now c.args.clients.now c.args.workers c.args.choice) (run_runs c.args.monitor.now c.args.clients.now c.args.workers c.args.choice)
+
+pub returns-in-Ok-worked-clause-ended : goal.returns-in-Ok-worked-clause-ended
+returns-in-Ok-worked-clause-ended g c =
+    let free = c.in-Ok-worked.free in
+    worked_ended c.args.monitor.now c.args.clients.now c.args.choice (g.F.Files.seen c.args.files.now) (g.F.Files.seen c.input_of.new.files) c.in-Ok.input.monitor free.system.plan c.in-Ok.input.scripts
+    free.log free.now free.system c.in-Ok.ensures.input c.in-Ok-worked.ensures.placed c.in-Ok-worked.ensures.unprompted c.in-Ok-worked.ensures.system c.args.workers _ (g.S.Sink.seen c.args.out.now) _ c.in-Ok.ensures.quiet.steady
+    (written_since (ended (are_done free.system.clients (situation_of free.now).places)) (plan_and_log_text free.system free.log free.now) _ _ _ _ c.in-Ok.ensures.quiet.silent c.show_plan_and_log.ensures)
