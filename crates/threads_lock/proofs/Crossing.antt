@@ -7,6 +7,9 @@ use Rattle.atomic_table.proofs.send_lease.SendLease.TheSendSync.{the_sync as lea
 use Rattle.machine_explicit.proofs.Crossing.{free_send}
 use Rattle.threads_lock.specs.contracts.lent.Lent as lent
 use Rattle.threads_lock.specs.contracts.lent.Returned as returned
+use Rattle.threads_lock.specs.contracts.loan.Berth as berth
+use Rattle.threads_lock.specs.contracts.loan.Loan as loan
+use Rattle.threads_lock.specs.contracts.loan.Repaid as repaid
 use Rattle.threads_lock.specs.contracts.pass.Pass as pass
 use Rattle.threads_lock.specs.contracts.shared.SharedMonitor as shared
 
@@ -21,3 +24,12 @@ shared_sync = let a = free_send in let b = lent_send in let c = returned_send in
 
 pub pass_send : IsSend pass.the_field.row
 pass_send = let a = free_send in search (seat_send, crosses, sendable) depth 60 fits 20000
+
+loan_send : IsSend loan.the_field.row
+loan_send = let a = free_send in search (seat_send, crosses, sendable) depth 60 fits 20000
+
+repaid_send : IsSend repaid.the_field.row
+repaid_send = let a = free_send in search (seat_send, crosses, sendable) depth 60 fits 20000
+
+pub berth_sync : IsSync berth.the_field.row
+berth_sync = let a = free_send in let b = loan_send in let c = repaid_send in search (table_sync, lease_sync, crosses, send, sendable) depth 60 fits 20000

@@ -13,3 +13,4 @@ pub mod Crossing
 pub mod Systems
 pub mod Ending
 pub mod Standings
+pub mod Renting

@@ -6,3 +6,4 @@ pub mod Standing
 pub mod Ends
 pub mod Gathered
 pub mod Lending
+pub mod Renting

@@ -169,7 +169,9 @@ impl Lock {
     }
 
     /// A seat that stands for one that is lent.
-    fn spare(&self) -> Seat {
+    pub fn spare(&self) -> Seat
+        ensures own { result.table_id ≡ self.now.board.shared.table_id }
+    {
         let (_served, seat) = self.board.shared.load_new_seat::<Spare>(SERVING);
         seat
     }

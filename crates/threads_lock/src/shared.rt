@@ -7,10 +7,14 @@ ghost use Rattle.machine_events.specs.Logs.{IsClosed};
 ghost use Rattle.machine_explicit.specs.Sections.{FreeMachine, HasEnded, HoldsAlways};
 ghost use Rattle.threads_lock.specs.Growth.{Follows};
 ghost use Rattle.threads_lock.specs.Passes.{IsKnown, Looks, SectionsShared, newly_known, observed};
+ghost use Rattle.threads_desk.specs.declared.rule.TheConstants.{ASKED};
+ghost use Rattle.threads_desk.specs.Letters.{IsMissOf};
+ghost use Rattle.threads_lock.specs.Loans.{IsServed, Lends, lock_of};
 ghost use Rattle.threads_lock.specs.Standings.{StandsAs};
 ghost use Rattle.threads_lock.specs.Closing.{AreInOrder, Covers, HaveOneEach, receipts_of};
 ghost use Rattle.threads_lock.specs.inner.Queueing.{IsIdle};
 
+use super::loan::{Berth, LoanEnd, Repayment, Rest, Vacancy};
 use super::lock::Lock;
 use super::pass::Pass;
 use super::receipt::Receipt;
@@ -140,6 +144,59 @@ impl SharedMonitor {
         let count = self.lock.observe(&mut pass.seat);
         pass.seen = count;
         count
+    }
+
+    /// A place for passes that are lent. It fails only for want of memory.
+    pub fn berth(&self, alloc: Global) -> Result<Berth, AllocError>
+        ensures lock { IfOk result (λ berth. lock_of berth ≡ self.now.lock) }
+    {
+        self.lock.berth(alloc)
+    }
+
+    /// Lends the pass by the berth while its caller rests, to whoever makes a section of the client
+    /// for it meanwhile: what came of that; or that nobody did, and why. It takes no memory.
+    pub fn lend<R: Wait, N: Rest>(
+        &self,
+        rt: &R,
+        pass: &mut Pass,
+        client: u32,
+        berth: &Berth,
+        rest: &N,
+    ) -> LoanEnd
+        requires own { pass.old.lock ≡ self.now.lock }
+        requires berth { lock_of berth.now ≡ self.now.lock }
+        requires client { client < length pass.old.known.front.system.clients }
+        ensures own { pass.new.lock ≡ pass.old.lock }
+        ensures lends { Lends berth.now client pass.old.known pass.new.known result }
+        ensures always { IsKnown pass.new.known }
+    {
+        match self.lock.lend_idle(rt, &mut pass.seat, client, berth, rest) {
+            LoanEnd::Made(receipt) => {
+                pass.seen = receipt.place + 1;
+                LoanEnd::Made(receipt)
+            }
+            LoanEnd::Rested(rested) => {
+                pass.seen = rested.entries;
+                LoanEnd::Rested(rested)
+            }
+            LoanEnd::Kept(kept) => LoanEnd::Kept(kept),
+        }
+    }
+
+    /// Makes a section with the pass that lies in the berth, of the client for which it was lent;
+    /// its caller is told what came of it, as is whoever calls this. `Err` comes where none lies
+    /// there. It takes no memory.
+    pub fn section_for<R: Wait>(
+        &self,
+        rt: &R,
+        berth: &Berth,
+    ) -> Result<(Result<Receipt, NotReady>, Repayment), Vacancy>
+        requires berth { lock_of berth.now ≡ self.now.lock }
+        ensures served { MatchResult result
+            (λ had. IsServed berth.now had.0 had.1)
+            (λ none. IsMissOf berth.now.cell ASKED none) }
+    {
+        self.lock.section_for(rt, berth)
     }
 
     /// The monitor, once all passes are back. Its log begins with all that the passes knew, has
