@@ -200,3 +200,27 @@ pub section_ends : (client : ℕ) (a b : Knowledge) (result : Result Receipt Not
     → MatchOption (reply_of result) (HasWaited client a b) (λ receipt. HasReplied client a b receipt)
 section_ends client a b (Ok told) is = made_ends client a b told is
 section_ends client a b (Err fault) is = rested_waited client a b fault is
+
+-- ---- what is answered of a section
+
+-- the receipt of a reply is answered, and nothing of another section
+pub section_answers : (client : ℕ) (a b : Knowledge) (made : Result Receipt NotReady) (answer : Option Receipt) → answer ≡ reply_of made → SectionsShared client a b made
+    → MatchOption answer (HasWaited client a b) (λ receipt. HasReplied client a b receipt)
+section_answers client a b made answer is shared =
+    subst (λ o. MatchOption o (HasWaited client a b) (λ receipt. HasReplied client a b receipt)) (sym is) (section_ends client a b made shared)
+
+-- what a caller is answered, after sections in which the client waits
+pub answers_on : (client : ℕ) (a b c : Knowledge) (answer : Option Receipt) → HasWaited client a b → MatchOption answer (HasWaited client b c) (λ receipt. HasReplied client b c receipt)
+    → MatchOption answer (HasWaited client a c) (λ receipt. HasReplied client a c receipt)
+answers_on client a b c None f g = waited_on client a b c f g
+answers_on client a b c (Some told) f g = commits_on client a b c (ends.Replied told) f g
+
+-- nothing was made meanwhile
+pub waited_kept : (client : ℕ) (a b : Knowledge) → b ≡ a → HasWaited client a b
+waited_kept client a b same = subst (HasWaited client a) (sym same) (waited_none client a)
+
+-- how a call ends after a look
+pub look_answers : (client entries : ℕ) (a b : Knowledge) (standing : Standing) (answer : Option CommitEnd) → answer ≡ end_of standing entries → Looks a b → StandsAs b.front client standing → entries ≡ b.seen
+    → MatchOption answer (HasWaited client a b) (λ end. Commits client a b end)
+look_answers client entries a b standing answer is looks stands count =
+    subst (λ o. MatchOption o (HasWaited client a b) (λ end. Commits client a b end)) (sym is) (look_ends client entries a b standing looks stands count)

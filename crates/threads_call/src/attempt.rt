@@ -1,82 +1,148 @@
 //! One attempt of a call that blocks: a section, and where it doesn't reply a look at how the
-//! client stands.
+//! client stands. A caller whose client waits rests, and whoever wakes the client may make the
+//! client's section for it meanwhile.
 
 ghost use Rattle.std.specs.Prelude.{◌≡◌, ◌<◌, ℕ, MatchOption, length};
 ghost use Rattle.threads_lock.specs.declared.receipt.Receipt.{Receipt};
 ghost use Rattle.threads_lock.specs.declared.view.Knowledge.{Knowledge};
-ghost use Rattle.threads_lock.specs.Passes.{IsKnown, Looks};
+ghost use Rattle.threads_lock.specs.Loans.{lock_of};
+ghost use Rattle.threads_lock.specs.Passes.{IsKnown, Looks, SectionsShared};
 ghost use Rattle.threads_call.specs.Commits.{Commits, HasReplied, HasWaited};
 ghost use Rattle.threads_call.specs.inner.Attempts.{end_of, reply_in, reply_of};
 
+use super::chain::hand_on;
 use super::commit_end::CommitEnd;
-use super::parkers::Parkers;
+use super::lobby::Lobby;
+use super::parkers::Pause;
 use machine_explicit::{NotReady, Outcome};
 use std::sync::Wait;
-use threads_lock::{Pass, Receipt, SharedMonitor, Standing};
+use threads_lock::{Berth, LoanEnd, Pass, Receipt, Standing};
 
-/// Makes a section of the client, and looks how the client stands where it gave no reply. A client
-/// that waits is parked. Nothing is answered where the caller should try again.
-pub fn attempt<R: Wait>(
-    rt: &R,
-    monitor: &SharedMonitor,
-    parkers: &Parkers,
-    caller: &mut Pass,
-    client: u32,
-) -> Option<CommitEnd>
-    requires own { caller.old.lock ≡ monitor.now.lock }
+/// Makes a section of the client, and looks how the client stands where it gave no reply. Nothing
+/// is answered where the caller should try again.
+pub fn attempt<R: Wait>(rt: &R, lobby: &Lobby, caller: &mut Pass, client: u32) -> Option<CommitEnd>
+    requires own { caller.old.lock ≡ lobby.now.monitor.lock }
     requires client { client < length caller.old.known.front.system.clients }
     ensures own { caller.new.lock ≡ caller.old.lock }
     ensures attempts { MatchOption result (HasWaited client caller.old.known caller.new.known)
         (λ end. Commits client caller.old.known caller.new.known end) }
     ensures always { IsKnown caller.new.known }
 {
-    match make_section(rt, monitor, parkers, caller, client) {
-        Some(receipt) => {
-            tell_last(rt, monitor, parkers, caller, receipt);
-            Some(CommitEnd::Replied(receipt))
-        }
-        None => look(rt, monitor, parkers, caller, client),
+    match make_section(rt, lobby, caller, client) {
+        Some(receipt) => Some(end_with(rt, lobby, caller, receipt)),
+        None => look(rt, lobby, caller, client),
     }
 }
 
-/// Makes a section of the client, and unparks the clients that it woke. Where the client waits, and
-/// not all clients rest, its caller sleeps until it is woken. The receipt is answered of a reply.
-#[tactic(auto, using(crate::proofs::Committing::section_ends))]
-fn make_section<R: Wait>(
-    rt: &R,
-    monitor: &SharedMonitor,
-    parkers: &Parkers,
-    caller: &mut Pass,
-    client: u32,
-) -> Option<Receipt>
-    requires own { caller.old.lock ≡ monitor.now.lock }
+/// Makes a section of the client. The receipt is answered of a reply.
+fn make_section<R: Wait>(rt: &R, lobby: &Lobby, caller: &mut Pass, client: u32) -> Option<Receipt>
+    requires own { caller.old.lock ≡ lobby.now.monitor.lock }
     requires client { client < length caller.old.known.front.system.clients }
     ensures own { caller.new.lock ≡ caller.old.lock }
     ensures made { MatchOption result (HasWaited client caller.old.known caller.new.known)
         (λ receipt. HasReplied client caller.old.known caller.new.known receipt) }
     ensures always { IsKnown caller.new.known }
 {
-    parkers.enter(rt);
-    let unparked = parkers.unparked(client);
-    let made = monitor.section(rt, caller, client);
-    parkers.note(made);
-    parkers.leave();
-    tell_made(rt, parkers, made, unparked);
-    reply_of(made)
+    lobby.parkers.enter(rt);
+    let unparked = lobby.parkers.unparked(client);
+    let made = lobby.monitor.section(rt, caller, client);
+    lobby.parkers.note(made);
+    settle(rt, lobby, caller, client, made, unparked)
 }
 
-/// Unparks the clients that a section woke, or parks the caller of a client that waits, and that
-/// was unparked so often before the section, unless all rest.
-fn tell_made<R: Wait>(rt: &R, parkers: &Parkers, made: Result<Receipt, NotReady>, unparked: u64) {
-    let Ok(receipt) = made else { return };
-    match receipt.entry.outcome {
-        Outcome::Replies { reply: _, woken } => parkers.unpark(woken),
-        Outcome::Waits => {
-            if !parkers.all_rest() {
-                parkers.park(rt, receipt.entry.client, unparked);
-            }
+/// What comes of a section, behind the door: after a reply the sections of the clients that it woke
+/// are made, and a caller whose client waits rests, unless all clients rest.
+fn settle<R: Wait>(
+    rt: &R,
+    lobby: &Lobby,
+    caller: &mut Pass,
+    client: u32,
+    made: Result<Receipt, NotReady>,
+    unparked: u64,
+) -> Option<Receipt>
+    requires own { caller.old.lock ≡ lobby.now.monitor.lock }
+    requires client { client < length caller.old.known.front.system.clients }
+    requires always { IsKnown caller.old.known }
+    ensures own { caller.new.lock ≡ caller.old.lock }
+    ensures settled { (before : Knowledge)
+        → SectionsShared client before caller.old.known made
+        → MatchOption result (HasWaited client before caller.new.known)
+        (λ receipt. HasReplied client before caller.new.known receipt) }
+    ensures always { IsKnown caller.new.known }
+{
+    match reply_of(made) {
+        Some(receipt) => {
+            hand_on(rt, lobby, &receipt.entry);
+            Some(receipt)
         }
-        Outcome::Spurious => {}
+        None => rest(
+            rt,
+            lobby,
+            caller,
+            client,
+            lobby.parkers.may_rest(made),
+            unparked,
+        ),
+    }
+}
+
+/// Comes back through the door; and where the caller may rest it lends its pass, and rests until
+/// its client is unparked, or was since it was unparked so often. The receipt is answered of a
+/// reply that it was given meanwhile.
+#[tactic(auto, using(crate::proofs::Committing::waited_none))]
+fn rest<R: Wait>(
+    rt: &R,
+    lobby: &Lobby,
+    caller: &mut Pass,
+    client: u32,
+    may_rest: bool,
+    unparked: u64,
+) -> Option<Receipt>
+    requires own { caller.old.lock ≡ lobby.now.monitor.lock }
+    requires client { client < length caller.old.known.front.system.clients }
+    requires always { IsKnown caller.old.known }
+    ensures own { caller.new.lock ≡ caller.old.lock }
+    ensures rested { MatchOption result (HasWaited client caller.old.known caller.new.known)
+        (λ receipt. HasReplied client caller.old.known caller.new.known receipt) }
+    ensures always { IsKnown caller.new.known }
+{
+    match lobby.berth_for(client, may_rest) {
+        Some(berth) => {
+            let pause = Pause {
+                parkers: &lobby.parkers,
+                client,
+                unparked,
+            };
+            lend(rt, lobby, caller, client, berth, &pause)
+        }
+        None => {
+            lobby.parkers.leave();
+            None
+        }
+    }
+}
+
+/// Lends the pass while the caller rests.
+fn lend<R: Wait>(
+    rt: &R,
+    lobby: &Lobby,
+    caller: &mut Pass,
+    client: u32,
+    berth: &Berth,
+    pause: &Pause<'_>,
+) -> Option<Receipt>
+    requires own { caller.old.lock ≡ lobby.now.monitor.lock }
+    requires berth { lock_of berth.now ≡ lobby.now.monitor.lock }
+    requires client { client < length caller.old.known.front.system.clients }
+    ensures own { caller.new.lock ≡ caller.old.lock }
+    ensures lent { MatchOption result (HasWaited client caller.old.known caller.new.known)
+        (λ receipt. HasReplied client caller.old.known caller.new.known receipt) }
+    ensures always { IsKnown caller.new.known }
+{
+    match lobby.monitor.lend(rt, caller, client, berth, pause) {
+        LoanEnd::Made(receipt) => reply_in(receipt),
+        LoanEnd::Rested(_fault) => None,
+        LoanEnd::Kept(_kept) => None,
     }
 }
 
@@ -100,16 +166,24 @@ fn reply_in(receipt: Receipt) -> Option<Receipt>
     }
 }
 
+/// How a call ends that was given this reply.
+fn end_with<R: Wait>(rt: &R, lobby: &Lobby, caller: &mut Pass, receipt: Receipt) -> CommitEnd
+    requires own { caller.old.lock ≡ lobby.now.monitor.lock }
+    requires always { IsKnown caller.old.known }
+    ensures own { caller.new.lock ≡ caller.old.lock }
+    ensures ends { (client : ℕ) (before : Knowledge)
+        → HasReplied client before caller.old.known receipt
+        → Commits client before caller.new.known result }
+    ensures always { IsKnown caller.new.known }
+{
+    tell_last(rt, lobby, caller, receipt);
+    CommitEnd::Replied(receipt)
+}
+
 /// Unparks all clients where the monitor is closed after a reply. It looks only where it may be.
 #[tactic(auto, using(crate::proofs::Committing::replied_looks))]
-fn tell_last<R: Wait>(
-    rt: &R,
-    monitor: &SharedMonitor,
-    parkers: &Parkers,
-    caller: &mut Pass,
-    receipt: Receipt,
-)
-    requires own { caller.old.lock ≡ monitor.now.lock }
+fn tell_last<R: Wait>(rt: &R, lobby: &Lobby, caller: &mut Pass, receipt: Receipt)
+    requires own { caller.old.lock ≡ lobby.now.monitor.lock }
     requires always { IsKnown caller.old.known }
     ensures own { caller.new.lock ≡ caller.old.lock }
     ensures replied { (client : ℕ) (before : Knowledge) (told : Receipt)
@@ -117,37 +191,31 @@ fn tell_last<R: Wait>(
         → HasReplied client before caller.new.known told }
     ensures always { IsKnown caller.new.known }
 {
-    if parkers.is_of_last_call(&receipt.entry) {
-        tell_closed(rt, monitor, parkers, caller);
+    if lobby.parkers.is_of_last_call(&receipt.entry) {
+        tell_closed(rt, lobby, caller);
     }
 }
 
 /// Unparks all clients where the monitor is closed.
-fn tell_closed<R: Wait>(rt: &R, monitor: &SharedMonitor, parkers: &Parkers, caller: &mut Pass)
-    requires own { caller.old.lock ≡ monitor.now.lock }
+fn tell_closed<R: Wait>(rt: &R, lobby: &Lobby, caller: &mut Pass)
+    requires own { caller.old.lock ≡ lobby.now.monitor.lock }
     ensures own { caller.new.lock ≡ caller.old.lock }
     ensures looks { Looks caller.old.known caller.new.known }
     ensures always { IsKnown caller.new.known }
 {
-    parkers.enter(rt);
-    let closed = monitor.is_closed(rt, caller);
-    parkers.leave();
+    lobby.parkers.enter(rt);
+    let closed = lobby.monitor.is_closed(rt, caller);
+    lobby.parkers.leave();
     if closed {
-        parkers.unpark_all();
+        lobby.parkers.unpark_all();
     }
 }
 
-/// Looks how the client stands, unless it was woken since it waited. A client that waits is parked,
-/// and where it is stalled all clients are unparked.
-#[tactic(auto, using(crate::proofs::Committing::look_ends, crate::proofs::Committing::waited_none))]
-fn look<R: Wait>(
-    rt: &R,
-    monitor: &SharedMonitor,
-    parkers: &Parkers,
-    caller: &mut Pass,
-    client: u32,
-) -> Option<CommitEnd>
-    requires own { caller.old.lock ≡ monitor.now.lock }
+/// Looks how the client stands, unless it was woken since it waited. A caller whose client waits
+/// rests, and where the client is stalled all are unparked.
+#[tactic(auto, using(crate::proofs::Committing::waited_none))]
+fn look<R: Wait>(rt: &R, lobby: &Lobby, caller: &mut Pass, client: u32) -> Option<CommitEnd>
+    requires own { caller.old.lock ≡ lobby.now.monitor.lock }
     requires client { client < length caller.old.known.front.system.clients }
     requires always { IsKnown caller.old.known }
     ensures own { caller.new.lock ≡ caller.old.lock }
@@ -155,30 +223,42 @@ fn look<R: Wait>(
         (λ end. Commits client caller.old.known caller.new.known end) }
     ensures always { IsKnown caller.new.known }
 {
-    if !parkers.rests(client) {
+    if !lobby.parkers.rests(client) {
         return None;
     }
-    parkers.enter(rt);
-    let unparked = parkers.unparked(client);
-    let standing = monitor.standing(rt, caller, client);
-    parkers.leave();
-    tell_standing(rt, parkers, client, standing, unparked);
-    end_of(standing, caller.seen())
+    lobby.parkers.enter(rt);
+    let unparked = lobby.parkers.unparked(client);
+    let standing = lobby.monitor.standing(rt, caller, client);
+    match end_of(standing, caller.seen()) {
+        Some(end) => {
+            lobby.parkers.leave_at(standing);
+            Some(end)
+        }
+        None => rest_on(rt, lobby, caller, client, standing, unparked),
+    }
 }
 
-/// Parks the caller of a client that waits, and that was unparked so often before the look; and
-/// unparks all where a client is stalled.
-fn tell_standing<R: Wait>(
+/// Rests where the client waits, after a look behind the door.
+fn rest_on<R: Wait>(
     rt: &R,
-    parkers: &Parkers,
+    lobby: &Lobby,
+    caller: &mut Pass,
     client: u32,
     standing: Standing,
     unparked: u64,
-) {
-    match standing {
-        Standing::Waits => parkers.park(rt, client, unparked),
-        Standing::Stalled => parkers.unpark_all(),
-        _ => {}
+) -> Option<CommitEnd>
+    requires own { caller.old.lock ≡ lobby.now.monitor.lock }
+    requires client { client < length caller.old.known.front.system.clients }
+    requires always { IsKnown caller.old.known }
+    ensures own { caller.new.lock ≡ caller.old.lock }
+    ensures rested { MatchOption result (HasWaited client caller.old.known caller.new.known)
+        (λ end. Commits client caller.old.known caller.new.known end) }
+    ensures always { IsKnown caller.new.known }
+{
+    let waits = standing == Standing::Waits;
+    match rest(rt, lobby, caller, client, waits, unparked) {
+        Some(receipt) => Some(end_with(rt, lobby, caller, receipt)),
+        None => None,
     }
 }
 

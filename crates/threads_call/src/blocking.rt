@@ -10,6 +10,7 @@ ghost use Rattle.threads_call.specs.Commits.{Commits, callers_of};
 
 use super::attempt::attempt;
 use super::commit_end::CommitEnd;
+use super::lobby::{Lobby, open_berths};
 use super::parkers::Parkers;
 use machine_explicit::FreeMonitor;
 use std::alloc::{AllocError, Global};
@@ -24,8 +25,7 @@ pub type Caller = Pass;
 /// drops the monitor; closed, with all callers, it gives it back.
 #[derive(Drop)]
 pub struct BlockingMonitor {
-    monitor: SharedMonitor,
-    parkers: Parkers,
+    lobby: Lobby,
 }
 
 impl Model for BlockingMonitor {
@@ -38,7 +38,7 @@ impl Model for BlockingMonitor {
 
     ghost coded = { Prim.hlevel (codes, formula.the_row.coded, statement.the_row.coded) };
 
-    ghost view = { λ b. b.monitor };
+    ghost view = { λ b. b.lobby.monitor };
 }
 
 impl BlockingMonitor {
@@ -61,7 +61,13 @@ impl BlockingMonitor {
         let clients = free.scripts().clients().len() as u32;
         let parkers = Parkers::open(alloc, &free)?;
         let (monitor, callers) = SharedMonitor::open(alloc, free, clients.max(1))?;
-        Ok((BlockingMonitor { monitor, parkers }, callers))
+        let berths = open_berths(alloc, &monitor, clients)?;
+        let lobby = Lobby {
+            monitor,
+            parkers,
+            berths,
+        };
+        Ok((BlockingMonitor { lobby }, callers))
     }
 
     /// Makes sections of a client, until one replies or none can be made. It blocks while the
@@ -75,7 +81,7 @@ impl BlockingMonitor {
         ensures commits { Commits client caller.old.known caller.new.known result }
         ensures always { IsKnown caller.new.known }
     {
-        commit_by(rt, &self.monitor, &self.parkers, caller, client)
+        commit_by(rt, &self.lobby, caller, client)
     }
 
     /// The monitor, once all callers are back. Its log begins with all that the callers knew, has
@@ -91,10 +97,12 @@ impl BlockingMonitor {
         ensures order { AreInOrder (receipts_of callers.items) }
         ensures always { HoldsAlways result }
     {
-        let BlockingMonitor {
+        let BlockingMonitor { lobby } = self;
+        let Lobby {
             monitor,
             parkers: _,
-        } = self;
+            berths: _,
+        } = lobby;
         monitor.close(callers)
     }
 
@@ -102,26 +110,20 @@ impl BlockingMonitor {
     pub(crate) fn shared(&self) -> &SharedMonitor
         ensures { result.now ≡ self.now }
     {
-        &self.monitor
+        &self.lobby.monitor
     }
 }
 
 /// Tries to commit until the call ends.
-fn commit_by<R: Wait>(
-    rt: &R,
-    monitor: &SharedMonitor,
-    parkers: &Parkers,
-    caller: &mut Caller,
-    client: u32,
-) -> CommitEnd
-    requires own { caller.old.lock ≡ monitor.now.lock }
+fn commit_by<R: Wait>(rt: &R, lobby: &Lobby, caller: &mut Caller, client: u32) -> CommitEnd
+    requires own { caller.old.lock ≡ lobby.now.monitor.lock }
     requires client { client < length caller.old.known.front.system.clients }
     ensures own { caller.new.lock ≡ caller.old.lock }
     ensures commits { Commits client caller.old.known caller.new.known result }
     ensures always { IsKnown caller.new.known }
 {
     for _ in rt.forever() {
-        match attempt(rt, monitor, parkers, caller, client) {
+        match attempt(rt, lobby, caller, client) {
             Some(end) => return end,
             None => {}
         }

@@ -2,19 +2,22 @@
 //! block replies.
 //!
 //! A program with threads of its own opens a [`BlockingMonitor`] and gives each thread a
-//! [`Caller`]. A thread whose client waits is parked until another thread's section wakes the
-//! client. [`run_callers`] makes the calls of all clients, each in a thread of its own.
-//! Definitions: `specs/Commits` (what a call that blocks tells its caller), those of `threads_lock`
-//! (what a caller knows, and what stands in the log at the end) and of `machine_explicit`.
+//! [`Caller`]. A thread whose client waits lends its caller and is parked, and whoever wakes the
+//! client makes the client's section with it (`src/chain.rt`). [`run_callers`] makes the calls of
+//! all clients, each in a thread of its own. Definitions: `specs/Commits` (what a call that blocks
+//! tells its caller), those of `threads_lock` (what a caller knows, and what stands in the log at
+//! the end) and of `machine_explicit`.
 #![tactic(auto)]
 
 mod attempt;
 mod blocking;
 mod callers;
+mod chain;
 mod commit_end;
 mod crew;
 mod door;
 mod hall;
+mod lobby;
 mod parkers;
 mod start;
 

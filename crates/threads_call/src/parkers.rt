@@ -12,13 +12,16 @@
 //! client waits, and may be set where it is in its last call. So a caller whose client waits need
 //! not look at the monitor before it parks, unless all bits are set: as long as one isn't, the
 //! monitor isn't closed, and whoever closes it finds all of them set.
+//!
+//! A caller lends its pass behind the door, before it parks. Whoever takes it there unparks its
+//! client afterwards, so who finds an answer was woken after it came.
 
 use super::door::Door;
 use machine_explicit::{Entry, FreeMonitor, NotReady, Outcome};
 use std::alloc::{AllocError, Global};
 use std::sync::Wait;
 use std::sync::atomic::{AtomicU64, Ordering};
-use threads_lock::Receipt;
+use threads_lock::{Receipt, Rest, Standing};
 
 /// How often a client was unparked, on which its callers sleep, and how many calls the client has.
 #[derive(Drop)]
@@ -107,7 +110,7 @@ impl Parkers {
     }
 
     /// Whether all clients rest, as far as is known. Where the monitor is closed, all do.
-    pub fn all_rest(&self) -> bool {
+    fn all_rest(&self) -> bool {
         self.resting().count_ones() as usize >= self.clients.len()
     }
 
@@ -133,6 +136,23 @@ impl Parkers {
         }
     }
 
+    /// Whether the caller of a client for which this was made may rest: its client waits, and some
+    /// other doesn't rest.
+    pub fn may_rest(&self, made: Result<Receipt, NotReady>) -> bool {
+        match made {
+            Ok(receipt) => receipt.entry.outcome == Outcome::Waits && !self.all_rest(),
+            Err(_) => false,
+        }
+    }
+
+    /// Leaves the door after a look at how a client stands; and where it is stalled unparks all.
+    pub fn leave_at(&self, standing: Standing) {
+        self.leave();
+        if standing == Standing::Stalled {
+            self.unpark_all();
+        }
+    }
+
     /// How often a client was unparked, for `park`: read before the caller makes a section or
     /// looks.
     pub fn unparked(&self, client: u32) -> u64 {
@@ -143,7 +163,7 @@ impl Parkers {
     }
 
     /// Sleeps until someone unparks the client, or did so since it was unparked so often.
-    pub fn park<R: Wait>(&self, rt: &R, client: u32, unparked: u64) {
+    fn park<R: Wait>(&self, rt: &R, client: u32, unparked: u64) {
         if let Some(parker) = self.clients.get(client as usize) {
             parker.park(rt, unparked);
         }
@@ -175,6 +195,22 @@ impl Parkers {
             Some(parker) => entry.call as usize >= parker.calls,
             None => true,
         }
+    }
+}
+
+/// A caller whose client waits, and was unparked so often before: it comes back through the door,
+/// and sleeps until its client is unparked.
+#[derive(Drop)]
+pub struct Pause<'a> {
+    pub parkers: &'a Parkers,
+    pub client: u32,
+    pub unparked: u64,
+}
+
+impl<'a> Rest for Pause<'a> {
+    fn rest<R: Wait>(&self, rt: &R) {
+        self.parkers.leave();
+        self.parkers.park(rt, self.client, self.unparked);
     }
 }
 

@@ -1,0 +1,62 @@
+//! Whoever wakes clients makes their sections, while their callers still sleep.
+//!
+//! So no call waits for a thread to be woken before it can go on. A section that was made so wakes
+//! others in turn, and whoever made it goes on with theirs, behind the door, up to a limit. Then it
+//! comes back through the door, and unparks all clients that were woken: each caller has its answer
+//! in hand, or makes its section itself. No clause rests on it.
+
+use super::lobby::Lobby;
+use machine_explicit::{Entry, Outcome};
+use std::sync::Wait;
+
+/// How many of the clients that were woken it sees to, one after the other.
+const MOST_FOLLOWED: u32 = 64;
+
+/// Makes the sections of the clients that a section woke, comes back through the door, and unparks
+/// them.
+pub fn hand_on<R: Wait>(rt: &R, lobby: &Lobby, entry: &Entry) {
+    let woken = follow(rt, lobby, woken_by(entry));
+    lobby.parkers.leave();
+    lobby.parkers.unpark(woken);
+}
+
+/// Makes the sections of these clients, and of those that are woken so. All that were woken.
+fn follow<R: Wait>(rt: &R, lobby: &Lobby, first: u32) -> u32 {
+    let mut woken = first;
+    let mut left = first;
+    for _ in 0..MOST_FOLLOWED {
+        if left == 0 {
+            return woken;
+        }
+        let client = left.trailing_zeros();
+        // The lowest bit is done.
+        left &= left.wrapping_sub(1);
+        let more = make_for(rt, lobby, client);
+        left |= more;
+        woken |= more;
+    }
+    woken
+}
+
+/// Makes the section for which a caller of the client has lent its pass, and says whom it woke.
+fn make_for<R: Wait>(rt: &R, lobby: &Lobby, client: u32) -> u32 {
+    let Some(berth) = lobby.berth_for(client, true) else {
+        return 0;
+    };
+    let Ok((made, _repayment)) = lobby.monitor.section_for(rt, berth) else {
+        return 0;
+    };
+    lobby.parkers.note(made);
+    match made {
+        Ok(receipt) => woken_by(&receipt.entry),
+        Err(_) => 0,
+    }
+}
+
+/// The bits of the clients that a section woke.
+fn woken_by(entry: &Entry) -> u32 {
+    match entry.outcome {
+        Outcome::Replies { reply: _, woken } => woken,
+        _ => 0,
+    }
+}
