@@ -273,7 +273,7 @@ def case_of(program, seed, number, work):
         if answered is None:
             return None
         text, plan, module = answered
-    source = Source(text, plan, whole_blocks(text, plan))
+    source = Source(text, plan, whole=whole_blocks(text, plan))
     if module not in (None, module_text(source)):
         sys.exit(f"{text}monitor {number} of seed {seed}: the second printer prints another")
     kind, module = source.names.type_name(), module_text(source)
