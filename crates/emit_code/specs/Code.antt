@@ -25,9 +25,8 @@ use Rattle.machine_events.specs.Configurations.{block_condition}
 -- fields and the counts at the `start` of an execution (specs/Executions). A method's head, and
 -- after it `let mut seen: i64 = 0;` for each local, are the move `Calls`; its end is the move
 -- `Returns`. The last line of a method is what its last block answered: `answer`, or none where it
--- has no result; `Ok(answer)` where a body of the method may overflow; `Some(answer)` where its
--- calls try; `Ok(Some(answer))` where both is so. In these three it is `()` in place of `answer`
--- where there is no result.
+-- has no result; `Ok(answer)` where a body of the method may overflow or its calls try, with `()` in
+-- place of `answer` where there is no result.
 
 -- what a thread does in a call, by one statement
 pub data Op : Type 0 where
@@ -37,17 +36,18 @@ pub data Op : Type 0 where
   -- inner.asleep_c -= 1; }`: the guard of a block, on a condition; where the condition reads no
   -- inputs, the test is `can_c()`. The count is raised and lowered with the mutex
   WaitUntil : (block condition : ℕ) → Op
-  -- `if !inner.state.can_m() { return None; }`: the guard of a block, tested as above; the answer
-  -- is `Ok(None)` where a body of the method may overflow. The `return` drops the guard of the
-  -- mutex: this is the `Unlock` that the move `Refuses` leaves to do
+  -- `if !inner.state.can_m() { return Err(Refused); }`: the guard of a block, tested as above; the
+  -- error is `Failed::Refused` where a body of the method may overflow. The `return` drops the guard
+  -- of the mutex: this is the `Unlock` that the move `Refuses` leaves to do
   ElseRefuse : (block : ℕ) → Op
   -- the body of a block, and the notes that are made where it overflows:
   -- `let answer = inner.state.run_m();` where it can't overflow;
   -- `let answer = inner.state.run_m()?;` where it may and there are no such notes;
   -- `let Ok(answer) = inner.state.run_m() else { self.can_c.notify_one(); return Err(Overflow); };`
   -- where there are. Where it has no result it is `inner.state.run_m();`, `inner.state.run_m()?;`
-  -- and `let Ok(()) = ..`. The `?` and the `return` of an overflow drop the guard of the mutex:
-  -- this is the `Unlock` that ends `telling_code`
+  -- and `let Ok(()) = ..`. In a call that tries the error is `Failed::Overflow`, which the `?` makes
+  -- of the other. The `?` and the `return` of an overflow drop the guard of the mutex: this is the
+  -- `Unlock` that ends `telling_code`
   Run : (block : ℕ) (otherwise : List Note) → Op
   -- the mutex is given back, and those of the notes come next that are called for:
   -- `let copy = *inner; drop(inner);`, and then of each note
