@@ -16,17 +16,19 @@ use Rattle.machine_events.specs.Configurations.{block_condition}
 
 -- There `inner` is what the mutex guards: the fields, `inner.state`, and of each condition how many
 -- sleep on it, `inner.asleep_c`. `can_m` and `run_m` are the functions of a block's guard and body,
--- and `can_c` is that of the guard of a condition's first block, and the condition's variable. They
--- are handed the parameters and locals that they take, as in `can_m(amount, seen)` and
+-- and `can_c` is that of the guard of a condition's first block, and the condition's variable. Of
+-- the second block of a method they are `can2_m`, `run2_m` and `asleep2_m`, and so on. They are
+-- handed the parameters and locals that they take, as in `can_m(amount, seen)` and
 -- `run_m(amount, &mut seen)`. `lock` and `wait` are functions of the module, which call
 -- `Mutex::lock` and `Condvar::wait`.
 --
 -- Of what else is printed, `State::START` and the counts of 0, with which the mutex begins, are the
--- fields and the counts at the `start` of an execution (specs/Executions). A method's head, and
--- after it `let mut seen: i64 = 0;` for each local, are the move `Calls`; its end is the move
--- `Returns`. The last line of a method is what its last block answered: `answer`, or none where it
--- has no result; `Ok(answer)` where a body of the method may overflow or its calls try, with `()` in
--- place of `answer` where there is no result.
+-- fields and the counts at the `start` of an execution (specs/Executions), and on a
+-- `Condvar::new()` nobody sleeps, as there. A method's head, and after it `let mut seen: i64 = 0;`
+-- for each local, are the move `Calls`; its end is the move `Returns`. The last line of a method is
+-- what its last block answered: `answer`, or none where it has no result; `Ok(answer)` where a body
+-- of the method may overflow or its calls try, with `()` in place of `answer` where there is no
+-- result.
 
 -- what a thread does in a call, by one statement
 pub data Op : Type 0 where
@@ -37,17 +39,17 @@ pub data Op : Type 0 where
   -- inputs, the test is `can_c()`. The count is raised and lowered with the mutex
   WaitUntil : (block condition : ℕ) → Op
   -- `if !inner.state.can_m() { return Err(Refused); }`: the guard of a block, tested as above; the
-  -- error is `Failed::Refused` where a body of the method may overflow. The `return` drops the guard
-  -- of the mutex: this is the `Unlock` that the move `Refuses` leaves to do
+  -- error is `Failed::Refused` where a body of the method may overflow. The `return` drops the
+  -- guard of the mutex: this is the `Unlock` that the move `Refuses` leaves to do
   ElseRefuse : (block : ℕ) → Op
   -- the body of a block, and the notes that are made where it overflows:
-  -- `let answer = inner.state.run_m();` where it can't overflow;
+  -- `let answer = inner.state.run_m();` where it can't overflow, and so none of them is made;
   -- `let answer = inner.state.run_m()?;` where it may and there are no such notes;
   -- `let Ok(answer) = inner.state.run_m() else { self.can_c.notify_one(); return Err(Overflow); };`
   -- where there are. Where it has no result it is `inner.state.run_m();`, `inner.state.run_m()?;`
-  -- and `let Ok(()) = ..`. In a call that tries the error is `Failed::Overflow`, which the `?` makes
-  -- of the other. The `?` and the `return` of an overflow drop the guard of the mutex: this is the
-  -- `Unlock` that ends `telling_code`
+  -- and `let Ok(()) = ..`. In a call that tries the error is `Failed::Overflow`, which the `?`
+  -- makes of the other. The `?` and the `return` of an overflow drop the guard of the mutex: this
+  -- is the `Unlock` that ends `telling_code`
   Run : (block : ℕ) (otherwise : List Note) → Op
   -- the mutex is given back, and those of the notes come next that are called for:
   -- `let copy = *inner; drop(inner);`, and then of each note
@@ -58,7 +60,8 @@ pub data Op : Type 0 where
   -- `self.can_c.notify_one();`, or `notify_all`: a note that is made whatever the count. In what is
   -- printed it is untested: the note after an overflow, and one that was called for
   Notify : (note : Note) → Op
-  -- the guard of the mutex is dropped, which gives the mutex back
+  -- the guard of the mutex is dropped, which gives the mutex back: by a `return` or a `?`, as
+  -- above, and by no statement of its own
   Unlock : Op
 
 -- ---- whether anyone ever waits on a condition: its guard is not `true`
