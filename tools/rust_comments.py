@@ -39,12 +39,12 @@ class Comments:
         self.first = spare.index(False) if False in spare else len(spare)
 
     def above(self, place, indent):
-        """The docs of the comments directly above a line."""
+        """The docs of the comments directly above a line; none where no comment says anything."""
         first = place
         while first and is_comment(self.lines[first - 1]):
             first -= 1
         said = [line.strip(BLANKS)[2:].strip(BLANKS) for line in self.lines[first:place]]
-        return "".join(f"{indent}/// {plain(one)}".rstrip() + "\n" for one in said)
+        return "".join(f"{indent}/// {plain(one)}".rstrip() + "\n" for one in said) if any(said) else ""
 
     def leading(self, place, indent):
         """With an empty line after them, where there are any."""

@@ -51,9 +51,21 @@ first_line text = prefix_len is_spare (lines_of text)
 
 -- ---- the comments above a line
 
--- how many lines directly above this one are comments
+-- nothing but a comment that says nothing stands in the line
+abbrev pub is_empty_comment : List ℕ → Bool
+is_empty_comment line = is_comment line && length (comment_of line) == 0
+
+-- So many comments, of which so many say nothing: where none says anything, there are none.
+abbrev pub said_count : ℕ → ℕ → ℕ
+said_count run empty = if empty == run then 0 else run
+
+-- how many of these lines stand in comments at their end, where one of the comments says something
+abbrev pub last_comments : List (List ℕ) → ℕ
+last_comments lines = said_count (suffix_len is_comment lines) (suffix_len is_empty_comment lines)
+
+-- how many lines directly above this one are comments, of which one says something
 abbrev pub comment_count : List ℕ → ℕ → ℕ
-comment_count text place = suffix_len is_comment (take place (lines_of text))
+comment_count text place = last_comments (take place (lines_of text))
 
 -- these lines
 abbrev pub comments_above : List ℕ → ℕ → List (List ℕ)

@@ -2,8 +2,8 @@
 
 ghost use Rattle.std.specs.Prelude.{◌≡◌, drop, take};
 ghost use Rattle.std.specs.List.{prefix_len};
-ghost use Rattle.emit_comments.specs.Comments.{begins_slashed, comment_of, is_comment, is_spare};
-ghost use Rattle.emit_comments.specs.Comments.{trimmed, unindented};
+ghost use Rattle.emit_comments.specs.Comments.{begins_slashed, comment_of, is_comment};
+ghost use Rattle.emit_comments.specs.Comments.{is_empty_comment, is_spare, trimmed, unindented};
 ghost use Rattle.emit_comments.specs.inner.Cuts.{is_in_line, line_at};
 
 /// The line that begins at this offset.
@@ -38,6 +38,15 @@ pub(crate) fn comment_of(line: &[u8]) -> &[u8]
     ensures { result.now ≡ comment_of line.now }
 {
     trimmed(after_slashes(unindented(line)))
+}
+
+/// Whether nothing but a comment that says nothing stands in a line.
+pub(crate) fn is_empty_comment(line: &[u8]) -> bool
+    ensures { result ≡ is_empty_comment line.now }
+{
+    let comment = is_comment(line);
+    let empty = comment_of(line).len() == 0;
+    comment && empty
 }
 
 /// Whether no token stands in a line.
