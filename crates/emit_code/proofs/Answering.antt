@@ -17,15 +17,15 @@ use Rattle.machine_events.specs.Configurations.{System}
 use Rattle.machine_events.specs.Pending.{IsSystem}
 use Rattle.emit_code.specs.Code.{Op, code_with}
 use Rattle.emit_code.specs.Code.Op.{Lock, WaitUntil, Notify, Unlock, Release}
-use Rattle.emit_code.specs.Executions.{Position, Frame, Thread, Moment, IsThread, goes, program_with, commit_of, continues, AreNotified, called_for, start, IsMove, Executes}
+use Rattle.emit_code.specs.Executions.{Position, Frame, Thread, Moment, IsThread, goes, program_with, commit_of, continues, recovers, AreNotified, called_for, start, IsMove, Executes}
 use Rattle.emit_code.specs.Executions.Position.{Outside, At, Asleep, Notified}
-use Rattle.emit_code.specs.Executions.IsMove.{calls, takes, passes, falls_asleep, wakes, retakes, refuses, runs_body, notifies, unlocks, releases, returns}
+use Rattle.emit_code.specs.Executions.IsMove.{calls, takes, passes, falls_asleep, wakes, retakes, refuses, runs_body, panics, notifies, unlocks, releases, returns}
 use Rattle.emit_code.specs.Executions.Executes.{none_yet, one_more}
 use Rattle.emit_code.specs.Orders.{IsTold}
 use Rattle.emit_code.specs.Laws.{Leads, IsDoneBy, Answers, AnswersAreReplies}
 use Rattle.emit_code.proofs.Lists.{came}
 use Rattle.emit_code.proofs.Views.{next_block, number_at, thread_before}
-use Rattle.emit_code.proofs.Stages.{first_of, count_of, tries_in, IsAt, later_code, told_code, number_is, some_block, next_locked, follows_locked, called_next}
+use Rattle.emit_code.proofs.Stages.{first_of, count_of, tries_in, IsAt, later_code, told_code, number_is, some_block, next_locked, follows_locked, called_next, again_next}
 use Rattle.emit_code.proofs.Placed.{IsSoundly, code_is, passed_at, start_position}
 use Rattle.emit_code.proofs.Running.{continues_so, BodyAt, body_at, sound_late}
 
@@ -185,6 +185,11 @@ move_answered system told is order before next sound answered (runs_body thread 
     (commits_answered system told before.ran before.threads thread frame move.block ran_frame (At (continues move.reply move.otherwise move.rest)) answered
     (λ none call call_is. own_answers system told before.ran thread frame ran_frame move.block call refl
     (body_done system told order before thread frame move.block move.otherwise move.rest move.reply move.state move.locals body none call call_is)))
+move_answered system told is order before next sound answered (panics thread frame move) =
+    let ops = recovers (program_with system told) thread frame move.block move.otherwise move.rest in
+    subst (λ (one : Moment). AreAnswered system told one.ran one.threads) (sym move.becomes)
+    (goes_answered system told before.ran before.threads thread frame (At ops) answered
+    (λ none call call_is. absurd (none-some move.block (sym none ∙ again_next (program_with system told) thread frame move.block move.otherwise move.rest))))
 move_answered system told is order before next sound answered (notifies thread frame move) =
     let woken = woken_answered system told before move.note move.woken answered move.notified in
     subst (λ (one : Moment). AreAnswered system told one.ran one.threads) (sym move.becomes)

@@ -11,7 +11,7 @@ use Rattle.emit_code.specs.Code.{Op}
 use Rattle.emit_code.specs.Code.Op.{WaitUntil, Notify}
 use Rattle.emit_code.specs.Executions.{Program, program_with, Position, Frame, Thread, Moment, IsThread, woken_position, woken_thread, NoneSleeps, AreNotified, new_thread, start, IsMove, Executes}
 use Rattle.emit_code.specs.Executions.Position.{Outside, At, Asleep, Notified}
-use Rattle.emit_code.specs.Executions.IsMove.{calls, takes, passes, falls_asleep, wakes, retakes, refuses, runs_body, notifies, unlocks, releases, returns}
+use Rattle.emit_code.specs.Executions.IsMove.{calls, takes, passes, falls_asleep, wakes, retakes, refuses, runs_body, panics, notifies, unlocks, releases, returns}
 use Rattle.emit_code.specs.Executions.Executes.{none_yet, one_more}
 use Rattle.emit_code.specs.Sleepers.{waits_on, waiting_on, SleepersAreCounted, UncountedSleepNot, LeftOutIsMade}
 use Rattle.emit_code.proofs.Running.{noter_stays}
@@ -92,6 +92,8 @@ move_counts system told before next (retakes thread frame move) counted conditio
 move_counts system told before next (refuses thread frame move) counted condition =
     ap (count condition) move.becomes ∙ counted condition ∙ sym (ap (number condition) move.becomes ∙ goes_same before.threads thread _ _ condition move.at refl)
 move_counts system told before next (runs_body thread frame move) counted condition =
+    ap (count condition) move.becomes ∙ counted condition ∙ sym (ap (number condition) move.becomes ∙ goes_same before.threads thread _ _ condition move.at refl)
+move_counts system told before next (panics thread frame move) counted condition =
     ap (count condition) move.becomes ∙ counted condition ∙ sym (ap (number condition) move.becomes ∙ goes_same before.threads thread _ _ condition move.at refl)
 move_counts system told before next (notifies thread frame move) counted condition =
     ap (count condition) move.becomes ∙ counted condition

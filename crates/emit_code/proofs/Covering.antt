@@ -33,16 +33,16 @@ use Rattle.machine_events.proofs.Counting.{measure_of, someone_sees}
 use Rattle.machine_events.proofs.Covered.{MayStep, kept_next, signal_guard, leaves_pending, returns_pending, wakes_pending}
 use Rattle.emit_code.specs.Code.{Op, is_waited_on, signal_on, overflow_notes, telling_code, code_with}
 use Rattle.emit_code.specs.Code.Op.{Lock, WaitUntil, ElseRefuse, Run, Notify, Unlock, Release}
-use Rattle.emit_code.specs.Executions.{Position, Frame, Thread, Moment, IsThread, goes, program_with, is_open, continues, is_made, NoneSleeps, AreNotified, is_called_for, untested, called_for, start, RunsBody, IsMove, Executes}
+use Rattle.emit_code.specs.Executions.{Position, Frame, Thread, Moment, IsThread, goes, program_with, is_open, continues, recovers, is_made, NoneSleeps, AreNotified, is_called_for, untested, called_for, start, RunsBody, IsMove, Executes}
 use Rattle.emit_code.specs.Executions.Position.{Outside, At, Asleep, Notified}
-use Rattle.emit_code.specs.Executions.IsMove.{calls, takes, passes, falls_asleep, wakes, retakes, refuses, runs_body, notifies, unlocks, releases, returns}
+use Rattle.emit_code.specs.Executions.IsMove.{calls, takes, passes, falls_asleep, wakes, retakes, refuses, runs_body, panics, notifies, unlocks, releases, returns}
 use Rattle.emit_code.specs.Executions.Executes.{none_yet, one_more}
 use Rattle.emit_code.specs.Sleepers.{SleepersAreCounted}
 use Rattle.emit_code.specs.Orders.{notes_to_come, IsTestable, HasAllNotes, IsTold}
 use Rattle.emit_code.specs.Laws.{Leads, SomeoneSees, SleepersAreSeenTo}
 use Rattle.emit_code.proofs.Views.{next_block, place_by, place_at, phase_at, phase_of, standings, stands, stands_from, goes_here, goes_unseen, goes_seen, all_woken, sleeps_from}
-use Rattle.emit_code.proofs.Stages.{tries_in, IsAt, told_code, block_is, condition_at, open_is_guard, some_block, inside_locked, never, follows_locked, called_next, called_any, telling_notes, tells_phase}
-use Rattle.emit_code.proofs.Placed.{ArePlaced, IsSoundly, fits_there, faced_there, moment, code_is, passed_at, continues_tells, after_note, after_unlock, after_release, all_first, shape_of, start_position}
+use Rattle.emit_code.proofs.Stages.{tries_in, IsAt, told_code, block_is, condition_at, open_is_guard, some_block, inside_locked, never, follows_locked, called_next, called_any, telling_notes, again_next, again_notes, tells_phase}
+use Rattle.emit_code.proofs.Placed.{ArePlaced, IsSoundly, fits_there, faced_there, moment, code_is, passed_at, continues_tells, panic_tells, after_note, after_unlock, after_release, all_first, shape_of, start_position}
 use Rattle.emit_code.proofs.Counting.{asleep_counts, counted_late}
 use Rattle.emit_code.proofs.Running.{begins_here, continues_so, BodyAt, body_at, sound_late}
 use Rattle.emit_code.proofs.Pending.{WaitWell, enters_late, stays_late, refused_late, run_late, passes_late, releases_late, made_where_true, broadcasts_late, signals_late}
@@ -302,6 +302,20 @@ move_covered system told set order before next sound counted covered (refuses th
     (refused_late system set before.state (standings system before.threads) thread place goes_to trying.call here.block here.which here.faced closed
     (stands system before.threads thread frame (At (ElseRefuse move.block ∷ move.rest)) move.at) covered.pending))
 move_covered system told set order before next sound counted covered (runs_body thread frame move) = body_covered system told set order thread frame before next sound covered move
+move_covered system told set order before next sound counted covered (panics thread frame move) =
+    let ready = sound.placed thread frame (At (Run move.block move.otherwise ∷ move.rest)) move.at in
+    let place = place_by system thread frame (Some move.block) in
+    let ops = recovers (program_with system told) thread frame move.block move.otherwise move.rest in
+    let noted : notes_to_come ops ≡ overflow_notes system.monitor move.block = again_notes (program_with system told) thread frame move.block move.otherwise move.rest ∙ ready.1.otherwise_is in
+    let tells = panic_tells system told before thread frame move.block move.otherwise move.rest ready in
+    subst (IsCoveredLate system) (sym move.becomes)
+    (covered_as system before.state before.holder before.ran (goes before.threads thread frame (At ops)) (put (standings system before.threads) thread place (Notifying (notes_to_come ops)))
+    (goes_here system before.threads thread frame (At ops) place (Notifying (notes_to_come ops))
+    (ap (place_by system thread frame) (again_next (program_with system told) thread frame move.block move.otherwise move.rest)) (tells_phase ops (shape_of tells))) covered.invariant
+    (stays_late system before.state (standings system before.threads) thread place place (notes_to_come ops) (stands system before.threads thread frame (At (Run move.block move.otherwise ∷ move.rest)) move.at) covered.pending
+    (λ who others_place waits kind holds.
+    ap (λ (some : List Note). has_note some (waited_condition system thread place)) noted
+    ∙ own_told system told before sound.placed thread frame ready.1.call move.block (suc ready.1.left) ready.1.at who others_place waits)))
 move_covered system told set order before next sound counted covered (notifies thread frame move) =
     let tells = sound.placed thread frame (At (Notify move.note ∷ move.rest)) move.at in
     let later = after_note system told before.holder thread frame.past move.note move.rest tells in

@@ -11,14 +11,14 @@ use Rattle.machine_events.specs.Configurations.{System, block_condition}
 use Rattle.machine_events.specs.Pending.{IsSystem}
 use Rattle.emit_code.specs.Code.{Op, is_waited_on, telling_code, code_with}
 use Rattle.emit_code.specs.Code.Op.{Lock, WaitUntil, ElseRefuse, Run, Notify, Unlock, Release}
-use Rattle.emit_code.specs.Executions.{Position, Frame, Thread, Moment, IsThread, goes, program_with, continues, woken_position, woken_thread, AreNotified, called_for, start, IsMove, Executes}
+use Rattle.emit_code.specs.Executions.{Position, Frame, Thread, Moment, IsThread, goes, program_with, continues, recovers, woken_position, woken_thread, AreNotified, called_for, start, IsMove, Executes}
 use Rattle.emit_code.specs.Executions.Position.{Outside, At, Asleep, Notified}
-use Rattle.emit_code.specs.Executions.IsMove.{calls, takes, passes, falls_asleep, wakes, retakes, refuses, runs_body, notifies, unlocks, releases, returns}
+use Rattle.emit_code.specs.Executions.IsMove.{calls, takes, passes, falls_asleep, wakes, retakes, refuses, runs_body, panics, notifies, unlocks, releases, returns}
 use Rattle.emit_code.specs.Executions.Executes.{none_yet, one_more}
 use Rattle.emit_code.specs.Orders.{IsTold}
-use Rattle.emit_code.specs.Laws.{Leads, HoldersAct}
+use Rattle.emit_code.specs.Laws.{Leads, HoldersAct, BodiesAreReady}
 use Rattle.emit_code.proofs.Lists.{set_here, set_other}
-use Rattle.emit_code.proofs.Stages.{tries_in, passed_code, now_free, now_locked, never, locked_later, telling_locked}
+use Rattle.emit_code.proofs.Stages.{tries_in, passed_code, now_free, now_locked, never, locked_later, telling_locked, again_locked}
 use Rattle.emit_code.proofs.Placed.{ArePlaced, passed_at, after_unlock, after_release}
 use Rattle.emit_code.proofs.Running.{noter_stays, sound_late}
 
@@ -154,6 +154,11 @@ move_holding system told order before next placed has (runs_body thread frame mo
     subst KeepsHolder (sym move.becomes)
     (goes_holding before.threads before.holder thread frame (record { past = frame.past; locals = move.locals; answer = move.reply }) (At (Run move.block move.otherwise ∷ move.rest))
     (At (continues move.reply move.otherwise move.rest)) move.at has (λ is. continues_holds move.reply move.otherwise move.rest locked))
+move_holding system told order before next placed has (panics thread frame move) =
+    let ops = recovers (program_with system told) thread frame move.block move.otherwise move.rest in
+    subst KeepsHolder (sym move.becomes)
+    (goes_holding before.threads before.holder thread frame frame (At (Run move.block move.otherwise ∷ move.rest)) (At ops) move.at has
+    (λ is. locked_holds ops (again_locked (program_with system told) thread frame move.block move.otherwise move.rest)))
 move_holding system told order before next placed has (notifies thread frame move) =
     subst KeepsHolder (sym move.becomes)
     (goes_holding move.woken before.holder thread frame frame (At (Notify move.note ∷ move.rest)) (At move.rest)
@@ -186,6 +191,11 @@ needs_holder system told now placed thread frame (Notify note) rest at needs = e
 needs_holder system told now placed thread frame Unlock rest at needs = (after_unlock system told now.holder thread frame.past rest (placed thread frame (At (Unlock ∷ rest)) at)).0
 needs_holder system told now placed thread frame (Release notes) rest at needs =
     (after_release system told now now.holder thread frame.past notes rest (placed thread frame (At (Release notes ∷ rest)) at)).0
+
+pub late_ready : (system : System) (told : ℕ → List Op) (last : Moment) → IsSystem system → IsTold system told → Leads (program_with system told) last → BodiesAreReady (program_with system told) last
+late_ready system told last is order run thread frame block otherwise rest at =
+    let ready = (sound_late system told is order last run).placed thread frame (At (Run block otherwise ∷ rest)) at in
+    (ready.0, ready.1.open_is)
 
 pub late_holders_act : (system : System) (told : ℕ → List Op) (last : Moment) → IsSystem system → IsTold system told → Leads (program_with system told) last → HoldersAct (program_with system told) last
 late_holders_act system told last is order run = needs_holder system told last (sound_late system told is order last run).placed

@@ -9,6 +9,7 @@ pub mod Order
 pub mod Pending
 pub mod Covering
 pub mod Answering
+pub mod Functions
 pub mod Stillness
 pub mod Live
 pub mod Printed

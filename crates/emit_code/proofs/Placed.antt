@@ -18,17 +18,17 @@ use Rattle.machine_events.specs.declared.plan.Note.{Note}
 use Rattle.machine_events.specs.Configurations.{System, block_condition}
 use Rattle.machine_events.specs.Configurations.Phase.{Inside}
 use Rattle.machine_events.specs.Pending.{IsSystem}
-use Rattle.emit_code.specs.Code.{Op, is_waited_on, signal_on, overflow_notes, telling_code, code_with, blocks_code}
+use Rattle.emit_code.specs.Code.{Op, is_waited_on, signal_on, overflow_notes, telling_code, test_code, code_with, blocks_code}
 use Rattle.emit_code.specs.Code.Op.{Lock, WaitUntil, ElseRefuse, Run, Notify, Unlock, Release}
-use Rattle.emit_code.specs.Executions.{Position, Frame, Thread, Moment, IsThread, goes, program_with, is_open, commit_of, continues, tested_block, AreNotified, called_for, new_thread, start}
+use Rattle.emit_code.specs.Executions.{Position, Frame, Thread, Moment, IsThread, goes, program_with, is_open, commit_of, continues, tries_there, recovers, tested_block, AreNotified, called_for, new_thread, start}
 use Rattle.emit_code.specs.Executions.{IsMove}
 use Rattle.emit_code.specs.Executions.Position.{Outside, At, Asleep, Notified}
-use Rattle.emit_code.specs.Executions.IsMove.{calls, takes, passes, falls_asleep, wakes, retakes, refuses, runs_body, notifies, unlocks, releases, returns}
+use Rattle.emit_code.specs.Executions.IsMove.{calls, takes, passes, falls_asleep, wakes, retakes, refuses, runs_body, panics, notifies, unlocks, releases, returns}
 use Rattle.emit_code.specs.Orders.{notes_to_come, IsTestable, IsTold}
 use Rattle.emit_code.proofs.Lists.{came}
 use Rattle.emit_code.proofs.Views.{next_block, place_by, place_at, phase_at, place_there, situation_at, thread_before}
-use Rattle.emit_code.proofs.Stages.{first_of, count_of, tries_in, IsAt, later_code, locked_code, passed_code, told_code, Faced, faced_at, open_unwaited, some_block, tries_first, tries_later, next_at, end_at, end_later, next_locked}
-use Rattle.emit_code.proofs.Stages.{now_free, now_locked, from_lock, never, locked_later, follows_locked, called_lock, called_free, called_all, telling_locked, telling_notes, telling_lock}
+use Rattle.emit_code.proofs.Stages.{first_of, count_of, tries_in, IsAt, later_code, locked_code, passed_code, told_code, Faced, faced_at, open_unwaited, some_block, tries_first, tries_later, tries_is, next_at, end_at, next_locked}
+use Rattle.emit_code.proofs.Stages.{now_free, now_locked, from_lock, never, locked_later, follows_locked, called_lock, called_free, called_all, telling_locked, telling_notes, telling_lock, then_lock, again_locked, again_notes}
 
 -- ---- where threads are
 
@@ -73,8 +73,7 @@ pub record Tells (system : System) (told : ℕ → List Op) (holder : Option ℕ
   pub block : ℕ
   pub left : ℕ
   pub at : IsAt system thread past call block left
-  pub patient : tries_in system call block ≡ false
-  pub later_is : from_lock ops ≡ later_code system told block left
+  pub later_is : from_lock ops ≡ blocks_code system.monitor told (tries_in system call block) block left
   pub held : ((now_locked ops ≡ true) × (holder ≡ Some thread)) ⊎ (now_free ops ≡ true)
   pub plain : All (IsTestable system.monitor) (notes_to_come ops)
 
@@ -125,7 +124,6 @@ unheld_tells system told holder new_holder thread past ops none tells = record {
   block = tells.block;
   left = tells.left;
   at = tells.at;
-  patient = tells.patient;
   later_is = tells.later_is;
   held = elim tells.held [
     | inl held ↦ absurd (none held.1)
@@ -181,17 +179,22 @@ nothing_changes now thread other differs = inr (refl, refl)
 -- ---- the stages of the code
 
 -- blocks begin with a lock
-entered : (system : System) (told : ℕ → List Op) (thread past : ℕ) (call : Call) (block left : ℕ) (rest : List Op) → IsAt system thread past call block left → tries_in system call block ≡ false
-    → Lock ∷ rest ≡ later_code system told block left → Enters system told thread past rest
-entered system told thread past call block zero rest at patient is = absurd (cc is)
-entered system told thread past call block (suc left) rest at patient is =
-    let tail : rest ≡ locked_code system told false block left = cc is in
-    record { call = call; block = block; left = left; at = at; rest_is = tail ∙ ap (λ (tries : Bool). locked_code system told tries block left) (sym patient) }
+entered : (system : System) (told : ℕ → List Op) (thread past : ℕ) (call : Call) (block left : ℕ) (rest : List Op) → IsAt system thread past call block left
+    → Lock ∷ rest ≡ blocks_code system.monitor told (tries_in system call block) block left → Enters system told thread past rest
+entered system told thread past call block zero rest at is = absurd (cc is)
+entered system told thread past call block (suc left) rest at is =
+    let tail : rest ≡ locked_code system told (tries_in system call block) block left = cc is in
+    record { call = call; block = block; left = left; at = at; rest_is = tail }
+
+-- a later block does not try
+later_tries : (system : System) (told : ℕ → List Op) (call : Call) (block left : ℕ) → tries_in system call block ≡ false
+    → later_code system told block left ≡ blocks_code system.monitor told (tries_in system call block) block left
+later_tries system told call block left patient = ap (λ (tries : Bool). blocks_code system.monitor told tries block left) (sym patient)
 
 pub tells_placed : (system : System) (told : ℕ → List Op) (state : List Value) (holder : Option ℕ) (thread : ℕ) (frame : Frame) (ops : List Op) → Tells system told holder thread frame.past ops
     → IsPlaced system told state holder thread frame (At ops)
 tells_placed system told state holder thread frame [] tells = tt
-tells_placed system told state holder thread frame (Lock ∷ rest) tells = entered system told thread frame.past tells.call tells.block tells.left rest tells.at tells.patient tells.later_is
+tells_placed system told state holder thread frame (Lock ∷ rest) tells = entered system told thread frame.past tells.call tells.block tells.left rest tells.at tells.later_is
 tells_placed system told state holder thread frame (WaitUntil block condition ∷ rest) tells = elim tells.held [
   | inl held ↦ never held.0
   | inr free ↦ never free
@@ -307,7 +310,6 @@ end_tells system told holder thread past call block left notes_left at held plai
   block = first_of system call + count_of system call;
   left = zero;
   at = end_at system thread past call block left at;
-  patient = tries_later system call (first_of system call + count_of system call) (end_later system thread past call block left at);
   later_is = telling_lock notes_left;
   held = inl (telling_locked notes_left, held);
   plain = subst (All (IsTestable system.monitor)) (sym (telling_notes notes_left)) plain;
@@ -322,8 +324,7 @@ body_tells system told order holder thread past call block left at held =
       block = block + 1;
       left = left;
       at = next_at system thread past call block left at;
-      patient = tries_later system call (block + 1) (omega (arith, at.begins));
-      later_is = later.lock;
+      later_is = later.lock ∙ later_tries system told call (block + 1) left (tries_later system call (block + 1) (omega (arith, at.begins)));
       held = inl (locked_later system told (block + 1) left (told block) (order.shape block), held);
       plain = subst (All (IsTestable system.monitor)) (sym later.notes) (order.testable block);
     }
@@ -352,6 +353,28 @@ continues_tells system told order holder thread past call block left at held (re
 continues_tells system told order holder thread past call block left at held replies.Refused otherwise rest otherwise_is rest_is =
     subst (Tells system told holder thread past) (sym rest_is) (body_tells system told order holder thread past call block left at held)
 
+-- after a panic
+pub panic_tells : (system : System) (told : ℕ → List Op) (now : Moment) (thread : ℕ) (frame : Frame) (block : ℕ) (otherwise : List Note) (rest : List Op)
+    → (now.holder ≡ Some thread) × IsReady system told now.state thread frame block otherwise rest
+    → Tells system told now.holder thread frame.past (recovers (program_with system told) thread frame block otherwise rest)
+panic_tells system told now thread frame block otherwise rest ready =
+    let at = ready.1.at in
+    let call = ready.1.call in
+    let trying = tries_there (program_with system told) thread frame block in
+    let tries : trying ≡ tries_in system call block = tries_is system thread frame call block (suc ready.1.left) at in
+    let again = Lock ∷ test_code system.monitor trying block (Run block otherwise ∷ rest) in
+    let passed : Run block otherwise ∷ rest ≡ passed_code system told block ready.1.left = λ i. Run block (ready.1.otherwise_is i) ∷ ready.1.rest_is i in
+    record {
+      call = call;
+      block = block;
+      left = suc ready.1.left;
+      at = at;
+      later_is = then_lock otherwise again ∙ (λ i. Lock ∷ test_code system.monitor (tries i) block (passed i));
+      held = inl (again_locked (program_with system told) thread frame block otherwise rest, ready.0);
+      plain = subst (All (IsTestable system.monitor)) (sym (again_notes (program_with system told) thread frame block otherwise rest ∙ ready.1.otherwise_is))
+          (signal_plain system (block_condition system.monitor block) (is_waited_on system.monitor (block_condition system.monitor block)));
+    }
+
 -- ---- the notes
 
 pub after_note : (system : System) (told : ℕ → List Op) (holder : Option ℕ) (thread past : ℕ) (note : Note) (rest : List Op) → Tells system told holder thread past (Notify note ∷ rest)
@@ -361,7 +384,6 @@ after_note system told holder thread past note rest tells = record {
   block = tells.block;
   left = tells.left;
   at = tells.at;
-  patient = tells.patient;
   later_is = tells.later_is;
   held = elim tells.held [
     | inl held ↦ inl held
@@ -382,7 +404,6 @@ after_unlock system told holder thread past rest tells = elim tells.held [
       block = tells.block;
       left = tells.left;
       at = tells.at;
-      patient = tells.patient;
       later_is = tells.later_is;
       held = inr held.0;
       plain = tells.plain;
@@ -410,7 +431,6 @@ after_release system told now holder thread past notes rest tells = elim tells.h
       block = tells.block;
       left = tells.left;
       at = tells.at;
-      patient = tells.patient;
       later_is = called_lock (program_with system told) now notes rest ∙ tells.later_is;
       held = inr (called_free (program_with system told) now notes rest held.0);
       plain = called_all (IsTestable system.monitor) (λ note tested which is. absurd (true≢false (sym tested))) (program_with system told) now notes rest
@@ -492,6 +512,12 @@ move_placed system told is order before next sound (runs_body thread frame move)
     (tells_placed system told move.state before.holder thread ran_frame (continues move.reply move.otherwise move.rest)
     (continues_tells system told order before.holder thread frame.past ready.1.call move.block ready.1.left ready.1.at ready.0 move.reply move.otherwise move.rest ready.1.otherwise_is ready.1.rest_is))
     (held_apart before move.state before.holder thread ready.0))
+move_placed system told is order before next sound (panics thread frame move) =
+    let ready = sound.placed thread frame (At (Run move.block move.otherwise ∷ move.rest)) move.at in
+    let ops = recovers (program_with system told) thread frame move.block move.otherwise move.rest in
+    subst (ArePlaced system told) (sym move.becomes)
+    (goes_placed system told before before.state before.holder before.ran thread frame (At ops) sound.placed
+    (tells_placed system told before.state before.holder thread frame ops (panic_tells system told before thread frame move.block move.otherwise move.rest ready)) (nothing_changes before thread))
 move_placed system told is order before next sound (notifies thread frame move) =
     let tells = sound.placed thread frame (At (Notify move.note ∷ move.rest)) move.at in
     let woken = notified_placed system told before move.note move.woken sound.placed move.notified in

@@ -11,15 +11,16 @@ use Rattle.machine_events.specs.Configurations.{System, system_under}
 use Rattle.machine_events.specs.Pending.{IsSystem}
 use Rattle.machine_events.specs.Laws.{HasCountingPlan}
 use Rattle.emit_code.specs.Code.{Op, late_order}
-use Rattle.emit_code.specs.Executions.{Moment}
+use Rattle.emit_code.specs.Executions.{Moment, program_with}
 use Rattle.emit_code.specs.LivePlans.{live_plan, printed_program}
 use Rattle.emit_code.specs.Laws.{Leads, LosesNone}
 use Rattle.emit_code.proofs.Running.{late_runs}
-use Rattle.emit_code.proofs.Holding.{late_holders_act}
+use Rattle.emit_code.proofs.Holding.{late_holders_act, late_ready}
+use Rattle.emit_code.proofs.Functions.{ran_once}
 use Rattle.emit_code.proofs.Counting.{counted_late}
 use Rattle.emit_code.proofs.Answering.{late_answers}
 use Rattle.emit_code.proofs.Covering.{late_seen_to}
-use Rattle.emit_code.proofs.Stillness.{still_late, still_ends}
+use Rattle.emit_code.proofs.Stillness.{quiet_late, still_late, still_ends}
 use Rattle.emit_code.proofs.Order.{late_is_told}
 use Rattle.emit_code.proofs.Live.{live_fits, live_is_lawful_by_counting}
 
@@ -34,10 +35,13 @@ counted_loses_none monitor plan clients last rule scripts fits lawful run =
     let order = late_is_told system is in
     record {
       mutex = late_holders_act system told last is order run;
+      ready = late_ready system told last is order run;
       run = late_runs system told last is order run;
+      functions = ran_once (program_with system told) last;
       answers = late_answers system told last is order run;
       counts = counted_late system told last run;
       pending = late_seen_to system told last set order run;
+      rests = quiet_late system told last set order run;
       ends = still_late system told last set order run;
       ends_the_run = still_ends system told last set order run;
     }

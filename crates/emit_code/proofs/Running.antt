@@ -24,16 +24,16 @@ use Rattle.machine_events.specs.Configurations.{System, guard_of}
 use Rattle.machine_events.specs.Pending.{IsSystem}
 use Rattle.emit_code.specs.Code.{Op, overflow_notes, telling_code, code_with}
 use Rattle.emit_code.specs.Code.Op.{Lock, WaitUntil, ElseRefuse, Run, Notify, Unlock, Release}
-use Rattle.emit_code.specs.Executions.{Position, Frame, Thread, Moment, IsThread, goes, program_with, commit_of, continues, woken_thread, AreNotified, called_for, start}
+use Rattle.emit_code.specs.Executions.{Position, Frame, Thread, Moment, IsThread, goes, program_with, commit_of, continues, recovers, woken_thread, AreNotified, called_for, start}
 use Rattle.emit_code.specs.Executions.{RunsBody, IsMove, Executes}
 use Rattle.emit_code.specs.Executions.Position.{Outside, At, Asleep, Notified}
-use Rattle.emit_code.specs.Executions.IsMove.{calls, takes, passes, falls_asleep, wakes, retakes, refuses, runs_body, notifies, unlocks, releases, returns}
+use Rattle.emit_code.specs.Executions.IsMove.{calls, takes, passes, falls_asleep, wakes, retakes, refuses, runs_body, panics, notifies, unlocks, releases, returns}
 use Rattle.emit_code.specs.Executions.Executes.{none_yet, one_more}
 use Rattle.emit_code.specs.Orders.{IsTold}
 use Rattle.emit_code.specs.Laws.{Leads, Ran}
 use Rattle.emit_code.proofs.Lists.{set_other}
 use Rattle.emit_code.proofs.Views.{next_block, number_at, place_by, place_at, place_of, place_there, places_go, same_places, standings, situation_at, all_woken_places, start_places}
-use Rattle.emit_code.proofs.Stages.{first_of, count_of, tries_in, IsAt, later_code, told_code, Faced, number_is, block_is, open_is_guard, some_block, next_locked, follows_locked, called_next, telling_next}
+use Rattle.emit_code.proofs.Stages.{first_of, count_of, tries_in, IsAt, later_code, told_code, Faced, number_is, block_is, open_is_guard, some_block, next_locked, follows_locked, called_next, telling_next, again_next}
 use Rattle.emit_code.proofs.Placed.{IsSoundly, faced_there, moment, code_is, passed_at, move_placed, start_placed}
 
 -- ---- places that stay
@@ -293,6 +293,11 @@ move_run system told is order before next sound (runs_body thread frame move) =
     (step_run system told before thread frame (record { past = frame.past; locals = move.locals; answer = move.reply }) (At (Run move.block move.otherwise ∷ move.rest))
     (At (continues move.reply move.otherwise move.rest)) move.block move.reply move.state goes_to move.at refl step
     (body_goes system told order before thread frame move.block move.otherwise move.rest move.reply move.state move.locals body) sound.run)
+move_run system told is order before next sound (panics thread frame move) =
+    let ops = recovers (program_with system told) thread frame move.block move.otherwise move.rest in
+    subst (λ (one : Moment). IsRun system.monitor system.clients one.ran (situation_at system one)) (sym move.becomes)
+    (goes_run system before before.holder thread frame frame (At (Run move.block move.otherwise ∷ move.rest)) (At ops) move.at
+    (ap (place_by system thread frame) (again_next (program_with system told) thread frame move.block move.otherwise move.rest)) sound.run)
 move_run system told is order before next sound (notifies thread frame move) =
     let middle = moment before.state before.holder before.ran move.woken in
     let woken_run = quiet_run system before before.holder move.woken (notified_places system told before move.note move.woken move.notified) sound.run in

@@ -14,7 +14,7 @@ use Rattle.lang_base.specs.declared.value.Value.{Value}
 use Rattle.lang_monitor.specs.declared.monitor.Block.{Block}
 use Rattle.lang_monitor.specs.declared.monitor.Method.{Method}
 use Rattle.lang_monitor.specs.declared.monitor.Condition.{Condition}
-use Rattle.lang_monitor.specs.MonitorParts.{first_in, count_in}
+use Rattle.lang_monitor.specs.MonitorParts.{MonitorParts, first_in, count_in}
 use Rattle.lang_monitor.specs.Bodies.{valuation}
 use Rattle.machine_implicit.specs.declared.script.Call.{Call}
 use Rattle.machine_implicit.specs.Steps.{given, guard_truth}
@@ -28,7 +28,7 @@ use Rattle.machine_events.specs.Pending.{IsSystem}
 use Rattle.machine_events.proofs.Facing.{Faces, faces, guard_is, own_condition}
 use Rattle.emit_code.specs.Code.{Op, is_always_step, is_always, is_waited_on, telling_code, test_code, running_code, blocks_code}
 use Rattle.emit_code.specs.Code.Op.{Lock, WaitUntil, ElseRefuse, Run, Notify, Unlock, Release}
-use Rattle.emit_code.specs.Executions.{Program, Moment, Frame, is_open, program_with, is_called_for, untested, called_for}
+use Rattle.emit_code.specs.Executions.{Program, Moment, Frame, is_open, program_with, telling_then, recovers, tries_there, is_called_for, untested, called_for}
 use Rattle.emit_code.specs.Executions.Position.{At}
 use Rattle.emit_code.specs.Orders.{notes_to_come, is_free, is_locked}
 use Rattle.emit_code.proofs.Views.{next_block, number_at, place_by, phase_at}
@@ -392,6 +392,44 @@ telling_lock (note ∷ notes) = telling_lock notes
 pub telling_next : (notes : List Note) → next_block (telling_code notes) ≡ None
 telling_next [] = refl
 telling_next (note ∷ notes) = telling_next notes
+
+-- ---- after a panic
+
+pub then_locked : (notes : List Note) (rest : List Op) → now_free rest ≡ true → now_locked (telling_then notes rest) ≡ true
+then_locked [] rest is = is
+then_locked (note ∷ notes) rest is = then_locked notes rest is
+
+pub then_lock : (notes : List Note) (rest : List Op) → from_lock (telling_then notes rest) ≡ from_lock rest
+then_lock [] rest = refl
+then_lock (note ∷ notes) rest = then_lock notes rest
+
+then_next : (notes : List Note) (rest : List Op) → next_block (telling_then notes rest) ≡ next_block rest
+then_next [] rest = refl
+then_next (note ∷ notes) rest = then_next notes rest
+
+next_test : (monitor : MonitorParts) (tries waited : Bool) (block : ℕ) (otherwise : List Note) (rest : List Op)
+    → next_block (cond waited (cond tries (ElseRefuse block ∷ Run block otherwise ∷ rest) (WaitUntil block (block_condition monitor block) ∷ Run block otherwise ∷ rest)) (Run block otherwise ∷ rest)) ≡ Some block
+next_test monitor true true block otherwise rest = refl
+next_test monitor false true block otherwise rest = refl
+next_test monitor true false block otherwise rest = refl
+next_test monitor false false block otherwise rest = refl
+
+-- the thread is at the block again
+pub again_next : (program : Program) (thread : ℕ) (frame : Frame) (block : ℕ) (otherwise : List Note) (rest : List Op) → next_block (recovers program thread frame block otherwise rest) ≡ Some block
+again_next program thread frame block otherwise rest =
+    then_next otherwise (Lock ∷ test_code program.monitor (tries_there program thread frame block) block (Run block otherwise ∷ rest))
+    ∙ next_test program.monitor (tries_there program thread frame block) (is_waited_on program.monitor (block_condition program.monitor block)) block otherwise rest
+
+pub again_locked : (program : Program) (thread : ℕ) (frame : Frame) (block : ℕ) (otherwise : List Note) (rest : List Op) → now_locked (recovers program thread frame block otherwise rest) ≡ true
+again_locked program thread frame block otherwise rest = then_locked otherwise _ refl
+
+then_notes : (notes : List Note) (rest : List Op) → notes_to_come (telling_then notes (Lock ∷ rest)) ≡ notes
+then_notes [] rest = refl
+then_notes (note ∷ notes) rest = ap (λ (more : List Note). note ∷ more) (then_notes notes rest)
+
+-- with the notes of an overflow to make
+pub again_notes : (program : Program) (thread : ℕ) (frame : Frame) (block : ℕ) (otherwise : List Note) (rest : List Op) → notes_to_come (recovers program thread frame block otherwise rest) ≡ otherwise
+again_notes program thread frame block otherwise rest = then_notes otherwise _
 
 -- ---- the phase of one that tells
 

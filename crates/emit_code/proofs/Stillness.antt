@@ -1,4 +1,5 @@
--- Where no thread can move but by nothing, each has no call left, or sleeps and its guard is false.
+-- Where no thread can move but by chance, each has no call left, or sleeps and its guard is false; and
+-- so where some have stopped.
 use Rattle.std.proofs.Common.{◌≡◌, ℕ, suc, true, false, ◌&&◌, ◌==◌, List, [], ◌∷◌, map, Option, Some, None, IsSomeAnd, refl, sym, ap, subst, ◌∙◌, inl, inr}
 use Rattle.std.specs.Prelude.{slice_get}
 use Rattle.std.specs.Option.{option_map_or}
@@ -16,6 +17,7 @@ use Rattle.machine_implicit.specs.Runs.{Ends}
 use Rattle.machine_implicit.proofs.OneSituation.{one_situation}
 use Rattle.machine_implicit.proofs.Fitting.{is_some_and}
 use Rattle.machine_events.specs.declared.plan.Note.{Note}
+use Rattle.machine_events.specs.Plans.{has_note}
 use Rattle.machine_events.specs.Laws.{HasCountingPlan}
 use Rattle.machine_events.specs.Configurations.{System}
 use Rattle.machine_events.specs.Pending.{IsSystem}
@@ -23,11 +25,11 @@ use Rattle.machine_events.proofs.Covered.{not_both}
 use Rattle.machine_events.proofs.Ending.{some_waits}
 use Rattle.emit_code.specs.Code.{Op}
 use Rattle.emit_code.specs.Code.Op.{Lock, WaitUntil, ElseRefuse, Run, Notify, Unlock, Release}
-use Rattle.emit_code.specs.Executions.{Program, Position, Frame, Thread, Moment, IsThread, goes, program_with, call_of, is_open, is_made, woken_thread, AreNotified, IsMove, is_by_nothing, IsStill}
+use Rattle.emit_code.specs.Executions.{Program, Position, Frame, Thread, Moment, IsThread, goes, program_with, call_of, is_open, is_made, woken_thread, AreNotified, IsMove, is_by_chance, is_optional, IsStill, IsQuiet}
 use Rattle.emit_code.specs.Executions.Position.{Outside, At, Asleep, Notified}
-use Rattle.emit_code.specs.Executions.IsMove.{calls, takes, passes, falls_asleep, retakes, refuses, runs_body, notifies, unlocks, releases, returns}
-use Rattle.emit_code.specs.Orders.{IsTold}
-use Rattle.emit_code.specs.Laws.{Leads, IsAtEnd, StillIsTheEnd, StillEndsTheRun}
+use Rattle.emit_code.specs.Executions.IsMove.{calls, takes, passes, falls_asleep, wakes, retakes, refuses, runs_body, panics, notifies, unlocks, releases, returns}
+use Rattle.emit_code.specs.Orders.{notes_to_come, IsTold}
+use Rattle.emit_code.specs.Laws.{Leads, IsAtEnd, IsAtRest, QuietIsAtRest, StillIsTheEnd, StillEndsTheRun}
 use Rattle.emit_code.proofs.Lists.{option_some}
 use Rattle.emit_code.proofs.Views.{place_by, place_at, place_of, standings, situation_at, stands, stands_from, sleeps_from}
 use Rattle.emit_code.proofs.Stages.{never, tries_is, open_is_guard}
@@ -38,8 +40,8 @@ use Rattle.emit_code.proofs.Holding.{is_holding, holder_late}
 
 -- ---- what can move
 
-moves_on : (program : Program) (now : Moment) → IsStill program now → (next : Moment) (move : IsMove program now next) → is_by_nothing program now next move ≡ false → ⊥
-moves_on program now still next move other = not_both (is_by_nothing program now next move) (still next move) other
+moves_on : (program : Program) (now : Moment) → IsQuiet program now → (next : Moment) (move : IsMove program now next) → is_optional program now next move ≡ false → ⊥
+moves_on program now still next move other = not_both (is_optional program now next move) (still next move) other
 
 some_body : (block : Block) (inputs : Inputs) (state : List Value) → (reply : Reply) × (next : List Value) × (locals : List Value) × BlockSteps block inputs state reply (held next locals)
 some_body block inputs state = elim (cases_Bool (overflows_in inputs block state)) [
@@ -83,20 +85,20 @@ some_notified system told now note = elim (cases_Bool (is_made (program_with sys
   ]
 ]
 
-loop_moves : (program : Program) (now : Moment) → IsStill program now → (thread : ℕ) (frame : Frame) (block condition : ℕ) (rest : List Op) → IsThread now.threads thread frame (At (WaitUntil block condition ∷ rest)) → ⊥
+loop_moves : (program : Program) (now : Moment) → IsQuiet program now → (thread : ℕ) (frame : Frame) (block condition : ℕ) (rest : List Op) → IsThread now.threads thread frame (At (WaitUntil block condition ∷ rest)) → ⊥
 loop_moves program now still thread frame block condition rest at = elim (cases_Bool (is_open program now.state thread frame block)) [
   | inl open_so ↦
       moves_on program now still _ (passes thread frame (record { op = WaitUntil block condition; block = block; rest = rest; at = at; tests = refl; open_is = open_so; becomes = refl })) refl
   | inr closed_so ↦ moves_on program now still _ (falls_asleep thread frame (record { block = block; condition = condition; rest = rest; at = at; closed_is = closed_so; becomes = refl })) refl
 ]
 
-test_moves : (program : Program) (now : Moment) → IsStill program now → (thread : ℕ) (frame : Frame) (block : ℕ) (rest : List Op) → IsThread now.threads thread frame (At (ElseRefuse block ∷ rest)) → ⊥
+test_moves : (program : Program) (now : Moment) → IsQuiet program now → (thread : ℕ) (frame : Frame) (block : ℕ) (rest : List Op) → IsThread now.threads thread frame (At (ElseRefuse block ∷ rest)) → ⊥
 test_moves program now still thread frame block rest at = elim (cases_Bool (is_open program now.state thread frame block)) [
   | inl open_so ↦ moves_on program now still _ (passes thread frame (record { op = ElseRefuse block; block = block; rest = rest; at = at; tests = refl; open_is = open_so; becomes = refl })) refl
   | inr closed_so ↦ moves_on program now still _ (refuses thread frame (record { block = block; rest = rest; at = at; closed_is = closed_so; becomes = refl })) refl
 ]
 
-body_moves : (system : System) (told : ℕ → List Op) (now : Moment) → IsSystem system → IsSoundly system told now → IsStill (program_with system told) now
+body_moves : (system : System) (told : ℕ → List Op) (now : Moment) → IsSystem system → IsSoundly system told now → IsQuiet (program_with system told) now
     → (thread : ℕ) (frame : Frame) (block : ℕ) (otherwise : List Note) (rest : List Op) → IsThread now.threads thread frame (At (Run block otherwise ∷ rest)) → ⊥
 body_moves system told now is sound still thread frame block otherwise rest at =
     let ready = (sound.placed thread frame (At (Run block otherwise ∷ rest)) at).1 in
@@ -112,21 +114,21 @@ body_moves system told now is sound still thread frame block otherwise rest at =
     moves_on (program_with system told) now still _
     (runs_body thread frame (record { block = block; otherwise = otherwise; rest = rest; at = at; reply = body.0; state = body.1; locals = body.2; steps = steps; becomes = refl })) refl
 
-note_moves : (system : System) (told : ℕ → List Op) (now : Moment) → IsStill (program_with system told) now → (thread : ℕ) (frame : Frame) (note : Note) (rest : List Op)
+note_moves : (system : System) (told : ℕ → List Op) (now : Moment) → IsQuiet (program_with system told) now → (thread : ℕ) (frame : Frame) (note : Note) (rest : List Op)
     → IsThread now.threads thread frame (At (Notify note ∷ rest)) → ⊥
 note_moves system told now still thread frame note rest at =
     let some = some_notified system told now note in
     moves_on (program_with system told) now still _ (notifies thread frame (record { note = note; rest = rest; woken = some.0; at = at; notified = some.1; becomes = refl })) refl
 
-unlock_moves : (program : Program) (now : Moment) → IsStill program now → (thread : ℕ) (frame : Frame) (rest : List Op) → IsThread now.threads thread frame (At (Unlock ∷ rest)) → ⊥
+unlock_moves : (program : Program) (now : Moment) → IsQuiet program now → (thread : ℕ) (frame : Frame) (rest : List Op) → IsThread now.threads thread frame (At (Unlock ∷ rest)) → ⊥
 unlock_moves program now still thread frame rest at = moves_on program now still _ (unlocks thread frame (record { rest = rest; at = at; becomes = refl })) refl
 
-release_moves : (program : Program) (now : Moment) → IsStill program now → (thread : ℕ) (frame : Frame) (notes : List Note) (rest : List Op) → IsThread now.threads thread frame (At (Release notes ∷ rest)) → ⊥
+release_moves : (program : Program) (now : Moment) → IsQuiet program now → (thread : ℕ) (frame : Frame) (notes : List Note) (rest : List Op) → IsThread now.threads thread frame (At (Release notes ∷ rest)) → ⊥
 release_moves program now still thread frame notes rest at = moves_on program now still _ (releases thread frame (record { notes = notes; rest = rest; at = at; becomes = refl })) refl
 
 -- ---- nobody holds the mutex
 
-holding_moves : (system : System) (told : ℕ → List Op) (now : Moment) → IsSystem system → IsSoundly system told now → IsStill (program_with system told) now
+holding_moves : (system : System) (told : ℕ → List Op) (now : Moment) → IsSystem system → IsSoundly system told now → IsQuiet (program_with system told) now
     → (thread : ℕ) (frame : Frame) (position : Position) → IsThread now.threads thread frame position → is_holding position ≡ true → ⊥
 holding_moves system told now is sound still thread frame Outside at holding = never holding
 holding_moves system told now is sound still thread frame (At []) at holding = never holding
@@ -144,52 +146,111 @@ free_now : (holder : Option ℕ) → ((thread : ℕ) → holder ≡ Some thread 
 free_now None none = refl
 free_now (Some thread) none = absurd (none thread refl)
 
-nobody_holds : (system : System) (told : ℕ → List Op) (last : Moment) → IsSystem system → IsTold system told → Leads (program_with system told) last → IsStill (program_with system told) last → last.holder ≡ None
+nobody_holds : (system : System) (told : ℕ → List Op) (last : Moment) → IsSystem system → IsTold system told → Leads (program_with system told) last → IsQuiet (program_with system told) last → last.holder ≡ None
 nobody_holds system told last is order run still =
     let has = holder_late system told is order last run in
     free_now last.holder (λ thread held_by.
     let found = has thread held_by in
     holding_moves system told last is (sound_late system told is order last run) still thread found.0 found.1 found.2 found.3)
 
-free_moves : (system : System) (told : ℕ → List Op) (now : Moment) → IsSystem system → IsSoundly system told now → IsStill (program_with system told) now → now.holder ≡ None
-    → (thread : ℕ) (frame : Frame) (ops : List Op) → IsThread now.threads thread frame (At ops) → ⊥
-free_moves system told now is sound still free thread frame [] at = moves_on (program_with system told) now still _ (returns thread frame (record { at = at; becomes = refl })) refl
-free_moves system told now is sound still free thread frame (Lock ∷ rest) at = moves_on (program_with system told) now still _ (takes thread frame (record { rest = rest; at = at; free = free; becomes = refl })) refl
-free_moves system told now is sound still free thread frame (WaitUntil block condition ∷ rest) at = loop_moves (program_with system told) now still thread frame block condition rest at
-free_moves system told now is sound still free thread frame (ElseRefuse block ∷ rest) at = test_moves (program_with system told) now still thread frame block rest at
-free_moves system told now is sound still free thread frame (Run block otherwise ∷ rest) at = body_moves system told now is sound still thread frame block otherwise rest at
-free_moves system told now is sound still free thread frame (Notify note ∷ rest) at = note_moves system told now still thread frame note rest at
-free_moves system told now is sound still free thread frame (Unlock ∷ rest) at = unlock_moves (program_with system told) now still thread frame rest at
-free_moves system told now is sound still free thread frame (Release notes ∷ rest) at = release_moves (program_with system told) now still thread frame notes rest at
-
-notified_moves : (program : Program) (now : Moment) → IsStill program now → now.holder ≡ None → (thread : ℕ) (frame : Frame) (block condition : ℕ) (rest : List Op)
+notified_moves : (program : Program) (now : Moment) → IsQuiet program now → now.holder ≡ None → (thread : ℕ) (frame : Frame) (block condition : ℕ) (rest : List Op)
     → IsThread now.threads thread frame (Notified block condition rest) → ⊥
 notified_moves program now still free thread frame block condition rest at =
     moves_on program now still _ (retakes thread frame (record { block = block; condition = condition; rest = rest; at = at; free = free; becomes = refl })) refl
 
--- ---- each thread is at its end
+-- a thread in a call is before a lock
+quiet_at : (system : System) (told : ℕ → List Op) (now : Moment) → IsSystem system → IsSoundly system told now → IsQuiet (program_with system told) now
+    → (thread : ℕ) (frame : Frame) (ops : List Op) → IsThread now.threads thread frame (At ops) → IsAtRest (program_with system told) now thread frame (At ops)
+quiet_at system told now is sound still thread frame [] at = moves_on (program_with system told) now still _ (returns thread frame (record { at = at; becomes = refl })) refl
+quiet_at system told now is sound still thread frame (Lock ∷ rest) at = tt
+quiet_at system told now is sound still thread frame (WaitUntil block condition ∷ rest) at = loop_moves (program_with system told) now still thread frame block condition rest at
+quiet_at system told now is sound still thread frame (ElseRefuse block ∷ rest) at = test_moves (program_with system told) now still thread frame block rest at
+quiet_at system told now is sound still thread frame (Run block otherwise ∷ rest) at = body_moves system told now is sound still thread frame block otherwise rest at
+quiet_at system told now is sound still thread frame (Notify note ∷ rest) at = note_moves system told now still thread frame note rest at
+quiet_at system told now is sound still thread frame (Unlock ∷ rest) at = unlock_moves (program_with system told) now still thread frame rest at
+quiet_at system told now is sound still thread frame (Release notes ∷ rest) at = release_moves (program_with system told) now still thread frame notes rest at
 
-no_call : (program : Program) (now : Moment) → IsStill program now → (thread : ℕ) (frame : Frame) → IsThread now.threads thread frame Outside → (found : Option Call) → call_of program thread frame ≡ found
-    → call_of program thread frame ≡ None
-no_call program now still thread frame at None is = is
-no_call program now still thread frame at (Some call) is =
-    absurd (moves_on program now still _ (calls thread frame (record { outside = at; call = call; call_is = is; becomes = refl })) refl)
+-- and has no note to make
+quiet_tells : (program : Program) (now : Moment) (thread : ℕ) (frame : Frame) (ops : List Op) (condition : ℕ) → IsAtRest program now thread frame (At ops) → has_note (notes_to_come ops) condition ≡ true → ⊥
+quiet_tells program now thread frame [] condition rests tells = rests
+quiet_tells program now thread frame (Lock ∷ rest) condition rests tells = never tells
+quiet_tells program now thread frame (WaitUntil block on ∷ rest) condition rests tells = rests
+quiet_tells program now thread frame (ElseRefuse block ∷ rest) condition rests tells = rests
+quiet_tells program now thread frame (Run block otherwise ∷ rest) condition rests tells = rests
+quiet_tells program now thread frame (Notify note ∷ rest) condition rests tells = rests
+quiet_tells program now thread frame (Unlock ∷ rest) condition rests tells = rests
+quiet_tells program now thread frame (Release notes ∷ rest) condition rests tells = rests
 
-pub still_late : (system : System) (told : ℕ → List Op) (last : Moment) → HasCountingPlan system → IsTold system told → Leads (program_with system told) last → StillIsTheEnd (program_with system told) last
-still_late system told last set order run still thread frame Outside at = no_call (program_with system told) last still thread frame at (call_of (program_with system told) thread frame) refl
-still_late system told last set order run still thread frame (At ops) at =
-    free_moves system told last set.is (sound_late system told set.is order last run) still (nobody_holds system told last set.is order run still) thread frame ops at
-still_late system told last set order run still thread frame (Asleep block condition rest) at = elim (cases_Bool (is_open (program_with system told) last.state thread frame block)) [
+-- ---- where threads may have stopped
+
+pub quiet_late : (system : System) (told : ℕ → List Op) (last : Moment) → HasCountingPlan system → IsTold system told → Leads (program_with system told) last → QuietIsAtRest (program_with system told) last
+quiet_late system told last set order run still thread frame Outside at = tt
+quiet_late system told last set order run still thread frame (At ops) at = quiet_at system told last set.is (sound_late system told set.is order last run) still thread frame ops at
+quiet_late system told last set order run still thread frame (Asleep block condition rest) at = elim (cases_Bool (is_open (program_with system told) last.state thread frame block)) [
   | inr closed_so ↦ closed_so
   | inl open_so ↦
       let free = nobody_holds system told last set.is order run still in
       absurd (elim (late_seen_to system told last set order run free thread frame block condition rest at open_so) [
         | inl woken ↦ notified_moves (program_with system told) last still free woken.0 woken.1 woken.2 condition woken.3 woken.4
-        | inr telling ↦ free_moves system told last set.is (sound_late system told set.is order last run) still free telling.0 telling.1 telling.2 telling.3
+        | inr telling ↦
+            quiet_tells (program_with system told) last telling.0 telling.1 telling.2 condition
+            (quiet_at system told last set.is (sound_late system told set.is order last run) still telling.0 telling.1 telling.2 telling.3) telling.4
       ])
 ]
-still_late system told last set order run still thread frame (Notified block condition rest) at =
+quiet_late system told last set order run still thread frame (Notified block condition rest) at =
     notified_moves (program_with system told) last still (nobody_holds system told last set.is order run still) thread frame block condition rest at
+
+-- ---- each thread is at its end
+
+-- nobody can move, so nobody but by choice
+still_quiet : (program : Program) (now next : Moment) (move : IsMove program now next) → is_by_chance program now next move ≡ true → is_optional program now next move ≡ true
+still_quiet program now next (calls thread frame move) is = refl
+still_quiet program now next (takes thread frame move) is = refl
+still_quiet program now next (passes thread frame move) is = is
+still_quiet program now next (falls_asleep thread frame move) is = is
+still_quiet program now next (wakes thread frame move) is = is
+still_quiet program now next (retakes thread frame move) is = is
+still_quiet program now next (refuses thread frame move) is = is
+still_quiet program now next (runs_body thread frame move) is = is
+still_quiet program now next (panics thread frame move) is = is
+still_quiet program now next (notifies thread frame move) is = is
+still_quiet program now next (unlocks thread frame move) is = is
+still_quiet program now next (releases thread frame move) is = is
+still_quiet program now next (returns thread frame move) is = is
+
+quiet : (program : Program) (now : Moment) → IsStill program now → IsQuiet program now
+quiet program now still next move = still_quiet program now next move (still next move)
+
+still_moves : (program : Program) (now : Moment) → IsStill program now → (next : Moment) (move : IsMove program now next) → is_by_chance program now next move ≡ false → ⊥
+still_moves program now still next move other = not_both (is_by_chance program now next move) (still next move) other
+
+no_call : (program : Program) (now : Moment) → IsStill program now → (thread : ℕ) (frame : Frame) → IsThread now.threads thread frame Outside → (found : Option Call) → call_of program thread frame ≡ found
+    → call_of program thread frame ≡ None
+no_call program now still thread frame at None is = is
+no_call program now still thread frame at (Some call) is =
+    absurd (still_moves program now still _ (calls thread frame (record { outside = at; call = call; call_is = is; becomes = refl })) refl)
+
+-- nobody is before a lock
+no_lock : (program : Program) (now : Moment) → IsStill program now → now.holder ≡ None → (thread : ℕ) (frame : Frame) (ops : List Op) → IsThread now.threads thread frame (At ops)
+    → IsAtRest program now thread frame (At ops) → ⊥
+no_lock program now still free thread frame [] at rests = rests
+no_lock program now still free thread frame (Lock ∷ rest) at rests = still_moves program now still _ (takes thread frame (record { rest = rest; at = at; free = free; becomes = refl })) refl
+no_lock program now still free thread frame (WaitUntil block condition ∷ rest) at rests = rests
+no_lock program now still free thread frame (ElseRefuse block ∷ rest) at rests = rests
+no_lock program now still free thread frame (Run block otherwise ∷ rest) at rests = rests
+no_lock program now still free thread frame (Notify note ∷ rest) at rests = rests
+no_lock program now still free thread frame (Unlock ∷ rest) at rests = rests
+no_lock program now still free thread frame (Release notes ∷ rest) at rests = rests
+
+pub still_late : (system : System) (told : ℕ → List Op) (last : Moment) → HasCountingPlan system → IsTold system told → Leads (program_with system told) last → StillIsTheEnd (program_with system told) last
+still_late system told last set order run still thread frame Outside at = no_call (program_with system told) last still thread frame at (call_of (program_with system told) thread frame) refl
+still_late system told last set order run still thread frame (At ops) at =
+    let stopped = quiet (program_with system told) last still in
+    no_lock (program_with system told) last still (nobody_holds system told last set.is order run stopped) thread frame ops at (quiet_late system told last set order run stopped thread frame (At ops) at)
+still_late system told last set order run still thread frame (Asleep block condition rest) at =
+    quiet_late system told last set order run (quiet (program_with system told) last still) thread frame (Asleep block condition rest) at
+still_late system told last set order run still thread frame (Notified block condition rest) at =
+    quiet_late system told last set order run (quiet (program_with system told) last still) thread frame (Notified block condition rest) at
 
 -- ---- the run is at its end
 

@@ -14,11 +14,12 @@ use Rattle.machine_events.specs.Configurations.{block_condition}
 
 -- ---- operations; each stands for a statement of Rust
 
--- There `inner` is what the mutex guards: the fields, `inner.state`, and of each condition how many
--- sleep on it, `inner.asleep_c`. `can_m` and `run_m` are the functions of a block's guard and body,
--- and `can_c` is that of the guard of a condition's first block, and the condition's variable. Of
--- the second block of a method they are `can2_m`, `run2_m` and `asleep2_m`, and so on. They are
--- handed the parameters and locals that they take, as in `can_m(amount, seen)` and
+-- There `inner` is what the mutex guards: the fields, `inner.state`, of each condition how many
+-- sleep on it, `inner.asleep_c`, and `inner.data`. `can_m` and `run_m` are the functions of a
+-- block's guard and body, and `can_c` is that of the guard of a condition's first block, and the
+-- condition's variable. Of the second block of a method they are `can2_m`, `run2_m` and
+-- `asleep2_m`, and so on. They are handed the parameters and locals that they take, as in
+-- `can_m(amount, seen)` and
 -- `run_m(amount, &mut seen)`. `lock` and `wait` are functions of the module, which call
 -- `Mutex::lock` and `Condvar::wait`.
 --
@@ -28,7 +29,7 @@ use Rattle.machine_events.specs.Configurations.{block_condition}
 -- for each local, are the move `Calls`; its end is the move `Returns`. The last line of a method is
 -- what its last block answered: `answer`, or none where it has no result; `Ok(answer)` where a body
 -- of the method may overflow or its calls try, with `()` in place of `answer` where there is no
--- result.
+-- result. In a call with a function it is `result`.
 
 -- what a thread does in a call, by one statement
 pub data Op : Type 0 where
@@ -49,10 +50,14 @@ pub data Op : Type 0 where
   -- where there are. Where it has no result it is `inner.state.run_m();`, `inner.state.run_m()?;`
   -- and `let Ok(()) = ..`. In a call that tries the error is `Failed::Overflow`, which the `?`
   -- makes of the other. The `?` and the `return` of an overflow drop the guard of the mutex: this
-  -- is the `Unlock` that ends `telling_code`
+  -- is the `Unlock` that ends `telling_code`. In a call that is given a function its last block is
+  -- `let hand = HandOn(&self.can_c);`, `let mut next = inner.state;`,
+  -- `let answer = next.run_m()?;`, `let result = f(&mut inner.data, answer);`,
+  -- `std::mem::forget(hand);`, `inner.state = next;`. Where the `?` returns or `f` panics, `hand`
+  -- is dropped, which makes the note, and then `inner`; a panic is the move `Panics`
   Run : (block : ℕ) (otherwise : List Note) → Op
   -- the mutex is given back, and those of the notes come next that are called for:
-  -- `let copy = *inner; drop(inner);`, and then of each note
+  -- `let copy = inner.copy(); drop(inner);`, and then of each note
   -- `if copy.asleep_c > 0 { self.can_c.notify_one(); }`, or `notify_all` where the note is for all;
   -- where it is tested, in `if copy.asleep_c > 0 && copy.state.can_c() { .. }`. So what the mutex
   -- guarded when it was given back says which of them are made. With no notes it is `drop(inner);`

@@ -16,7 +16,7 @@ use Rattle.machine_implicit.specs.Scripted.{calls_of}
 use Rattle.machine_events.specs.declared.plan.Note.{Note}
 use Rattle.machine_events.specs.Counts.{one_if}
 use Rattle.machine_events.specs.Configurations.{System}
-use Rattle.emit_code.specs.Code.{Op, telling_code, code_with}
+use Rattle.emit_code.specs.Code.{Op, telling_code, test_code, code_with}
 use Rattle.emit_code.specs.Code.Op.{Lock, WaitUntil, ElseRefuse, Run, Notify, Unlock, Release}
 
 -- ---- programs and threads
@@ -280,6 +280,40 @@ pub record RunsBody (program : Program) (thread : ℕ) (frame : Frame) (before n
         (At (continues reply otherwise rest));
   }
 
+-- ---- a function panics
+
+-- the call that a thread is in tries at the block, the first of its method
+abbrev pub tries_there : Program → ℕ → Frame → ℕ → Bool
+tries_there program thread frame block =
+    option_map_or (λ call. call.tries && number_in program thread frame block == 0)
+    (call_of program thread frame) false
+
+-- these notes are made, the mutex is given back, and there is more to do
+abbrev pub telling_then : List Note → List Op → List Op
+telling_then [] rest = Unlock ∷ rest
+telling_then (note ∷ notes) rest = Notify note ∷ telling_then notes rest
+
+-- what is left to do after a panic: the notes of an overflow are made, the mutex is given back, and
+-- the thread stands before the block as if it had not come so far
+abbrev pub recovers : Program → ℕ → Frame → ℕ → List Note → List Op → List Op
+recovers program thread frame block otherwise rest =
+    telling_then otherwise (Lock ∷ test_code program.monitor
+    (tries_there program thread frame block) block (Run block otherwise ∷ rest))
+
+-- A function that the call was given panics. Nothing has changed but its data. Where
+-- the panic is caught the call may be made again, or another one, as by another thread; where it
+-- isn't, the thread makes no move after it gave the mutex back.
+pub record Panics (program : Program) (thread : ℕ) (frame : Frame) (before next : Moment) : Type 0
+  where
+    pub block : ℕ
+    pub otherwise : List Note
+    pub rest : List Op
+    pub at : IsThread before.threads thread frame (At (Run block otherwise ∷ rest))
+    pub becomes : next ≡ record before {
+      threads = goes before.threads thread frame
+          (At (recovers program thread frame block otherwise rest));
+    }
+
 -- ---- notes
 
 -- an `if` around it has a true guard, or it has none
@@ -400,6 +434,8 @@ pub data IsMove (program : Program) (before next : Moment) : Type 0 where
       → IsMove program before next
   runs_body : (thread : ℕ) (frame : Frame) → RunsBody program thread frame before next
       → IsMove program before next
+  panics : (thread : ℕ) (frame : Frame) → Panics program thread frame before next
+      → IsMove program before next
   notifies : (thread : ℕ) (frame : Frame) → Notifies program thread frame before next
       → IsMove program before next
   unlocks : (thread : ℕ) (frame : Frame) → Unlocks thread frame before next
@@ -415,13 +451,27 @@ pub data Executes (program : Program) (before : Moment) : Moment → Type 0 wher
   one_more : (middle last : Moment) → Executes program before middle → IsMove program middle last
       → Executes program before last
 
--- a wake-up by nothing, which nobody may count on
-abbrev pub is_by_nothing : (program : Program) (before next : Moment)
+-- a wake-up by nothing, or a panic, which nobody may count on
+abbrev pub is_by_chance : (program : Program) (before next : Moment)
     → IsMove program before next → Bool
-is_by_nothing program before next (wakes thread frame move) = true
-is_by_nothing program before next move = false
+is_by_chance program before next (wakes thread frame move) = true
+is_by_chance program before next (panics thread frame move) = true
+is_by_chance program before next move = false
 
--- no thread can move but by nothing
+-- no thread can move but by chance
 abbrev pub IsStill : Program → Moment → Type 0
 IsStill program now =
-    (next : Moment) (move : IsMove program now next) → is_by_nothing program now next move ≡ true
+    (next : Moment) (move : IsMove program now next) → is_by_chance program now next move ≡ true
+
+-- What a thread need not do, since it may stop between two calls, or before it locks the mutex, as
+-- after a panic; and what is by chance.
+abbrev pub is_optional : (program : Program) (before next : Moment)
+    → IsMove program before next → Bool
+is_optional program before next (calls thread frame move) = true
+is_optional program before next (takes thread frame move) = true
+is_optional program before next move = is_by_chance program before next move
+
+-- no thread can move but so
+abbrev pub IsQuiet : Program → Moment → Type 0
+IsQuiet program now =
+    (next : Moment) (move : IsMove program now next) → is_optional program now next move ≡ true

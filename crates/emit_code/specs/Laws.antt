@@ -8,6 +8,7 @@ use Rattle.machine_implicit.specs.declared.script.Client.{Client}
 use Rattle.machine_implicit.specs.Scripted.{FitsScripts}
 use Rattle.machine_implicit.specs.Places.{gives_up}
 use Rattle.machine_implicit.specs.Runs.{Situation, IsRun, Ends}
+use Rattle.machine_events.specs.declared.plan.Note.{Note}
 use Rattle.machine_events.specs.declared.plan.Plan.{Plan}
 use Rattle.machine_events.specs.Plans.{has_note, FitsPlan, IsLawful}
 use Rattle.machine_events.specs.Configurations.{System}
@@ -17,8 +18,9 @@ use Rattle.machine_events.specs.Laws.{HasLawfulPlan, HasCountingPlan}
 use Rattle.emit_code.specs.Code.{Op, late_order}
 use Rattle.emit_code.specs.Code.Op.{Lock, WaitUntil, ElseRefuse, Run, Notify, Unlock, Release}
 use Rattle.emit_code.specs.Executions.{Program, program_with, Position, Frame, Moment, IsThread}
-use Rattle.emit_code.specs.Executions.{start, call_of, is_open, Executes, IsStill}
+use Rattle.emit_code.specs.Executions.{start, call_of, is_open, Executes, IsStill, IsQuiet}
 use Rattle.emit_code.specs.Executions.Position.{Outside, At, Asleep, Notified}
+use Rattle.emit_code.specs.Functions.{FunctionsRanOnce}
 use Rattle.emit_code.specs.Sleepers.{SleepersAreCounted, UncountedSleepNot, LeftOutIsMade}
 use Rattle.emit_code.specs.Orders.{notes_to_come, IsTold}
 use Rattle.emit_code.specs.LivePlans.{live_plan, printed_program}
@@ -45,6 +47,14 @@ HoldersAct program last =
     (thread : ℕ) (frame : Frame) (op : Op) (rest : List Op)
     → IsThread last.threads thread frame (At (op ∷ rest)) → needs_mutex op ≡ true
     → last.holder ≡ Some thread
+
+-- a thread that is about to run a body, and with it the function that its call was given, holds the
+-- mutex, and the guard is true
+abbrev pub BodiesAreReady : Program → Moment → Type 0
+BodiesAreReady program last =
+    (thread : ℕ) (frame : Frame) (block : ℕ) (otherwise : List Note) (rest : List Op)
+    → IsThread last.threads thread frame (At (Run block otherwise ∷ rest))
+    → (last.holder ≡ Some thread) × (is_open program last.state thread frame block ≡ true)
 
 -- ---- what ran
 
@@ -103,7 +113,7 @@ SleepersAreSeenTo program last =
     → IsThread last.threads thread frame (Asleep block condition rest)
     → is_open program last.state thread frame block ≡ true → SomeoneSees last condition
 
--- ---- where no thread can move but by nothing
+-- ---- where no thread can move but by chance
 
 -- the thread is between two calls and has none left, or it sleeps and its guard is false
 abbrev pub IsAtEnd : Program → Moment → ℕ → Frame → Position → Type 0
@@ -118,6 +128,28 @@ abbrev pub StillIsTheEnd : Program → Moment → Type 0
 StillIsTheEnd program last =
     IsStill program last → (thread : ℕ) (frame : Frame) (position : Position)
     → IsThread last.threads thread frame position → IsAtEnd program last thread frame position
+
+-- the thread has stopped between two calls or before it locks the mutex, or it sleeps and its guard
+-- is false
+abbrev pub IsAtRest : Program → Moment → ℕ → Frame → Position → Type 0
+IsAtRest program now thread frame Outside = Unit {0}
+IsAtRest program now thread frame (At []) = ⊥
+IsAtRest program now thread frame (At (Lock ∷ rest)) = Unit {0}
+IsAtRest program now thread frame (At (WaitUntil block condition ∷ rest)) = ⊥
+IsAtRest program now thread frame (At (ElseRefuse block ∷ rest)) = ⊥
+IsAtRest program now thread frame (At (Run block otherwise ∷ rest)) = ⊥
+IsAtRest program now thread frame (At (Notify note ∷ rest)) = ⊥
+IsAtRest program now thread frame (At (Unlock ∷ rest)) = ⊥
+IsAtRest program now thread frame (At (Release notes ∷ rest)) = ⊥
+IsAtRest program now thread frame (Asleep block condition rest) =
+    is_open program now.state thread frame block ≡ false
+IsAtRest program now thread frame (Notified block condition rest) = ⊥
+
+-- whichever threads have stopped, after a panic or otherwise: none hangs whose guard is true
+abbrev pub QuietIsAtRest : Program → Moment → Type 0
+QuietIsAtRest program last =
+    IsQuiet program last → (thread : ℕ) (frame : Frame) (position : Position)
+    → IsThread last.threads thread frame position → IsAtRest program last thread frame position
 
 -- and the run of what ran is at its end
 abbrev pub StillEndsTheRun : Program → Moment → Type 0
@@ -134,6 +166,18 @@ abbrev pub LateHoldersAct : Type 0
 LateHoldersAct =
     (system : System) (told : ℕ → List Op) (last : Moment) → IsSystem system → IsTold system told
     → Leads (program_with system told) last → HoldersAct (program_with system told) last
+
+-- whatever the plan, bodies run by who holds the mutex, where their guards are true
+abbrev pub LateBodiesAreReady : Type 0
+LateBodiesAreReady =
+    (system : System) (told : ℕ → List Op) (last : Moment) → IsSystem system → IsTold system told
+    → Leads (program_with system told) last → BodiesAreReady (program_with system told) last
+
+-- whatever the plan and the order, functions run once for each block that replied last in its call
+abbrev pub LateFunctionsRanOnce : Type 0
+LateFunctionsRanOnce =
+    (system : System) (told : ℕ → List Op) (last : Moment)
+    → FunctionsRanOnce (program_with system told) last
 
 -- whatever the plan, what ran is a run of the implicit monitor
 abbrev pub LateExecutionsRun : Type 0
@@ -161,7 +205,14 @@ LateStillIsTheEnd =
     → IsTold system told → Leads (program_with system told) last
     → StillIsTheEnd (program_with system told) last
 
--- under a lawful plan the run is at its end where no thread can move but by nothing
+-- under a lawful plan no thread hangs whose guard is true, where others stopped
+abbrev pub LateQuietIsAtRest : Type 0
+LateQuietIsAtRest =
+    (system : System) (told : ℕ → List Op) (last : Moment) → HasLawfulPlan system
+    → IsTold system told → Leads (program_with system told) last
+    → QuietIsAtRest (program_with system told) last
+
+-- under a lawful plan the run is at its end where no thread can move but by chance
 abbrev pub LateStillEndsTheRun : Type 0
 LateStillEndsTheRun =
     (system : System) (told : ℕ → List Op) (last : Moment) → HasLawfulPlan system
@@ -182,8 +233,15 @@ CountedStillIsTheEnd =
     → IsTold system told → Leads (program_with system told) last
     → StillIsTheEnd (program_with system told) last
 
+-- under a plan that is lawful by counting no thread hangs whose guard is true, where others stopped
+abbrev pub CountedQuietIsAtRest : Type 0
+CountedQuietIsAtRest =
+    (system : System) (told : ℕ → List Op) (last : Moment) → HasCountingPlan system
+    → IsTold system told → Leads (program_with system told) last
+    → QuietIsAtRest (program_with system told) last
+
 -- under a plan that is lawful by counting the run is at its end where no thread can move but by
--- nothing
+-- chance
 abbrev pub CountedStillEndsTheRun : Type 0
 CountedStillEndsTheRun =
     (system : System) (told : ℕ → List Op) (last : Moment) → HasCountingPlan system
@@ -239,10 +297,13 @@ LivePlansCount =
 -- what is so at each moment of its executions
 pub record LosesNone (program : Program) (last : Moment) : Type 0 where
   pub mutex : HoldersAct program last
+  pub ready : BodiesAreReady program last
   pub run : Ran program last
+  pub functions : FunctionsRanOnce program last
   pub answers : AnswersAreReplies program last
   pub counts : SleepersAreCounted last
   pub pending : SleepersAreSeenTo program last
+  pub rests : QuietIsAtRest program last
   pub ends : StillIsTheEnd program last
   pub ends_the_run : StillEndsTheRun program last
 

@@ -3,6 +3,9 @@
 ghost use Rattle.emit_code.specs.Laws.{LateHoldersAct, LateExecutionsRun, LateAnswersAreReplies};
 ghost use Rattle.emit_code.specs.Laws.{LateSleepersAreSeenTo, LateStillIsTheEnd};
 ghost use Rattle.emit_code.specs.Laws.{LateStillEndsTheRun, LateOrderIsTold};
+ghost use Rattle.emit_code.specs.Laws.{LateBodiesAreReady, LateFunctionsRanOnce};
+ghost use Rattle.emit_code.specs.Functions.{DataFollowTheRun};
+ghost use Rattle.emit_code.specs.Laws.{LateQuietIsAtRest, CountedQuietIsAtRest};
 ghost use Rattle.emit_code.specs.Laws.{LateSleepersAreCounted, LateUncountedSleepNot};
 ghost use Rattle.emit_code.specs.Laws.{LateLeftOutIsMade};
 ghost use Rattle.emit_code.specs.Laws.{CountedSleepersAreSeenTo, CountedStillIsTheEnd};
@@ -12,19 +15,24 @@ ghost use Rattle.emit_code.specs.Laws.{LivePlansFit, LivePlansAreLawful, Printed
 
 /// Whatever the interleaving of any threads that call the methods of a monitor, any number of
 /// times, by code that makes the notes of each block before or after it gives the mutex back, or
-/// leaves out those on conditions on which nobody sleeps by its count: who
-/// reads or changes the state holds the mutex, what ran is a run of the implicit monitor, and what
-/// a call answers is the reply of the last that its thread did. Under a lawful plan no wake-up is
-/// lost: where nobody holds the mutex and a thread sleeps whose guard is true, a thread is notified
-/// on its condition, or has a note on it to make; and where no thread can move but by nothing, each
-/// has no call left, or sleeps and its guard is false, and the run is at its end. The order that is
-/// printed is such an order: the mutex is given back, and the notes come next that the counts and
-/// tests called for then.
+/// leaves out those on conditions on which nobody sleeps by its count, and with functions that are
+/// run with bodies, any of which may panic: who reads or changes the state holds the mutex, a body
+/// and its function are run where the guard is true, what ran is a run of the implicit monitor, in
+/// which a call whose function panicked has changed nothing, and what a call answers is the reply of
+/// the last that its thread did. Under a lawful plan no wake-up is lost: where nobody holds the
+/// mutex and a thread sleeps whose guard is true, a thread is notified on its condition, or has a
+/// note on it to make; and where no thread can move but by chance, each has no call left, or sleeps
+/// and its guard is false, and the run is at its end. Threads may also stop between two calls or
+/// before they lock the mutex, as after a panic: where the others can't move, none of them hangs
+/// whose guard is true. The order that is printed is such an order: the mutex is given back, and
+/// the notes come next that the counts and tests called for then.
 pub fn late_notes_lose_none()
     ensures mutex { LateHoldersAct }
+    ensures ready { LateBodiesAreReady }
     ensures run { LateExecutionsRun }
     ensures answers { LateAnswersAreReplies }
     ensures pending { LateSleepersAreSeenTo }
+    ensures rests { LateQuietIsAtRest }
     ensures ends { LateStillIsTheEnd }
     ensures ends_the_run { LateStillEndsTheRun }
     ensures order { LateOrderIsTold }
@@ -37,6 +45,18 @@ pub fn counts_are_kept()
     ensures kept { LateSleepersAreCounted }
     ensures nobody { LateUncountedSleepNot }
     ensures left_out { LateLeftOutIsMade }
+{}
+
+/// Whatever the plan and the order, the functions that returned in an execution are those of the
+/// blocks that replied last in their calls, each once, in the order of what ran.
+pub fn functions_run_once()
+    ensures { LateFunctionsRanOnce }
+{}
+
+/// So where no function panics, what is left of data of any kind, by any functions, is what those of
+/// the blocks that replied last in their calls leave of them, in the order of what ran.
+pub fn data_follow_the_run<D>()
+    ensures { DataFollowTheRun D }
 {}
 
 /// The plan without the notes that nobody hears fits its monitor where the plan does, and is lawful
@@ -55,6 +75,7 @@ pub fn printed_code_loses_none()
 /// The same under plans that are lawful by counting.
 pub fn counted_code_loses_none()
     ensures pending { CountedSleepersAreSeenTo }
+    ensures rests { CountedQuietIsAtRest }
     ensures ends { CountedStillIsTheEnd }
     ensures ends_the_run { CountedStillEndsTheRun }
     ensures live { LivePlansCount }

@@ -17,7 +17,7 @@ use Rattle.machine_events.specs.Plans.{FitsPlan}
 use Rattle.emit_code.specs.Code.{Op, late_order}
 use Rattle.emit_code.specs.Executions.{AreNotified, Executes, Frame, IsMove, IsThread, Moment, Position, RunsBody, Thread, call_of, goes, new_thread, program_with, start}
 use Rattle.emit_code.specs.Executions.Position.{Outside, At, Asleep, Notified}
-use Rattle.emit_code.specs.Executions.IsMove.{calls, takes, passes, falls_asleep, wakes, retakes, refuses, runs_body, notifies, unlocks, releases, returns}
+use Rattle.emit_code.specs.Executions.IsMove.{calls, takes, passes, falls_asleep, wakes, retakes, refuses, runs_body, panics, notifies, unlocks, releases, returns}
 use Rattle.emit_code.specs.Executions.Executes.{none_yet, one_more}
 use Rattle.emit_code.specs.Laws.{Leads}
 use Rattle.emit_code.specs.LivePlans.{live_plan, printed_program}
@@ -103,6 +103,8 @@ module _ (system : System) (told : ℕ → List Op) (set : HasCountingPlan syste
       subst IsClearAt (sym move.becomes) (goes_clear before.threads thread _ _ clear (λ inside call is fits over. refused_is_none over))
   move_clear before next run clear (runs_body thread frame move) =
       subst IsClearAt (sym move.becomes) (goes_clear before.threads thread _ _ clear (λ inside. body_clear thread frame before next run move))
+  move_clear before next run clear (panics thread frame move) =
+      subst IsClearAt (sym move.becomes) (same_clear before.threads thread frame _ _ clear move.at tt)
   move_clear before next run clear (notifies thread frame move) =
       subst IsClearAt (sym move.becomes)
       (goes_clear move.woken thread frame _ (woken_clear before move.note move.woken clear move.notified) (λ inside. clear thread frame _ move.at tt))
