@@ -5,4 +5,5 @@ pub mod Reading
 pub mod OddNames
 pub mod Spellings
 pub mod Tries
+pub mod Withs
 pub mod TryTexts

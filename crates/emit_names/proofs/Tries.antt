@@ -30,7 +30,7 @@ is_other (t ∷ r ∷ []) = true
 is_other (t ∷ []) = true
 is_other [] = true
 
-no_word : (words : List (List ℕ)) (text : List ℕ) → list_all is_other words ≡ true → Contains words (codes "try_" ++ text) → ⊥
+pub no_word : (words : List (List ℕ)) (text : List ℕ) → list_all is_other words ≡ true → Contains words (codes "try_" ++ text) → ⊥
 no_word words text others (k, within, at) = false≢true (sym (list_all_at is_other words k (codes "try_" ++ text) within (ap is_other at)) ∙ others)
 
 pub tries_stay : TriesAreNoKeywords

@@ -1,19 +1,31 @@
--- Whether no member is written as the method that tries, by what stands for the monitor's parts.
-use Rattle.std.proofs.Common.{◌≡◌, ℕ, Bool, not, ◌||◌, List, ◌++◌, ◌∙◌, map, ap}
+-- Whether another name is written so, by what stands for the monitor's parts.
+use Rattle.std.proofs.Common.{◌≡◌, ℕ, Bool, not, ◌||◌, List, ◌++◌, ◌∙◌, map, sym, ap}
 use Rattle.std.specs.List.{list_any}
 use Rattle.std.specs.Str.{bytes_eq}
+use Rattle.std.proofs.lemmas.List.Folds.{list_any-append}
 use Rattle.lang_tree.specs.declared.tree.Decl.{Decl}
 use Rattle.lang_tree.specs.declared.tree.MethodTree.{MethodTree}
 use Rattle.lang_tree.specs.declared.tree.MonitorTree.{MonitorTree}
-use Rattle.emit_names.specs.Names.{declared_text, is_try_free, member_names, method_name, try_name}
+use Rattle.emit_names.specs.Names.{declared_text, is_with_free, member_names, method_name, try_name, try_names, with_name}
 use Rattle.emit_names.proofs.OddNames.{any_of_two}
+use Rattle.emit_names.proofs.Reading.{any_map}
 
-pub free_says : (tree : MonitorTree) (tried name : List ℕ) (declared : List Decl) (methods : List MethodTree) (one other answer : Bool)
-    → tried ≡ try_name tree name → declared ≡ tree.decls → methods ≡ tree.methods → one ≡ list_any (λ it. bytes_eq tried (declared_text tree it)) declared
-    → other ≡ list_any (λ it. bytes_eq tried (method_name tree it)) methods → answer ≡ not (one || other) → answer ≡ is_try_free tree name
-free_says tree tried name declared methods one other answer says has does is are neither =
+pub member_is : (tree : MonitorTree) (text : List ℕ) (declared : List Decl) (methods : List MethodTree) (one other answer : Bool)
+    → declared ≡ tree.decls → methods ≡ tree.methods → one ≡ list_any (λ it. bytes_eq text (declared_text tree it)) declared
+    → other ≡ list_any (λ it. bytes_eq text (method_name tree it)) methods → answer ≡ (one || other) → answer ≡ list_any (bytes_eq text) (member_names tree)
+member_is tree text declared methods one other answer has does is are either =
+    either
+    ∙ any_of_two (bytes_eq text) (declared_text tree) (method_name tree) declared methods one other is are
+    ∙ ap (λ (l : List Decl). list_any (bytes_eq text) (map (declared_text tree) l ++ map (method_name tree) methods)) has
+    ∙ ap (λ (l : List MethodTree). list_any (bytes_eq text) (map (declared_text tree) tree.decls ++ map (method_name tree) l)) does
+
+pub with_says : (tree : MonitorTree) (text name : List ℕ) (methods : List MethodTree) (one other answer : Bool)
+    → text ≡ with_name tree name → methods ≡ tree.methods → one ≡ list_any (bytes_eq text) (member_names tree)
+    → other ≡ list_any (λ it. bytes_eq text (try_name tree it.name)) methods → answer ≡ not (one || other) → answer ≡ is_with_free tree name
+with_says tree text name methods one other answer says does is are neither =
     neither
-    ∙ ap not (any_of_two (bytes_eq tried) (declared_text tree) (method_name tree) declared methods one other is are)
-    ∙ ap (λ (l : List Decl). not (list_any (bytes_eq tried) (map (declared_text tree) l ++ map (method_name tree) methods))) has
-    ∙ ap (λ (l : List MethodTree). not (list_any (bytes_eq tried) (map (declared_text tree) tree.decls ++ map (method_name tree) l))) does
-    ∙ ap (λ (text : List ℕ). not (list_any (bytes_eq text) (member_names tree))) says
+    ∙ ap (λ (t : Bool). not (t || other)) is
+    ∙ ap (λ (t : Bool). not (list_any (bytes_eq text) (member_names tree) || t)) (are ∙ any_map (bytes_eq text) (λ (method : MethodTree). try_name tree method.name) methods)
+    ∙ ap (λ (l : List MethodTree). not (list_any (bytes_eq text) (member_names tree) || list_any (bytes_eq text) (map (λ (method : MethodTree). try_name tree method.name) l))) does
+    ∙ ap not (sym (list_any-append (bytes_eq text) (member_names tree) (try_names tree)))
+    ∙ ap (λ (l : List ℕ). not (list_any (bytes_eq l) (member_names tree ++ try_names tree))) says

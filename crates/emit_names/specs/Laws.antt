@@ -4,7 +4,8 @@ use Rattle.lang_tree.specs.declared.tree.MethodTree.{MethodTree}
 use Rattle.lang_tree.specs.declared.tree.MonitorTree.{MonitorTree}
 use Rattle.emit_names.specs.declared.style.Style.{Style}
 use Rattle.emit_names.specs.Names.{rust_name, members, member_name, inputs_of, input_name, type_name}
-use Rattle.emit_names.specs.Names.{member_names, try_name, is_try_free}
+use Rattle.emit_names.specs.Names.{member_names, try_name, try_names, is_try_free, with_name}
+use Rattle.emit_names.specs.Names.{with_names, try_with_name, is_with_free, is_try_with_free}
 use Rattle.emit_names.specs.Words.{KEYWORDS, TYPE_WORDS, MEMBER_WORDS, INPUT_WORDS}
 
 -- two names of a scope that are written alike are one, in whatever style each of them is written
@@ -66,3 +67,33 @@ abbrev pub TriesAreNoKeywords : Type 0
 TriesAreNoKeywords =
     (tree : MonitorTree) (name : List ℕ)
     → Contains (KEYWORDS ++ MEMBER_WORDS) (try_name tree name) → ⊥
+
+-- the methods whose calls are given a function are named apart from one another
+abbrev pub WithsStayApart : Type 0
+WithsStayApart =
+    (tree : MonitorTree) (name other : List ℕ)
+    → Contains (members tree) name → Contains (members tree) other
+    → with_name tree name ≡ with_name tree other
+    → name ≡ other
+
+-- a name that is free is not that of a constant, a field or a method, nor of one that tries
+abbrev pub WithsStandFree : Type 0
+WithsStandFree =
+    (tree : MonitorTree) (name : List ℕ)
+    → is_with_free tree name ≡ true
+    → Contains (member_names tree ++ try_names tree) (with_name tree name) → ⊥
+
+-- for calls that try it is not that of one whose calls are given a function either
+abbrev pub TryWithsStandFree : Type 0
+TryWithsStandFree =
+    (tree : MonitorTree) (name : List ℕ)
+    → is_try_with_free tree name ≡ true
+    → Contains (member_names tree ++ (try_names tree ++ with_names tree)) (try_with_name tree name)
+    → ⊥
+
+-- and none of them is named by a word that has a meaning
+abbrev pub WithsAreNoKeywords : Type 0
+WithsAreNoKeywords =
+    (tree : MonitorTree) (name : List ℕ)
+    → (Contains (KEYWORDS ++ MEMBER_WORDS) (with_name tree name) → ⊥)
+    × (Contains (KEYWORDS ++ MEMBER_WORDS) (try_with_name tree name) → ⊥)

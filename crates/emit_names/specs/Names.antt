@@ -100,6 +100,33 @@ member_names tree = map (declared_text tree) tree.decls ++ map (method_name tree
 abbrev pub try_name : MonitorTree → List ℕ → List ℕ
 try_name tree name = codes "try_" ++ member_name tree styles.Snake name
 
+-- the names of all methods that may try
+abbrev pub try_names : MonitorTree → List (List ℕ)
+try_names tree = map (λ method. try_name tree method.name) tree.methods
+
+-- `put_with` does what `put` does, and calls a function with the data
+abbrev pub with_name : MonitorTree → List ℕ → List ℕ
+with_name tree name = member_name tree styles.Snake name ++ codes "_with"
+
+-- `try_put_with` does not wait
+abbrev pub try_with_name : MonitorTree → List ℕ → List ℕ
+try_with_name tree name = codes "try_" ++ with_name tree name
+
+-- the names of all methods that may
+abbrev pub with_names : MonitorTree → List (List ℕ)
+with_names tree = map (λ method. with_name tree method.name) tree.methods
+
 -- no constant, field or method of the monitor is written so
 abbrev pub is_try_free : MonitorTree → List ℕ → Bool
 is_try_free tree name = not (list_any (bytes_eq (try_name tree name)) (member_names tree))
+
+-- nor a method that tries
+abbrev pub is_with_free : MonitorTree → List ℕ → Bool
+is_with_free tree name =
+    not (list_any (bytes_eq (with_name tree name)) (member_names tree ++ try_names tree))
+
+-- where the others are free too
+abbrev pub is_try_with_free : MonitorTree → List ℕ → Bool
+is_try_with_free tree name =
+    not (list_any (bytes_eq (try_with_name tree name)) (member_names tree))
+    && (is_try_free tree name && is_with_free tree name)

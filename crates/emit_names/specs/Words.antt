@@ -19,15 +19,19 @@ abbrev pub TYPE_WORDS : List (List ℕ)
 TYPE_WORDS =
     codes "Inner" ∷ codes "State" ∷ codes "Overflow" ∷ codes "Refused" ∷ codes "Failed" ∷
     codes "Mutex" ∷ codes "MutexGuard" ∷ codes "Condvar" ∷ codes "PoisonError" ∷ codes "Default" ∷
-    codes "From" ∷ codes "Result" ∷ []
+    codes "From" ∷ codes "Result" ∷ codes "Drop" ∷ codes "FnOnce" ∷ codes "HandOn" ∷ codes "D" ∷
+    codes "R" ∷ []
 
--- the other function of a monitor's type
+-- the other functions of a monitor's type
 abbrev pub MEMBER_WORDS : List (List ℕ)
-MEMBER_WORDS = codes "new" ∷ []
+MEMBER_WORDS =
+    codes "new" ∷ codes "with_data" ∷ codes "get_mut" ∷ codes "into_inner" ∷
+    codes "is_poisoned" ∷ []
 
 -- what else is named in the methods of a module
 abbrev pub INPUT_WORDS : List (List ℕ)
 INPUT_WORDS =
-    codes "inner" ∷ codes "copy" ∷ codes "next" ∷ codes "answer" ∷ codes "lock" ∷ codes "wait" ∷
-    codes "narrow" ∷ codes "whole" ∷ codes "drop" ∷ codes "Ok" ∷ codes "Err" ∷ codes "Some" ∷
-    codes "None" ∷ codes "Overflow" ∷ codes "Refused" ∷ []
+    codes "inner" ∷ codes "copy" ∷ codes "next" ∷ codes "answer" ∷ codes "f" ∷ codes "hand" ∷
+    codes "result" ∷ codes "lock" ∷ codes "wait" ∷ codes "narrow" ∷ codes "whole" ∷ codes "drop" ∷
+    codes "Ok" ∷ codes "Err" ∷ codes "Some" ∷ codes "None" ∷ codes "Overflow" ∷ codes "Refused" ∷
+    codes "HandOn" ∷ []

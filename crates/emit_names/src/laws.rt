@@ -4,6 +4,8 @@ ghost use Rattle.emit_names.specs.Laws.{InputsStayApart, MembersStayApart, Names
 ghost use Rattle.emit_names.specs.Laws.{InputsAreNoKeywords, MembersAreNoKeywords};
 ghost use Rattle.emit_names.specs.Laws.{TriesAreNoKeywords, TriesStandFree, TriesStayApart};
 ghost use Rattle.emit_names.specs.Laws.{TypesAreNoKeywords};
+ghost use Rattle.emit_names.specs.Laws.{TryWithsStandFree, WithsAreNoKeywords, WithsStandFree};
+ghost use Rattle.emit_names.specs.Laws.{WithsStayApart};
 
 /// Two names of one scope that Rust's text writes alike are one name: no two become one by another
 /// case, by a `_` before an upper-case letter, or by the `_` after a word that has a meaning. So
@@ -28,4 +30,13 @@ pub fn try_names_stay_apart()
     ensures tries { TriesStayApart }
     ensures members { TriesStandFree }
     ensures words { TriesAreNoKeywords }
+{}
+
+/// So are the methods whose calls are given a function, and those of them that try, where their
+/// names are free: also from the methods that try, and from one another.
+pub fn with_names_stay_apart()
+    ensures withs { WithsStayApart }
+    ensures free { WithsStandFree }
+    ensures tries { TryWithsStandFree }
+    ensures words { WithsAreNoKeywords }
 {}

@@ -3,8 +3,9 @@
 //! They are written as Rust has them, by [`write_type`], [`write_member`] and [`write_input`]:
 //! `specs/Names` says how, [`names_stay_apart`] that no two of one scope become one, and
 //! [`names_are_no_keywords`] that each may stand in Rust. [`write_try_name`] writes the name of the
-//! method that tries, which no other has where [`is_try_free`] ([`try_names_stay_apart`]).
-//! [`has_odd_name`] says whether rustc's lints would speak of a name (`specs/Lints`).
+//! method that tries, which no other has where [`is_try_free`] ([`try_names_stay_apart`]), and
+//! [`write_with_name`] and [`write_try_with_name`] those of the methods whose calls are given a
+//! function ([`with_names_stay_apart`]). [`has_odd_name`] says whether rustc's lints would speak of a name (`specs/Lints`).
 #![tactic(auto)]
 
 mod laws;
@@ -14,8 +15,13 @@ mod spelling;
 mod style;
 mod trying;
 
-pub use laws::{names_are_no_keywords, names_stay_apart, try_names_stay_apart};
+pub use laws::{
+    names_are_no_keywords, names_stay_apart, try_names_stay_apart, with_names_stay_apart,
+};
 pub use lints::has_odd_name;
 pub use names::{write_input, write_member, write_type};
 pub use style::Style;
-pub use trying::{is_try_free, write_try_name};
+pub use trying::{
+    is_try_free, is_try_with_free, is_with_free, write_try_name, write_try_with_name,
+    write_with_name,
+};

@@ -1,12 +1,13 @@
 //! Names as Rust has them, written to a sink.
 
 ghost use Rattle.std.specs.Prelude.{◌≡◌, ◌==◌, ◌&&◌, ◌||◌, ◌++◌, [], if◌then◌else◌, map};
-ghost use Rattle.std.specs.Prelude.{not};
+ghost use Rattle.std.specs.Prelude.{codes, not};
 ghost use Rattle.std.specs.List.{list_any};
 ghost use Rattle.std.specs.Str.{bytes_eq};
 ghost use Rattle.emit_names.specs.Letters.{camel, camel_from, marked, raised, spelled, starts};
 ghost use Rattle.emit_names.specs.Names.{escape_text, escaped, input_name, is_escaped};
 ghost use Rattle.emit_names.specs.Names.{is_shifted, meets, member_name, style_in, type_name};
+ghost use Rattle.emit_names.specs.Names.{with_name};
 ghost use Rattle.emit_names.specs.inner.Reading.{after_mark, rest_of, takes};
 ghost use Rattle.emit_names.specs.inner.Spellings.{spelling_text};
 ghost use Rattle.emit_names.specs.declared.style.Style.TheVariants as styles;
@@ -73,7 +74,7 @@ const KEYWORDS: [&[u8]; 52] = [
     b"yield",
 ];
 
-const TYPE_WORDS: [&[u8]; 12] = [
+const TYPE_WORDS: [&[u8]; 17] = [
     b"Inner",
     b"State",
     b"Overflow",
@@ -86,15 +87,29 @@ const TYPE_WORDS: [&[u8]; 12] = [
     b"Default",
     b"From",
     b"Result",
+    b"Drop",
+    b"FnOnce",
+    b"HandOn",
+    b"D",
+    b"R",
 ];
 
-const MEMBER_WORDS: [&[u8]; 1] = [b"new"];
+const MEMBER_WORDS: [&[u8]; 5] = [
+    b"new",
+    b"with_data",
+    b"get_mut",
+    b"into_inner",
+    b"is_poisoned",
+];
 
-const INPUT_WORDS: [&[u8]; 15] = [
+const INPUT_WORDS: [&[u8]; 19] = [
     b"inner",
     b"copy",
     b"next",
     b"answer",
+    b"f",
+    b"hand",
+    b"result",
     b"lock",
     b"wait",
     b"narrow",
@@ -106,6 +121,7 @@ const INPUT_WORDS: [&[u8]; 15] = [
     b"None",
     b"Overflow",
     b"Refused",
+    b"HandOn",
 ];
 
 /// Writes the name of a constant, a field or a method as Rust has it. It takes no memory.
@@ -136,7 +152,28 @@ pub(crate) fn member_spelling<'a>(
     let bytes = name.bytes();
     let style = style_in(tree.decls.items(), tree.methods.items(), style, bytes);
     let escaped = is_escaped(&MEMBER_WORDS, style, bytes);
-    spelling_of(word, style, bytes, escaped)
+    spelling_of(word, style, bytes, escape_bytes(escaped))
+}
+
+/// The name of a method whose calls are given a function, after a word.
+pub(crate) fn with_spelling<'a>(tree: &MonitorTree, word: &'a [u8], name: &'a Name) -> Spelling<'a>
+    ensures { spelling_text result ≡ word.now ++ with_name tree.now name.now }
+{
+    let bytes = name.bytes();
+    let style = style_in(
+        tree.decls.items(),
+        tree.methods.items(),
+        Style::Snake,
+        bytes,
+    );
+    let escaped = is_escaped(&MEMBER_WORDS, style, bytes);
+    spelling_of(word, style, bytes, with_bytes(escaped))
+}
+
+fn with_bytes(escaped: bool) -> &'static [u8]
+    ensures { result.now ≡ escape_text escaped ++ codes "_with" }
+{
+    if escaped { b"__with" } else { b"_with" }
 }
 
 /// Writes the name of a parameter or a local as Rust has it. It takes no memory.

@@ -3,37 +3,36 @@
 ghost use Rattle.std.specs.Prelude.{◌≡◌, ◌++◌, drop, if◌then◌else◌, slice_get};
 ghost use Rattle.std.specs.Str.{bytes_eq};
 ghost use Rattle.emit_names.specs.Letters.{begins_word, cased, spelled};
-ghost use Rattle.emit_names.specs.Names.{escape_text};
 ghost use Rattle.emit_names.specs.inner.Spellings.{after_byte, name_text, spelling_text};
 
 use crate::style::{Style, begins_word, cased};
 
-/// What is still to be written of a name: a word before it, its bytes after one of them, and a `_`
-/// where it is escaped.
+/// What is still to be written of a name: a word before it, its bytes after one of them, and its
+/// ending.
 #[derive(Clone, Copy)]
 pub(crate) struct Spelling<'a> {
     word: &'a [u8],
     style: Style,
     before: u8,
     name: &'a [u8],
-    escaped: bool,
+    ending: &'static [u8],
 }
 
-/// A name from its first byte on, after a word.
+/// A name from its first byte on, after a word, and an ending.
 pub(crate) fn spelling_of<'a>(
     word: &'a [u8],
     style: Style,
     name: &'a [u8],
-    escaped: bool,
+    ending: &'static [u8],
 ) -> Spelling<'a>
-    ensures { spelling_text result ≡ word.now ++ (spelled style 0 name.now ++ escape_text escaped) }
+    ensures { spelling_text result ≡ word.now ++ (spelled style 0 name.now ++ ending.now) }
 {
     Spelling {
         word,
         style,
         before: 0,
         name,
-        escaped,
+        ending,
     }
 }
 
@@ -58,23 +57,26 @@ fn first_byte(it: Spelling) -> Option<u8>
 {
     match it.word {
         [b, ..] => Some(*b),
-        _ => first_of_name(it.style, it.before, it.name, it.escaped),
+        _ => first_of_name(it.style, it.before, it.name, it.ending),
     }
 }
 
-fn first_of_name(style: Style, before: u8, name: &[u8], escaped: bool) -> Option<u8>
-    ensures { result ≡ slice_get (spelled style before name.now ++ escape_text escaped) 0 }
+fn first_of_name(style: Style, before: u8, name: &[u8], ending: &[u8]) -> Option<u8>
+    ensures { result ≡ slice_get (spelled style before name.now ++ ending.now) 0 }
 {
     match name {
         [b, ..] => Some(first_of(style, before, *b)),
-        _ => escape_byte(escaped),
+        _ => first_of_ending(ending),
     }
 }
 
-fn escape_byte(escaped: bool) -> Option<u8>
-    ensures { result ≡ slice_get (escape_text escaped) 0 }
+fn first_of_ending(ending: &[u8]) -> Option<u8>
+    ensures { result ≡ slice_get ending.now 0 }
 {
-    if escaped { Some(b'_') } else { None }
+    match ending {
+        [b, ..] => Some(*b),
+        _ => None,
+    }
 }
 
 fn first_of(style: Style, before: u8, b: u8) -> u8
@@ -101,17 +103,25 @@ fn after_first_of_name(it: Spelling) -> Spelling
 {
     match it.name {
         [b, more @ ..] => after_byte(it, *b, more),
-        _ => Spelling {
-            escaped: false,
-            ..it
-        },
+        _ => after_first_of_ending(it),
+    }
+}
+
+fn after_first_of_ending(it: Spelling) -> Spelling
+    ensures { spelling_text result ≡ it.entry.word.now
+        ++ (spelled it.entry.style it.entry.before it.entry.name.now
+        ++ drop 1 it.entry.ending.now) }
+{
+    match it.ending {
+        [_, ending @ ..] => Spelling { ending, ..it },
+        _ => it,
     }
 }
 
 // After a `_` that begins a word its letter is still to come.
 fn after_byte<'a>(it: Spelling<'a>, b: u8, more: &'a [u8]) -> Spelling<'a>
     ensures { spelling_text result ≡ it.entry.word.now
-        ++ (after_byte it.entry b more.now ++ escape_text it.entry.escaped) }
+        ++ (after_byte it.entry b more.now ++ it.entry.ending.now) }
 {
     if begins_word(it.style, it.before, b) {
         Spelling { before: 0, ..it }

@@ -1,15 +1,17 @@
-//! The names of the methods that try.
+//! The names of the methods that try, and of those whose calls are given a function.
 
-ghost use Rattle.std.specs.Prelude.{◌≡◌, ◌||◌, not};
+ghost use Rattle.std.specs.Prelude.{◌≡◌, ◌&&◌, ◌||◌, not};
 ghost use Rattle.std.specs.List.{list_any};
 ghost use Rattle.std.specs.Str.{bytes_eq};
 ghost use Rattle.emit_names.specs.Names.{declared_style, declared_text, is_try_free};
-ghost use Rattle.emit_names.specs.Names.{method_name, try_name};
+ghost use Rattle.emit_names.specs.Names.{is_try_with_free, is_with_free, member_names, method_name};
+ghost use Rattle.emit_names.specs.Names.{try_name};
+ghost use Rattle.emit_names.specs.Names.{try_with_name, with_name};
 ghost use Rattle.emit_names.specs.declared.style.Style.TheVariants as styles;
 ghost use Rattle.emit_names.specs.inner.Spellings.{spelling_text};
 ghost use Rattle.base_io.specs.Writing.{Wrote};
 
-use crate::names::{member_spelling, write_member};
+use crate::names::{member_spelling, with_spelling, write_member};
 use crate::spelling::{Spelling, is_same};
 use crate::style::Style;
 use base_io::{Sink, SinkFailed, write_piece};
@@ -36,15 +38,83 @@ pub fn is_try_free(tree: &MonitorTree, name: &Name) -> bool
     ensures { result ≡ is_try_free tree.now name.now }
 {
     let tried = member_spelling(tree, b"try_", Style::Snake, name);
-    let declared = any_declared_is(tree, tree.decls.items(), tried);
-    let method = any_method_is(tree, tree.methods.items(), tried);
-    is_neither(declared, method)
+    !is_member(tree, tried)
+}
+
+/// Writes the name of the method that does what the method of this name does and calls a function.
+/// It takes no memory.
+///
+/// After `SinkFailed` the first bytes were taken, fewer than all and maybe none.
+pub fn write_with_name<S: Sink>(
+    tree: &MonitorTree,
+    name: &Name,
+    out: &mut S,
+) -> Result<(), SinkFailed>
+    ensures { Wrote (S.seen out.old) (S.seen out.new) result (with_name tree.now name.now) }
+{
+    write_member(tree, Style::Snake, name, out)?;
+    write_piece(b"_with", out)
+}
+
+/// Writes the name of the method that tries what that one waits for. It takes no memory.
+///
+/// After `SinkFailed` the first bytes were taken, fewer than all and maybe none.
+pub fn write_try_with_name<S: Sink>(
+    tree: &MonitorTree,
+    name: &Name,
+    out: &mut S,
+) -> Result<(), SinkFailed>
+    ensures { Wrote (S.seen out.old) (S.seen out.new) result (try_with_name tree.now name.now) }
+{
+    write_piece(b"try_", out)?;
+    write_with_name(tree, name, out)
+}
+
+/// Whether nothing else is written as the method whose calls are given a function.
+pub fn is_with_free(tree: &MonitorTree, name: &Name) -> bool
+    ensures { result ≡ is_with_free tree.now name.now }
+{
+    let with = with_spelling(tree, b"", name);
+    let member = is_member(tree, with);
+    let tries = any_try_is(tree, tree.methods.items(), with);
+    is_neither(member, tries)
+}
+
+/// Whether nothing else is written as that method for calls that try.
+pub fn is_try_with_free(tree: &MonitorTree, name: &Name) -> bool
+    ensures { result ≡ is_try_with_free tree.now name.now }
+{
+    let member = is_member(tree, with_spelling(tree, b"try_", name));
+    let tries = is_try_free(tree, name);
+    let with = is_with_free(tree, name);
+    are_free(member, tries, with)
+}
+
+fn are_free(member: bool, tries: bool, with: bool) -> bool
+    ensures { result ≡ (not member && (tries && with)) }
+{
+    !member && (tries && with)
 }
 
 fn is_neither(one: bool, other: bool) -> bool
     ensures { result ≡ not (one || other) }
 {
     !(one || other)
+}
+
+// Whether a constant, a field or a method of the monitor is written so.
+fn is_member(tree: &MonitorTree, it: Spelling) -> bool
+    ensures { result ≡ list_any (bytes_eq (spelling_text it.entry)) (member_names tree.now) }
+{
+    let declared = any_declared_is(tree, tree.decls.items(), it);
+    let method = any_method_is(tree, tree.methods.items(), it);
+    either(declared, method)
+}
+
+fn either(one: bool, other: bool) -> bool
+    ensures { result ≡ (one || other) }
+{
+    one || other
 }
 
 fn any_declared_is(tree: &MonitorTree, declared: &[Decl], it: Spelling) -> bool
@@ -81,4 +151,20 @@ fn method_is(tree: &MonitorTree, method: &MethodTree, it: Spelling) -> bool
     ensures { result ≡ bytes_eq (spelling_text it.entry) (method_name tree.now method.now) }
 {
     is_same(it, member_spelling(tree, b"", Style::Snake, &method.name))
+}
+
+fn any_try_is(tree: &MonitorTree, methods: &[MethodTree], it: Spelling) -> bool
+    ensures { result ≡ list_any
+        (λ method. bytes_eq (spelling_text it.entry) (try_name tree.now method.name)) methods.now }
+{
+    methods.iter().any(|method| try_is(tree, method, it))
+}
+
+fn try_is(tree: &MonitorTree, method: &MethodTree, it: Spelling) -> bool
+    ensures { result ≡ bytes_eq (spelling_text it.entry) (try_name tree.now method.now.name) }
+{
+    is_same(
+        it,
+        member_spelling(tree, b"try_", Style::Snake, &method.name),
+    )
 }

@@ -2,11 +2,10 @@
 use Rattle.std.specs.Prelude.{ℕ, List, ◌++◌, if◌then◌else◌}
 use Rattle.emit_names.specs.declared.spelling.Spelling.{Spelling}
 use Rattle.emit_names.specs.Letters.{begins_word, spelled}
-use Rattle.emit_names.specs.Names.{escape_text}
 
--- its bytes after one, and what comes after a word that has a meaning
+-- its bytes after one, and its ending
 abbrev pub name_text : Spelling → List ℕ
-name_text it = spelled it.style it.before it.name.now ++ escape_text it.escaped
+name_text it = spelled it.style it.before it.name.now ++ it.ending.now
 
 -- the word before it, and the name
 abbrev pub spelling_text : Spelling → List ℕ

@@ -1,7 +1,8 @@
-use Rattle.emit_names.proofs.TryTexts.{free_says}
+use Rattle.std.proofs.Common.{◌∙◌, not, ap}
+use Rattle.std.specs.List.{list_any}
+use Rattle.std.specs.Str.{bytes_eq}
+use Rattle.emit_names.specs.Names.{member_names}
 use Rattle.emit_names.proofs.trying.is_try_free.Goals as goal
 
 pub returns : goal.returns
-returns c =
-    free_says c.args.tree.now _ c.args.name.now c.items.result.now c.items-2.result.now _ _ _ c.member_spelling-tried.ensures c.items.ensures c.items-2.ensures
-    c.any_declared_is-declared.ensures c.any_method_is-method.ensures c.is_neither.ensures
+returns c = ap not (c.is_member.ensures ∙ ap (λ text. list_any (bytes_eq text) (member_names c.args.tree.now)) c.member_spelling-tried.ensures)

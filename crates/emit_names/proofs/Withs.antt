@@ -1,0 +1,114 @@
+-- The names of the methods whose calls are given a function.
+use Rattle.std.proofs.Common.{◌≡◌, ℕ, Bool, true, false, not, ◌&&◌, ◌||◌, List, [], ◌∷◌, ◌++◌, ◌∙◌, map, codes, refl, sym, ap, inl, inr}
+use Rattle.std.specs.List.{Contains, list_all, list_any}
+use Rattle.std.specs.Str.{bytes_eq}
+use Rattle.std.proofs.lemmas.Bool.{false≢true, and_parts, or_cases, or_left, or_right}
+use Rattle.std.proofs.lemmas.List.{append_cancel_left, append_cancel_right}
+use Rattle.std.proofs.lemmas.List.Folds.{list_all_at, list_any-from_Any, list_any-append}
+use Rattle.std.proofs.lemmas.Slice.Eq.{bytes_eq-Decides}
+use Rattle.lang_tree.specs.declared.tree.MethodTree.{MethodTree}
+use Rattle.lang_tree.specs.declared.tree.MonitorTree.{MonitorTree}
+use Rattle.emit_names.specs.declared.style.Style.TheVariants as styles
+use Rattle.emit_names.specs.Words.{KEYWORDS, MEMBER_WORDS}
+use Rattle.emit_names.specs.Names.{declared_text, method_name, member_name, member_names, try_name, try_names, with_name, with_names, try_with_name, is_try_free, is_with_free}
+use Rattle.emit_names.specs.Laws.{WithsStayApart, WithsStandFree, TryWithsStandFree, WithsAreNoKeywords}
+use Rattle.emit_names.proofs.Apart.{members_apart, not_true}
+use Rattle.emit_names.proofs.Reading.{any_map}
+use Rattle.emit_names.proofs.Tries.{no_word}
+
+pub withs_apart : WithsStayApart
+withs_apart tree name other here there same =
+    members_apart tree styles.Snake styles.Snake name other here there
+    (append_cancel_right (member_name tree styles.Snake name) (member_name tree styles.Snake other) (codes "_with") same)
+
+-- one of the names is this
+any_is : (names : List (List ℕ)) (text : List ℕ) → Contains names text → list_any (bytes_eq text) names ≡ true
+any_is names text (k, within, at) = list_any-from_Any (bytes_eq text) names (k, text, within, at, (bytes_eq-Decides text text).1 refl)
+
+-- none of them is
+none_is : (names : List (List ℕ)) (text : List ℕ) → not (list_any (bytes_eq text) names) ≡ true → Contains names text → ⊥
+none_is names text none here = false≢true (sym (not_true (list_any (bytes_eq text) names) none) ∙ any_is names text here)
+
+pub withs_free : WithsStandFree
+withs_free tree name free = none_is (member_names tree ++ try_names tree) (with_name tree name) free
+
+-- ---- those that try
+
+-- where a test passes of a name of these methods it passes of a member
+member_passes : (tree : MonitorTree) (test : List ℕ → Bool) → list_any (λ (method : MethodTree). test (method_name tree method)) tree.methods ≡ true → list_any test (member_names tree) ≡ true
+member_passes tree test is =
+    list_any-append test (map (declared_text tree) tree.decls) (map (method_name tree) tree.methods)
+    ∙ or_right (list_any test (map (declared_text tree) tree.decls)) (list_any test (map (method_name tree) tree.methods))
+    (sym (any_map test (method_name tree) tree.methods) ∙ is)
+
+any_same : {X : Type 0} (f g : X → Bool) (xs : List X) → ((x : X) → f x ≡ true → g x ≡ true) → list_any f xs ≡ true → list_any g xs ≡ true
+any_same f g [] each is = is
+any_same f g (x ∷ xs) each is = elim (or_cases (f x) (list_any f xs) is) [
+  | inl here ↦ or_left (g x) (list_any g xs) (each x here)
+  | inr later ↦ or_right (g x) (list_any g xs) (any_same f g xs each later)
+]
+
+same_text : (text other : List ℕ) → bytes_eq text other ≡ true → text ≡ other
+same_text text other is = (bytes_eq-Decides text other).0 is
+
+text_same : (text other : List ℕ) → text ≡ other → bytes_eq text other ≡ true
+text_same text other is = (bytes_eq-Decides text other).1 is
+
+-- the name of one that tries is that of a member with a function
+tried_is : (tree : MonitorTree) (name : List ℕ) → list_any (bytes_eq (try_with_name tree name)) (try_names tree) ≡ true → list_any (bytes_eq (with_name tree name)) (member_names tree) ≡ true
+tried_is tree name is =
+    member_passes tree (bytes_eq (with_name tree name))
+    (any_same (λ (method : MethodTree). bytes_eq (try_with_name tree name) (try_name tree method.name)) (λ (method : MethodTree). bytes_eq (with_name tree name) (method_name tree method)) tree.methods
+    (λ method same.
+    text_same (with_name tree name) (method_name tree method)
+    (append_cancel_left (codes "try_") (with_name tree name) (method_name tree method) (same_text (try_with_name tree name) (try_name tree method.name) same)))
+    (any_map (bytes_eq (try_with_name tree name)) (λ (method : MethodTree). try_name tree method.name) tree.methods ∙ is))
+
+with_is : (tree : MonitorTree) (name : List ℕ) → list_any (bytes_eq (try_with_name tree name)) (with_names tree) ≡ true → list_any (bytes_eq (try_name tree name)) (member_names tree) ≡ true
+with_is tree name is =
+    member_passes tree (bytes_eq (try_name tree name))
+    (any_same (λ (method : MethodTree). bytes_eq (try_with_name tree name) (with_name tree method.name)) (λ (method : MethodTree). bytes_eq (try_name tree name) (method_name tree method)) tree.methods
+    (λ method same.
+    text_same (try_name tree name) (method_name tree method)
+    (append_cancel_right (try_name tree name) (method_name tree method) (codes "_with") (same_text (try_with_name tree name) (with_name tree method.name) same)))
+    (any_map (bytes_eq (try_with_name tree name)) (λ (method : MethodTree). with_name tree method.name) tree.methods ∙ is))
+
+pub try_withs_free : TryWithsStandFree
+try_withs_free tree name free here =
+    let text = try_with_name tree name in
+    let parts = and_parts (not (list_any (bytes_eq text) (member_names tree))) (is_try_free tree name && is_with_free tree name) free in
+    let both = and_parts (is_try_free tree name) (is_with_free tree name) parts.1 in
+    let some = sym (list_any-append (bytes_eq text) (member_names tree) (try_names tree ++ with_names tree)) ∙ any_is (member_names tree ++ (try_names tree ++ with_names tree)) text here in
+    elim (or_cases (list_any (bytes_eq text) (member_names tree)) (list_any (bytes_eq text) (try_names tree ++ with_names tree)) some) [
+      | inl member ↦ false≢true (sym (not_true (list_any (bytes_eq text) (member_names tree)) parts.0) ∙ member)
+      | inr more ↦
+          elim (or_cases (list_any (bytes_eq text) (try_names tree)) (list_any (bytes_eq text) (with_names tree)) (sym (list_any-append (bytes_eq text) (try_names tree) (with_names tree)) ∙ more)) [
+            | inl tried ↦
+                false≢true
+                (sym (not_true (list_any (bytes_eq (with_name tree name)) (member_names tree ++ try_names tree)) both.1)
+                ∙ list_any-append (bytes_eq (with_name tree name)) (member_names tree) (try_names tree)
+                ∙ or_left (list_any (bytes_eq (with_name tree name)) (member_names tree)) (list_any (bytes_eq (with_name tree name)) (try_names tree)) (tried_is tree name tried))
+            | inr with ↦ false≢true (sym (not_true (list_any (bytes_eq (try_name tree name)) (member_names tree)) both.0) ∙ with_is tree name with)
+          ]
+    ]
+
+-- ---- words that have a meaning
+
+-- it ends as such a name
+abbrev ends_with : List ℕ → Bool
+ends_with [] = false
+ends_with (b ∷ text) = bytes_eq (b ∷ text) (codes "_with") || ends_with text
+
+with_ends : (text : List ℕ) → ends_with (text ++ codes "_with") ≡ true
+with_ends [] = refl
+with_ends (b ∷ text) = or_right (bytes_eq (b ∷ text ++ codes "_with") (codes "_with")) (ends_with (text ++ codes "_with")) (with_ends text)
+
+no_ending : (words : List (List ℕ)) (text : List ℕ) → list_all (λ word. not (ends_with word)) words ≡ true → Contains words (text ++ codes "_with") → ⊥
+no_ending words text others (k, within, at) =
+    false≢true (sym (list_all_at (λ word. not (ends_with word)) words k (text ++ codes "_with") within (ap (λ (word : List ℕ). not (ends_with word)) at ∙ ap not (with_ends text))) ∙ others)
+
+pub withs_stay : WithsAreNoKeywords
+withs_stay tree name = (
+  no_ending (KEYWORDS ++ MEMBER_WORDS) (member_name tree styles.Snake name) refl,
+  no_word (KEYWORDS ++ MEMBER_WORDS) (with_name tree name) refl,
+)
