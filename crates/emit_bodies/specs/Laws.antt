@@ -28,9 +28,10 @@ BlockNamesStayApart =
     → (word ≡ other_word) × (number ≡ other_number) × (method.name ≡ other_method.name)
 
 -- what else stands where they do: the state at its start beside the functions of the state, the
--- state beside the counts, and both behind the mutex beside the condition variables
+-- state and the data beside the counts, and all of them behind the mutex beside the condition
+-- variables
 abbrev pub BLOCK_WORDS : List (List ℕ)
-BLOCK_WORDS = codes "START" ∷ codes "state" ∷ codes "inner" ∷ []
+BLOCK_WORDS = codes "START" ∷ codes "state" ∷ codes "data" ∷ codes "inner" ∷ []
 
 -- no name of a block is a keyword, or a word that stands beside it
 abbrev pub BlockNamesAreNoKeywords : Type 0

@@ -34,21 +34,21 @@ module _ (source : SourceParts) where
       by false more = more
 
   some_released : (notes : List Note) → list_any (hears source) notes ≡ true
-      → codes "        let copy = *inner;\n        drop(inner);\n" ++ flat_map (note_text source) (heard_notes source.monitor notes) ≡ release_text source (heard_notes source.monitor notes)
+      → codes "        let copy = inner.copy();\n        drop(inner);\n" ++ flat_map (note_text source) (heard_notes source.monitor notes) ≡ release_text source (heard_notes source.monitor notes)
   some_released [] some = absurd (true≢false (sym some))
   some_released (note ∷ notes) some = by (hears source note) some (some_released notes)
     where
       by : (one : Bool) → (one || list_any (hears source) notes) ≡ true
           → (list_any (hears source) notes ≡ true
-          → codes "        let copy = *inner;\n        drop(inner);\n" ++ flat_map (note_text source) (heard_notes source.monitor notes) ≡ release_text source (heard_notes source.monitor notes))
-          → codes "        let copy = *inner;\n        drop(inner);\n" ++ flat_map (note_text source) (cond one (note ∷ heard_notes source.monitor notes) (heard_notes source.monitor notes))
+          → codes "        let copy = inner.copy();\n        drop(inner);\n" ++ flat_map (note_text source) (heard_notes source.monitor notes) ≡ release_text source (heard_notes source.monitor notes))
+          → codes "        let copy = inner.copy();\n        drop(inner);\n" ++ flat_map (note_text source) (cond one (note ∷ heard_notes source.monitor notes) (heard_notes source.monitor notes))
           ≡ release_text source (cond one (note ∷ heard_notes source.monitor notes) (heard_notes source.monitor notes))
       by true holds more = refl
       by false holds more = more holds
 
   pub releases_some : (notes : List Note) (any : Bool) → any ≡ list_any (hears source) notes → any ≡ true
-      → codes "        let copy = *inner;\n        drop(inner);\n" ++ heard_texts source notes ≡ release_text source (heard_notes source.monitor notes)
-  releases_some notes any is holds = ap (λ text. codes "        let copy = *inner;\n        drop(inner);\n" ++ text) (all_noted notes) ∙ some_released notes (sym is ∙ holds)
+      → codes "        let copy = inner.copy();\n        drop(inner);\n" ++ heard_texts source notes ≡ release_text source (heard_notes source.monitor notes)
+  releases_some notes any is holds = ap (λ text. codes "        let copy = inner.copy();\n        drop(inner);\n" ++ text) (all_noted notes) ∙ some_released notes (sym is ∙ holds)
 
 -- the notes that someone may hear, in the order of the code
 pub told_says : (it : MethodParts) (plan : Plan) (block : ℕ) (notes : List Note) → it.source.plan ≡ live_plan it.source.monitor plan → notes ≡ notes_at plan block

@@ -1,8 +1,9 @@
 -- What is said of a method.
 use Rattle.std.specs.Prelude.{ℕ, ◌+◌, ◌==◌, nat_le, Bool, true, false, List, [], ◌++◌}
-use Rattle.std.specs.Prelude.{codes, length, slice_get, if◌then◌else◌}
+use Rattle.std.specs.Prelude.{Option, Some, None, codes, length, slice_get, if◌then◌else◌}
 use Rattle.std.specs.List.{flat_map, enumerate_from}
 use Rattle.std.specs.Option.{option_map_or}
+use Rattle.lang_base.specs.declared.kind.Kind.{Kind}
 use Rattle.lang_tree.specs.declared.tree.BlockTree.{BlockTree}
 use Rattle.lang_tree.specs.declared.tree.MethodTree.{MethodTree}
 use Rattle.lang_printer.specs.Canonical.{expression_text}
@@ -10,7 +11,7 @@ use Rattle.machine_events.specs.Configurations.{block_condition}
 use Rattle.emit_code.specs.Code.{is_waited_on}
 use Rattle.emit_comments.specs.Comments.{leading_docs, line_of}
 use Rattle.emit_names.specs.declared.style.Style.TheVariants as styles
-use Rattle.emit_names.specs.Names.{member_name}
+use Rattle.emit_names.specs.Names.{member_name, try_name}
 use Rattle.emit_method.specs.Statements.{MethodParts}
 
 -- ---- what a block waits for, by its number among those of its method, from 0
@@ -90,15 +91,60 @@ other_error true blocks =
     codes "    ///\n    /// [`Failed::Overflow`] where a number would leave 64 bits. "
     ++ stays_text blocks
 
--- what is said of a method for calls that try
-abbrev pub trying_docs : MethodParts → List ℕ
-trying_docs it =
-    likeness_text it ++ ERRORS ++ refused_by it.fails ++ first_guard it.method
+-- when calls that try fail
+abbrev pub refusal_docs : MethodParts → List ℕ
+refusal_docs it =
+    ERRORS ++ refused_by it.fails ++ first_guard it.method
     ++ codes "` is false. Then nothing changes.\n"
     ++ other_error it.fails (length it.method.blocks)
 
+-- what is said of a method for calls that try
+abbrev pub trying_docs : MethodParts → List ℕ
+trying_docs it = likeness_text it ++ refusal_docs it
+
+-- ---- calls that are given a function
+
+-- what the method without one is called: `try_put` where the call tries
+abbrev pub plain_called : MethodParts → List ℕ
+plain_called it =
+    if it.tries then try_name it.source.tree it.method.name
+    else member_name it.source.tree styles.Snake it.method.name
+
+-- what the function is handed
+abbrev pub handed_text : Option Kind → List ℕ
+handed_text None = codes "the data"
+handed_text (Some kind) = codes "the data and the answer"
+
+-- when it is called, and what stays where it panics, in a method of so many blocks
+abbrev pub panics_text : ℕ → List ℕ
+panics_text blocks =
+    if nat_le blocks 1
+    then codes " under the same lock.\n    ///\n    /// Where `f` panics no field changes. "
+    else codes " under the same lock, in its last block.\n    ///\n"
+    ++ codes "    /// Where `f` panics that block changes no field. "
+
+-- they do what the others do, and more
+abbrev pub work_likeness : MethodParts → List ℕ
+work_likeness it =
+    codes "    /// As [`" ++ plain_called it ++ codes "`](Self::" ++ plain_called it
+    ++ codes "), and calls `f` with " ++ handed_text it.answer
+    ++ panics_text (length it.method.blocks) ++ codes "`f` must not call this monitor.\n"
+
+-- when they fail
+abbrev pub failure_docs : MethodParts → List ℕ
+failure_docs it =
+    if it.tries then refusal_docs it else errors_text it.fails (length it.method.blocks)
+
+-- what is said of a method for calls with a function
+abbrev pub work_docs : MethodParts → List ℕ
+work_docs it = work_likeness it ++ failure_docs it
+
 -- ---- the whole
+
+-- what is said of a method that is given no function
+abbrev pub own_docs : MethodParts → List ℕ
+own_docs it = if it.tries then trying_docs it else waiting_docs it
 
 -- what is said of a method
 abbrev pub docs_text : MethodParts → List ℕ
-docs_text it = if it.tries then trying_docs it else waiting_docs it
+docs_text it = if it.works then work_docs it else own_docs it

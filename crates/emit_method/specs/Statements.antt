@@ -1,6 +1,7 @@
 -- The statements of a method: one for each operation of its code.
-use Rattle.std.specs.Prelude.{ℕ, ◌+◌, ◌-◌, Bool, true, false, ◌||◌, List, [], ◌∷◌, ◌++◌, codes}
-use Rattle.std.specs.Prelude.{Option, Some, None, slice_get, if◌then◌else◌}
+use Rattle.std.specs.Prelude.{ℕ, ◌+◌, ◌-◌, ◌==◌, Bool, true, false, ◌&&◌, ◌||◌, List, [], ◌∷◌}
+use Rattle.std.specs.Prelude.{◌++◌, codes, length, Option, Some, None, slice_get}
+use Rattle.std.specs.Prelude.{if◌then◌else◌}
 use Rattle.std.specs.List.{flat_map, list_any, enumerate_from}
 use Rattle.std.specs.Option.{option_map_or}
 use Rattle.lang_base.specs.declared.kind.Kind.{Kind}
@@ -47,7 +48,7 @@ method_shortens source number method =
     list_any (λ one. block_shortens source method (first_of source number + one.0) one.1)
     (enumerate_from 0 method.blocks)
 
--- ---- a method, for calls that wait or for those that try
+-- ---- a method, for calls that wait or for those that try, with a function or with none
 
 -- what the text of a method hangs on
 pub record MethodParts : Type 0 where
@@ -60,6 +61,8 @@ pub record MethodParts : Type 0 where
   -- some block of it may fail
   pub fails : Bool
   pub tries : Bool
+  -- its last block calls a function with the data
+  pub works : Bool
 
 -- what the code holds
 abbrev pub method_seen : Calls → MethodParts
@@ -70,7 +73,12 @@ method_seen calls = record {
   answer = calls.answer;
   fails = calls.fails;
   tries = calls.tries;
+  works = calls.works;
 }
+
+-- this block is the last, and calls it
+abbrev pub works_at : MethodParts → ℕ → Bool
+works_at it block = it.works && (block + 1 - it.first) == length it.method.blocks
 
 -- the body of this block may fail
 abbrev pub fails_at : MethodParts → ℕ → Bool
@@ -137,11 +145,12 @@ note_text source note =
     ++ note_test source note ++ codes " {\n    " ++ notify_text source note
     ++ codes "        }\n"
 
--- the mutex is given back, and of what it guarded a copy is kept for the notes that come next
+-- the mutex is given back, and of what it guarded a copy is kept for the notes that come next, but
+-- of the data
 abbrev pub release_text : SourceParts → List Note → List ℕ
 release_text source [] = codes "        drop(inner);\n"
 release_text source (note ∷ notes) =
-    codes "        let copy = *inner;\n        drop(inner);\n"
+    codes "        let copy = inner.copy();\n        drop(inner);\n"
     ++ flat_map (note_text source) (note ∷ notes)
 
 -- ---- the body of a block
@@ -176,17 +185,56 @@ run_text it block (note ∷ notes) true =
     ++ flat_map (λ other. codes "    " ++ notify_text it.source other) (note ∷ notes)
     ++ overflow_text it.tries
 
+-- ---- the body of a block that calls a function
+
+-- The body runs on a copy of the state, which is kept after the function has returned. Where that
+-- panics, or a number overflows, `hand` is dropped, and then `inner`: the note of an overflow is
+-- made, and the mutex given back. There is one note at most.
+
+-- the note that is made where `hand` is dropped
+abbrev pub hand_text : SourceParts → List Note → List ℕ
+hand_text source [] = []
+hand_text source (note ∷ notes) =
+    around_name source (codes "        let hand = HandOn(&self.") note.condition (codes ");\n")
+
+-- it is not made where the function returns
+abbrev pub forget_text : List Note → List ℕ
+forget_text [] = []
+forget_text (note ∷ notes) = codes "        std::mem::forget(hand);\n"
+
+-- what ends the call of a body, by whether it may fail
+abbrev pub failing_text : Bool → List ℕ
+failing_text true = codes "?;\n"
+failing_text false = codes ";\n"
+
+-- what is handed to the function after the data
+abbrev pub given_text : Option Kind → List ℕ
+given_text None = codes ");\n"
+given_text (Some kind) = codes ", answer);\n"
+
+-- with the notes that are made where it overflows or the function panics
+abbrev pub work_text : MethodParts → ℕ → List Note → List ℕ
+work_text it block notes =
+    hand_text it.source notes ++ codes "        let mut next = inner.state;\n"
+    ++ let_text (answer_of it.source.monitor block) ++ codes "next."
+    ++ own_call it (codes "run") block reaches.Lent ++ failing_text (fails_at it block)
+    ++ codes "        let result = f(&mut inner.data"
+    ++ given_text (answer_of it.source.monitor block) ++ forget_text notes
+    ++ codes "        inner.state = next;\n"
+
 -- ---- a statement for each operation
 
 -- An operation of a method. A body that cannot fail has no branch for an overflow: then the code's
--- notes of one are never made.
+-- notes of one are never made. The function that a call is given is called with the last body.
 abbrev pub op_text : MethodParts → Op → List ℕ
 op_text it Lock = codes "        let mut inner = lock(&self.inner);\n"
 op_text it (WaitUntil block condition) =
     codes "        while !inner.state." ++ test_text it block ++ sleep_text it.source condition
 op_text it (ElseRefuse block) =
     codes "        if !inner.state." ++ test_text it block ++ refusal_text it.fails
-op_text it (Run block otherwise) = run_text it block otherwise (fails_at it block)
+op_text it (Run block otherwise) =
+    if works_at it block then work_text it block otherwise
+    else run_text it block otherwise (fails_at it block)
 op_text it (Release notes) = release_text it.source notes
 op_text it (Notify note) = notify_text it.source note
 op_text it Unlock = codes "        drop(inner);\n"
@@ -202,8 +250,18 @@ abbrev pub plain_end : Option Kind → List ℕ
 plain_end None = []
 plain_end (Some kind) = codes "        answer\n"
 
--- the last line of a method
-abbrev pub end_text : Bool → Bool → Option Kind → List ℕ
-end_text fails tries answer =
+-- the last line of a method that is given no function
+abbrev pub own_end : Bool → Bool → Option Kind → List ℕ
+own_end fails tries answer =
     if fails || tries then codes "        Ok(" ++ answer_name answer ++ codes ")\n"
     else plain_end answer
+
+-- what the function answered
+abbrev pub work_end : Bool → Bool → List ℕ
+work_end fails tries =
+    if fails || tries then codes "        Ok(result)\n" else codes "        result\n"
+
+-- the last line of a method
+abbrev pub end_text : MethodParts → List ℕ
+end_text it =
+    if it.works then work_end it.fails it.tries else own_end it.fails it.tries it.answer

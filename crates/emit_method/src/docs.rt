@@ -8,19 +8,31 @@ ghost use Rattle.base_io.specs.Writing.{Wrote};
 ghost use Rattle.emit_method.specs.Statements.{method_seen};
 ghost use Rattle.emit_method.specs.Docs.{ERRORS, docs_text, errors_text, first_guard, going_text};
 ghost use Rattle.emit_method.specs.Docs.{likeness_text, other_error, own_comments, refused_by};
-ghost use Rattle.emit_method.specs.Docs.{trying_docs};
-ghost use Rattle.emit_method.specs.Docs.{waiting_docs, waiting_text, waits_until};
+ghost use Rattle.emit_method.specs.Docs.{failure_docs, handed_text, own_docs, panics_text};
+ghost use Rattle.emit_method.specs.Docs.{refusal_docs, trying_docs, waiting_docs, waiting_text};
+ghost use Rattle.emit_method.specs.Docs.{waits_until, work_docs, work_likeness};
 
+use crate::methods::write_plain_called;
 use crate::source::{Calls, condition_of, is_waited_on};
 use base_io::{Sink, SinkFailed, write_piece};
 use emit_comments::{line_of, write_leading};
 use emit_names::{Style, write_member};
+use lang_base::Kind;
 use lang_printer::write_around;
 use lang_tree::{BlockTree, MethodTree};
 
 /// Writes what a method waits for, and when it fails.
 pub(crate) fn write_docs<S: Sink>(it: &Calls, out: &mut S) -> Result<(), SinkFailed>
     ensures { Wrote (S.seen out.old) (S.seen out.new) result (docs_text (method_seen it.now)) }
+{
+    if it.works {
+        return write_work_docs(it, out);
+    }
+    write_own_docs(it, out)
+}
+
+fn write_own_docs<S: Sink>(it: &Calls, out: &mut S) -> Result<(), SinkFailed>
+    ensures { Wrote (S.seen out.old) (S.seen out.new) result (own_docs (method_seen it.now)) }
 {
     if it.tries {
         return write_trying(it, out);
@@ -133,6 +145,13 @@ fn write_trying<S: Sink>(it: &Calls, out: &mut S) -> Result<(), SinkFailed>
     ensures { Wrote (S.seen out.old) (S.seen out.new) result (trying_docs (method_seen it.now)) }
 {
     write_likeness(it, out)?;
+    write_refusals(it, out)
+}
+
+// When calls that try fail.
+fn write_refusals<S: Sink>(it: &Calls, out: &mut S) -> Result<(), SinkFailed>
+    ensures { Wrote (S.seen out.old) (S.seen out.new) result (refusal_docs (method_seen it.now)) }
+{
     write_piece(errors_head(), out)?;
     write_piece(refused_by(it.fails), out)?;
     write_guard(it.method, out)?;
@@ -200,4 +219,66 @@ fn other_bytes(fails: bool, blocks: usize) -> &'static [u8]
     /// [`Failed::Overflow`] where a number would leave 64 bits. Its block then changes nothing, and no later one runs.
 "
     }
+}
+
+// ---- calls that are given a function
+
+fn write_work_docs<S: Sink>(it: &Calls, out: &mut S) -> Result<(), SinkFailed>
+    ensures { Wrote (S.seen out.old) (S.seen out.new) result (work_docs (method_seen it.now)) }
+{
+    write_work_likeness(it, out)?;
+    write_failures(it, out)
+}
+
+fn write_work_likeness<S: Sink>(it: &Calls, out: &mut S) -> Result<(), SinkFailed>
+    ensures { Wrote (S.seen out.old) (S.seen out.new) result (work_likeness (method_seen it.now)) }
+{
+    write_piece(b"    /// As [`", out)?;
+    write_plain_called(it, out)?;
+    write_piece(b"`](Self::", out)?;
+    write_plain_called(it, out)?;
+    write_piece(b"), and calls `f` with ", out)?;
+    write_piece(handed_bytes(it.answer), out)?;
+    write_panics(it, out)?;
+    write_piece(b"`f` must not call this monitor.\n", out)
+}
+
+fn handed_bytes(answer: Option<Kind>) -> &'static [u8]
+    ensures { result.now ≡ handed_text answer }
+{
+    match answer {
+        None => b"the data",
+        Some(_) => b"the data and the answer",
+    }
+}
+
+// When the function is called, and what stays where it panics.
+fn write_panics<S: Sink>(it: &Calls, out: &mut S) -> Result<(), SinkFailed>
+    ensures { Wrote (S.seen out.old) (S.seen out.new) result
+        (panics_text (length it.now.method.now.blocks)) }
+{
+    write_piece(panics_bytes(it.method.blocks.items().len()), out)
+}
+
+fn panics_bytes(blocks: usize) -> &'static [u8]
+    ensures { result.now ≡ panics_text blocks }
+{
+    if blocks <= 1 {
+        b" under the same lock.
+    ///
+    /// Where `f` panics no field changes. "
+    } else {
+        b" under the same lock, in its last block.
+    ///
+    /// Where `f` panics that block changes no field. "
+    }
+}
+
+fn write_failures<S: Sink>(it: &Calls, out: &mut S) -> Result<(), SinkFailed>
+    ensures { Wrote (S.seen out.old) (S.seen out.new) result (failure_docs (method_seen it.now)) }
+{
+    if it.tries {
+        return write_refusals(it, out);
+    }
+    write_errors(it, out)
 }

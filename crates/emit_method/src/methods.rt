@@ -1,16 +1,18 @@
 //! The methods of a monitor.
 
-ghost use Rattle.std.specs.Prelude.{◌≡◌};
+ghost use Rattle.std.specs.Prelude.{◌≡◌, ◌++◌, codes};
 ghost use Rattle.std.specs.List.{flat_map};
 ghost use Rattle.emit_bodies.specs.Blocks.{parameter_text};
 ghost use Rattle.emit_bodies.specs.Bodies.{answer_text};
 ghost use Rattle.base_io.specs.Writing.{Wrote};
 ghost use Rattle.emit_method.specs.Sources.{seen};
 ghost use Rattle.emit_method.specs.Statements.{method_seen};
-ghost use Rattle.emit_method.specs.Methods.{called_text, error_text, has_try, head_text};
+ghost use Rattle.emit_method.specs.Docs.{plain_called};
+ghost use Rattle.emit_method.specs.Methods.{both_text, called_text, error_text, function_end};
+ghost use Rattle.emit_method.specs.Methods.{function_text, has_try, has_with, head_text};
 ghost use Rattle.emit_method.specs.Methods.{local_line, method_answer, method_arrow, method_text};
-ghost use Rattle.emit_method.specs.Methods.{methods_text, parts_of, try_arrow, try_text};
-ghost use Rattle.emit_method.specs.Methods.{waits_first};
+ghost use Rattle.emit_method.specs.Methods.{methods_text, own_arrow, parts_of, try_arrow, try_text};
+ghost use Rattle.emit_method.specs.Methods.{waits_first, with_text, work_arrow, work_called};
 ghost use Rattle.emit_method.specs.inner.Parts.{calls_text};
 
 use crate::declared::write_typed_start;
@@ -19,13 +21,16 @@ use crate::source::{Calls, Source, answer_of, condition_of, count_of, first_of, 
 use crate::statements::{method_fails, write_blocks, write_end};
 use base_io::{Sink, SinkFailed, write_piece, write_pieces};
 use emit_bodies::{kind_bytes, write_arrow, write_parameters};
-use emit_names::{Style, is_try_free, write_input, write_member, write_try_name};
+use emit_names::{
+    Style, is_try_free, is_try_with_free, is_with_free, write_input, write_member, write_try_name,
+    write_try_with_name, write_with_name,
+};
 use lang_base::{Kind, Named};
 use lang_monitor::Monitor;
-use lang_tree::{Decl, MethodTree};
+use lang_tree::{Decl, MethodTree, MonitorTree};
 
-/// Writes a method of the monitor, by its number: for calls that wait, and for those that try,
-/// where it has them. It takes no memory.
+/// Writes a method of the monitor, by its number: for calls that wait, and for those that try, and
+/// each of them for calls that are given a function too, where it has them. It takes no memory.
 ///
 /// After `SinkFailed` the first bytes were taken, fewer than all and maybe none.
 pub fn write_methods_of<S: Sink>(
@@ -37,7 +42,7 @@ pub fn write_methods_of<S: Sink>(
     ensures { Wrote (S.seen out.old) (S.seen out.new) result
         (methods_text (seen source.now) number method.now) }
 {
-    write_method(source, number, method, false, out)?;
+    write_both(source, number, method, false, out)?;
     write_try(source, number, method, out)
 }
 
@@ -53,7 +58,49 @@ fn write_try<S: Sink>(
     if !has_try(source, number, method) {
         return Ok(());
     }
-    write_method(source, number, method, true, out)
+    write_both(source, number, method, true, out)
+}
+
+// Without a function, and with one.
+fn write_both<S: Sink>(
+    source: &Source,
+    number: usize,
+    method: &MethodTree,
+    tries: bool,
+    out: &mut S,
+) -> Result<(), SinkFailed>
+    ensures { Wrote (S.seen out.old) (S.seen out.new) result
+        (both_text (seen source.now) number method.now tries) }
+{
+    write_method(source, number, method, tries, false, out)?;
+    write_with(source, number, method, tries, out)
+}
+
+fn write_with<S: Sink>(
+    source: &Source,
+    number: usize,
+    method: &MethodTree,
+    tries: bool,
+    out: &mut S,
+) -> Result<(), SinkFailed>
+    ensures { Wrote (S.seen out.old) (S.seen out.new) result
+        (with_text (seen source.now) number method.now tries) }
+{
+    if !has_with(source.tree, method, tries) {
+        return Ok(());
+    }
+    write_method(source, number, method, tries, true, out)
+}
+
+// Whether nothing else is called as the method that is given a function.
+fn has_with(tree: &MonitorTree, method: &MethodTree, tries: bool) -> bool
+    ensures { result ≡ has_with tree.now method.now tries }
+{
+    if tries {
+        is_try_with_free(tree, &method.name)
+    } else {
+        is_with_free(tree, &method.name)
+    }
 }
 
 /// Whether a method of the monitor, by its number, has calls that try.
@@ -80,12 +127,13 @@ fn write_method<S: Sink>(
     number: usize,
     method: &MethodTree,
     tries: bool,
+    works: bool,
     out: &mut S,
 ) -> Result<(), SinkFailed>
     ensures { Wrote (S.seen out.old) (S.seen out.new) result
-        (method_text (seen source.now) number method.now tries) }
+        (method_text (seen source.now) number method.now tries works) }
 {
-    let it = calls_of(source, number, method, tries);
+    let it = calls_of(source, number, method, tries, works);
     write_calls(&it, count_of(source.monitor, number), out)
 }
 
@@ -94,8 +142,9 @@ fn calls_of<'a>(
     number: usize,
     method: &'a MethodTree,
     tries: bool,
+    works: bool,
 ) -> Calls<'a>
-    ensures { method_seen result ≡ parts_of (seen source.now) number method.now tries }
+    ensures { method_seen result ≡ parts_of (seen source.now) number method.now tries works }
 {
     Calls {
         source,
@@ -104,6 +153,7 @@ fn calls_of<'a>(
         answer: method_answer(source.monitor, number),
         fails: method_fails(source, number, method),
         tries,
+        works,
     }
 }
 
@@ -125,7 +175,7 @@ fn write_calls<S: Sink>(it: &Calls, count: u32, out: &mut S) -> Result<(), SinkF
     write_head(it, out)?;
     write_own_locals(it, out)?;
     write_blocks(it, count, out)?;
-    write_end(it.fails, it.tries, it.answer, out)?;
+    write_end(it, out)?;
     write_piece(b"    }\n", out)
 }
 
@@ -138,19 +188,74 @@ fn write_head<S: Sink>(it: &Calls, out: &mut S) -> Result<(), SinkFailed>
     write_called(it, out)?;
     write_piece(b"(&self", out)?;
     write_own_parameters(it, out)?;
+    write_function(it, out)?;
     write_piece(b")", out)?;
     write_method_arrow(it, out)?;
     write_piece(b" {\n", out)
 }
 
-// `try_put` where the call tries
 fn write_called<S: Sink>(it: &Calls, out: &mut S) -> Result<(), SinkFailed>
     ensures { Wrote (S.seen out.old) (S.seen out.new) result (called_text (method_seen it.now)) }
+{
+    if !it.works {
+        return write_plain_called(it, out);
+    }
+    write_generic(it, out)
+}
+
+/// Writes the name of the method without a function: `try_put` where the call tries.
+pub(crate) fn write_plain_called<S: Sink>(it: &Calls, out: &mut S) -> Result<(), SinkFailed>
+    ensures { Wrote (S.seen out.old) (S.seen out.new) result (plain_called (method_seen it.now)) }
 {
     if it.tries {
         return write_try_name(it.source.tree, &it.method.name, out);
     }
     write_member(it.source.tree, Style::Snake, &it.method.name, out)
+}
+
+// With the type of what its function answers.
+fn write_generic<S: Sink>(it: &Calls, out: &mut S) -> Result<(), SinkFailed>
+    ensures { Wrote (S.seen out.old) (S.seen out.new) result
+        (work_called (method_seen it.now) ++ codes "<R>") }
+{
+    write_work_called(it, out)?;
+    write_piece(b"<R>", out)
+}
+
+fn write_work_called<S: Sink>(it: &Calls, out: &mut S) -> Result<(), SinkFailed>
+    ensures { Wrote (S.seen out.old) (S.seen out.new) result (work_called (method_seen it.now)) }
+{
+    if it.tries {
+        return write_try_with_name(it.source.tree, &it.method.name, out);
+    }
+    write_with_name(it.source.tree, &it.method.name, out)
+}
+
+// `, f: impl FnOnce(&mut D, i64) -> R`
+fn write_function<S: Sink>(it: &Calls, out: &mut S) -> Result<(), SinkFailed>
+    ensures { Wrote (S.seen out.old) (S.seen out.new) result (function_text (method_seen it.now)) }
+{
+    if !it.works {
+        return Ok(());
+    }
+    write_function_of(it.answer, out)
+}
+
+fn write_function_of<S: Sink>(answer: Option<Kind>, out: &mut S) -> Result<(), SinkFailed>
+    ensures { Wrote (S.seen out.old) (S.seen out.new) result
+        (codes ", f: impl FnOnce(&mut D" ++ function_end answer) }
+{
+    write_pieces(&[b", f: impl FnOnce(&mut D", function_end(answer)], out)
+}
+
+fn function_end(answer: Option<Kind>) -> &'static [u8]
+    ensures { result.now ≡ function_end answer }
+{
+    match answer {
+        None => b") -> R",
+        Some(Kind::Int) => b", i64) -> R",
+        Some(Kind::Bool) => b", bool) -> R",
+    }
 }
 
 fn write_own_parameters<S: Sink>(it: &Calls, out: &mut S) -> Result<(), SinkFailed>
@@ -162,6 +267,26 @@ fn write_own_parameters<S: Sink>(it: &Calls, out: &mut S) -> Result<(), SinkFail
 
 fn write_method_arrow<S: Sink>(it: &Calls, out: &mut S) -> Result<(), SinkFailed>
     ensures { Wrote (S.seen out.old) (S.seen out.new) result (method_arrow (method_seen it.now)) }
+{
+    if it.works {
+        return write_piece(work_arrow(it.tries, it.fails), out);
+    }
+    write_own_arrow(it, out)
+}
+
+fn work_arrow(tries: bool, fails: bool) -> &'static [u8]
+    ensures { result.now ≡ work_arrow tries fails }
+{
+    match (tries, fails) {
+        (true, true) => b" -> Result<R, Failed>",
+        (true, false) => b" -> Result<R, Refused>",
+        (false, true) => b" -> Result<R, Overflow>",
+        (false, false) => b" -> R",
+    }
+}
+
+fn write_own_arrow<S: Sink>(it: &Calls, out: &mut S) -> Result<(), SinkFailed>
+    ensures { Wrote (S.seen out.old) (S.seen out.new) result (own_arrow (method_seen it.now)) }
 {
     if !it.tries {
         return write_arrow(it.answer, it.fails, out);

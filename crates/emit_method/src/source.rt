@@ -31,8 +31,8 @@ pub struct Source<'a> {
     pub whole: &'a [bool],
 }
 
-/// A method, for calls that wait or for those that try: the number of its first block, what it
-/// answers, and whether it may fail.
+/// A method, for calls that wait or for those that try, with a function or with none: the number of
+/// its first block, what it answers, and whether it may fail.
 #[derive(Clone, Copy)]
 pub(crate) struct Calls<'a> {
     pub(crate) source: &'a Source<'a>,
@@ -41,6 +41,7 @@ pub(crate) struct Calls<'a> {
     pub(crate) answer: Option<Kind>,
     pub(crate) fails: bool,
     pub(crate) tries: bool,
+    pub(crate) works: bool,
 }
 
 /// The number of the first block of the method of this number.

@@ -8,13 +8,13 @@ ghost use Rattle.base_io.specs.Writing.{Wrote};
 ghost use Rattle.emit_method.specs.Sources.{answer_of, seen};
 ghost use Rattle.emit_method.specs.Conditions.{around_name};
 ghost use Rattle.emit_method.specs.Statements.{answer_name, block_fails, block_shortens, call_text};
-ghost use Rattle.emit_method.specs.Statements.{end_text, method_shortens};
+ghost use Rattle.emit_method.specs.Statements.{end_text, method_shortens, own_end};
 ghost use Rattle.emit_method.specs.Statements.{fails_at, let_text, method_fails, method_seen};
 ghost use Rattle.emit_method.specs.Statements.{note_test, note_text, release_text, sleep_text};
 ghost use Rattle.emit_method.specs.Statements.{notify_call, notify_text, op_text, own_call};
 ghost use Rattle.emit_method.specs.Statements.{plain_end, plain_run, refusal_text, test_text};
 ghost use Rattle.emit_method.specs.inner.Parts.{block_ops, blocks_ops, guarded_end, guarded_run};
-ghost use Rattle.emit_method.specs.inner.Parts.{heard_text};
+ghost use Rattle.emit_method.specs.inner.Parts.{heard_text, own_run};
 ghost use Rattle.emit_method.specs.inner.Parts.{heard_texts, run_op, test_ops, told_ops};
 ghost use Rattle.emit_code.specs.Code.{is_waited_on};
 ghost use Rattle.emit_code.specs.LivePlans.{heard_notes};
@@ -25,6 +25,7 @@ use crate::source::{
     Calls, Source, answer_of, are_heard, condition_of, first_of, is_waited_on, is_whole, notes_of,
     reads_inputs,
 };
+use crate::working::{work_end, works_at, write_work};
 use base_io::{Sink, SinkFailed, write_piece, write_pieces};
 use emit_bodies::{fails, shortens, write_block_name};
 use emit_expressions::Reach;
@@ -106,7 +107,7 @@ fn block_shortens(source: &Source, method: &MethodTree, block: usize, parts: &Bl
 }
 
 // Whether the body of the block of this number may fail.
-fn fails_at(it: &Calls, block: usize) -> bool
+pub(crate) fn fails_at(it: &Calls, block: usize) -> bool
     ensures { result ≡ fails_at (method_seen it.now) block }
 {
     let place = block.saturating_sub(it.first as usize);
@@ -189,7 +190,7 @@ fn write_test<S: Sink>(it: &Calls, tries: bool, block: usize, out: &mut S) -> Re
 }
 
 // Whether someone may wait for the guard of the block of this number.
-fn waits_at(it: &Calls, block: usize) -> bool
+pub(crate) fn waits_at(it: &Calls, block: usize) -> bool
     ensures { result ≡ is_waited_on it.now.source.now.monitor.now
         (block_condition it.now.source.now.monitor.now block) }
 {
@@ -263,7 +264,7 @@ fn write_sleep<S: Sink>(source: &Source, condition: u32, out: &mut S) -> Result<
 }
 
 // The name of a block's condition between two pieces.
-fn write_around_own_name<S: Sink>(
+pub(crate) fn write_around_own_name<S: Sink>(
     it: &Calls,
     before: &[u8],
     block: usize,
@@ -291,7 +292,7 @@ fn write_call_of_test<S: Sink>(it: &Calls, block: usize, out: &mut S) -> Result<
 }
 
 // A call of a block's own function, after a word.
-fn write_own_call<S: Sink>(
+pub(crate) fn write_own_call<S: Sink>(
     it: &Calls,
     word: &[u8],
     block: usize,
@@ -314,6 +315,16 @@ fn write_own_call<S: Sink>(
 fn write_run<S: Sink>(it: &Calls, block: usize, out: &mut S) -> Result<(), SinkFailed>
     requires { block < 2 ^ 63 }
     ensures { Wrote (S.seen out.old) (S.seen out.new) result (run_op (method_seen it.now) block) }
+{
+    if works_at(it, block) {
+        return write_work(it, block, out);
+    }
+    write_own_run(it, block, out)
+}
+
+fn write_own_run<S: Sink>(it: &Calls, block: usize, out: &mut S) -> Result<(), SinkFailed>
+    requires { block < 2 ^ 63 }
+    ensures { Wrote (S.seen out.old) (S.seen out.new) result (own_run (method_seen it.now) block) }
 {
     if !fails_at(it, block) {
         return write_plain_run(it, block, b";\n", out);
@@ -339,7 +350,7 @@ fn write_plain_run<S: Sink>(
     write_piece(ending, out)
 }
 
-fn write_let<S: Sink>(it: &Calls, block: usize, out: &mut S) -> Result<(), SinkFailed>
+pub(crate) fn write_let<S: Sink>(it: &Calls, block: usize, out: &mut S) -> Result<(), SinkFailed>
     ensures { Wrote (S.seen out.old) (S.seen out.new) result
         (let_text (answer_of it.now.source.now.monitor.now block)) }
 {
@@ -440,10 +451,13 @@ fn write_release<S: Sink>(source: &Source, notes: &[Note], out: &mut S) -> Resul
 // With a copy of what the mutex guarded.
 fn write_copy<S: Sink>(source: &Source, notes: &[Note], out: &mut S) -> Result<(), SinkFailed>
     ensures { Wrote (S.seen out.old) (S.seen out.new) result
-        (codes "        let copy = *inner;\n        drop(inner);\n"
+        (codes "        let copy = inner.copy();\n        drop(inner);\n"
         ++ heard_texts (seen source.now) notes.now) }
 {
-    write_piece(b"        let copy = *inner;\n        drop(inner);\n", out)?;
+    write_piece(
+        b"        let copy = inner.copy();\n        drop(inner);\n",
+        out,
+    )?;
     write_heard_notes(source, notes, out)
 }
 
@@ -516,14 +530,24 @@ fn notify_bytes(all: bool) -> &'static [u8]
 
 // ---- the end of a method
 
-/// Writes what a method answers at its end, by whether it may fail, and whether its calls try.
-pub(crate) fn write_end<S: Sink>(
+/// Writes what a method answers at its end.
+pub(crate) fn write_end<S: Sink>(it: &Calls, out: &mut S) -> Result<(), SinkFailed>
+    ensures { Wrote (S.seen out.old) (S.seen out.new) result (end_text (method_seen it.now)) }
+{
+    if it.works {
+        return write_piece(work_end(it.fails, it.tries), out);
+    }
+    write_own_end(it.fails, it.tries, it.answer, out)
+}
+
+// By whether it may fail, and whether its calls try, where it is given no function.
+fn write_own_end<S: Sink>(
     fails: bool,
     tries: bool,
     answer: Option<Kind>,
     out: &mut S,
 ) -> Result<(), SinkFailed>
-    ensures { Wrote (S.seen out.old) (S.seen out.new) result (end_text fails tries answer) }
+    ensures { Wrote (S.seen out.old) (S.seen out.new) result (own_end fails tries answer) }
 {
     if !is_wrapped(fails, tries) {
         return write_piece(plain_end(answer), out);

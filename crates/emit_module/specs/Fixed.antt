@@ -11,12 +11,37 @@ HEAD =
     codes ".\n// Change the monitor, and not this file. "
     ++ codes "It wants Rust 1.65 and the edition 2021, or later ones.\n\n"
 
--- up to the counts at their start
+-- the monitor with no data, and the end of its `impl`
 abbrev pub NEW : List ℕ
 NEW =
     codes "    /// The monitor at its start.\n    #[must_use]\n"
-    ++ codes "    pub const fn new() -> Self {\n        Self {\n"
+    ++ codes "    pub const fn new() -> Self {\n        Self::with_data(())\n    }\n}\n\n"
+
+-- before the functions of a monitor with data
+abbrev pub WITH : List ℕ
+WITH =
+    codes "#[rustfmt::skip]\n"
+    ++ codes "#[allow(dead_code, non_snake_case, clippy::doc_markdown, clippy::style)]\nimpl<D> "
+
+-- the monitor with data, up to the counts at their start
+abbrev pub WITH_DATA : List ℕ
+WITH_DATA =
+    codes "    /// The monitor at its start, with these data.\n    #[must_use]\n"
+    ++ codes "    pub const fn with_data(data: D) -> Self {\n        Self {\n"
     ++ codes "            inner: Mutex::new(Inner {\n                state: State::START,\n"
+
+-- what else is done with the data
+abbrev pub DATA : List ℕ
+DATA =
+    codes "\n    /// The data, which nobody shares now.\n    #[must_use]\n"
+    ++ codes "    pub fn get_mut(&mut self) -> &mut D {\n"
+    ++ codes "        &mut self.inner.get_mut().unwrap_or_else(PoisonError::into_inner).data\n"
+    ++ codes "    }\n\n    /// The data, without the monitor.\n    #[must_use]\n"
+    ++ codes "    pub fn into_inner(self) -> D {\n"
+    ++ codes "        self.inner.into_inner().unwrap_or_else(PoisonError::into_inner).data\n"
+    ++ codes "    }\n\n    /// Whether a function that a call was given has panicked: "
+    ++ codes "the data are as it left them.\n    #[must_use]\n"
+    ++ codes "    pub fn is_poisoned(&self) -> bool {\n        self.inner.is_poisoned()\n    }\n"
 
 -- the braces of `impl Default`
 abbrev pub DEFAULT : List ℕ
@@ -25,7 +50,7 @@ DEFAULT = codes " {\n    fn default() -> Self {\n        Self::new()\n    }\n}\n
 -- `impl Debug` up to the name that it prints
 abbrev pub DEBUG : List ℕ
 DEBUG =
-    codes " {\n    fn fmt(&self, f: &mut std::fmt::Formatter<'_>) -> std::fmt::Result {\n"
+    codes "<D> {\n    fn fmt(&self, f: &mut std::fmt::Formatter<'_>) -> std::fmt::Result {\n"
     ++ codes "        let state = match self.inner.try_lock() {\n"
     ++ codes "            Ok(inner) => Some(inner.state),\n"
     ++ codes "            Err(std::sync::TryLockError::Poisoned(inner)) => "
@@ -44,8 +69,19 @@ DEBUG_END =
 -- before the struct of what the mutex guards
 abbrev pub INNER : List ℕ
 INNER =
-    codes "/// What the mutex guards: the fields, and how many calls sleep on each condition.\n"
-    ++ codes "#[derive(Clone, Copy)]\n#[allow(dead_code)]\n"
+    codes "/// What the mutex guards: the fields, how many calls sleep on each condition, and the "
+    ++ codes "data.\n#[allow(dead_code)]\n"
+
+-- after it, up to the counts of a copy
+abbrev pub COPY : List ℕ
+COPY =
+    codes "    data: D,\n}\n\nimpl<D> Inner<D> {\n    /// All but the data.\n"
+    ++ codes "    #[allow(dead_code)]\n    fn copy(&self) -> Inner {\n        Inner {\n"
+    ++ codes "            state: self.state,\n"
+
+-- and after them
+abbrev pub COPY_END : List ℕ
+COPY_END = codes "            data: (),\n        }\n    }\n}\n\n"
 
 -- before the struct of the state
 abbrev pub STATE : List ℕ
@@ -62,20 +98,24 @@ STATE_IMPL =
 -- the function that locks the monitor
 abbrev pub LOCK : List ℕ
 LOCK =
-    codes "\n/// Locks the monitor. Nothing panics while it is locked, "
-    ++ codes "so there is no poison to heed.\n"
-    ++ codes "fn lock(inner: &Mutex<Inner>) -> MutexGuard<'_, Inner> {\n"
+    codes "\n/// Locks the monitor, poisoned or not: where a function panicked no field has "
+    ++ codes "changed.\n"
+    ++ codes "fn lock<D>(inner: &Mutex<Inner<D>>) -> MutexGuard<'_, Inner<D>> {\n"
     ++ codes "    inner.lock().unwrap_or_else(PoisonError::into_inner)\n}\n"
 
--- the function that waits on a condition
+-- the function that waits on a condition, and what notifies where a block ends in a panic
 abbrev pub WAIT : List ℕ
 WAIT =
     codes "\n/// Gives the lock back and waits on the condition, in one step, "
     ++ codes "and takes the lock again.\n"
-    ++ codes "fn wait<'a>(condition: &Condvar, inner: MutexGuard<'a, Inner>) "
-    ++ codes "-> MutexGuard<'a, Inner> {\n"
+    ++ codes "fn wait<'a, D>(condition: &Condvar, inner: MutexGuard<'a, Inner<D>>) "
+    ++ codes "-> MutexGuard<'a, Inner<D>> {\n"
     ++ codes "    condition\n        .wait(inner)\n"
-    ++ codes "        .unwrap_or_else(PoisonError::into_inner)\n}\n"
+    ++ codes "        .unwrap_or_else(PoisonError::into_inner)\n}\n\n"
+    ++ codes "/// Wakes one call that waits on the condition, where a block ends that changed "
+    ++ codes "nothing.\n#[allow(dead_code)]\nstruct HandOn<'a>(&'a Condvar);\n\n"
+    ++ codes "impl Drop for HandOn<'_> {\n    fn drop(&mut self) {\n"
+    ++ codes "        self.0.notify_one();\n    }\n}\n"
 
 -- the error of calls that may fail, and the test of a number
 abbrev pub OVERFLOW : List ℕ

@@ -26,8 +26,9 @@ use Rattle.emit_method.specs.Sources.{SourceParts, source_of, answer_of, is_whol
 use Rattle.emit_method.specs.Conditions.{around_count, around_name, first_block}
 use Rattle.emit_method.specs.Statements.{method_fails, method_shortens}
 use Rattle.emit_method.specs.Methods.{has_try, methods_text, start_text, typed_start}
-use Rattle.emit_module.specs.Fixed.{VERSION, HEAD, NEW, DEFAULT, DEBUG, DEBUG_END, INNER, STATE}
-use Rattle.emit_module.specs.Fixed.{STATE_IMPL, LOCK, WAIT, OVERFLOW, REFUSED, FAILED, WHOLE}
+use Rattle.emit_module.specs.Fixed.{VERSION, HEAD, NEW, WITH, WITH_DATA, DATA, DEFAULT, DEBUG}
+use Rattle.emit_module.specs.Fixed.{DEBUG_END, INNER, COPY, COPY_END, STATE, STATE_IMPL, LOCK, WAIT}
+use Rattle.emit_module.specs.Fixed.{OVERFLOW, REFUSED, FAILED, WHOLE}
 
 -- lints would speak of names that are written as they stand
 abbrev pub lints_text : MonitorTree → List ℕ
@@ -63,6 +64,13 @@ count_field source place which =
     if is_always which.guard then []
     else around_count source (codes "    ") (place + 1) (codes ": usize,\n")
 
+-- in a copy as many
+abbrev pub count_copy : SourceParts → ℕ → Condition → List ℕ
+count_copy source place which =
+    if is_always which.guard then []
+    else around_count source (codes "            ") (place + 1) []
+    ++ around_count source (codes ": self.") (place + 1) (codes ",\n")
+
 -- at the start nobody does
 abbrev pub count_start : SourceParts → ℕ → Condition → List ℕ
 count_start source place which =
@@ -76,7 +84,7 @@ abbrev pub use_by : Bool → Bool → List ℕ
 use_by waits calls =
     if waits then codes "use std::sync::{Condvar, Mutex, MutexGuard, PoisonError};\n\n"
     else if calls then codes "use std::sync::{Mutex, MutexGuard, PoisonError};\n\n"
-    else codes "use std::sync::Mutex;\n\n"
+    else codes "use std::sync::{Mutex, PoisonError};\n\n"
 
 -- the monitor has methods
 abbrev pub has_calls : MonitorTree → Bool
@@ -92,6 +100,7 @@ struct_docs source =
     leading_docs [] source.text (first_line source.text)
     ++ codes "/// The monitor `" ++ source.tree.name
     ++ codes "`. Threads share it by reference. A call waits for its guard, unless it tries.\n"
+    ++ codes "///\n/// Its lock guards data `D` too, for the functions that calls are given.\n"
     ++ codes "/**\n# Plan\n\n```text\n" ++ plan_text source.monitor source.given
     ++ codes "```\n*/\n"
 
@@ -101,7 +110,7 @@ abbrev pub struct_head : MonitorTree → List ℕ
 struct_head tree =
     codes "#[allow(dead_code, non_camel_case_types)]\n"
     ++ codes "#[allow(clippy::doc_markdown, clippy::upper_case_acronyms)]\npub struct "
-    ++ type_name tree ++ codes " {\n    inner: Mutex<Inner>,\n"
+    ++ type_name tree ++ codes "<D = ()> {\n    inner: Mutex<Inner<D>>,\n"
 
 -- the type that threads share
 abbrev pub struct_text : SourceParts → List ℕ
@@ -154,25 +163,35 @@ constants_text source =
     flat_map (constant_line source) source.tree.decls
     ++ constants_end (list_any (λ one. not (is_field one)) source.tree.decls)
 
--- a monitor at its start
-abbrev pub new_text : SourceParts → List ℕ
-new_text source =
-    NEW
+-- a monitor at its start, with data
+abbrev pub with_data_text : SourceParts → List ℕ
+with_data_text source =
+    WITH_DATA
     ++ flat_map (λ one. count_start source one.0 one.1)
     (enumerate_from 0 source.monitor.conditions)
-    ++ codes "            }),\n"
+    ++ codes "                data,\n            }),\n"
     ++ flat_map (λ one. condition_start source one.0 one.1)
     (enumerate_from 0 source.monitor.conditions)
     ++ codes "        }\n    }\n"
 
--- A line may have more than 100 columns, so the layout is kept as it is.
-abbrev pub impl_text : SourceParts → List ℕ
-impl_text source =
+-- The functions of a monitor with no data, for which a name of the type means it. A line may have
+-- more than 100 columns, so the layout is kept as it is.
+abbrev pub own_impl : SourceParts → List ℕ
+own_impl source =
     codes "#[rustfmt::skip]\n#[allow(dead_code, clippy::doc_markdown, clippy::style)]\n"
     ++ lints_text source.tree ++ codes "impl " ++ type_name source.tree ++ codes " {\n"
-    ++ constants_text source ++ new_text source
+    ++ constants_text source ++ NEW
+
+-- those of one with any data
+abbrev pub with_impl : SourceParts → List ℕ
+with_impl source =
+    WITH ++ type_name source.tree ++ codes "<D> {\n" ++ with_data_text source ++ DATA
     ++ flat_map (λ one. methods_text source one.0 one.1) (enumerate_from 0 source.tree.methods)
     ++ codes "}\n\n"
+
+-- all functions of the type
+abbrev pub impl_text : SourceParts → List ℕ
+impl_text source = own_impl source ++ with_impl source
 
 -- the same by `Default`
 abbrev pub default_text : SourceParts → List ℕ
@@ -182,7 +201,7 @@ default_text source = codes "impl Default for " ++ type_name source.tree ++ DEFA
 -- and it waits for nobody, since it may be called by who has the mutex.
 abbrev pub debug_text : SourceParts → List ℕ
 debug_text source =
-    codes "impl std::fmt::Debug for " ++ type_name source.tree ++ DEBUG ++ type_name source.tree
+    codes "impl<D> std::fmt::Debug for " ++ type_name source.tree ++ DEBUG ++ type_name source.tree
     ++ DEBUG_END
 
 -- what the type is by traits of `std`
@@ -191,13 +210,17 @@ traits_text source = default_text source ++ debug_text source
 
 -- ---- what the mutex guards
 
--- the state, and how many sleep on each condition on which someone may wait
+-- the state, how many sleep on each condition on which someone may wait, and data; and a copy of it
+-- without these
 abbrev pub inner_text : SourceParts → List ℕ
 inner_text source =
-    INNER ++ lints_text source.tree ++ codes "struct Inner {\n    state: State,\n"
+    INNER ++ lints_text source.tree ++ codes "struct Inner<D = ()> {\n    state: State,\n"
     ++ flat_map (λ one. count_field source one.0 one.1)
     (enumerate_from 0 source.monitor.conditions)
-    ++ codes "}\n\n"
+    ++ COPY
+    ++ flat_map (λ one. count_copy source one.0 one.1)
+    (enumerate_from 0 source.monitor.conditions)
+    ++ COPY_END
 
 -- ---- the state
 

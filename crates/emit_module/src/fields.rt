@@ -7,7 +7,7 @@ ghost use Rattle.base_io.specs.Writing.{Wrote};
 ghost use Rattle.emit_method.specs.Sources.{seen};
 ghost use Rattle.emit_module.specs.Modules.{waited_field};
 ghost use Rattle.emit_module.specs.inner.Lines.{condition_at, condition_line_at, field_at};
-ghost use Rattle.emit_module.specs.inner.Lines.{indent_at, line_at, said_at};
+ghost use Rattle.emit_module.specs.inner.Lines.{copied_count, indent_at, line_at, said_at};
 
 use crate::declared::is_field;
 use base_io::{Sink, SinkFailed, write_piece, write_pieces};
@@ -26,13 +26,14 @@ pub(crate) enum FieldLine {
 }
 
 /// What a line of a condition says: of its condition variable, or of how many sleep on it, as a
-/// field or at its start.
+/// field or at its start, or in a copy.
 #[derive(Clone, Copy)]
 pub(crate) enum ConditionLine {
     Variable,
     NewVariable,
     Count,
     NewCount,
+    CopiedCount,
 }
 
 // ---- the fields of the state
@@ -162,7 +163,16 @@ fn write_condition<S: Sink>(
         ConditionLine::NewCount => {
             write_around_count(source, b"                ", number, b": 0,\n", out)
         }
+        ConditionLine::CopiedCount => write_copied_count(source, number, out),
     }
+}
+
+fn write_copied_count<S: Sink>(source: &Source, number: u32, out: &mut S) -> Result<(), SinkFailed>
+    ensures { Wrote (S.seen out.old) (S.seen out.new) result
+        (copied_count (seen source.now) number) }
+{
+    write_around_count(source, b"            ", number, b"", out)?;
+    write_around_count(source, b": self.", number, b",\n", out)
 }
 
 fn write_waited_field<S: Sink>(

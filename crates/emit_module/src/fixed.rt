@@ -1,8 +1,9 @@
 //! The texts that are the same in every module.
 
 ghost use Rattle.std.specs.Prelude.{◌≡◌};
-ghost use Rattle.emit_module.specs.Fixed.{DEBUG, DEBUG_END, DEFAULT, FAILED, HEAD, INNER, LOCK};
-ghost use Rattle.emit_module.specs.Fixed.{NEW, OVERFLOW, REFUSED, STATE, STATE_IMPL, VERSION, WAIT, WHOLE};
+ghost use Rattle.emit_module.specs.Fixed.{COPY, COPY_END, DATA, DEBUG, DEBUG_END, DEFAULT, FAILED};
+ghost use Rattle.emit_module.specs.Fixed.{HEAD, INNER, LOCK, NEW, OVERFLOW, REFUSED, STATE};
+ghost use Rattle.emit_module.specs.Fixed.{STATE_IMPL, VERSION, WAIT, WHOLE, WITH, WITH_DATA};
 
 /// The program's version, which the head of a module names.
 pub fn version_bytes() -> &'static [u8]
@@ -21,13 +22,61 @@ pub(crate) fn head_bytes() -> &'static [u8]
 "
 }
 
-/// Up to the counts at their start.
+/// The monitor with no data, and the end of its `impl`.
 pub(crate) fn new_bytes() -> &'static [u8]
     ensures { result.now ≡ NEW }
 {
     b"    /// The monitor at its start.
     #[must_use]
     pub const fn new() -> Self {
+        Self::with_data(())
+    }
+}
+
+"
+}
+
+/// What stands before the functions of a monitor with data.
+pub(crate) fn with_bytes() -> &'static [u8]
+    ensures { result.now ≡ WITH }
+{
+    b"#[rustfmt::skip]
+#[allow(dead_code, non_snake_case, clippy::doc_markdown, clippy::style)]
+impl<D> "
+}
+
+/// What is done with the data beside calls.
+pub(crate) fn data_bytes() -> &'static [u8]
+    ensures { result.now ≡ DATA }
+{
+    b"
+    /// The data, which nobody shares now.
+    #[must_use]
+    pub fn get_mut(&mut self) -> &mut D {
+        &mut self.inner.get_mut().unwrap_or_else(PoisonError::into_inner).data
+    }
+
+    /// The data, without the monitor.
+    #[must_use]
+    pub fn into_inner(self) -> D {
+        self.inner.into_inner().unwrap_or_else(PoisonError::into_inner).data
+    }
+
+    /// Whether a function that a call was given has panicked: the data are as it left them.
+    #[must_use]
+    pub fn is_poisoned(&self) -> bool {
+        self.inner.is_poisoned()
+    }
+"
+}
+
+/// The monitor with data, up to the counts at their start.
+pub(crate) fn with_data_bytes() -> &'static [u8]
+    ensures { result.now ≡ WITH_DATA }
+{
+    b"    /// The monitor at its start, with these data.
+    #[must_use]
+    pub const fn with_data(data: D) -> Self {
         Self {
             inner: Mutex::new(Inner {
                 state: State::START,
@@ -51,7 +100,7 @@ pub(crate) fn default_bytes() -> &'static [u8]
 pub(crate) fn debug_bytes() -> &'static [u8]
     ensures { result.now ≡ DEBUG }
 {
-    b" {
+    b"<D> {
     fn fmt(&self, f: &mut std::fmt::Formatter<'_>) -> std::fmt::Result {
         let state = match self.inner.try_lock() {
             Ok(inner) => Some(inner.state),
@@ -81,9 +130,36 @@ pub(crate) fn debug_end() -> &'static [u8]
 pub(crate) fn inner_bytes() -> &'static [u8]
     ensures { result.now ≡ INNER }
 {
-    b"/// What the mutex guards: the fields, and how many calls sleep on each condition.
-#[derive(Clone, Copy)]
+    b"/// What the mutex guards: the fields, how many calls sleep on each condition, and the data.
 #[allow(dead_code)]
+"
+}
+
+/// What stands after it, up to the counts of a copy.
+pub(crate) fn copy_bytes() -> &'static [u8]
+    ensures { result.now ≡ COPY }
+{
+    b"    data: D,
+}
+
+impl<D> Inner<D> {
+    /// All but the data.
+    #[allow(dead_code)]
+    fn copy(&self) -> Inner {
+        Inner {
+            state: self.state,
+"
+}
+
+/// What stands after these counts.
+pub(crate) fn copy_end() -> &'static [u8]
+    ensures { result.now ≡ COPY_END }
+{
+    b"            data: (),
+        }
+    }
+}
+
 "
 }
 
@@ -112,8 +188,8 @@ pub(crate) fn lock_bytes() -> &'static [u8]
     ensures { result.now ≡ LOCK }
 {
     b"
-/// Locks the monitor. Nothing panics while it is locked, so there is no poison to heed.
-fn lock(inner: &Mutex<Inner>) -> MutexGuard<'_, Inner> {
+/// Locks the monitor, poisoned or not: where a function panicked no field has changed.
+fn lock<D>(inner: &Mutex<Inner<D>>) -> MutexGuard<'_, Inner<D>> {
     inner.lock().unwrap_or_else(PoisonError::into_inner)
 }
 "
@@ -125,10 +201,20 @@ pub(crate) fn wait_bytes() -> &'static [u8]
 {
     b"
 /// Gives the lock back and waits on the condition, in one step, and takes the lock again.
-fn wait<'a>(condition: &Condvar, inner: MutexGuard<'a, Inner>) -> MutexGuard<'a, Inner> {
+fn wait<'a, D>(condition: &Condvar, inner: MutexGuard<'a, Inner<D>>) -> MutexGuard<'a, Inner<D>> {
     condition
         .wait(inner)
         .unwrap_or_else(PoisonError::into_inner)
+}
+
+/// Wakes one call that waits on the condition, where a block ends that changed nothing.
+#[allow(dead_code)]
+struct HandOn<'a>(&'a Condvar);
+
+impl Drop for HandOn<'_> {
+    fn drop(&mut self) {
+        self.0.notify_one();
+    }
 }
 "
 }

@@ -12,16 +12,17 @@ ghost use Rattle.emit_module.specs.Modules.{constant_docs, constant_line, consta
 ghost use Rattle.emit_module.specs.Modules.{constants_end, constants_text, debug_text};
 ghost use Rattle.emit_module.specs.Modules.{default_text, fails_somewhere, functions_text};
 ghost use Rattle.emit_module.specs.Modules.{has_calls, head_text, impl_text, is_field, module_text};
-ghost use Rattle.emit_module.specs.Modules.{new_text, plain_docs, refuses_so, refuses_somewhere};
+ghost use Rattle.emit_module.specs.Modules.{own_impl, plain_docs, refuses_so, refuses_somewhere};
 ghost use Rattle.emit_module.specs.Modules.{rust_text, shortens_somewhere, struct_docs};
 ghost use Rattle.emit_module.specs.Modules.{struct_head, struct_text, text_if, traits_text, use_by};
-ghost use Rattle.emit_module.specs.Modules.{use_text, waits_somewhere};
+ghost use Rattle.emit_module.specs.Modules.{use_text, waits_somewhere, with_data_text, with_impl};
 
 use crate::declared::{is_field, write_lints};
 use crate::fields::{ConditionLine, write_conditions};
 use crate::fixed::{
-    debug_bytes, debug_end, default_bytes, failed_bytes, head_bytes, lock_bytes, new_bytes,
-    overflow_bytes, refused_bytes, version_bytes, wait_bytes, whole_bytes,
+    data_bytes, debug_bytes, debug_end, default_bytes, failed_bytes, head_bytes, lock_bytes,
+    new_bytes, overflow_bytes, refused_bytes, version_bytes, wait_bytes, whole_bytes, with_bytes,
+    with_data_bytes,
 };
 use crate::state::{write_inner, write_state, write_state_impl};
 use base_io::{Sink, SinkFailed, write_piece};
@@ -104,7 +105,7 @@ fn use_bytes(waits: bool, calls: bool) -> &'static [u8]
     if calls {
         b"use std::sync::{Mutex, MutexGuard, PoisonError};\n\n"
     } else {
-        b"use std::sync::Mutex;\n\n"
+        b"use std::sync::{Mutex, PoisonError};\n\n"
     }
 }
 
@@ -150,6 +151,10 @@ fn write_struct_docs<S: Sink>(source: &Source, out: &mut S) -> Result<(), SinkFa
         b"`. Threads share it by reference. A call waits for its guard, unless it tries.\n",
         out,
     )?;
+    write_piece(
+        b"///\n/// Its lock guards data `D` too, for the functions that calls are given.\n",
+        out,
+    )?;
     write_piece(b"/**\n# Plan\n\n```text\n", out)?;
     write_plan(source.monitor, source.plan, out)?;
     write_piece(b"```\n*/\n", out)
@@ -165,13 +170,21 @@ pub struct ",
         out,
     )?;
     write_type(tree, out)?;
-    write_piece(b" {\n    inner: Mutex<Inner>,\n", out)
+    write_piece(b"<D = ()> {\n    inner: Mutex<Inner<D>>,\n", out)
 }
 
 // ---- its functions
 
 fn write_impl<S: Sink>(source: &Source, out: &mut S) -> Result<(), SinkFailed>
     ensures { Wrote (S.seen out.old) (S.seen out.new) result (impl_text (seen source.now)) }
+{
+    write_own_impl(source, out)?;
+    write_with_impl(source, out)
+}
+
+// Of a monitor with no data.
+fn write_own_impl<S: Sink>(source: &Source, out: &mut S) -> Result<(), SinkFailed>
+    ensures { Wrote (S.seen out.old) (S.seen out.new) result (own_impl (seen source.now)) }
 {
     write_piece(
         b"#[rustfmt::skip]
@@ -184,7 +197,18 @@ fn write_impl<S: Sink>(source: &Source, out: &mut S) -> Result<(), SinkFailed>
     write_type(source.tree, out)?;
     write_piece(b" {\n", out)?;
     write_constants(source, out)?;
-    write_new(source, out)?;
+    write_piece(new_bytes(), out)
+}
+
+// Of one with any data.
+fn write_with_impl<S: Sink>(source: &Source, out: &mut S) -> Result<(), SinkFailed>
+    ensures { Wrote (S.seen out.old) (S.seen out.new) result (with_impl (seen source.now)) }
+{
+    write_piece(with_bytes(), out)?;
+    write_type(source.tree, out)?;
+    write_piece(b"<D> {\n", out)?;
+    write_with_data(source, out)?;
+    write_piece(data_bytes(), out)?;
     write_methods(source, source.tree.methods.items(), out)?;
     write_piece(b"}\n\n", out)
 }
@@ -278,13 +302,13 @@ fn constants_end(any: bool) -> &'static [u8]
     if any { b"\n" } else { b"" }
 }
 
-fn write_new<S: Sink>(source: &Source, out: &mut S) -> Result<(), SinkFailed>
-    ensures { Wrote (S.seen out.old) (S.seen out.new) result (new_text (seen source.now)) }
+fn write_with_data<S: Sink>(source: &Source, out: &mut S) -> Result<(), SinkFailed>
+    ensures { Wrote (S.seen out.old) (S.seen out.new) result (with_data_text (seen source.now)) }
 {
-    write_piece(new_bytes(), out)?;
+    write_piece(with_data_bytes(), out)?;
     let conditions = source.monitor.conditions();
     write_conditions(ConditionLine::NewCount, source, conditions, out)?;
-    write_piece(b"            }),\n", out)?;
+    write_piece(b"                data,\n            }),\n", out)?;
     write_conditions(ConditionLine::NewVariable, source, conditions, out)?;
     write_piece(b"        }\n    }\n", out)
 }
@@ -322,7 +346,7 @@ fn write_default<S: Sink>(source: &Source, out: &mut S) -> Result<(), SinkFailed
 fn write_debug<S: Sink>(source: &Source, out: &mut S) -> Result<(), SinkFailed>
     ensures { Wrote (S.seen out.old) (S.seen out.new) result (debug_text (seen source.now)) }
 {
-    write_piece(b"impl std::fmt::Debug for ", out)?;
+    write_piece(b"impl<D> std::fmt::Debug for ", out)?;
     write_type(source.tree, out)?;
     write_piece(debug_bytes(), out)?;
     write_type(source.tree, out)?;

@@ -16,7 +16,7 @@ ghost use Rattle.emit_module.specs.Modules.{tests_guard};
 
 use crate::declared::{is_field, write_lints};
 use crate::fields::{ConditionLine, FieldLine, write_conditions, write_fields};
-use crate::fixed::{inner_bytes, state_bytes, state_impl_bytes};
+use crate::fixed::{copy_bytes, copy_end, inner_bytes, state_bytes, state_impl_bytes};
 use base_io::{Sink, SinkFailed, write_piece};
 use emit_bodies::{write_body, write_guard};
 use emit_method::{
@@ -26,16 +26,18 @@ use lang_base::Kind;
 use lang_monitor::Monitor;
 use lang_tree::{BlockTree, Decl, Expr, MethodTree, MonitorTree, StmtTree};
 
-/// Writes the struct of what the mutex guards.
+/// Writes the struct of what the mutex guards, and the copy that is made of it.
 pub(crate) fn write_inner<S: Sink>(source: &Source, out: &mut S) -> Result<(), SinkFailed>
     ensures { Wrote (S.seen out.old) (S.seen out.new) result (inner_text (seen source.now)) }
 {
     write_piece(inner_bytes(), out)?;
     write_lints(source.tree, out)?;
-    write_piece(b"struct Inner {\n    state: State,\n", out)?;
+    write_piece(b"struct Inner<D = ()> {\n    state: State,\n", out)?;
     let conditions = source.monitor.conditions();
     write_conditions(ConditionLine::Count, source, conditions, out)?;
-    write_piece(b"}\n\n", out)
+    write_piece(copy_bytes(), out)?;
+    write_conditions(ConditionLine::CopiedCount, source, conditions, out)?;
+    write_piece(copy_end(), out)
 }
 
 /// Writes the struct of the state.

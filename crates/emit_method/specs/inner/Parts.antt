@@ -9,8 +9,8 @@ use Rattle.emit_code.specs.Code.{blocks_code, is_waited_on, late_order, overflow
 use Rattle.emit_code.specs.Code.Op.{Lock, Run}
 use Rattle.emit_method.specs.Sources.{SourceParts}
 use Rattle.emit_method.specs.Conditions.{around_name}
-use Rattle.emit_method.specs.Statements.{MethodParts, answer_name, call_text, note_text, op_text}
-use Rattle.emit_method.specs.Statements.{ops_text, overflow_text}
+use Rattle.emit_method.specs.Statements.{MethodParts, answer_name, call_text, fails_at, note_text}
+use Rattle.emit_method.specs.Statements.{op_text, ops_text, overflow_text, run_text}
 use Rattle.emit_method.specs.Sources.{answer_of}
 use Rattle.emit_method.specs.Methods.{code_text}
 
@@ -26,6 +26,11 @@ test_ops it tries block = ops_text it (test_code it.source.monitor tries block [
 -- its body
 abbrev pub run_op : MethodParts → ℕ → List ℕ
 run_op it block = op_text it (Run block (overflow_notes it.source.monitor block))
+
+-- where it calls no function
+abbrev pub own_run : MethodParts → ℕ → List ℕ
+own_run it block =
+    run_text it block (overflow_notes it.source.monitor block) (fails_at it block)
 
 -- a note, and the error of a body that overflows
 abbrev pub guarded_end : Bool → List ℕ

@@ -41,7 +41,13 @@ line_at line tree declared = if is_field declared then field_at line tree declar
 
 -- ---- the lines of conditions, by their numbers from 0
 
--- the condition variable or the count, as a field or at its start
+-- the count in a copy
+abbrev pub copied_count : SourceParts → ℕ → List ℕ
+copied_count source number =
+    around_count source (codes "            ") number []
+    ++ around_count source (codes ": self.") number (codes ",\n")
+
+-- the condition variable or the count, as a field or at its start, or in a copy
 abbrev pub condition_at : ConditionLine → SourceParts → ℕ → Condition → List ℕ
 condition_at kinds.Variable source place which = waited_field source place which
 condition_at kinds.NewVariable source place which =
@@ -50,8 +56,9 @@ condition_at kinds.Count source place which =
     around_count source (codes "    ") (place + 1) (codes ": usize,\n")
 condition_at kinds.NewCount source place which =
     around_count source (codes "                ") (place + 1) (codes ": 0,\n")
+condition_at kinds.CopiedCount source place which = copied_count source (place + 1)
 
--- `condition_field`, `condition_start`, `count_field` or `count_start`
+-- `condition_field`, `condition_start`, `count_field`, `count_start` or `count_copy`
 abbrev pub condition_line_at : ConditionLine → SourceParts → ℕ → Condition → List ℕ
 condition_line_at line source place which =
     if is_always which.guard then [] else condition_at line source place which

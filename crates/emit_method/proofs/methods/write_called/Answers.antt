@@ -1,13 +1,15 @@
+use Rattle.std.proofs.Common.{◌++◌, codes}
+use Rattle.emit_method.specs.Docs.{plain_called}
+use Rattle.emit_method.specs.Methods.{work_called}
+use Rattle.emit_method.specs.Statements.{method_seen}
 use Rattle.base_io.proofs.Writing.{wrote_same}
 use Rattle.emit_method.proofs.Choices.{if_false, if_true}
-use Rattle.emit_names.specs.Names.{member_name, try_name}
-use Rattle.emit_names.specs.declared.style.Style.TheVariants as styles
 use Rattle.emit_method.proofs.methods.write_called.Goals as goal
 
-pub returns-then-it : goal.returns-then-it
-returns-then-it g c =
-    wrote_same _ (if_true c.args.it.now.tries (try_name c.args.it.now.source.now.tree.now c.args.it.now.method.now.name) (member_name c.args.it.now.source.now.tree.now styles.Snake c.args.it.now.method.now.name) c.if-it.true) c.write_try_name.ensures
+pub returns-then-not-it : goal.returns-then-not-it
+returns-then-not-it g c =
+    wrote_same _ (if_false c.args.it.now.works (work_called (method_seen c.args.it.now) ++ codes "<R>") (plain_called (method_seen c.args.it.now)) c.if-not-it.true) c.write_plain_called.ensures
 
 pub returns : goal.returns
 returns g c =
-    wrote_same _ (if_false c.args.it.now.tries (try_name c.args.it.now.source.now.tree.now c.args.it.now.method.now.name) (member_name c.args.it.now.source.now.tree.now styles.Snake c.args.it.now.method.now.name) c.if-it.false) c.write_member.ensures
+    wrote_same _ (if_true c.args.it.now.works (work_called (method_seen c.args.it.now) ++ codes "<R>") (plain_called (method_seen c.args.it.now)) c.if-not-it.false) c.write_generic.ensures

@@ -1,13 +1,14 @@
-use Rattle.emit_bodies.specs.Bodies.{arrow_text}
+use Rattle.std.proofs.Common.{◌∙◌}
 use Rattle.base_io.proofs.Writing.{wrote_same}
 use Rattle.emit_method.proofs.Choices.{if_false, if_true}
-use Rattle.emit_method.specs.Methods.{try_arrow}
+use Rattle.emit_method.specs.Methods.{own_arrow, work_arrow}
+use Rattle.emit_method.specs.Statements.{method_seen}
 use Rattle.emit_method.proofs.methods.write_method_arrow.Goals as goal
 
-pub returns-then-not-it : goal.returns-then-not-it
-returns-then-not-it g c =
-    wrote_same _ (if_false c.args.it.now.tries (try_arrow c.args.it.now.answer c.args.it.now.fails) (arrow_text c.args.it.now.answer c.args.it.now.fails) c.if-not-it.true) c.write_arrow.ensures
+pub returns-then-it : goal.returns-then-it
+returns-then-it g c =
+    wrote_same _ (c.work_arrow.ensures ∙ if_true c.args.it.now.works (work_arrow c.args.it.now.tries c.args.it.now.fails) (own_arrow (method_seen c.args.it.now)) c.if-it.true) c.write_piece.ensures
 
 pub returns : goal.returns
 returns g c =
-    wrote_same _ (if_true c.args.it.now.tries (try_arrow c.args.it.now.answer c.args.it.now.fails) (arrow_text c.args.it.now.answer c.args.it.now.fails) c.if-not-it.false) c.write_try_arrow.ensures
+    wrote_same _ (if_false c.args.it.now.works (work_arrow c.args.it.now.tries c.args.it.now.fails) (own_arrow (method_seen c.args.it.now)) c.if-it.false) c.write_own_arrow.ensures

@@ -1,14 +1,14 @@
 use Rattle.std.proofs.Common.{[], rules, true}
 use Rattle.base_io.proofs.Writing.{wrote_same}
 use Rattle.emit_method.proofs.Choices.{no_text, yes_text}
-use Rattle.emit_method.specs.Methods.{has_try, method_text}
+use Rattle.emit_method.specs.Methods.{has_try, both_text}
 use Rattle.emit_method.specs.Sources.{seen}
 use Rattle.emit_method.proofs.methods.write_try.Goals as goal
 
 pub returns-then-not-has_try : goal.returns-then-not-has_try
 returns-then-not-has_try g c =
-    wrote_same _ (no_text (has_try (seen c.args.source.now) c.args.number c.args.method.now) _ (method_text (seen c.args.source.now) c.args.number c.args.method.now true) [] c.has_try.ensures c.if-not-has_try.true) (search rules)
+    wrote_same _ (no_text (has_try (seen c.args.source.now) c.args.number c.args.method.now) _ (both_text (seen c.args.source.now) c.args.number c.args.method.now true) [] c.has_try.ensures c.if-not-has_try.true) (search rules)
 
 pub returns : goal.returns
 returns g c =
-    wrote_same _ (yes_text (has_try (seen c.args.source.now) c.args.number c.args.method.now) _ (method_text (seen c.args.source.now) c.args.number c.args.method.now true) [] c.has_try.ensures c.if-not-has_try.false) c.write_method.ensures
+    wrote_same _ (yes_text (has_try (seen c.args.source.now) c.args.number c.args.method.now) _ (both_text (seen c.args.source.now) c.args.number c.args.method.now true) [] c.has_try.ensures c.if-not-has_try.false) c.write_both.ensures

@@ -20,3 +20,7 @@ returns-in-Count g c =
 pub returns-in-NewCount : goal.returns-in-NewCount
 returns-in-NewCount g c =
     wrote_same _ (ap (λ (line : ConditionLine). condition_at line (seen c.args.source.now) c.args.place c.args.which.now) (sym c.in-NewCount.is)) c.write_around_count-in-NewCount.ensures
+
+pub returns-in-CopiedCount : goal.returns-in-CopiedCount
+returns-in-CopiedCount g c =
+    wrote_same _ (ap (λ (line : ConditionLine). condition_at line (seen c.args.source.now) c.args.place c.args.which.now) (sym c.in-CopiedCount.is)) c.write_copied_count.ensures

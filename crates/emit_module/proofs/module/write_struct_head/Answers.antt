@@ -1,15 +1,15 @@
 use Rattle.std.proofs.Common.{codes}
-use Rattle.base_io.proofs.Writing.{wrote_both, wrote_fails, wrote_longer}
 use Rattle.emit_names.specs.Names.{type_name}
+use Rattle.base_io.proofs.Writing.{wrote_both, wrote_fails, wrote_longer}
 use Rattle.emit_module.proofs.module.write_struct_head.Goals as goal
 
 pub returns-in_err-write_piece : goal.returns-in_err-write_piece
 returns-in_err-write_piece g c =
-    wrote_fails _ c.from_residual.ensures.0 (wrote_longer (codes " {\n    inner: Mutex<Inner>,\n") (wrote_longer (type_name c.args.tree.now) c.in_err-write_piece.ensures))
+    wrote_fails _ c.from_residual.ensures.0 (wrote_longer (codes "<D = ()> {\n    inner: Mutex<Inner<D>>,\n") (wrote_longer (type_name c.args.tree.now) c.in_err-write_piece.ensures))
 
 pub returns-in_err-write_type : goal.returns-in_err-write_type
 returns-in_err-write_type g c =
-    wrote_fails _ c.from_residual-in_err-write_type.ensures.0 (wrote_longer (codes " {\n    inner: Mutex<Inner>,\n") (wrote_both c.in_ok-write_piece.ensures c.in_err-write_type.ensures))
+    wrote_fails _ c.from_residual-in_err-write_type.ensures.0 (wrote_longer (codes "<D = ()> {\n    inner: Mutex<Inner<D>>,\n") (wrote_both c.in_ok-write_piece.ensures c.in_err-write_type.ensures))
 
 pub returns : goal.returns
 returns g c =
