@@ -17,8 +17,9 @@ from rust_bodies import (Scope, answer, argument_texts, can_name, doc_text,  # n
                          function_texts, kind_text, run_name, shortens, trace)
 from rust_comments import Comments  # noqa: E402
 from rust_names import Names, lints  # noqa: E402
-from rust_texts import DEBUG, DEFAULT, FAILED, FIELDS, HEAD, INNER, LOCK, NEW, OVERFLOW  # noqa: E402
-from rust_texts import REFUSED, SKIP, STATE, STATE_HEAD, USED, VERSION, WAIT, WHOLE  # noqa: E402
+from rust_texts import COPY, DATA, DEBUG, DEFAULT, FAILED, FIELDS, HEAD, INNER, LOCK, METHODS  # noqa: E402
+from rust_texts import NEW, OVERFLOW, REFUSED, SKIP, STATE, STATE_HEAD, USED, VERSION, WAIT  # noqa: E402
+from rust_texts import WHOLE, WITH_DATA  # noqa: E402
 from trees import read_tree  # noqa: E402
 
 ALWAYS = joined("all", [])
@@ -140,25 +141,42 @@ def test_lines(source, block, refusal):
             f"    inner = wait(&self.{source.condition_name(condition)}, inner);", f"{count} -= 1;", "}"]
 
 
-def block_lines(source, block, refusal, tries):
+def work_lines(source, block):
+    """The body of a block on a copy of the state, which is kept after the function that was given."""
+    condition, answer = source.condition_of(block), source.answer(block)
+    waits = source.is_waited_on(condition)
+    call = call_text(source, block).replace("inner.state.", "next.")
+    return [f"let hand = HandOn(&self.{source.condition_name(condition)});"] * waits + [
+        "let mut next = inner.state;",
+        f"{'let answer = ' if answer else ''}{call}{'?' if source.fails(block) else ''};",
+        f"let result = f(&mut inner.data{', answer' if answer else ''});"] + [
+        "std::mem::forget(hand);"] * waits + ["inner.state = next;"]
+
+
+def block_lines(source, block, refusal, tries, works):
     """From the lock to the notes, which come when the lock is given back."""
     lines, notes = ["let mut inner = lock(&self.inner);"], source.notes[block]
-    lines += test_lines(source, block, refusal) + run_lines(source, block, tries)
-    lines += ["let copy = *inner;"] * bool(notes) + ["drop(inner);"]
+    lines += test_lines(source, block, refusal)
+    lines += work_lines(source, block) if works else run_lines(source, block, tries)
+    lines += ["let copy = inner.copy();"] * bool(notes) + ["drop(inner);"]
     for note in notes:
         lines += note_lines(source, note)
     return lines
 
 
-def end_lines(answer, fails, tries):
+def end_lines(name, fails, tries):
     """What a method answers, after its last block."""
     if not fails and not tries:
-        return ["answer"] if answer else []
-    return [f"Ok({'answer' if answer else '()'})"]
+        return [name] if name else []
+    return [f"Ok({name or '()'})"]
 
 
-def method_text(source, method, first, tries):
-    """A method; of one that tries, a call is refused where it would wait at the first block."""
+def method_text(source, method, first, tries, works):
+    """A method.
+
+    Of one that tries, a call is refused where it would wait at the first block; of one that works, a call is given
+    a function, which the last block calls with the data.
+    """
     blocks = range(first, first + len(method.blocks))
     fails, answer = any(source.fails(block) for block in blocks), source.answer(blocks[-1])
     error = ("Failed" if fails else "Refused") if tries else "Overflow" if fails else None
@@ -166,14 +184,16 @@ def method_text(source, method, first, tries):
     lines = [f"let mut {source.names.own(method, one.name)}: {kind_text(one.kind)} = {one.start};"
              for one in method.own_locals]
     for block in blocks:
-        lines += block_lines(source, block, refusal if block == first else None, tries)
-    lines += end_lines(answer, fails, tries)
+        lines += block_lines(source, block, refusal if block == first else None, tries,
+                             works and block == blocks[-1])
+    lines += end_lines("result" if works else answer and "answer", fails, tries)
     inputs = "".join(f", {source.names.own(method, one.name)}: {kind_text(one.kind)}"
                      for one in method.inputs)
-    name = source.names.tried(method.name) if tries else source.names.member(method.name)
-    arrow = arrow_text(answer, error)
+    inputs += f", f: impl FnOnce(&mut D{', ' + answer if answer else ''}) -> R" if works else ""
+    name = ("try_" if tries else "") + source.names.member(method.name) + ("_with<R>" if works else "")
+    arrow = arrow_text("R" if works else answer, error)
     body = "".join(f"        {line}\n" for line in lines)
-    docs = doc_text(source, method, first, fails, tries)
+    docs = doc_text(source, method, first, fails, tries, works, answer)
     return f"\n{docs}    pub fn {name}(&self{inputs}){arrow} {{\n{body}    }}\n"
 
 
@@ -183,10 +203,17 @@ def has_try(source, method, first):
     return waits and source.names.is_free(source.names.tried(method.name))
 
 
+def has_with(source, method, tries):
+    """No other name is theirs."""
+    free = source.names.is_with_free(method.name)
+    return free and (not tries or source.names.is_free("try_" + source.names.working(method.name)))
+
+
 def methods_text(source, method, first):
-    """With the calls that try, where it has them."""
+    """With the calls that try, and those that are given a function, where it has them."""
     ways = [False, True] if has_try(source, method, first) else [False]
-    return "".join(method_text(source, method, first, tries) for tries in ways)
+    return "".join(method_text(source, method, first, tries, works) for tries in ways
+                   for works in [False] + [True] * has_with(source, method, tries))
 
 
 def arrow_text(answer, error):
@@ -200,11 +227,11 @@ def module_text(source):
     lint, kind = lints(source.tree), source.names.type_name()
     waited, fails = source.waited_on(), any(map(source.fails, range(len(source.blocks))))
     refused = refusals(source)
-    used = "{Mutex, MutexGuard, PoisonError}" if source.blocks else "Mutex"
+    used = "{Mutex, MutexGuard, PoisonError}" if source.blocks else "{Mutex, PoisonError}"
     used = used.replace("{", "{Condvar, ") if waited else used
     parts = [HEAD % (source.tree.name, VERSION), f"use std::sync::{used};\n\n",
              struct_text(source, kind, lint, waited), impl_text(source, kind, lint, waited),
-             f"impl Default for {kind}{DEFAULT}", f"impl std::fmt::Debug for {kind}{DEBUG % kind}",
+             f"impl Default for {kind}{DEFAULT}", f"impl<D> std::fmt::Debug for {kind}<D>{DEBUG % kind}",
              inner_text(source, lint, waited), f"{FIELDS}{lint}struct State {{{state_fields(source)}}}\n\n", STATE,
              f"{lint}{STATE_HEAD}{starts(source)}}};\n", functions(source), "}\n"]
     own = [LOCK] * bool(source.blocks) + [WAIT] * bool(waited) + [OVERFLOW] * fails
@@ -227,14 +254,17 @@ def struct_text(source, kind, lint, waited):
     fields = "".join(f"    /// For calls that wait until `{source.shown(q)}`.\n"
                      f"    {source.condition_name(q)}: Condvar,\n" for q in waited)
     return (f"{source.comments.of_monitor()}/// The monitor `{source.tree.name}`. Threads share it by reference. A call waits for its guard, "
-            f"unless it tries.\n/**\n# Plan\n\n```text\n{source.plan}```\n*/\n{lint}{USED}pub struct {kind} {{\n"
-            f"    inner: Mutex<Inner>,\n{fields}}}\n\n")
+            f"unless it tries.\n///\n/// Its lock guards data `D` too, for the functions that calls are given.\n"
+            f"/**\n# Plan\n\n```text\n{source.plan}```\n*/\n{lint}{USED}pub struct {kind}<D = ()> {{\n"
+            f"    inner: Mutex<Inner<D>>,\n{fields}}}\n\n")
 
 
 def inner_text(source, lint, waited):
     """What the lock guards: the state, and a count of each condition that is waited for."""
     counts = "".join(f"    {source.count_name(q)}: usize,\n" for q in waited)
-    return f"{INNER}{lint}struct Inner {{\n    state: State,\n{counts}}}\n\n"
+    copies = "".join(f"            {source.count_name(q)}: self.{source.count_name(q)},\n" for q in waited)
+    return (f"{INNER}{lint}struct Inner<D = ()> {{\n    state: State,\n{counts}    data: D,\n}}\n\n"
+            f"impl<D> Inner<D> {{\n{COPY}{copies}            data: (),\n        }}\n    }}\n}}\n\n")
 
 
 def impl_text(source, kind, lint, waited):
@@ -243,13 +273,14 @@ def impl_text(source, kind, lint, waited):
                         for one in source.tree.declared if one.kind == "const")
     counts = "".join(f"                {source.count_name(q)}: 0,\n" for q in waited)
     conditions = "".join(f"            {source.condition_name(q)}: Condvar::new(),\n" for q in waited)
-    conditions = f"{counts}            }}),\n{conditions}"
+    conditions = f"{counts}                data,\n            }}),\n{conditions}"
     methods, first = "", 0
     for method in source.tree.methods:
         methods += methods_text(source, method, first)
         first += len(method.blocks)
     gap = "\n" if constants else ""
-    return (f"{SKIP}{lint}impl {kind} {{\n{constants}{gap}{NEW}{conditions}        }}\n    }}\n"
+    return (f"{SKIP}{lint}impl {kind} {{\n{constants}{gap}{NEW}"
+            f"{METHODS}impl<D> {kind}<D> {{\n{WITH_DATA}{conditions}        }}\n    }}\n\n{DATA}"
             f"{methods}}}\n\n")
 
 

@@ -277,7 +277,7 @@ def stays_text(method):
             else "Then nothing changes.")
 
 
-def waiting_docs(source, method, first, fails):
+def waiting_docs(source, method, first):
     """What calls that wait wait for."""
     lines = []
     for place, block in enumerate(method.blocks):
@@ -286,24 +286,37 @@ def waiting_docs(source, method, first, fails):
             lines.append(f"{'Then waits' if place else 'Waits'} until `{block.shown}`.")
         else:
             lines.append("Then goes on." if place else "Does not wait.")
-    if fails:
-        lines += ["", "# Errors", "", f"[`Overflow`] where a number would leave 64 bits. {stays_text(method)}"]
     return lines
 
 
-def trying_docs(source, method, fails):
-    """When calls that try are refused."""
+def trying_docs(source, method):
+    """What calls that try don't wait for."""
     name, shown = source.names.member(method.name), method.blocks[0].shown
-    kind = "Failed::" if fails else ""
-    lines = [f"As [`{name}`](Self::{name}), but does not wait until `{shown}`.", "", "# Errors", "",
-             f"[`{kind}Refused`] where `{shown}` is false. Then nothing changes."]
+    return [f"As [`{name}`](Self::{name}), but does not wait until `{shown}`."]
+
+
+def working_docs(source, method, tries, answer):
+    """What calls do that are given a function."""
+    name = ("try_" if tries else "") + source.names.member(method.name)
+    given = "the data and the answer" if answer else "the data"
+    several = len(method.blocks) > 1
+    return [f"As [`{name}`](Self::{name}), and calls `f` with {given} under the same lock{', in its last block' if several else ''}.", "",
+            f"Where `f` panics {'that block changes no field' if several else 'no field changes'}. `f` must not call this monitor."]
+
+
+def error_docs(method, fails, tries):
+    """When calls fail."""
+    shown, lines = method.blocks[0].shown, []
+    if tries:
+        lines += ["", f"[`{'Failed::' if fails else ''}Refused`] where `{shown}` is false. Then nothing changes."]
     if fails:
-        lines += ["", f"[`Failed::Overflow`] where a number would leave 64 bits. {stays_text(method)}"]
-    return lines
+        lines += ["", f"[`{'Failed::' if tries else ''}Overflow`] where a number would leave 64 bits. {stays_text(method)}"]
+    return ["", "# Errors"] + lines if lines else []
 
 
-def doc_text(source, method, first, fails, tries):
-    lines = (trying_docs(source, method, fails) if tries
-             else waiting_docs(source, method, first, fails))
-    comments = "" if tries else source.comments.of_method(method.name)
+def doc_text(source, method, first, fails, tries, works, answer):
+    lines = (working_docs(source, method, tries, answer) if works
+             else trying_docs(source, method) if tries
+             else waiting_docs(source, method, first)) + error_docs(method, fails, tries)
+    comments = "" if tries or works else source.comments.of_method(method.name)
     return comments + "".join(f"    /// {line}".rstrip() + "\n" for line in lines)

@@ -6,9 +6,11 @@ KEYWORDS = set(
     "as break const continue crate else enum extern false fn for if impl in let loop match mod move mut "
     "pub ref return self Self static struct super trait true type unsafe use where while async await dyn "
     "abstract become box do final gen macro override priv try typeof unsized virtual yield".split())
-TYPE_WORDS = set("Inner State Overflow Refused Failed Mutex MutexGuard Condvar PoisonError Default From Result".split())
-MEMBER_WORDS = {"new"}
-OWN_WORDS = set("inner copy next answer lock wait narrow whole drop Ok Err Some None Overflow Refused".split())
+TYPE_WORDS = set("Inner State Overflow Refused Failed Mutex MutexGuard Condvar PoisonError Default From Result "
+                 "Drop FnOnce HandOn D R".split())
+MEMBER_WORDS = set("new with_data get_mut into_inner is_poisoned".split())
+OWN_WORDS = set("inner copy next answer f hand result lock wait narrow whole drop "
+                "Ok Err Some None Overflow Refused HandOn".split())
 
 
 def snake(name):
@@ -72,6 +74,15 @@ class Names:
     def tried(self, name):
         """Of the calls of a method that try."""
         return "try_" + self.member(name)
+
+    def working(self, name):
+        """Of the calls of a method that are given a function."""
+        return self.member(name) + "_with"
+
+    def is_with_free(self, name):
+        """No member is written so, and no method that tries."""
+        tried = [self.tried(one.name) for one in self.tree.methods]
+        return self.is_free(self.working(name)) and self.working(name) not in tried
 
     def is_free(self, name):
         """No constant, field or method is written so."""

@@ -4,6 +4,8 @@
 use std::sync::{Condvar, Mutex, MutexGuard, PoisonError};
 
 /// The monitor `Account`. Threads share it by reference. A call waits for its guard, unless it tries.
+///
+/// Its lock guards data `D` too, for the functions that calls are given.
 /**
 # Plan
 
@@ -21,8 +23,8 @@ block thaw: 1 broadcast, 2 broadcast
 */
 #[allow(dead_code, non_camel_case_types)]
 #[allow(clippy::doc_markdown, clippy::upper_case_acronyms)]
-pub struct Account {
-    inner: Mutex<Inner>,
+pub struct Account<D = ()> {
+    inner: Mutex<Inner<D>>,
     /// For calls that wait until `!frozen`.
     can_deposit: Condvar,
     /// For calls that wait until `amount <= balance && !frozen`.
@@ -40,17 +42,46 @@ impl Account {
     /// The monitor at its start.
     #[must_use]
     pub const fn new() -> Self {
+        Self::with_data(())
+    }
+}
+
+#[rustfmt::skip]
+#[allow(dead_code, non_snake_case, clippy::doc_markdown, clippy::style)]
+impl<D> Account<D> {
+    /// The monitor at its start, with these data.
+    #[must_use]
+    pub const fn with_data(data: D) -> Self {
         Self {
             inner: Mutex::new(Inner {
                 state: State::START,
                 asleep_deposit: 0,
                 asleep_withdraw: 0,
                 asleep_thaw: 0,
+                data,
             }),
             can_deposit: Condvar::new(),
             can_withdraw: Condvar::new(),
             can_thaw: Condvar::new(),
         }
+    }
+
+    /// The data, which nobody shares now.
+    #[must_use]
+    pub fn get_mut(&mut self) -> &mut D {
+        &mut self.inner.get_mut().unwrap_or_else(PoisonError::into_inner).data
+    }
+
+    /// The data, without the monitor.
+    #[must_use]
+    pub fn into_inner(self) -> D {
+        self.inner.into_inner().unwrap_or_else(PoisonError::into_inner).data
+    }
+
+    /// Whether a function that a call was given has panicked: the data are as it left them.
+    #[must_use]
+    pub fn is_poisoned(&self) -> bool {
+        self.inner.is_poisoned()
     }
 
     /// Waits until `!frozen`.
@@ -69,12 +100,40 @@ impl Account {
             self.can_deposit.notify_one();
             return Err(Overflow);
         };
-        let copy = *inner;
+        let copy = inner.copy();
         drop(inner);
         if copy.asleep_withdraw > 0 {
             self.can_withdraw.notify_all();
         }
         Ok(answer)
+    }
+
+    /// As [`deposit`](Self::deposit), and calls `f` with the data and the answer under the same lock.
+    ///
+    /// Where `f` panics no field changes. `f` must not call this monitor.
+    ///
+    /// # Errors
+    ///
+    /// [`Overflow`] where a number would leave 64 bits. Then nothing changes.
+    pub fn deposit_with<R>(&self, amount: i64, f: impl FnOnce(&mut D, i64) -> R) -> Result<R, Overflow> {
+        let mut inner = lock(&self.inner);
+        while !inner.state.can_deposit() {
+            inner.asleep_deposit += 1;
+            inner = wait(&self.can_deposit, inner);
+            inner.asleep_deposit -= 1;
+        }
+        let hand = HandOn(&self.can_deposit);
+        let mut next = inner.state;
+        let answer = next.run_deposit(amount)?;
+        let result = f(&mut inner.data, answer);
+        std::mem::forget(hand);
+        inner.state = next;
+        let copy = inner.copy();
+        drop(inner);
+        if copy.asleep_withdraw > 0 {
+            self.can_withdraw.notify_all();
+        }
+        Ok(result)
     }
 
     /// As [`deposit`](Self::deposit), but does not wait until `!frozen`.
@@ -93,12 +152,40 @@ impl Account {
             self.can_deposit.notify_one();
             return Err(Failed::Overflow);
         };
-        let copy = *inner;
+        let copy = inner.copy();
         drop(inner);
         if copy.asleep_withdraw > 0 {
             self.can_withdraw.notify_all();
         }
         Ok(answer)
+    }
+
+    /// As [`try_deposit`](Self::try_deposit), and calls `f` with the data and the answer under the same lock.
+    ///
+    /// Where `f` panics no field changes. `f` must not call this monitor.
+    ///
+    /// # Errors
+    ///
+    /// [`Failed::Refused`] where `!frozen` is false. Then nothing changes.
+    ///
+    /// [`Failed::Overflow`] where a number would leave 64 bits. Then nothing changes.
+    pub fn try_deposit_with<R>(&self, amount: i64, f: impl FnOnce(&mut D, i64) -> R) -> Result<R, Failed> {
+        let mut inner = lock(&self.inner);
+        if !inner.state.can_deposit() {
+            return Err(Failed::Refused);
+        }
+        let hand = HandOn(&self.can_deposit);
+        let mut next = inner.state;
+        let answer = next.run_deposit(amount)?;
+        let result = f(&mut inner.data, answer);
+        std::mem::forget(hand);
+        inner.state = next;
+        let copy = inner.copy();
+        drop(inner);
+        if copy.asleep_withdraw > 0 {
+            self.can_withdraw.notify_all();
+        }
+        Ok(result)
     }
 
     /// Waits until `amount <= balance && !frozen`.
@@ -117,7 +204,7 @@ impl Account {
             self.can_withdraw.notify_one();
             return Err(Overflow);
         };
-        let copy = *inner;
+        let copy = inner.copy();
         drop(inner);
         if copy.asleep_withdraw > 0 {
             self.can_withdraw.notify_all();
@@ -126,6 +213,37 @@ impl Account {
             self.can_thaw.notify_one();
         }
         Ok(answer)
+    }
+
+    /// As [`withdraw`](Self::withdraw), and calls `f` with the data and the answer under the same lock.
+    ///
+    /// Where `f` panics no field changes. `f` must not call this monitor.
+    ///
+    /// # Errors
+    ///
+    /// [`Overflow`] where a number would leave 64 bits. Then nothing changes.
+    pub fn withdraw_with<R>(&self, amount: i64, f: impl FnOnce(&mut D, i64) -> R) -> Result<R, Overflow> {
+        let mut inner = lock(&self.inner);
+        while !inner.state.can_withdraw(amount) {
+            inner.asleep_withdraw += 1;
+            inner = wait(&self.can_withdraw, inner);
+            inner.asleep_withdraw -= 1;
+        }
+        let hand = HandOn(&self.can_withdraw);
+        let mut next = inner.state;
+        let answer = next.run_withdraw(amount)?;
+        let result = f(&mut inner.data, answer);
+        std::mem::forget(hand);
+        inner.state = next;
+        let copy = inner.copy();
+        drop(inner);
+        if copy.asleep_withdraw > 0 {
+            self.can_withdraw.notify_all();
+        }
+        if copy.asleep_thaw > 0 && copy.state.can_thaw() {
+            self.can_thaw.notify_one();
+        }
+        Ok(result)
     }
 
     /// As [`withdraw`](Self::withdraw), but does not wait until `amount <= balance && !frozen`.
@@ -144,7 +262,7 @@ impl Account {
             self.can_withdraw.notify_one();
             return Err(Failed::Overflow);
         };
-        let copy = *inner;
+        let copy = inner.copy();
         drop(inner);
         if copy.asleep_withdraw > 0 {
             self.can_withdraw.notify_all();
@@ -153,6 +271,37 @@ impl Account {
             self.can_thaw.notify_one();
         }
         Ok(answer)
+    }
+
+    /// As [`try_withdraw`](Self::try_withdraw), and calls `f` with the data and the answer under the same lock.
+    ///
+    /// Where `f` panics no field changes. `f` must not call this monitor.
+    ///
+    /// # Errors
+    ///
+    /// [`Failed::Refused`] where `amount <= balance && !frozen` is false. Then nothing changes.
+    ///
+    /// [`Failed::Overflow`] where a number would leave 64 bits. Then nothing changes.
+    pub fn try_withdraw_with<R>(&self, amount: i64, f: impl FnOnce(&mut D, i64) -> R) -> Result<R, Failed> {
+        let mut inner = lock(&self.inner);
+        if !inner.state.can_withdraw(amount) {
+            return Err(Failed::Refused);
+        }
+        let hand = HandOn(&self.can_withdraw);
+        let mut next = inner.state;
+        let answer = next.run_withdraw(amount)?;
+        let result = f(&mut inner.data, answer);
+        std::mem::forget(hand);
+        inner.state = next;
+        let copy = inner.copy();
+        drop(inner);
+        if copy.asleep_withdraw > 0 {
+            self.can_withdraw.notify_all();
+        }
+        if copy.asleep_thaw > 0 && copy.state.can_thaw() {
+            self.can_thaw.notify_one();
+        }
+        Ok(result)
     }
 
     /// Waits until `frozen`.
@@ -164,7 +313,7 @@ impl Account {
             inner.asleep_thaw -= 1;
         }
         inner.state.run_thaw();
-        let copy = *inner;
+        let copy = inner.copy();
         drop(inner);
         if copy.asleep_deposit > 0 {
             self.can_deposit.notify_all();
@@ -172,6 +321,33 @@ impl Account {
         if copy.asleep_withdraw > 0 {
             self.can_withdraw.notify_all();
         }
+    }
+
+    /// As [`thaw`](Self::thaw), and calls `f` with the data under the same lock.
+    ///
+    /// Where `f` panics no field changes. `f` must not call this monitor.
+    pub fn thaw_with<R>(&self, f: impl FnOnce(&mut D) -> R) -> R {
+        let mut inner = lock(&self.inner);
+        while !inner.state.can_thaw() {
+            inner.asleep_thaw += 1;
+            inner = wait(&self.can_thaw, inner);
+            inner.asleep_thaw -= 1;
+        }
+        let hand = HandOn(&self.can_thaw);
+        let mut next = inner.state;
+        next.run_thaw();
+        let result = f(&mut inner.data);
+        std::mem::forget(hand);
+        inner.state = next;
+        let copy = inner.copy();
+        drop(inner);
+        if copy.asleep_deposit > 0 {
+            self.can_deposit.notify_all();
+        }
+        if copy.asleep_withdraw > 0 {
+            self.can_withdraw.notify_all();
+        }
+        result
     }
 
     /// As [`thaw`](Self::thaw), but does not wait until `frozen`.
@@ -185,7 +361,7 @@ impl Account {
             return Err(Refused);
         }
         inner.state.run_thaw();
-        let copy = *inner;
+        let copy = inner.copy();
         drop(inner);
         if copy.asleep_deposit > 0 {
             self.can_deposit.notify_all();
@@ -195,6 +371,35 @@ impl Account {
         }
         Ok(())
     }
+
+    /// As [`try_thaw`](Self::try_thaw), and calls `f` with the data under the same lock.
+    ///
+    /// Where `f` panics no field changes. `f` must not call this monitor.
+    ///
+    /// # Errors
+    ///
+    /// [`Refused`] where `frozen` is false. Then nothing changes.
+    pub fn try_thaw_with<R>(&self, f: impl FnOnce(&mut D) -> R) -> Result<R, Refused> {
+        let mut inner = lock(&self.inner);
+        if !inner.state.can_thaw() {
+            return Err(Refused);
+        }
+        let hand = HandOn(&self.can_thaw);
+        let mut next = inner.state;
+        next.run_thaw();
+        let result = f(&mut inner.data);
+        std::mem::forget(hand);
+        inner.state = next;
+        let copy = inner.copy();
+        drop(inner);
+        if copy.asleep_deposit > 0 {
+            self.can_deposit.notify_all();
+        }
+        if copy.asleep_withdraw > 0 {
+            self.can_withdraw.notify_all();
+        }
+        Ok(result)
+    }
 }
 
 impl Default for Account {
@@ -203,7 +408,7 @@ impl Default for Account {
     }
 }
 
-impl std::fmt::Debug for Account {
+impl<D> std::fmt::Debug for Account<D> {
     fn fmt(&self, f: &mut std::fmt::Formatter<'_>) -> std::fmt::Result {
         let state = match self.inner.try_lock() {
             Ok(inner) => Some(inner.state),
@@ -219,14 +424,28 @@ impl std::fmt::Debug for Account {
     }
 }
 
-/// What the mutex guards: the fields, and how many calls sleep on each condition.
-#[derive(Clone, Copy)]
+/// What the mutex guards: the fields, how many calls sleep on each condition, and the data.
 #[allow(dead_code)]
-struct Inner {
+struct Inner<D = ()> {
     state: State,
     asleep_deposit: usize,
     asleep_withdraw: usize,
     asleep_thaw: usize,
+    data: D,
+}
+
+impl<D> Inner<D> {
+    /// All but the data.
+    #[allow(dead_code)]
+    fn copy(&self) -> Inner {
+        Inner {
+            state: self.state,
+            asleep_deposit: self.asleep_deposit,
+            asleep_withdraw: self.asleep_withdraw,
+            asleep_thaw: self.asleep_thaw,
+            data: (),
+        }
+    }
 }
 
 /// The fields of the monitor.
@@ -285,16 +504,26 @@ impl State {
     }
 }
 
-/// Locks the monitor. Nothing panics while it is locked, so there is no poison to heed.
-fn lock(inner: &Mutex<Inner>) -> MutexGuard<'_, Inner> {
+/// Locks the monitor, poisoned or not: where a function panicked no field has changed.
+fn lock<D>(inner: &Mutex<Inner<D>>) -> MutexGuard<'_, Inner<D>> {
     inner.lock().unwrap_or_else(PoisonError::into_inner)
 }
 
 /// Gives the lock back and waits on the condition, in one step, and takes the lock again.
-fn wait<'a>(condition: &Condvar, inner: MutexGuard<'a, Inner>) -> MutexGuard<'a, Inner> {
+fn wait<'a, D>(condition: &Condvar, inner: MutexGuard<'a, Inner<D>>) -> MutexGuard<'a, Inner<D>> {
     condition
         .wait(inner)
         .unwrap_or_else(PoisonError::into_inner)
+}
+
+/// Wakes one call that waits on the condition, where a block ends that changed nothing.
+#[allow(dead_code)]
+struct HandOn<'a>(&'a Condvar);
+
+impl Drop for HandOn<'_> {
+    fn drop(&mut self) {
+        self.0.notify_one();
+    }
 }
 
 /// A number would have left 64 bits.

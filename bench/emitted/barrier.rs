@@ -4,6 +4,8 @@
 use std::sync::{Condvar, Mutex, MutexGuard, PoisonError};
 
 /// The monitor `Barrier`. Threads share it by reference. A call waits for its guard, unless it tries.
+///
+/// Its lock guards data `D` too, for the functions that calls are given.
 /**
 # Plan
 
@@ -17,8 +19,8 @@ block leave: 1 broadcast tested
 */
 #[allow(dead_code, non_camel_case_types)]
 #[allow(clippy::doc_markdown, clippy::upper_case_acronyms)]
-pub struct Barrier {
-    inner: Mutex<Inner>,
+pub struct Barrier<D = ()> {
+    inner: Mutex<Inner<D>>,
     /// For calls that wait until `!open`.
     can_arrive: Condvar,
     /// For calls that wait until `open`.
@@ -34,15 +36,44 @@ impl Barrier {
     /// The monitor at its start.
     #[must_use]
     pub const fn new() -> Self {
+        Self::with_data(())
+    }
+}
+
+#[rustfmt::skip]
+#[allow(dead_code, non_snake_case, clippy::doc_markdown, clippy::style)]
+impl<D> Barrier<D> {
+    /// The monitor at its start, with these data.
+    #[must_use]
+    pub const fn with_data(data: D) -> Self {
         Self {
             inner: Mutex::new(Inner {
                 state: State::START,
                 asleep_arrive: 0,
                 asleep_leave: 0,
+                data,
             }),
             can_arrive: Condvar::new(),
             can_leave: Condvar::new(),
         }
+    }
+
+    /// The data, which nobody shares now.
+    #[must_use]
+    pub fn get_mut(&mut self) -> &mut D {
+        &mut self.inner.get_mut().unwrap_or_else(PoisonError::into_inner).data
+    }
+
+    /// The data, without the monitor.
+    #[must_use]
+    pub fn into_inner(self) -> D {
+        self.inner.into_inner().unwrap_or_else(PoisonError::into_inner).data
+    }
+
+    /// Whether a function that a call was given has panicked: the data are as it left them.
+    #[must_use]
+    pub fn is_poisoned(&self) -> bool {
+        self.inner.is_poisoned()
     }
 
     /// Waits until `!open`.
@@ -61,12 +92,40 @@ impl Barrier {
             self.can_arrive.notify_one();
             return Err(Overflow);
         };
-        let copy = *inner;
+        let copy = inner.copy();
         drop(inner);
         if copy.asleep_leave > 0 && copy.state.can_leave() {
             self.can_leave.notify_all();
         }
         Ok(())
+    }
+
+    /// As [`arrive`](Self::arrive), and calls `f` with the data under the same lock.
+    ///
+    /// Where `f` panics no field changes. `f` must not call this monitor.
+    ///
+    /// # Errors
+    ///
+    /// [`Overflow`] where a number would leave 64 bits. Then nothing changes.
+    pub fn arrive_with<R>(&self, f: impl FnOnce(&mut D) -> R) -> Result<R, Overflow> {
+        let mut inner = lock(&self.inner);
+        while !inner.state.can_arrive() {
+            inner.asleep_arrive += 1;
+            inner = wait(&self.can_arrive, inner);
+            inner.asleep_arrive -= 1;
+        }
+        let hand = HandOn(&self.can_arrive);
+        let mut next = inner.state;
+        next.run_arrive()?;
+        let result = f(&mut inner.data);
+        std::mem::forget(hand);
+        inner.state = next;
+        let copy = inner.copy();
+        drop(inner);
+        if copy.asleep_leave > 0 && copy.state.can_leave() {
+            self.can_leave.notify_all();
+        }
+        Ok(result)
     }
 
     /// As [`arrive`](Self::arrive), but does not wait until `!open`.
@@ -85,12 +144,40 @@ impl Barrier {
             self.can_arrive.notify_one();
             return Err(Failed::Overflow);
         };
-        let copy = *inner;
+        let copy = inner.copy();
         drop(inner);
         if copy.asleep_leave > 0 && copy.state.can_leave() {
             self.can_leave.notify_all();
         }
         Ok(())
+    }
+
+    /// As [`try_arrive`](Self::try_arrive), and calls `f` with the data under the same lock.
+    ///
+    /// Where `f` panics no field changes. `f` must not call this monitor.
+    ///
+    /// # Errors
+    ///
+    /// [`Failed::Refused`] where `!open` is false. Then nothing changes.
+    ///
+    /// [`Failed::Overflow`] where a number would leave 64 bits. Then nothing changes.
+    pub fn try_arrive_with<R>(&self, f: impl FnOnce(&mut D) -> R) -> Result<R, Failed> {
+        let mut inner = lock(&self.inner);
+        if !inner.state.can_arrive() {
+            return Err(Failed::Refused);
+        }
+        let hand = HandOn(&self.can_arrive);
+        let mut next = inner.state;
+        next.run_arrive()?;
+        let result = f(&mut inner.data);
+        std::mem::forget(hand);
+        inner.state = next;
+        let copy = inner.copy();
+        drop(inner);
+        if copy.asleep_leave > 0 && copy.state.can_leave() {
+            self.can_leave.notify_all();
+        }
+        Ok(result)
     }
 
     /// Waits until `open`.
@@ -109,12 +196,40 @@ impl Barrier {
             self.can_leave.notify_one();
             return Err(Overflow);
         };
-        let copy = *inner;
+        let copy = inner.copy();
         drop(inner);
         if copy.asleep_arrive > 0 && copy.state.can_arrive() {
             self.can_arrive.notify_all();
         }
         Ok(answer)
+    }
+
+    /// As [`leave`](Self::leave), and calls `f` with the data and the answer under the same lock.
+    ///
+    /// Where `f` panics no field changes. `f` must not call this monitor.
+    ///
+    /// # Errors
+    ///
+    /// [`Overflow`] where a number would leave 64 bits. Then nothing changes.
+    pub fn leave_with<R>(&self, f: impl FnOnce(&mut D, i64) -> R) -> Result<R, Overflow> {
+        let mut inner = lock(&self.inner);
+        while !inner.state.can_leave() {
+            inner.asleep_leave += 1;
+            inner = wait(&self.can_leave, inner);
+            inner.asleep_leave -= 1;
+        }
+        let hand = HandOn(&self.can_leave);
+        let mut next = inner.state;
+        let answer = next.run_leave()?;
+        let result = f(&mut inner.data, answer);
+        std::mem::forget(hand);
+        inner.state = next;
+        let copy = inner.copy();
+        drop(inner);
+        if copy.asleep_arrive > 0 && copy.state.can_arrive() {
+            self.can_arrive.notify_all();
+        }
+        Ok(result)
     }
 
     /// As [`leave`](Self::leave), but does not wait until `open`.
@@ -133,12 +248,40 @@ impl Barrier {
             self.can_leave.notify_one();
             return Err(Failed::Overflow);
         };
-        let copy = *inner;
+        let copy = inner.copy();
         drop(inner);
         if copy.asleep_arrive > 0 && copy.state.can_arrive() {
             self.can_arrive.notify_all();
         }
         Ok(answer)
+    }
+
+    /// As [`try_leave`](Self::try_leave), and calls `f` with the data and the answer under the same lock.
+    ///
+    /// Where `f` panics no field changes. `f` must not call this monitor.
+    ///
+    /// # Errors
+    ///
+    /// [`Failed::Refused`] where `open` is false. Then nothing changes.
+    ///
+    /// [`Failed::Overflow`] where a number would leave 64 bits. Then nothing changes.
+    pub fn try_leave_with<R>(&self, f: impl FnOnce(&mut D, i64) -> R) -> Result<R, Failed> {
+        let mut inner = lock(&self.inner);
+        if !inner.state.can_leave() {
+            return Err(Failed::Refused);
+        }
+        let hand = HandOn(&self.can_leave);
+        let mut next = inner.state;
+        let answer = next.run_leave()?;
+        let result = f(&mut inner.data, answer);
+        std::mem::forget(hand);
+        inner.state = next;
+        let copy = inner.copy();
+        drop(inner);
+        if copy.asleep_arrive > 0 && copy.state.can_arrive() {
+            self.can_arrive.notify_all();
+        }
+        Ok(result)
     }
 }
 
@@ -148,7 +291,7 @@ impl Default for Barrier {
     }
 }
 
-impl std::fmt::Debug for Barrier {
+impl<D> std::fmt::Debug for Barrier<D> {
     fn fmt(&self, f: &mut std::fmt::Formatter<'_>) -> std::fmt::Result {
         let state = match self.inner.try_lock() {
             Ok(inner) => Some(inner.state),
@@ -164,13 +307,26 @@ impl std::fmt::Debug for Barrier {
     }
 }
 
-/// What the mutex guards: the fields, and how many calls sleep on each condition.
-#[derive(Clone, Copy)]
+/// What the mutex guards: the fields, how many calls sleep on each condition, and the data.
 #[allow(dead_code)]
-struct Inner {
+struct Inner<D = ()> {
     state: State,
     asleep_arrive: usize,
     asleep_leave: usize,
+    data: D,
+}
+
+impl<D> Inner<D> {
+    /// All but the data.
+    #[allow(dead_code)]
+    fn copy(&self) -> Inner {
+        Inner {
+            state: self.state,
+            asleep_arrive: self.asleep_arrive,
+            asleep_leave: self.asleep_leave,
+            data: (),
+        }
+    }
 }
 
 /// The fields of the monitor.
@@ -215,16 +371,26 @@ impl State {
     }
 }
 
-/// Locks the monitor. Nothing panics while it is locked, so there is no poison to heed.
-fn lock(inner: &Mutex<Inner>) -> MutexGuard<'_, Inner> {
+/// Locks the monitor, poisoned or not: where a function panicked no field has changed.
+fn lock<D>(inner: &Mutex<Inner<D>>) -> MutexGuard<'_, Inner<D>> {
     inner.lock().unwrap_or_else(PoisonError::into_inner)
 }
 
 /// Gives the lock back and waits on the condition, in one step, and takes the lock again.
-fn wait<'a>(condition: &Condvar, inner: MutexGuard<'a, Inner>) -> MutexGuard<'a, Inner> {
+fn wait<'a, D>(condition: &Condvar, inner: MutexGuard<'a, Inner<D>>) -> MutexGuard<'a, Inner<D>> {
     condition
         .wait(inner)
         .unwrap_or_else(PoisonError::into_inner)
+}
+
+/// Wakes one call that waits on the condition, where a block ends that changed nothing.
+#[allow(dead_code)]
+struct HandOn<'a>(&'a Condvar);
+
+impl Drop for HandOn<'_> {
+    fn drop(&mut self) {
+        self.0.notify_one();
+    }
 }
 
 /// A number would have left 64 bits.

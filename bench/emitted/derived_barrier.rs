@@ -4,6 +4,8 @@
 use std::sync::{Condvar, Mutex, MutexGuard, PoisonError};
 
 /// The monitor `Barrier`. Threads share it by reference. A call waits for its guard, unless it tries.
+///
+/// Its lock guards data `D` too, for the functions that calls are given.
 /**
 # Plan
 
@@ -25,8 +27,8 @@ block watch: none
 */
 #[allow(dead_code, non_camel_case_types)]
 #[allow(clippy::doc_markdown, clippy::upper_case_acronyms)]
-pub struct Barrier {
-    inner: Mutex<Inner>,
+pub struct Barrier<D = ()> {
+    inner: Mutex<Inner<D>>,
     /// For calls that wait until `!open && waiting < PARTIES`.
     can_arrive: Condvar,
     /// For calls that wait until `open && waiting > 0`.
@@ -46,6 +48,16 @@ impl Barrier {
     /// The monitor at its start.
     #[must_use]
     pub const fn new() -> Self {
+        Self::with_data(())
+    }
+}
+
+#[rustfmt::skip]
+#[allow(dead_code, non_snake_case, clippy::doc_markdown, clippy::style)]
+impl<D> Barrier<D> {
+    /// The monitor at its start, with these data.
+    #[must_use]
+    pub const fn with_data(data: D) -> Self {
         Self {
             inner: Mutex::new(Inner {
                 state: State::START,
@@ -53,12 +65,31 @@ impl Barrier {
                 asleep_leave: 0,
                 asleep_dismiss: 0,
                 asleep_watch: 0,
+                data,
             }),
             can_arrive: Condvar::new(),
             can_leave: Condvar::new(),
             can_dismiss: Condvar::new(),
             can_watch: Condvar::new(),
         }
+    }
+
+    /// The data, which nobody shares now.
+    #[must_use]
+    pub fn get_mut(&mut self) -> &mut D {
+        &mut self.inner.get_mut().unwrap_or_else(PoisonError::into_inner).data
+    }
+
+    /// The data, without the monitor.
+    #[must_use]
+    pub fn into_inner(self) -> D {
+        self.inner.into_inner().unwrap_or_else(PoisonError::into_inner).data
+    }
+
+    /// Whether a function that a call was given has panicked: the data are as it left them.
+    #[must_use]
+    pub fn is_poisoned(&self) -> bool {
+        self.inner.is_poisoned()
     }
 
     /// Waits until `!open && waiting < PARTIES`.
@@ -70,7 +101,7 @@ impl Barrier {
             inner.asleep_arrive -= 1;
         }
         let answer = inner.state.run_arrive();
-        let copy = *inner;
+        let copy = inner.copy();
         drop(inner);
         if copy.asleep_leave > 0 && copy.state.can_leave() {
             self.can_leave.notify_all();
@@ -79,6 +110,33 @@ impl Barrier {
             self.can_dismiss.notify_one();
         }
         answer
+    }
+
+    /// As [`arrive`](Self::arrive), and calls `f` with the data and the answer under the same lock.
+    ///
+    /// Where `f` panics no field changes. `f` must not call this monitor.
+    pub fn arrive_with<R>(&self, f: impl FnOnce(&mut D, i64) -> R) -> R {
+        let mut inner = lock(&self.inner);
+        while !inner.state.can_arrive() {
+            inner.asleep_arrive += 1;
+            inner = wait(&self.can_arrive, inner);
+            inner.asleep_arrive -= 1;
+        }
+        let hand = HandOn(&self.can_arrive);
+        let mut next = inner.state;
+        let answer = next.run_arrive();
+        let result = f(&mut inner.data, answer);
+        std::mem::forget(hand);
+        inner.state = next;
+        let copy = inner.copy();
+        drop(inner);
+        if copy.asleep_leave > 0 && copy.state.can_leave() {
+            self.can_leave.notify_all();
+        }
+        if copy.asleep_dismiss > 0 && copy.state.can_dismiss() {
+            self.can_dismiss.notify_one();
+        }
+        result
     }
 
     /// As [`arrive`](Self::arrive), but does not wait until `!open && waiting < PARTIES`.
@@ -92,7 +150,7 @@ impl Barrier {
             return Err(Refused);
         }
         let answer = inner.state.run_arrive();
-        let copy = *inner;
+        let copy = inner.copy();
         drop(inner);
         if copy.asleep_leave > 0 && copy.state.can_leave() {
             self.can_leave.notify_all();
@@ -101,6 +159,35 @@ impl Barrier {
             self.can_dismiss.notify_one();
         }
         Ok(answer)
+    }
+
+    /// As [`try_arrive`](Self::try_arrive), and calls `f` with the data and the answer under the same lock.
+    ///
+    /// Where `f` panics no field changes. `f` must not call this monitor.
+    ///
+    /// # Errors
+    ///
+    /// [`Refused`] where `!open && waiting < PARTIES` is false. Then nothing changes.
+    pub fn try_arrive_with<R>(&self, f: impl FnOnce(&mut D, i64) -> R) -> Result<R, Refused> {
+        let mut inner = lock(&self.inner);
+        if !inner.state.can_arrive() {
+            return Err(Refused);
+        }
+        let hand = HandOn(&self.can_arrive);
+        let mut next = inner.state;
+        let answer = next.run_arrive();
+        let result = f(&mut inner.data, answer);
+        std::mem::forget(hand);
+        inner.state = next;
+        let copy = inner.copy();
+        drop(inner);
+        if copy.asleep_leave > 0 && copy.state.can_leave() {
+            self.can_leave.notify_all();
+        }
+        if copy.asleep_dismiss > 0 && copy.state.can_dismiss() {
+            self.can_dismiss.notify_one();
+        }
+        Ok(result)
     }
 
     /// Waits until `open && waiting > 0`.
@@ -112,7 +199,7 @@ impl Barrier {
             inner.asleep_leave -= 1;
         }
         let answer = inner.state.run_leave();
-        let copy = *inner;
+        let copy = inner.copy();
         drop(inner);
         if copy.asleep_arrive > 0 && copy.state.can_arrive() {
             self.can_arrive.notify_all();
@@ -121,6 +208,33 @@ impl Barrier {
             self.can_watch.notify_all();
         }
         answer
+    }
+
+    /// As [`leave`](Self::leave), and calls `f` with the data and the answer under the same lock.
+    ///
+    /// Where `f` panics no field changes. `f` must not call this monitor.
+    pub fn leave_with<R>(&self, f: impl FnOnce(&mut D, i64) -> R) -> R {
+        let mut inner = lock(&self.inner);
+        while !inner.state.can_leave() {
+            inner.asleep_leave += 1;
+            inner = wait(&self.can_leave, inner);
+            inner.asleep_leave -= 1;
+        }
+        let hand = HandOn(&self.can_leave);
+        let mut next = inner.state;
+        let answer = next.run_leave();
+        let result = f(&mut inner.data, answer);
+        std::mem::forget(hand);
+        inner.state = next;
+        let copy = inner.copy();
+        drop(inner);
+        if copy.asleep_arrive > 0 && copy.state.can_arrive() {
+            self.can_arrive.notify_all();
+        }
+        if copy.asleep_watch > 0 && copy.state.can_watch() {
+            self.can_watch.notify_all();
+        }
+        result
     }
 
     /// As [`leave`](Self::leave), but does not wait until `open && waiting > 0`.
@@ -134,7 +248,7 @@ impl Barrier {
             return Err(Refused);
         }
         let answer = inner.state.run_leave();
-        let copy = *inner;
+        let copy = inner.copy();
         drop(inner);
         if copy.asleep_arrive > 0 && copy.state.can_arrive() {
             self.can_arrive.notify_all();
@@ -143,6 +257,35 @@ impl Barrier {
             self.can_watch.notify_all();
         }
         Ok(answer)
+    }
+
+    /// As [`try_leave`](Self::try_leave), and calls `f` with the data and the answer under the same lock.
+    ///
+    /// Where `f` panics no field changes. `f` must not call this monitor.
+    ///
+    /// # Errors
+    ///
+    /// [`Refused`] where `open && waiting > 0` is false. Then nothing changes.
+    pub fn try_leave_with<R>(&self, f: impl FnOnce(&mut D, i64) -> R) -> Result<R, Refused> {
+        let mut inner = lock(&self.inner);
+        if !inner.state.can_leave() {
+            return Err(Refused);
+        }
+        let hand = HandOn(&self.can_leave);
+        let mut next = inner.state;
+        let answer = next.run_leave();
+        let result = f(&mut inner.data, answer);
+        std::mem::forget(hand);
+        inner.state = next;
+        let copy = inner.copy();
+        drop(inner);
+        if copy.asleep_arrive > 0 && copy.state.can_arrive() {
+            self.can_arrive.notify_all();
+        }
+        if copy.asleep_watch > 0 && copy.state.can_watch() {
+            self.can_watch.notify_all();
+        }
+        Ok(result)
     }
 
     /// Waits until `waiting == PARTIES && open`.
@@ -154,7 +297,7 @@ impl Barrier {
             inner.asleep_dismiss -= 1;
         }
         inner.state.run_dismiss();
-        let copy = *inner;
+        let copy = inner.copy();
         drop(inner);
         if copy.asleep_arrive > 0 {
             self.can_arrive.notify_all();
@@ -162,6 +305,33 @@ impl Barrier {
         if copy.asleep_watch > 0 {
             self.can_watch.notify_all();
         }
+    }
+
+    /// As [`dismiss`](Self::dismiss), and calls `f` with the data under the same lock.
+    ///
+    /// Where `f` panics no field changes. `f` must not call this monitor.
+    pub fn dismiss_with<R>(&self, f: impl FnOnce(&mut D) -> R) -> R {
+        let mut inner = lock(&self.inner);
+        while !inner.state.can_dismiss() {
+            inner.asleep_dismiss += 1;
+            inner = wait(&self.can_dismiss, inner);
+            inner.asleep_dismiss -= 1;
+        }
+        let hand = HandOn(&self.can_dismiss);
+        let mut next = inner.state;
+        next.run_dismiss();
+        let result = f(&mut inner.data);
+        std::mem::forget(hand);
+        inner.state = next;
+        let copy = inner.copy();
+        drop(inner);
+        if copy.asleep_arrive > 0 {
+            self.can_arrive.notify_all();
+        }
+        if copy.asleep_watch > 0 {
+            self.can_watch.notify_all();
+        }
+        result
     }
 
     /// As [`dismiss`](Self::dismiss), but does not wait until `waiting == PARTIES && open`.
@@ -175,7 +345,7 @@ impl Barrier {
             return Err(Refused);
         }
         inner.state.run_dismiss();
-        let copy = *inner;
+        let copy = inner.copy();
         drop(inner);
         if copy.asleep_arrive > 0 {
             self.can_arrive.notify_all();
@@ -184,6 +354,35 @@ impl Barrier {
             self.can_watch.notify_all();
         }
         Ok(())
+    }
+
+    /// As [`try_dismiss`](Self::try_dismiss), and calls `f` with the data under the same lock.
+    ///
+    /// Where `f` panics no field changes. `f` must not call this monitor.
+    ///
+    /// # Errors
+    ///
+    /// [`Refused`] where `waiting == PARTIES && open` is false. Then nothing changes.
+    pub fn try_dismiss_with<R>(&self, f: impl FnOnce(&mut D) -> R) -> Result<R, Refused> {
+        let mut inner = lock(&self.inner);
+        if !inner.state.can_dismiss() {
+            return Err(Refused);
+        }
+        let hand = HandOn(&self.can_dismiss);
+        let mut next = inner.state;
+        next.run_dismiss();
+        let result = f(&mut inner.data);
+        std::mem::forget(hand);
+        inner.state = next;
+        let copy = inner.copy();
+        drop(inner);
+        if copy.asleep_arrive > 0 {
+            self.can_arrive.notify_all();
+        }
+        if copy.asleep_watch > 0 {
+            self.can_watch.notify_all();
+        }
+        Ok(result)
     }
 
     /// Waits until `waiting == 0 && !open`.
@@ -196,6 +395,26 @@ impl Barrier {
         }
         inner.state.run_watch();
         drop(inner);
+    }
+
+    /// As [`watch`](Self::watch), and calls `f` with the data under the same lock.
+    ///
+    /// Where `f` panics no field changes. `f` must not call this monitor.
+    pub fn watch_with<R>(&self, f: impl FnOnce(&mut D) -> R) -> R {
+        let mut inner = lock(&self.inner);
+        while !inner.state.can_watch() {
+            inner.asleep_watch += 1;
+            inner = wait(&self.can_watch, inner);
+            inner.asleep_watch -= 1;
+        }
+        let hand = HandOn(&self.can_watch);
+        let mut next = inner.state;
+        next.run_watch();
+        let result = f(&mut inner.data);
+        std::mem::forget(hand);
+        inner.state = next;
+        drop(inner);
+        result
     }
 
     /// As [`watch`](Self::watch), but does not wait until `waiting == 0 && !open`.
@@ -212,6 +431,28 @@ impl Barrier {
         drop(inner);
         Ok(())
     }
+
+    /// As [`try_watch`](Self::try_watch), and calls `f` with the data under the same lock.
+    ///
+    /// Where `f` panics no field changes. `f` must not call this monitor.
+    ///
+    /// # Errors
+    ///
+    /// [`Refused`] where `waiting == 0 && !open` is false. Then nothing changes.
+    pub fn try_watch_with<R>(&self, f: impl FnOnce(&mut D) -> R) -> Result<R, Refused> {
+        let mut inner = lock(&self.inner);
+        if !inner.state.can_watch() {
+            return Err(Refused);
+        }
+        let hand = HandOn(&self.can_watch);
+        let mut next = inner.state;
+        next.run_watch();
+        let result = f(&mut inner.data);
+        std::mem::forget(hand);
+        inner.state = next;
+        drop(inner);
+        Ok(result)
+    }
 }
 
 impl Default for Barrier {
@@ -220,7 +461,7 @@ impl Default for Barrier {
     }
 }
 
-impl std::fmt::Debug for Barrier {
+impl<D> std::fmt::Debug for Barrier<D> {
     fn fmt(&self, f: &mut std::fmt::Formatter<'_>) -> std::fmt::Result {
         let state = match self.inner.try_lock() {
             Ok(inner) => Some(inner.state),
@@ -236,15 +477,30 @@ impl std::fmt::Debug for Barrier {
     }
 }
 
-/// What the mutex guards: the fields, and how many calls sleep on each condition.
-#[derive(Clone, Copy)]
+/// What the mutex guards: the fields, how many calls sleep on each condition, and the data.
 #[allow(dead_code)]
-struct Inner {
+struct Inner<D = ()> {
     state: State,
     asleep_arrive: usize,
     asleep_leave: usize,
     asleep_dismiss: usize,
     asleep_watch: usize,
+    data: D,
+}
+
+impl<D> Inner<D> {
+    /// All but the data.
+    #[allow(dead_code)]
+    fn copy(&self) -> Inner {
+        Inner {
+            state: self.state,
+            asleep_arrive: self.asleep_arrive,
+            asleep_leave: self.asleep_leave,
+            asleep_dismiss: self.asleep_dismiss,
+            asleep_watch: self.asleep_watch,
+            data: (),
+        }
+    }
 }
 
 /// The fields of the monitor.
@@ -302,16 +558,26 @@ impl State {
     fn run_watch(&mut self) {}
 }
 
-/// Locks the monitor. Nothing panics while it is locked, so there is no poison to heed.
-fn lock(inner: &Mutex<Inner>) -> MutexGuard<'_, Inner> {
+/// Locks the monitor, poisoned or not: where a function panicked no field has changed.
+fn lock<D>(inner: &Mutex<Inner<D>>) -> MutexGuard<'_, Inner<D>> {
     inner.lock().unwrap_or_else(PoisonError::into_inner)
 }
 
 /// Gives the lock back and waits on the condition, in one step, and takes the lock again.
-fn wait<'a>(condition: &Condvar, inner: MutexGuard<'a, Inner>) -> MutexGuard<'a, Inner> {
+fn wait<'a, D>(condition: &Condvar, inner: MutexGuard<'a, Inner<D>>) -> MutexGuard<'a, Inner<D>> {
     condition
         .wait(inner)
         .unwrap_or_else(PoisonError::into_inner)
+}
+
+/// Wakes one call that waits on the condition, where a block ends that changed nothing.
+#[allow(dead_code)]
+struct HandOn<'a>(&'a Condvar);
+
+impl Drop for HandOn<'_> {
+    fn drop(&mut self) {
+        self.0.notify_one();
+    }
 }
 
 /// The guard was false, and the call did not wait. Nothing changed.

@@ -4,6 +4,8 @@
 use std::sync::{Condvar, Mutex, MutexGuard, PoisonError};
 
 /// The monitor `ReadersWriters`. Threads share it by reference. A call waits for its guard, unless it tries.
+///
+/// Its lock guards data `D` too, for the functions that calls are given.
 /**
 # Plan
 
@@ -31,8 +33,8 @@ block cancel: 1 broadcast tested
 */
 #[allow(dead_code, non_camel_case_types)]
 #[allow(clippy::doc_markdown, clippy::upper_case_acronyms)]
-pub struct ReadersWriters {
-    inner: Mutex<Inner>,
+pub struct ReadersWriters<D = ()> {
+    inner: Mutex<Inner<D>>,
     /// For calls that wait until `!writing && queued == 0 && readers < MOST`.
     can_start_read: Condvar,
     /// For calls that wait until `readers > 0`.
@@ -54,6 +56,16 @@ impl ReadersWriters {
     /// The monitor at its start.
     #[must_use]
     pub const fn new() -> Self {
+        Self::with_data(())
+    }
+}
+
+#[rustfmt::skip]
+#[allow(dead_code, non_snake_case, clippy::doc_markdown, clippy::style)]
+impl<D> ReadersWriters<D> {
+    /// The monitor at its start, with these data.
+    #[must_use]
+    pub const fn with_data(data: D) -> Self {
         Self {
             inner: Mutex::new(Inner {
                 state: State::START,
@@ -62,6 +74,7 @@ impl ReadersWriters {
                 asleep_start_write: 0,
                 asleep_end_write: 0,
                 asleep_cancel: 0,
+                data,
             }),
             can_start_read: Condvar::new(),
             can_end_read: Condvar::new(),
@@ -69,6 +82,24 @@ impl ReadersWriters {
             can_end_write: Condvar::new(),
             can_cancel: Condvar::new(),
         }
+    }
+
+    /// The data, which nobody shares now.
+    #[must_use]
+    pub fn get_mut(&mut self) -> &mut D {
+        &mut self.inner.get_mut().unwrap_or_else(PoisonError::into_inner).data
+    }
+
+    /// The data, without the monitor.
+    #[must_use]
+    pub fn into_inner(self) -> D {
+        self.inner.into_inner().unwrap_or_else(PoisonError::into_inner).data
+    }
+
+    /// Whether a function that a call was given has panicked: the data are as it left them.
+    #[must_use]
+    pub fn is_poisoned(&self) -> bool {
+        self.inner.is_poisoned()
     }
 
     /// Waits until `!writing && queued == 0 && readers < MOST`.
@@ -80,11 +111,35 @@ impl ReadersWriters {
             inner.asleep_start_read -= 1;
         }
         inner.state.run_start_read();
-        let copy = *inner;
+        let copy = inner.copy();
         drop(inner);
         if copy.asleep_end_read > 0 {
             self.can_end_read.notify_one();
         }
+    }
+
+    /// As [`start_read`](Self::start_read), and calls `f` with the data under the same lock.
+    ///
+    /// Where `f` panics no field changes. `f` must not call this monitor.
+    pub fn start_read_with<R>(&self, f: impl FnOnce(&mut D) -> R) -> R {
+        let mut inner = lock(&self.inner);
+        while !inner.state.can_start_read() {
+            inner.asleep_start_read += 1;
+            inner = wait(&self.can_start_read, inner);
+            inner.asleep_start_read -= 1;
+        }
+        let hand = HandOn(&self.can_start_read);
+        let mut next = inner.state;
+        next.run_start_read();
+        let result = f(&mut inner.data);
+        std::mem::forget(hand);
+        inner.state = next;
+        let copy = inner.copy();
+        drop(inner);
+        if copy.asleep_end_read > 0 {
+            self.can_end_read.notify_one();
+        }
+        result
     }
 
     /// As [`start_read`](Self::start_read), but does not wait until `!writing && queued == 0 && readers < MOST`.
@@ -98,12 +153,38 @@ impl ReadersWriters {
             return Err(Refused);
         }
         inner.state.run_start_read();
-        let copy = *inner;
+        let copy = inner.copy();
         drop(inner);
         if copy.asleep_end_read > 0 {
             self.can_end_read.notify_one();
         }
         Ok(())
+    }
+
+    /// As [`try_start_read`](Self::try_start_read), and calls `f` with the data under the same lock.
+    ///
+    /// Where `f` panics no field changes. `f` must not call this monitor.
+    ///
+    /// # Errors
+    ///
+    /// [`Refused`] where `!writing && queued == 0 && readers < MOST` is false. Then nothing changes.
+    pub fn try_start_read_with<R>(&self, f: impl FnOnce(&mut D) -> R) -> Result<R, Refused> {
+        let mut inner = lock(&self.inner);
+        if !inner.state.can_start_read() {
+            return Err(Refused);
+        }
+        let hand = HandOn(&self.can_start_read);
+        let mut next = inner.state;
+        next.run_start_read();
+        let result = f(&mut inner.data);
+        std::mem::forget(hand);
+        inner.state = next;
+        let copy = inner.copy();
+        drop(inner);
+        if copy.asleep_end_read > 0 {
+            self.can_end_read.notify_one();
+        }
+        Ok(result)
     }
 
     /// Waits until `readers > 0`.
@@ -115,7 +196,7 @@ impl ReadersWriters {
             inner.asleep_end_read -= 1;
         }
         inner.state.run_end_read();
-        let copy = *inner;
+        let copy = inner.copy();
         drop(inner);
         if copy.asleep_start_read > 0 && copy.state.can_start_read() {
             self.can_start_read.notify_one();
@@ -123,6 +204,33 @@ impl ReadersWriters {
         if copy.asleep_start_write > 0 && copy.state.can_start_write() {
             self.can_start_write.notify_one();
         }
+    }
+
+    /// As [`end_read`](Self::end_read), and calls `f` with the data under the same lock.
+    ///
+    /// Where `f` panics no field changes. `f` must not call this monitor.
+    pub fn end_read_with<R>(&self, f: impl FnOnce(&mut D) -> R) -> R {
+        let mut inner = lock(&self.inner);
+        while !inner.state.can_end_read() {
+            inner.asleep_end_read += 1;
+            inner = wait(&self.can_end_read, inner);
+            inner.asleep_end_read -= 1;
+        }
+        let hand = HandOn(&self.can_end_read);
+        let mut next = inner.state;
+        next.run_end_read();
+        let result = f(&mut inner.data);
+        std::mem::forget(hand);
+        inner.state = next;
+        let copy = inner.copy();
+        drop(inner);
+        if copy.asleep_start_read > 0 && copy.state.can_start_read() {
+            self.can_start_read.notify_one();
+        }
+        if copy.asleep_start_write > 0 && copy.state.can_start_write() {
+            self.can_start_write.notify_one();
+        }
+        result
     }
 
     /// As [`end_read`](Self::end_read), but does not wait until `readers > 0`.
@@ -136,7 +244,7 @@ impl ReadersWriters {
             return Err(Refused);
         }
         inner.state.run_end_read();
-        let copy = *inner;
+        let copy = inner.copy();
         drop(inner);
         if copy.asleep_start_read > 0 && copy.state.can_start_read() {
             self.can_start_read.notify_one();
@@ -147,6 +255,35 @@ impl ReadersWriters {
         Ok(())
     }
 
+    /// As [`try_end_read`](Self::try_end_read), and calls `f` with the data under the same lock.
+    ///
+    /// Where `f` panics no field changes. `f` must not call this monitor.
+    ///
+    /// # Errors
+    ///
+    /// [`Refused`] where `readers > 0` is false. Then nothing changes.
+    pub fn try_end_read_with<R>(&self, f: impl FnOnce(&mut D) -> R) -> Result<R, Refused> {
+        let mut inner = lock(&self.inner);
+        if !inner.state.can_end_read() {
+            return Err(Refused);
+        }
+        let hand = HandOn(&self.can_end_read);
+        let mut next = inner.state;
+        next.run_end_read();
+        let result = f(&mut inner.data);
+        std::mem::forget(hand);
+        inner.state = next;
+        let copy = inner.copy();
+        drop(inner);
+        if copy.asleep_start_read > 0 && copy.state.can_start_read() {
+            self.can_start_read.notify_one();
+        }
+        if copy.asleep_start_write > 0 && copy.state.can_start_write() {
+            self.can_start_write.notify_one();
+        }
+        Ok(result)
+    }
+
     /// Does not wait.
     ///
     /// # Errors
@@ -155,7 +292,7 @@ impl ReadersWriters {
     pub fn ask(&self) -> Result<(), Overflow> {
         let mut inner = lock(&self.inner);
         inner.state.run_ask()?;
-        let copy = *inner;
+        let copy = inner.copy();
         drop(inner);
         if copy.asleep_start_write > 0 && copy.state.can_start_write() {
             self.can_start_write.notify_one();
@@ -164,6 +301,30 @@ impl ReadersWriters {
             self.can_cancel.notify_one();
         }
         Ok(())
+    }
+
+    /// As [`ask`](Self::ask), and calls `f` with the data under the same lock.
+    ///
+    /// Where `f` panics no field changes. `f` must not call this monitor.
+    ///
+    /// # Errors
+    ///
+    /// [`Overflow`] where a number would leave 64 bits. Then nothing changes.
+    pub fn ask_with<R>(&self, f: impl FnOnce(&mut D) -> R) -> Result<R, Overflow> {
+        let mut inner = lock(&self.inner);
+        let mut next = inner.state;
+        next.run_ask()?;
+        let result = f(&mut inner.data);
+        inner.state = next;
+        let copy = inner.copy();
+        drop(inner);
+        if copy.asleep_start_write > 0 && copy.state.can_start_write() {
+            self.can_start_write.notify_one();
+        }
+        if copy.asleep_cancel > 0 {
+            self.can_cancel.notify_one();
+        }
+        Ok(result)
     }
 
     /// Waits until `readers == 0 && !writing && queued > 0`.
@@ -175,11 +336,35 @@ impl ReadersWriters {
             inner.asleep_start_write -= 1;
         }
         inner.state.run_start_write();
-        let copy = *inner;
+        let copy = inner.copy();
         drop(inner);
         if copy.asleep_end_write > 0 {
             self.can_end_write.notify_one();
         }
+    }
+
+    /// As [`start_write`](Self::start_write), and calls `f` with the data under the same lock.
+    ///
+    /// Where `f` panics no field changes. `f` must not call this monitor.
+    pub fn start_write_with<R>(&self, f: impl FnOnce(&mut D) -> R) -> R {
+        let mut inner = lock(&self.inner);
+        while !inner.state.can_start_write() {
+            inner.asleep_start_write += 1;
+            inner = wait(&self.can_start_write, inner);
+            inner.asleep_start_write -= 1;
+        }
+        let hand = HandOn(&self.can_start_write);
+        let mut next = inner.state;
+        next.run_start_write();
+        let result = f(&mut inner.data);
+        std::mem::forget(hand);
+        inner.state = next;
+        let copy = inner.copy();
+        drop(inner);
+        if copy.asleep_end_write > 0 {
+            self.can_end_write.notify_one();
+        }
+        result
     }
 
     /// As [`start_write`](Self::start_write), but does not wait until `readers == 0 && !writing && queued > 0`.
@@ -193,12 +378,38 @@ impl ReadersWriters {
             return Err(Refused);
         }
         inner.state.run_start_write();
-        let copy = *inner;
+        let copy = inner.copy();
         drop(inner);
         if copy.asleep_end_write > 0 {
             self.can_end_write.notify_one();
         }
         Ok(())
+    }
+
+    /// As [`try_start_write`](Self::try_start_write), and calls `f` with the data under the same lock.
+    ///
+    /// Where `f` panics no field changes. `f` must not call this monitor.
+    ///
+    /// # Errors
+    ///
+    /// [`Refused`] where `readers == 0 && !writing && queued > 0` is false. Then nothing changes.
+    pub fn try_start_write_with<R>(&self, f: impl FnOnce(&mut D) -> R) -> Result<R, Refused> {
+        let mut inner = lock(&self.inner);
+        if !inner.state.can_start_write() {
+            return Err(Refused);
+        }
+        let hand = HandOn(&self.can_start_write);
+        let mut next = inner.state;
+        next.run_start_write();
+        let result = f(&mut inner.data);
+        std::mem::forget(hand);
+        inner.state = next;
+        let copy = inner.copy();
+        drop(inner);
+        if copy.asleep_end_write > 0 {
+            self.can_end_write.notify_one();
+        }
+        Ok(result)
     }
 
     /// Waits until `writing`.
@@ -210,7 +421,7 @@ impl ReadersWriters {
             inner.asleep_end_write -= 1;
         }
         inner.state.run_end_write();
-        let copy = *inner;
+        let copy = inner.copy();
         drop(inner);
         if copy.asleep_start_read > 0 && copy.state.can_start_read() {
             self.can_start_read.notify_all();
@@ -218,6 +429,33 @@ impl ReadersWriters {
         if copy.asleep_start_write > 0 && copy.state.can_start_write() {
             self.can_start_write.notify_one();
         }
+    }
+
+    /// As [`end_write`](Self::end_write), and calls `f` with the data under the same lock.
+    ///
+    /// Where `f` panics no field changes. `f` must not call this monitor.
+    pub fn end_write_with<R>(&self, f: impl FnOnce(&mut D) -> R) -> R {
+        let mut inner = lock(&self.inner);
+        while !inner.state.can_end_write() {
+            inner.asleep_end_write += 1;
+            inner = wait(&self.can_end_write, inner);
+            inner.asleep_end_write -= 1;
+        }
+        let hand = HandOn(&self.can_end_write);
+        let mut next = inner.state;
+        next.run_end_write();
+        let result = f(&mut inner.data);
+        std::mem::forget(hand);
+        inner.state = next;
+        let copy = inner.copy();
+        drop(inner);
+        if copy.asleep_start_read > 0 && copy.state.can_start_read() {
+            self.can_start_read.notify_all();
+        }
+        if copy.asleep_start_write > 0 && copy.state.can_start_write() {
+            self.can_start_write.notify_one();
+        }
+        result
     }
 
     /// As [`end_write`](Self::end_write), but does not wait until `writing`.
@@ -231,7 +469,7 @@ impl ReadersWriters {
             return Err(Refused);
         }
         inner.state.run_end_write();
-        let copy = *inner;
+        let copy = inner.copy();
         drop(inner);
         if copy.asleep_start_read > 0 && copy.state.can_start_read() {
             self.can_start_read.notify_all();
@@ -240,6 +478,35 @@ impl ReadersWriters {
             self.can_start_write.notify_one();
         }
         Ok(())
+    }
+
+    /// As [`try_end_write`](Self::try_end_write), and calls `f` with the data under the same lock.
+    ///
+    /// Where `f` panics no field changes. `f` must not call this monitor.
+    ///
+    /// # Errors
+    ///
+    /// [`Refused`] where `writing` is false. Then nothing changes.
+    pub fn try_end_write_with<R>(&self, f: impl FnOnce(&mut D) -> R) -> Result<R, Refused> {
+        let mut inner = lock(&self.inner);
+        if !inner.state.can_end_write() {
+            return Err(Refused);
+        }
+        let hand = HandOn(&self.can_end_write);
+        let mut next = inner.state;
+        next.run_end_write();
+        let result = f(&mut inner.data);
+        std::mem::forget(hand);
+        inner.state = next;
+        let copy = inner.copy();
+        drop(inner);
+        if copy.asleep_start_read > 0 && copy.state.can_start_read() {
+            self.can_start_read.notify_all();
+        }
+        if copy.asleep_start_write > 0 && copy.state.can_start_write() {
+            self.can_start_write.notify_one();
+        }
+        Ok(result)
     }
 
     /// Waits until `queued != 0`.
@@ -251,11 +518,35 @@ impl ReadersWriters {
             inner.asleep_cancel -= 1;
         }
         inner.state.run_cancel();
-        let copy = *inner;
+        let copy = inner.copy();
         drop(inner);
         if copy.asleep_start_read > 0 && copy.state.can_start_read() {
             self.can_start_read.notify_all();
         }
+    }
+
+    /// As [`cancel`](Self::cancel), and calls `f` with the data under the same lock.
+    ///
+    /// Where `f` panics no field changes. `f` must not call this monitor.
+    pub fn cancel_with<R>(&self, f: impl FnOnce(&mut D) -> R) -> R {
+        let mut inner = lock(&self.inner);
+        while !inner.state.can_cancel() {
+            inner.asleep_cancel += 1;
+            inner = wait(&self.can_cancel, inner);
+            inner.asleep_cancel -= 1;
+        }
+        let hand = HandOn(&self.can_cancel);
+        let mut next = inner.state;
+        next.run_cancel();
+        let result = f(&mut inner.data);
+        std::mem::forget(hand);
+        inner.state = next;
+        let copy = inner.copy();
+        drop(inner);
+        if copy.asleep_start_read > 0 && copy.state.can_start_read() {
+            self.can_start_read.notify_all();
+        }
+        result
     }
 
     /// As [`cancel`](Self::cancel), but does not wait until `queued != 0`.
@@ -269,12 +560,38 @@ impl ReadersWriters {
             return Err(Refused);
         }
         inner.state.run_cancel();
-        let copy = *inner;
+        let copy = inner.copy();
         drop(inner);
         if copy.asleep_start_read > 0 && copy.state.can_start_read() {
             self.can_start_read.notify_all();
         }
         Ok(())
+    }
+
+    /// As [`try_cancel`](Self::try_cancel), and calls `f` with the data under the same lock.
+    ///
+    /// Where `f` panics no field changes. `f` must not call this monitor.
+    ///
+    /// # Errors
+    ///
+    /// [`Refused`] where `queued != 0` is false. Then nothing changes.
+    pub fn try_cancel_with<R>(&self, f: impl FnOnce(&mut D) -> R) -> Result<R, Refused> {
+        let mut inner = lock(&self.inner);
+        if !inner.state.can_cancel() {
+            return Err(Refused);
+        }
+        let hand = HandOn(&self.can_cancel);
+        let mut next = inner.state;
+        next.run_cancel();
+        let result = f(&mut inner.data);
+        std::mem::forget(hand);
+        inner.state = next;
+        let copy = inner.copy();
+        drop(inner);
+        if copy.asleep_start_read > 0 && copy.state.can_start_read() {
+            self.can_start_read.notify_all();
+        }
+        Ok(result)
     }
 }
 
@@ -284,7 +601,7 @@ impl Default for ReadersWriters {
     }
 }
 
-impl std::fmt::Debug for ReadersWriters {
+impl<D> std::fmt::Debug for ReadersWriters<D> {
     fn fmt(&self, f: &mut std::fmt::Formatter<'_>) -> std::fmt::Result {
         let state = match self.inner.try_lock() {
             Ok(inner) => Some(inner.state),
@@ -300,16 +617,32 @@ impl std::fmt::Debug for ReadersWriters {
     }
 }
 
-/// What the mutex guards: the fields, and how many calls sleep on each condition.
-#[derive(Clone, Copy)]
+/// What the mutex guards: the fields, how many calls sleep on each condition, and the data.
 #[allow(dead_code)]
-struct Inner {
+struct Inner<D = ()> {
     state: State,
     asleep_start_read: usize,
     asleep_end_read: usize,
     asleep_start_write: usize,
     asleep_end_write: usize,
     asleep_cancel: usize,
+    data: D,
+}
+
+impl<D> Inner<D> {
+    /// All but the data.
+    #[allow(dead_code)]
+    fn copy(&self) -> Inner {
+        Inner {
+            state: self.state,
+            asleep_start_read: self.asleep_start_read,
+            asleep_end_read: self.asleep_end_read,
+            asleep_start_write: self.asleep_start_write,
+            asleep_end_write: self.asleep_end_write,
+            asleep_cancel: self.asleep_cancel,
+            data: (),
+        }
+    }
 }
 
 /// The fields of the monitor.
@@ -378,16 +711,26 @@ impl State {
     }
 }
 
-/// Locks the monitor. Nothing panics while it is locked, so there is no poison to heed.
-fn lock(inner: &Mutex<Inner>) -> MutexGuard<'_, Inner> {
+/// Locks the monitor, poisoned or not: where a function panicked no field has changed.
+fn lock<D>(inner: &Mutex<Inner<D>>) -> MutexGuard<'_, Inner<D>> {
     inner.lock().unwrap_or_else(PoisonError::into_inner)
 }
 
 /// Gives the lock back and waits on the condition, in one step, and takes the lock again.
-fn wait<'a>(condition: &Condvar, inner: MutexGuard<'a, Inner>) -> MutexGuard<'a, Inner> {
+fn wait<'a, D>(condition: &Condvar, inner: MutexGuard<'a, Inner<D>>) -> MutexGuard<'a, Inner<D>> {
     condition
         .wait(inner)
         .unwrap_or_else(PoisonError::into_inner)
+}
+
+/// Wakes one call that waits on the condition, where a block ends that changed nothing.
+#[allow(dead_code)]
+struct HandOn<'a>(&'a Condvar);
+
+impl Drop for HandOn<'_> {
+    fn drop(&mut self) {
+        self.0.notify_one();
+    }
 }
 
 /// A number would have left 64 bits.

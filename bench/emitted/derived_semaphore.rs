@@ -4,6 +4,8 @@
 use std::sync::{Condvar, Mutex, MutexGuard, PoisonError};
 
 /// The monitor `Semaphore`. Threads share it by reference. A call waits for its guard, unless it tries.
+///
+/// Its lock guards data `D` too, for the functions that calls are given.
 /**
 # Plan
 
@@ -22,8 +24,8 @@ block give: 1 signal, 2 signal tested
 */
 #[allow(dead_code, non_camel_case_types)]
 #[allow(clippy::doc_markdown, clippy::upper_case_acronyms)]
-pub struct Semaphore {
-    inner: Mutex<Inner>,
+pub struct Semaphore<D = ()> {
+    inner: Mutex<Inner<D>>,
     /// For calls that wait until `free > 0`.
     can_take_all: Condvar,
     /// For calls that wait until `free >= 2`.
@@ -41,17 +43,46 @@ impl Semaphore {
     /// The monitor at its start.
     #[must_use]
     pub const fn new() -> Self {
+        Self::with_data(())
+    }
+}
+
+#[rustfmt::skip]
+#[allow(dead_code, non_snake_case, clippy::doc_markdown, clippy::style)]
+impl<D> Semaphore<D> {
+    /// The monitor at its start, with these data.
+    #[must_use]
+    pub const fn with_data(data: D) -> Self {
         Self {
             inner: Mutex::new(Inner {
                 state: State::START,
                 asleep_take_all: 0,
                 asleep_take_two: 0,
                 asleep_give: 0,
+                data,
             }),
             can_take_all: Condvar::new(),
             can_take_two: Condvar::new(),
             can_give: Condvar::new(),
         }
+    }
+
+    /// The data, which nobody shares now.
+    #[must_use]
+    pub fn get_mut(&mut self) -> &mut D {
+        &mut self.inner.get_mut().unwrap_or_else(PoisonError::into_inner).data
+    }
+
+    /// The data, without the monitor.
+    #[must_use]
+    pub fn into_inner(self) -> D {
+        self.inner.into_inner().unwrap_or_else(PoisonError::into_inner).data
+    }
+
+    /// Whether a function that a call was given has panicked: the data are as it left them.
+    #[must_use]
+    pub fn is_poisoned(&self) -> bool {
+        self.inner.is_poisoned()
     }
 
     /// Waits until `free > 0`.
@@ -63,11 +94,35 @@ impl Semaphore {
             inner.asleep_take_all -= 1;
         }
         inner.state.run_take_all();
-        let copy = *inner;
+        let copy = inner.copy();
         drop(inner);
         if copy.asleep_give > 0 {
             self.can_give.notify_all();
         }
+    }
+
+    /// As [`take_all`](Self::take_all), and calls `f` with the data under the same lock.
+    ///
+    /// Where `f` panics no field changes. `f` must not call this monitor.
+    pub fn take_all_with<R>(&self, f: impl FnOnce(&mut D) -> R) -> R {
+        let mut inner = lock(&self.inner);
+        while !inner.state.can_take_all() {
+            inner.asleep_take_all += 1;
+            inner = wait(&self.can_take_all, inner);
+            inner.asleep_take_all -= 1;
+        }
+        let hand = HandOn(&self.can_take_all);
+        let mut next = inner.state;
+        next.run_take_all();
+        let result = f(&mut inner.data);
+        std::mem::forget(hand);
+        inner.state = next;
+        let copy = inner.copy();
+        drop(inner);
+        if copy.asleep_give > 0 {
+            self.can_give.notify_all();
+        }
+        result
     }
 
     /// As [`take_all`](Self::take_all), but does not wait until `free > 0`.
@@ -81,12 +136,38 @@ impl Semaphore {
             return Err(Refused);
         }
         inner.state.run_take_all();
-        let copy = *inner;
+        let copy = inner.copy();
         drop(inner);
         if copy.asleep_give > 0 {
             self.can_give.notify_all();
         }
         Ok(())
+    }
+
+    /// As [`try_take_all`](Self::try_take_all), and calls `f` with the data under the same lock.
+    ///
+    /// Where `f` panics no field changes. `f` must not call this monitor.
+    ///
+    /// # Errors
+    ///
+    /// [`Refused`] where `free > 0` is false. Then nothing changes.
+    pub fn try_take_all_with<R>(&self, f: impl FnOnce(&mut D) -> R) -> Result<R, Refused> {
+        let mut inner = lock(&self.inner);
+        if !inner.state.can_take_all() {
+            return Err(Refused);
+        }
+        let hand = HandOn(&self.can_take_all);
+        let mut next = inner.state;
+        next.run_take_all();
+        let result = f(&mut inner.data);
+        std::mem::forget(hand);
+        inner.state = next;
+        let copy = inner.copy();
+        drop(inner);
+        if copy.asleep_give > 0 {
+            self.can_give.notify_all();
+        }
+        Ok(result)
     }
 
     /// Waits until `free >= 1`.
@@ -98,11 +179,35 @@ impl Semaphore {
             inner.asleep_take_all -= 1;
         }
         inner.state.run_take();
-        let copy = *inner;
+        let copy = inner.copy();
         drop(inner);
         if copy.asleep_give > 0 {
             self.can_give.notify_one();
         }
+    }
+
+    /// As [`take`](Self::take), and calls `f` with the data under the same lock.
+    ///
+    /// Where `f` panics no field changes. `f` must not call this monitor.
+    pub fn take_with<R>(&self, f: impl FnOnce(&mut D) -> R) -> R {
+        let mut inner = lock(&self.inner);
+        while !inner.state.can_take_all() {
+            inner.asleep_take_all += 1;
+            inner = wait(&self.can_take_all, inner);
+            inner.asleep_take_all -= 1;
+        }
+        let hand = HandOn(&self.can_take_all);
+        let mut next = inner.state;
+        next.run_take();
+        let result = f(&mut inner.data);
+        std::mem::forget(hand);
+        inner.state = next;
+        let copy = inner.copy();
+        drop(inner);
+        if copy.asleep_give > 0 {
+            self.can_give.notify_one();
+        }
+        result
     }
 
     /// As [`take`](Self::take), but does not wait until `free >= 1`.
@@ -116,12 +221,38 @@ impl Semaphore {
             return Err(Refused);
         }
         inner.state.run_take();
-        let copy = *inner;
+        let copy = inner.copy();
         drop(inner);
         if copy.asleep_give > 0 {
             self.can_give.notify_one();
         }
         Ok(())
+    }
+
+    /// As [`try_take`](Self::try_take), and calls `f` with the data under the same lock.
+    ///
+    /// Where `f` panics no field changes. `f` must not call this monitor.
+    ///
+    /// # Errors
+    ///
+    /// [`Refused`] where `free >= 1` is false. Then nothing changes.
+    pub fn try_take_with<R>(&self, f: impl FnOnce(&mut D) -> R) -> Result<R, Refused> {
+        let mut inner = lock(&self.inner);
+        if !inner.state.can_take_all() {
+            return Err(Refused);
+        }
+        let hand = HandOn(&self.can_take_all);
+        let mut next = inner.state;
+        next.run_take();
+        let result = f(&mut inner.data);
+        std::mem::forget(hand);
+        inner.state = next;
+        let copy = inner.copy();
+        drop(inner);
+        if copy.asleep_give > 0 {
+            self.can_give.notify_one();
+        }
+        Ok(result)
     }
 
     /// Waits until `free >= 2`.
@@ -133,11 +264,35 @@ impl Semaphore {
             inner.asleep_take_two -= 1;
         }
         inner.state.run_take_two();
-        let copy = *inner;
+        let copy = inner.copy();
         drop(inner);
         if copy.asleep_give > 0 {
             self.can_give.notify_all();
         }
+    }
+
+    /// As [`take_two`](Self::take_two), and calls `f` with the data under the same lock.
+    ///
+    /// Where `f` panics no field changes. `f` must not call this monitor.
+    pub fn take_two_with<R>(&self, f: impl FnOnce(&mut D) -> R) -> R {
+        let mut inner = lock(&self.inner);
+        while !inner.state.can_take_two() {
+            inner.asleep_take_two += 1;
+            inner = wait(&self.can_take_two, inner);
+            inner.asleep_take_two -= 1;
+        }
+        let hand = HandOn(&self.can_take_two);
+        let mut next = inner.state;
+        next.run_take_two();
+        let result = f(&mut inner.data);
+        std::mem::forget(hand);
+        inner.state = next;
+        let copy = inner.copy();
+        drop(inner);
+        if copy.asleep_give > 0 {
+            self.can_give.notify_all();
+        }
+        result
     }
 
     /// As [`take_two`](Self::take_two), but does not wait until `free >= 2`.
@@ -151,12 +306,38 @@ impl Semaphore {
             return Err(Refused);
         }
         inner.state.run_take_two();
-        let copy = *inner;
+        let copy = inner.copy();
         drop(inner);
         if copy.asleep_give > 0 {
             self.can_give.notify_all();
         }
         Ok(())
+    }
+
+    /// As [`try_take_two`](Self::try_take_two), and calls `f` with the data under the same lock.
+    ///
+    /// Where `f` panics no field changes. `f` must not call this monitor.
+    ///
+    /// # Errors
+    ///
+    /// [`Refused`] where `free >= 2` is false. Then nothing changes.
+    pub fn try_take_two_with<R>(&self, f: impl FnOnce(&mut D) -> R) -> Result<R, Refused> {
+        let mut inner = lock(&self.inner);
+        if !inner.state.can_take_two() {
+            return Err(Refused);
+        }
+        let hand = HandOn(&self.can_take_two);
+        let mut next = inner.state;
+        next.run_take_two();
+        let result = f(&mut inner.data);
+        std::mem::forget(hand);
+        inner.state = next;
+        let copy = inner.copy();
+        drop(inner);
+        if copy.asleep_give > 0 {
+            self.can_give.notify_all();
+        }
+        Ok(result)
     }
 
     /// Waits until `free < LIMIT`.
@@ -168,7 +349,7 @@ impl Semaphore {
             inner.asleep_give -= 1;
         }
         inner.state.run_give();
-        let copy = *inner;
+        let copy = inner.copy();
         drop(inner);
         if copy.asleep_take_all > 0 {
             self.can_take_all.notify_one();
@@ -176,6 +357,33 @@ impl Semaphore {
         if copy.asleep_take_two > 0 && copy.state.can_take_two() {
             self.can_take_two.notify_one();
         }
+    }
+
+    /// As [`give`](Self::give), and calls `f` with the data under the same lock.
+    ///
+    /// Where `f` panics no field changes. `f` must not call this monitor.
+    pub fn give_with<R>(&self, f: impl FnOnce(&mut D) -> R) -> R {
+        let mut inner = lock(&self.inner);
+        while !inner.state.can_give() {
+            inner.asleep_give += 1;
+            inner = wait(&self.can_give, inner);
+            inner.asleep_give -= 1;
+        }
+        let hand = HandOn(&self.can_give);
+        let mut next = inner.state;
+        next.run_give();
+        let result = f(&mut inner.data);
+        std::mem::forget(hand);
+        inner.state = next;
+        let copy = inner.copy();
+        drop(inner);
+        if copy.asleep_take_all > 0 {
+            self.can_take_all.notify_one();
+        }
+        if copy.asleep_take_two > 0 && copy.state.can_take_two() {
+            self.can_take_two.notify_one();
+        }
+        result
     }
 
     /// As [`give`](Self::give), but does not wait until `free < LIMIT`.
@@ -189,7 +397,7 @@ impl Semaphore {
             return Err(Refused);
         }
         inner.state.run_give();
-        let copy = *inner;
+        let copy = inner.copy();
         drop(inner);
         if copy.asleep_take_all > 0 {
             self.can_take_all.notify_one();
@@ -199,6 +407,35 @@ impl Semaphore {
         }
         Ok(())
     }
+
+    /// As [`try_give`](Self::try_give), and calls `f` with the data under the same lock.
+    ///
+    /// Where `f` panics no field changes. `f` must not call this monitor.
+    ///
+    /// # Errors
+    ///
+    /// [`Refused`] where `free < LIMIT` is false. Then nothing changes.
+    pub fn try_give_with<R>(&self, f: impl FnOnce(&mut D) -> R) -> Result<R, Refused> {
+        let mut inner = lock(&self.inner);
+        if !inner.state.can_give() {
+            return Err(Refused);
+        }
+        let hand = HandOn(&self.can_give);
+        let mut next = inner.state;
+        next.run_give();
+        let result = f(&mut inner.data);
+        std::mem::forget(hand);
+        inner.state = next;
+        let copy = inner.copy();
+        drop(inner);
+        if copy.asleep_take_all > 0 {
+            self.can_take_all.notify_one();
+        }
+        if copy.asleep_take_two > 0 && copy.state.can_take_two() {
+            self.can_take_two.notify_one();
+        }
+        Ok(result)
+    }
 }
 
 impl Default for Semaphore {
@@ -207,7 +444,7 @@ impl Default for Semaphore {
     }
 }
 
-impl std::fmt::Debug for Semaphore {
+impl<D> std::fmt::Debug for Semaphore<D> {
     fn fmt(&self, f: &mut std::fmt::Formatter<'_>) -> std::fmt::Result {
         let state = match self.inner.try_lock() {
             Ok(inner) => Some(inner.state),
@@ -223,14 +460,28 @@ impl std::fmt::Debug for Semaphore {
     }
 }
 
-/// What the mutex guards: the fields, and how many calls sleep on each condition.
-#[derive(Clone, Copy)]
+/// What the mutex guards: the fields, how many calls sleep on each condition, and the data.
 #[allow(dead_code)]
-struct Inner {
+struct Inner<D = ()> {
     state: State,
     asleep_take_all: usize,
     asleep_take_two: usize,
     asleep_give: usize,
+    data: D,
+}
+
+impl<D> Inner<D> {
+    /// All but the data.
+    #[allow(dead_code)]
+    fn copy(&self) -> Inner {
+        Inner {
+            state: self.state,
+            asleep_take_all: self.asleep_take_all,
+            asleep_take_two: self.asleep_take_two,
+            asleep_give: self.asleep_give,
+            data: (),
+        }
+    }
 }
 
 /// The fields of the monitor.
@@ -277,16 +528,26 @@ impl State {
     }
 }
 
-/// Locks the monitor. Nothing panics while it is locked, so there is no poison to heed.
-fn lock(inner: &Mutex<Inner>) -> MutexGuard<'_, Inner> {
+/// Locks the monitor, poisoned or not: where a function panicked no field has changed.
+fn lock<D>(inner: &Mutex<Inner<D>>) -> MutexGuard<'_, Inner<D>> {
     inner.lock().unwrap_or_else(PoisonError::into_inner)
 }
 
 /// Gives the lock back and waits on the condition, in one step, and takes the lock again.
-fn wait<'a>(condition: &Condvar, inner: MutexGuard<'a, Inner>) -> MutexGuard<'a, Inner> {
+fn wait<'a, D>(condition: &Condvar, inner: MutexGuard<'a, Inner<D>>) -> MutexGuard<'a, Inner<D>> {
     condition
         .wait(inner)
         .unwrap_or_else(PoisonError::into_inner)
+}
+
+/// Wakes one call that waits on the condition, where a block ends that changed nothing.
+#[allow(dead_code)]
+struct HandOn<'a>(&'a Condvar);
+
+impl Drop for HandOn<'_> {
+    fn drop(&mut self) {
+        self.0.notify_one();
+    }
 }
 
 /// The guard was false, and the call did not wait. Nothing changed.

@@ -4,6 +4,8 @@
 use std::sync::{Condvar, Mutex, MutexGuard, PoisonError};
 
 /// The monitor `Table`. Threads share it by reference. A call waits for its guard, unless it tries.
+///
+/// Its lock guards data `D` too, for the functions that calls are given.
 /**
 # Plan
 
@@ -37,8 +39,8 @@ block think3: 1 signal tested, 2 signal tested, 3 signal
 */
 #[allow(dead_code, non_camel_case_types)]
 #[allow(clippy::doc_markdown, clippy::upper_case_acronyms)]
-pub struct Table {
-    inner: Mutex<Inner>,
+pub struct Table<D = ()> {
+    inner: Mutex<Inner<D>>,
     /// For calls that wait until `a == 0 && b == 0`.
     can_eat1: Condvar,
     /// For calls that wait until `b == 0 && c == 0`.
@@ -59,6 +61,16 @@ impl Table {
     /// The monitor at its start.
     #[must_use]
     pub const fn new() -> Self {
+        Self::with_data(())
+    }
+}
+
+#[rustfmt::skip]
+#[allow(dead_code, non_snake_case, clippy::doc_markdown, clippy::style)]
+impl<D> Table<D> {
+    /// The monitor at its start, with these data.
+    #[must_use]
+    pub const fn with_data(data: D) -> Self {
         Self {
             inner: Mutex::new(Inner {
                 state: State::START,
@@ -68,6 +80,7 @@ impl Table {
                 asleep_think1: 0,
                 asleep_think2: 0,
                 asleep_think3: 0,
+                data,
             }),
             can_eat1: Condvar::new(),
             can_eat2: Condvar::new(),
@@ -76,6 +89,24 @@ impl Table {
             can_think2: Condvar::new(),
             can_think3: Condvar::new(),
         }
+    }
+
+    /// The data, which nobody shares now.
+    #[must_use]
+    pub fn get_mut(&mut self) -> &mut D {
+        &mut self.inner.get_mut().unwrap_or_else(PoisonError::into_inner).data
+    }
+
+    /// The data, without the monitor.
+    #[must_use]
+    pub fn into_inner(self) -> D {
+        self.inner.into_inner().unwrap_or_else(PoisonError::into_inner).data
+    }
+
+    /// Whether a function that a call was given has panicked: the data are as it left them.
+    #[must_use]
+    pub fn is_poisoned(&self) -> bool {
+        self.inner.is_poisoned()
     }
 
     /// Waits until `a == 0 && b == 0`.
@@ -87,11 +118,35 @@ impl Table {
             inner.asleep_eat1 -= 1;
         }
         inner.state.run_eat1();
-        let copy = *inner;
+        let copy = inner.copy();
         drop(inner);
         if copy.asleep_think1 > 0 {
             self.can_think1.notify_one();
         }
+    }
+
+    /// As [`eat1`](Self::eat1), and calls `f` with the data under the same lock.
+    ///
+    /// Where `f` panics no field changes. `f` must not call this monitor.
+    pub fn eat1_with<R>(&self, f: impl FnOnce(&mut D) -> R) -> R {
+        let mut inner = lock(&self.inner);
+        while !inner.state.can_eat1() {
+            inner.asleep_eat1 += 1;
+            inner = wait(&self.can_eat1, inner);
+            inner.asleep_eat1 -= 1;
+        }
+        let hand = HandOn(&self.can_eat1);
+        let mut next = inner.state;
+        next.run_eat1();
+        let result = f(&mut inner.data);
+        std::mem::forget(hand);
+        inner.state = next;
+        let copy = inner.copy();
+        drop(inner);
+        if copy.asleep_think1 > 0 {
+            self.can_think1.notify_one();
+        }
+        result
     }
 
     /// As [`eat1`](Self::eat1), but does not wait until `a == 0 && b == 0`.
@@ -105,12 +160,38 @@ impl Table {
             return Err(Refused);
         }
         inner.state.run_eat1();
-        let copy = *inner;
+        let copy = inner.copy();
         drop(inner);
         if copy.asleep_think1 > 0 {
             self.can_think1.notify_one();
         }
         Ok(())
+    }
+
+    /// As [`try_eat1`](Self::try_eat1), and calls `f` with the data under the same lock.
+    ///
+    /// Where `f` panics no field changes. `f` must not call this monitor.
+    ///
+    /// # Errors
+    ///
+    /// [`Refused`] where `a == 0 && b == 0` is false. Then nothing changes.
+    pub fn try_eat1_with<R>(&self, f: impl FnOnce(&mut D) -> R) -> Result<R, Refused> {
+        let mut inner = lock(&self.inner);
+        if !inner.state.can_eat1() {
+            return Err(Refused);
+        }
+        let hand = HandOn(&self.can_eat1);
+        let mut next = inner.state;
+        next.run_eat1();
+        let result = f(&mut inner.data);
+        std::mem::forget(hand);
+        inner.state = next;
+        let copy = inner.copy();
+        drop(inner);
+        if copy.asleep_think1 > 0 {
+            self.can_think1.notify_one();
+        }
+        Ok(result)
     }
 
     /// Waits until `b == 0 && c == 0`.
@@ -122,11 +203,35 @@ impl Table {
             inner.asleep_eat2 -= 1;
         }
         inner.state.run_eat2();
-        let copy = *inner;
+        let copy = inner.copy();
         drop(inner);
         if copy.asleep_think2 > 0 {
             self.can_think2.notify_one();
         }
+    }
+
+    /// As [`eat2`](Self::eat2), and calls `f` with the data under the same lock.
+    ///
+    /// Where `f` panics no field changes. `f` must not call this monitor.
+    pub fn eat2_with<R>(&self, f: impl FnOnce(&mut D) -> R) -> R {
+        let mut inner = lock(&self.inner);
+        while !inner.state.can_eat2() {
+            inner.asleep_eat2 += 1;
+            inner = wait(&self.can_eat2, inner);
+            inner.asleep_eat2 -= 1;
+        }
+        let hand = HandOn(&self.can_eat2);
+        let mut next = inner.state;
+        next.run_eat2();
+        let result = f(&mut inner.data);
+        std::mem::forget(hand);
+        inner.state = next;
+        let copy = inner.copy();
+        drop(inner);
+        if copy.asleep_think2 > 0 {
+            self.can_think2.notify_one();
+        }
+        result
     }
 
     /// As [`eat2`](Self::eat2), but does not wait until `b == 0 && c == 0`.
@@ -140,12 +245,38 @@ impl Table {
             return Err(Refused);
         }
         inner.state.run_eat2();
-        let copy = *inner;
+        let copy = inner.copy();
         drop(inner);
         if copy.asleep_think2 > 0 {
             self.can_think2.notify_one();
         }
         Ok(())
+    }
+
+    /// As [`try_eat2`](Self::try_eat2), and calls `f` with the data under the same lock.
+    ///
+    /// Where `f` panics no field changes. `f` must not call this monitor.
+    ///
+    /// # Errors
+    ///
+    /// [`Refused`] where `b == 0 && c == 0` is false. Then nothing changes.
+    pub fn try_eat2_with<R>(&self, f: impl FnOnce(&mut D) -> R) -> Result<R, Refused> {
+        let mut inner = lock(&self.inner);
+        if !inner.state.can_eat2() {
+            return Err(Refused);
+        }
+        let hand = HandOn(&self.can_eat2);
+        let mut next = inner.state;
+        next.run_eat2();
+        let result = f(&mut inner.data);
+        std::mem::forget(hand);
+        inner.state = next;
+        let copy = inner.copy();
+        drop(inner);
+        if copy.asleep_think2 > 0 {
+            self.can_think2.notify_one();
+        }
+        Ok(result)
     }
 
     /// Waits until `c == 0 && a == 0`.
@@ -157,11 +288,35 @@ impl Table {
             inner.asleep_eat3 -= 1;
         }
         inner.state.run_eat3();
-        let copy = *inner;
+        let copy = inner.copy();
         drop(inner);
         if copy.asleep_think3 > 0 {
             self.can_think3.notify_one();
         }
+    }
+
+    /// As [`eat3`](Self::eat3), and calls `f` with the data under the same lock.
+    ///
+    /// Where `f` panics no field changes. `f` must not call this monitor.
+    pub fn eat3_with<R>(&self, f: impl FnOnce(&mut D) -> R) -> R {
+        let mut inner = lock(&self.inner);
+        while !inner.state.can_eat3() {
+            inner.asleep_eat3 += 1;
+            inner = wait(&self.can_eat3, inner);
+            inner.asleep_eat3 -= 1;
+        }
+        let hand = HandOn(&self.can_eat3);
+        let mut next = inner.state;
+        next.run_eat3();
+        let result = f(&mut inner.data);
+        std::mem::forget(hand);
+        inner.state = next;
+        let copy = inner.copy();
+        drop(inner);
+        if copy.asleep_think3 > 0 {
+            self.can_think3.notify_one();
+        }
+        result
     }
 
     /// As [`eat3`](Self::eat3), but does not wait until `c == 0 && a == 0`.
@@ -175,12 +330,38 @@ impl Table {
             return Err(Refused);
         }
         inner.state.run_eat3();
-        let copy = *inner;
+        let copy = inner.copy();
         drop(inner);
         if copy.asleep_think3 > 0 {
             self.can_think3.notify_one();
         }
         Ok(())
+    }
+
+    /// As [`try_eat3`](Self::try_eat3), and calls `f` with the data under the same lock.
+    ///
+    /// Where `f` panics no field changes. `f` must not call this monitor.
+    ///
+    /// # Errors
+    ///
+    /// [`Refused`] where `c == 0 && a == 0` is false. Then nothing changes.
+    pub fn try_eat3_with<R>(&self, f: impl FnOnce(&mut D) -> R) -> Result<R, Refused> {
+        let mut inner = lock(&self.inner);
+        if !inner.state.can_eat3() {
+            return Err(Refused);
+        }
+        let hand = HandOn(&self.can_eat3);
+        let mut next = inner.state;
+        next.run_eat3();
+        let result = f(&mut inner.data);
+        std::mem::forget(hand);
+        inner.state = next;
+        let copy = inner.copy();
+        drop(inner);
+        if copy.asleep_think3 > 0 {
+            self.can_think3.notify_one();
+        }
+        Ok(result)
     }
 
     /// Waits until `a == 1 && b == 1`.
@@ -192,7 +373,7 @@ impl Table {
             inner.asleep_think1 -= 1;
         }
         inner.state.run_think1();
-        let copy = *inner;
+        let copy = inner.copy();
         drop(inner);
         if copy.asleep_eat1 > 0 {
             self.can_eat1.notify_one();
@@ -203,6 +384,36 @@ impl Table {
         if copy.asleep_eat3 > 0 && copy.state.can_eat3() {
             self.can_eat3.notify_one();
         }
+    }
+
+    /// As [`think1`](Self::think1), and calls `f` with the data under the same lock.
+    ///
+    /// Where `f` panics no field changes. `f` must not call this monitor.
+    pub fn think1_with<R>(&self, f: impl FnOnce(&mut D) -> R) -> R {
+        let mut inner = lock(&self.inner);
+        while !inner.state.can_think1() {
+            inner.asleep_think1 += 1;
+            inner = wait(&self.can_think1, inner);
+            inner.asleep_think1 -= 1;
+        }
+        let hand = HandOn(&self.can_think1);
+        let mut next = inner.state;
+        next.run_think1();
+        let result = f(&mut inner.data);
+        std::mem::forget(hand);
+        inner.state = next;
+        let copy = inner.copy();
+        drop(inner);
+        if copy.asleep_eat1 > 0 {
+            self.can_eat1.notify_one();
+        }
+        if copy.asleep_eat2 > 0 && copy.state.can_eat2() {
+            self.can_eat2.notify_one();
+        }
+        if copy.asleep_eat3 > 0 && copy.state.can_eat3() {
+            self.can_eat3.notify_one();
+        }
+        result
     }
 
     /// As [`think1`](Self::think1), but does not wait until `a == 1 && b == 1`.
@@ -216,7 +427,7 @@ impl Table {
             return Err(Refused);
         }
         inner.state.run_think1();
-        let copy = *inner;
+        let copy = inner.copy();
         drop(inner);
         if copy.asleep_eat1 > 0 {
             self.can_eat1.notify_one();
@@ -230,6 +441,38 @@ impl Table {
         Ok(())
     }
 
+    /// As [`try_think1`](Self::try_think1), and calls `f` with the data under the same lock.
+    ///
+    /// Where `f` panics no field changes. `f` must not call this monitor.
+    ///
+    /// # Errors
+    ///
+    /// [`Refused`] where `a == 1 && b == 1` is false. Then nothing changes.
+    pub fn try_think1_with<R>(&self, f: impl FnOnce(&mut D) -> R) -> Result<R, Refused> {
+        let mut inner = lock(&self.inner);
+        if !inner.state.can_think1() {
+            return Err(Refused);
+        }
+        let hand = HandOn(&self.can_think1);
+        let mut next = inner.state;
+        next.run_think1();
+        let result = f(&mut inner.data);
+        std::mem::forget(hand);
+        inner.state = next;
+        let copy = inner.copy();
+        drop(inner);
+        if copy.asleep_eat1 > 0 {
+            self.can_eat1.notify_one();
+        }
+        if copy.asleep_eat2 > 0 && copy.state.can_eat2() {
+            self.can_eat2.notify_one();
+        }
+        if copy.asleep_eat3 > 0 && copy.state.can_eat3() {
+            self.can_eat3.notify_one();
+        }
+        Ok(result)
+    }
+
     /// Waits until `b == 2 && c == 2`.
     pub fn think2(&self) {
         let mut inner = lock(&self.inner);
@@ -239,7 +482,7 @@ impl Table {
             inner.asleep_think2 -= 1;
         }
         inner.state.run_think2();
-        let copy = *inner;
+        let copy = inner.copy();
         drop(inner);
         if copy.asleep_eat1 > 0 && copy.state.can_eat1() {
             self.can_eat1.notify_one();
@@ -250,6 +493,36 @@ impl Table {
         if copy.asleep_eat3 > 0 && copy.state.can_eat3() {
             self.can_eat3.notify_one();
         }
+    }
+
+    /// As [`think2`](Self::think2), and calls `f` with the data under the same lock.
+    ///
+    /// Where `f` panics no field changes. `f` must not call this monitor.
+    pub fn think2_with<R>(&self, f: impl FnOnce(&mut D) -> R) -> R {
+        let mut inner = lock(&self.inner);
+        while !inner.state.can_think2() {
+            inner.asleep_think2 += 1;
+            inner = wait(&self.can_think2, inner);
+            inner.asleep_think2 -= 1;
+        }
+        let hand = HandOn(&self.can_think2);
+        let mut next = inner.state;
+        next.run_think2();
+        let result = f(&mut inner.data);
+        std::mem::forget(hand);
+        inner.state = next;
+        let copy = inner.copy();
+        drop(inner);
+        if copy.asleep_eat1 > 0 && copy.state.can_eat1() {
+            self.can_eat1.notify_one();
+        }
+        if copy.asleep_eat2 > 0 {
+            self.can_eat2.notify_one();
+        }
+        if copy.asleep_eat3 > 0 && copy.state.can_eat3() {
+            self.can_eat3.notify_one();
+        }
+        result
     }
 
     /// As [`think2`](Self::think2), but does not wait until `b == 2 && c == 2`.
@@ -263,7 +536,7 @@ impl Table {
             return Err(Refused);
         }
         inner.state.run_think2();
-        let copy = *inner;
+        let copy = inner.copy();
         drop(inner);
         if copy.asleep_eat1 > 0 && copy.state.can_eat1() {
             self.can_eat1.notify_one();
@@ -277,6 +550,38 @@ impl Table {
         Ok(())
     }
 
+    /// As [`try_think2`](Self::try_think2), and calls `f` with the data under the same lock.
+    ///
+    /// Where `f` panics no field changes. `f` must not call this monitor.
+    ///
+    /// # Errors
+    ///
+    /// [`Refused`] where `b == 2 && c == 2` is false. Then nothing changes.
+    pub fn try_think2_with<R>(&self, f: impl FnOnce(&mut D) -> R) -> Result<R, Refused> {
+        let mut inner = lock(&self.inner);
+        if !inner.state.can_think2() {
+            return Err(Refused);
+        }
+        let hand = HandOn(&self.can_think2);
+        let mut next = inner.state;
+        next.run_think2();
+        let result = f(&mut inner.data);
+        std::mem::forget(hand);
+        inner.state = next;
+        let copy = inner.copy();
+        drop(inner);
+        if copy.asleep_eat1 > 0 && copy.state.can_eat1() {
+            self.can_eat1.notify_one();
+        }
+        if copy.asleep_eat2 > 0 {
+            self.can_eat2.notify_one();
+        }
+        if copy.asleep_eat3 > 0 && copy.state.can_eat3() {
+            self.can_eat3.notify_one();
+        }
+        Ok(result)
+    }
+
     /// Waits until `c == 3 && a == 3`.
     pub fn think3(&self) {
         let mut inner = lock(&self.inner);
@@ -286,7 +591,7 @@ impl Table {
             inner.asleep_think3 -= 1;
         }
         inner.state.run_think3();
-        let copy = *inner;
+        let copy = inner.copy();
         drop(inner);
         if copy.asleep_eat1 > 0 && copy.state.can_eat1() {
             self.can_eat1.notify_one();
@@ -297,6 +602,36 @@ impl Table {
         if copy.asleep_eat3 > 0 {
             self.can_eat3.notify_one();
         }
+    }
+
+    /// As [`think3`](Self::think3), and calls `f` with the data under the same lock.
+    ///
+    /// Where `f` panics no field changes. `f` must not call this monitor.
+    pub fn think3_with<R>(&self, f: impl FnOnce(&mut D) -> R) -> R {
+        let mut inner = lock(&self.inner);
+        while !inner.state.can_think3() {
+            inner.asleep_think3 += 1;
+            inner = wait(&self.can_think3, inner);
+            inner.asleep_think3 -= 1;
+        }
+        let hand = HandOn(&self.can_think3);
+        let mut next = inner.state;
+        next.run_think3();
+        let result = f(&mut inner.data);
+        std::mem::forget(hand);
+        inner.state = next;
+        let copy = inner.copy();
+        drop(inner);
+        if copy.asleep_eat1 > 0 && copy.state.can_eat1() {
+            self.can_eat1.notify_one();
+        }
+        if copy.asleep_eat2 > 0 && copy.state.can_eat2() {
+            self.can_eat2.notify_one();
+        }
+        if copy.asleep_eat3 > 0 {
+            self.can_eat3.notify_one();
+        }
+        result
     }
 
     /// As [`think3`](Self::think3), but does not wait until `c == 3 && a == 3`.
@@ -310,7 +645,7 @@ impl Table {
             return Err(Refused);
         }
         inner.state.run_think3();
-        let copy = *inner;
+        let copy = inner.copy();
         drop(inner);
         if copy.asleep_eat1 > 0 && copy.state.can_eat1() {
             self.can_eat1.notify_one();
@@ -323,6 +658,38 @@ impl Table {
         }
         Ok(())
     }
+
+    /// As [`try_think3`](Self::try_think3), and calls `f` with the data under the same lock.
+    ///
+    /// Where `f` panics no field changes. `f` must not call this monitor.
+    ///
+    /// # Errors
+    ///
+    /// [`Refused`] where `c == 3 && a == 3` is false. Then nothing changes.
+    pub fn try_think3_with<R>(&self, f: impl FnOnce(&mut D) -> R) -> Result<R, Refused> {
+        let mut inner = lock(&self.inner);
+        if !inner.state.can_think3() {
+            return Err(Refused);
+        }
+        let hand = HandOn(&self.can_think3);
+        let mut next = inner.state;
+        next.run_think3();
+        let result = f(&mut inner.data);
+        std::mem::forget(hand);
+        inner.state = next;
+        let copy = inner.copy();
+        drop(inner);
+        if copy.asleep_eat1 > 0 && copy.state.can_eat1() {
+            self.can_eat1.notify_one();
+        }
+        if copy.asleep_eat2 > 0 && copy.state.can_eat2() {
+            self.can_eat2.notify_one();
+        }
+        if copy.asleep_eat3 > 0 {
+            self.can_eat3.notify_one();
+        }
+        Ok(result)
+    }
 }
 
 impl Default for Table {
@@ -331,7 +698,7 @@ impl Default for Table {
     }
 }
 
-impl std::fmt::Debug for Table {
+impl<D> std::fmt::Debug for Table<D> {
     fn fmt(&self, f: &mut std::fmt::Formatter<'_>) -> std::fmt::Result {
         let state = match self.inner.try_lock() {
             Ok(inner) => Some(inner.state),
@@ -347,10 +714,9 @@ impl std::fmt::Debug for Table {
     }
 }
 
-/// What the mutex guards: the fields, and how many calls sleep on each condition.
-#[derive(Clone, Copy)]
+/// What the mutex guards: the fields, how many calls sleep on each condition, and the data.
 #[allow(dead_code)]
-struct Inner {
+struct Inner<D = ()> {
     state: State,
     asleep_eat1: usize,
     asleep_eat2: usize,
@@ -358,6 +724,24 @@ struct Inner {
     asleep_think1: usize,
     asleep_think2: usize,
     asleep_think3: usize,
+    data: D,
+}
+
+impl<D> Inner<D> {
+    /// All but the data.
+    #[allow(dead_code)]
+    fn copy(&self) -> Inner {
+        Inner {
+            state: self.state,
+            asleep_eat1: self.asleep_eat1,
+            asleep_eat2: self.asleep_eat2,
+            asleep_eat3: self.asleep_eat3,
+            asleep_think1: self.asleep_think1,
+            asleep_think2: self.asleep_think2,
+            asleep_think3: self.asleep_think3,
+            data: (),
+        }
+    }
 }
 
 /// The fields of the monitor.
@@ -434,16 +818,26 @@ impl State {
     }
 }
 
-/// Locks the monitor. Nothing panics while it is locked, so there is no poison to heed.
-fn lock(inner: &Mutex<Inner>) -> MutexGuard<'_, Inner> {
+/// Locks the monitor, poisoned or not: where a function panicked no field has changed.
+fn lock<D>(inner: &Mutex<Inner<D>>) -> MutexGuard<'_, Inner<D>> {
     inner.lock().unwrap_or_else(PoisonError::into_inner)
 }
 
 /// Gives the lock back and waits on the condition, in one step, and takes the lock again.
-fn wait<'a>(condition: &Condvar, inner: MutexGuard<'a, Inner>) -> MutexGuard<'a, Inner> {
+fn wait<'a, D>(condition: &Condvar, inner: MutexGuard<'a, Inner<D>>) -> MutexGuard<'a, Inner<D>> {
     condition
         .wait(inner)
         .unwrap_or_else(PoisonError::into_inner)
+}
+
+/// Wakes one call that waits on the condition, where a block ends that changed nothing.
+#[allow(dead_code)]
+struct HandOn<'a>(&'a Condvar);
+
+impl Drop for HandOn<'_> {
+    fn drop(&mut self) {
+        self.0.notify_one();
+    }
 }
 
 /// The guard was false, and the call did not wait. Nothing changed.

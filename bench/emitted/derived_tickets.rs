@@ -4,6 +4,8 @@
 use std::sync::{Condvar, Mutex, MutexGuard, PoisonError};
 
 /// The monitor `Tickets`. Threads share it by reference. A call waits for its guard, unless it tries.
+///
+/// Its lock guards data `D` too, for the functions that calls are given.
 /**
 # Plan
 
@@ -28,8 +30,8 @@ block fail: none
 */
 #[allow(dead_code, non_camel_case_types)]
 #[allow(clippy::doc_markdown, clippy::upper_case_acronyms)]
-pub struct Tickets {
-    inner: Mutex<Inner>,
+pub struct Tickets<D = ()> {
+    inner: Mutex<Inner<D>>,
     /// For calls that wait until `ticket == serving && serving < next && !busy`.
     can_enter: Condvar,
     /// For calls that wait until `busy`.
@@ -46,6 +48,16 @@ impl Tickets {
     /// The monitor at its start.
     #[must_use]
     pub const fn new() -> Self {
+        Self::with_data(())
+    }
+}
+
+#[rustfmt::skip]
+#[allow(dead_code, non_snake_case, clippy::doc_markdown, clippy::style)]
+impl<D> Tickets<D> {
+    /// The monitor at its start, with these data.
+    #[must_use]
+    pub const fn with_data(data: D) -> Self {
         Self {
             inner: Mutex::new(Inner {
                 state: State::START,
@@ -53,12 +65,31 @@ impl Tickets {
                 asleep_leave: 0,
                 asleep_rest: 0,
                 asleep_fail: 0,
+                data,
             }),
             can_enter: Condvar::new(),
             can_leave: Condvar::new(),
             can_rest: Condvar::new(),
             can_fail: Condvar::new(),
         }
+    }
+
+    /// The data, which nobody shares now.
+    #[must_use]
+    pub fn get_mut(&mut self) -> &mut D {
+        &mut self.inner.get_mut().unwrap_or_else(PoisonError::into_inner).data
+    }
+
+    /// The data, without the monitor.
+    #[must_use]
+    pub fn into_inner(self) -> D {
+        self.inner.into_inner().unwrap_or_else(PoisonError::into_inner).data
+    }
+
+    /// Whether a function that a call was given has panicked: the data are as it left them.
+    #[must_use]
+    pub fn is_poisoned(&self) -> bool {
+        self.inner.is_poisoned()
     }
 
     /// Does not wait.
@@ -69,12 +100,33 @@ impl Tickets {
     pub fn draw(&self) -> Result<i64, Overflow> {
         let mut inner = lock(&self.inner);
         let answer = inner.state.run_draw()?;
-        let copy = *inner;
+        let copy = inner.copy();
         drop(inner);
         if copy.asleep_enter > 0 {
             self.can_enter.notify_all();
         }
         Ok(answer)
+    }
+
+    /// As [`draw`](Self::draw), and calls `f` with the data and the answer under the same lock.
+    ///
+    /// Where `f` panics no field changes. `f` must not call this monitor.
+    ///
+    /// # Errors
+    ///
+    /// [`Overflow`] where a number would leave 64 bits. Then nothing changes.
+    pub fn draw_with<R>(&self, f: impl FnOnce(&mut D, i64) -> R) -> Result<R, Overflow> {
+        let mut inner = lock(&self.inner);
+        let mut next = inner.state;
+        let answer = next.run_draw()?;
+        let result = f(&mut inner.data, answer);
+        inner.state = next;
+        let copy = inner.copy();
+        drop(inner);
+        if copy.asleep_enter > 0 {
+            self.can_enter.notify_all();
+        }
+        Ok(result)
     }
 
     /// Waits until `ticket == serving && serving < next && !busy`.
@@ -86,11 +138,35 @@ impl Tickets {
             inner.asleep_enter -= 1;
         }
         inner.state.run_enter(ticket);
-        let copy = *inner;
+        let copy = inner.copy();
         drop(inner);
         if copy.asleep_leave > 0 {
             self.can_leave.notify_one();
         }
+    }
+
+    /// As [`enter`](Self::enter), and calls `f` with the data under the same lock.
+    ///
+    /// Where `f` panics no field changes. `f` must not call this monitor.
+    pub fn enter_with<R>(&self, ticket: i64, f: impl FnOnce(&mut D) -> R) -> R {
+        let mut inner = lock(&self.inner);
+        while !inner.state.can_enter(ticket) {
+            inner.asleep_enter += 1;
+            inner = wait(&self.can_enter, inner);
+            inner.asleep_enter -= 1;
+        }
+        let hand = HandOn(&self.can_enter);
+        let mut next = inner.state;
+        next.run_enter(ticket);
+        let result = f(&mut inner.data);
+        std::mem::forget(hand);
+        inner.state = next;
+        let copy = inner.copy();
+        drop(inner);
+        if copy.asleep_leave > 0 {
+            self.can_leave.notify_one();
+        }
+        result
     }
 
     /// As [`enter`](Self::enter), but does not wait until `ticket == serving && serving < next && !busy`.
@@ -104,12 +180,38 @@ impl Tickets {
             return Err(Refused);
         }
         inner.state.run_enter(ticket);
-        let copy = *inner;
+        let copy = inner.copy();
         drop(inner);
         if copy.asleep_leave > 0 {
             self.can_leave.notify_one();
         }
         Ok(())
+    }
+
+    /// As [`try_enter`](Self::try_enter), and calls `f` with the data under the same lock.
+    ///
+    /// Where `f` panics no field changes. `f` must not call this monitor.
+    ///
+    /// # Errors
+    ///
+    /// [`Refused`] where `ticket == serving && serving < next && !busy` is false. Then nothing changes.
+    pub fn try_enter_with<R>(&self, ticket: i64, f: impl FnOnce(&mut D) -> R) -> Result<R, Refused> {
+        let mut inner = lock(&self.inner);
+        if !inner.state.can_enter(ticket) {
+            return Err(Refused);
+        }
+        let hand = HandOn(&self.can_enter);
+        let mut next = inner.state;
+        next.run_enter(ticket);
+        let result = f(&mut inner.data);
+        std::mem::forget(hand);
+        inner.state = next;
+        let copy = inner.copy();
+        drop(inner);
+        if copy.asleep_leave > 0 {
+            self.can_leave.notify_one();
+        }
+        Ok(result)
     }
 
     /// Waits until `turn == serving && serving < next && !busy`.
@@ -121,7 +223,7 @@ impl Tickets {
             inner.asleep_enter -= 1;
         }
         inner.state.run_give_up(turn);
-        let copy = *inner;
+        let copy = inner.copy();
         drop(inner);
         if copy.asleep_enter > 0 {
             self.can_enter.notify_all();
@@ -129,6 +231,33 @@ impl Tickets {
         if copy.asleep_rest > 0 && copy.state.can_rest() {
             self.can_rest.notify_all();
         }
+    }
+
+    /// As [`give_up`](Self::give_up), and calls `f` with the data under the same lock.
+    ///
+    /// Where `f` panics no field changes. `f` must not call this monitor.
+    pub fn give_up_with<R>(&self, turn: i64, f: impl FnOnce(&mut D) -> R) -> R {
+        let mut inner = lock(&self.inner);
+        while !inner.state.can_give_up(turn) {
+            inner.asleep_enter += 1;
+            inner = wait(&self.can_enter, inner);
+            inner.asleep_enter -= 1;
+        }
+        let hand = HandOn(&self.can_enter);
+        let mut next = inner.state;
+        next.run_give_up(turn);
+        let result = f(&mut inner.data);
+        std::mem::forget(hand);
+        inner.state = next;
+        let copy = inner.copy();
+        drop(inner);
+        if copy.asleep_enter > 0 {
+            self.can_enter.notify_all();
+        }
+        if copy.asleep_rest > 0 && copy.state.can_rest() {
+            self.can_rest.notify_all();
+        }
+        result
     }
 
     /// As [`give_up`](Self::give_up), but does not wait until `turn == serving && serving < next && !busy`.
@@ -142,7 +271,7 @@ impl Tickets {
             return Err(Refused);
         }
         inner.state.run_give_up(turn);
-        let copy = *inner;
+        let copy = inner.copy();
         drop(inner);
         if copy.asleep_enter > 0 {
             self.can_enter.notify_all();
@@ -151,6 +280,35 @@ impl Tickets {
             self.can_rest.notify_all();
         }
         Ok(())
+    }
+
+    /// As [`try_give_up`](Self::try_give_up), and calls `f` with the data under the same lock.
+    ///
+    /// Where `f` panics no field changes. `f` must not call this monitor.
+    ///
+    /// # Errors
+    ///
+    /// [`Refused`] where `turn == serving && serving < next && !busy` is false. Then nothing changes.
+    pub fn try_give_up_with<R>(&self, turn: i64, f: impl FnOnce(&mut D) -> R) -> Result<R, Refused> {
+        let mut inner = lock(&self.inner);
+        if !inner.state.can_give_up(turn) {
+            return Err(Refused);
+        }
+        let hand = HandOn(&self.can_enter);
+        let mut next = inner.state;
+        next.run_give_up(turn);
+        let result = f(&mut inner.data);
+        std::mem::forget(hand);
+        inner.state = next;
+        let copy = inner.copy();
+        drop(inner);
+        if copy.asleep_enter > 0 {
+            self.can_enter.notify_all();
+        }
+        if copy.asleep_rest > 0 && copy.state.can_rest() {
+            self.can_rest.notify_all();
+        }
+        Ok(result)
     }
 
     /// Waits until `busy`.
@@ -162,7 +320,7 @@ impl Tickets {
             inner.asleep_leave -= 1;
         }
         inner.state.run_leave();
-        let copy = *inner;
+        let copy = inner.copy();
         drop(inner);
         if copy.asleep_enter > 0 {
             self.can_enter.notify_all();
@@ -170,6 +328,33 @@ impl Tickets {
         if copy.asleep_rest > 0 && copy.state.can_rest() {
             self.can_rest.notify_all();
         }
+    }
+
+    /// As [`leave`](Self::leave), and calls `f` with the data under the same lock.
+    ///
+    /// Where `f` panics no field changes. `f` must not call this monitor.
+    pub fn leave_with<R>(&self, f: impl FnOnce(&mut D) -> R) -> R {
+        let mut inner = lock(&self.inner);
+        while !inner.state.can_leave() {
+            inner.asleep_leave += 1;
+            inner = wait(&self.can_leave, inner);
+            inner.asleep_leave -= 1;
+        }
+        let hand = HandOn(&self.can_leave);
+        let mut next = inner.state;
+        next.run_leave();
+        let result = f(&mut inner.data);
+        std::mem::forget(hand);
+        inner.state = next;
+        let copy = inner.copy();
+        drop(inner);
+        if copy.asleep_enter > 0 {
+            self.can_enter.notify_all();
+        }
+        if copy.asleep_rest > 0 && copy.state.can_rest() {
+            self.can_rest.notify_all();
+        }
+        result
     }
 
     /// As [`leave`](Self::leave), but does not wait until `busy`.
@@ -183,7 +368,7 @@ impl Tickets {
             return Err(Refused);
         }
         inner.state.run_leave();
-        let copy = *inner;
+        let copy = inner.copy();
         drop(inner);
         if copy.asleep_enter > 0 {
             self.can_enter.notify_all();
@@ -192,6 +377,35 @@ impl Tickets {
             self.can_rest.notify_all();
         }
         Ok(())
+    }
+
+    /// As [`try_leave`](Self::try_leave), and calls `f` with the data under the same lock.
+    ///
+    /// Where `f` panics no field changes. `f` must not call this monitor.
+    ///
+    /// # Errors
+    ///
+    /// [`Refused`] where `busy` is false. Then nothing changes.
+    pub fn try_leave_with<R>(&self, f: impl FnOnce(&mut D) -> R) -> Result<R, Refused> {
+        let mut inner = lock(&self.inner);
+        if !inner.state.can_leave() {
+            return Err(Refused);
+        }
+        let hand = HandOn(&self.can_leave);
+        let mut next = inner.state;
+        next.run_leave();
+        let result = f(&mut inner.data);
+        std::mem::forget(hand);
+        inner.state = next;
+        let copy = inner.copy();
+        drop(inner);
+        if copy.asleep_enter > 0 {
+            self.can_enter.notify_all();
+        }
+        if copy.asleep_rest > 0 && copy.state.can_rest() {
+            self.can_rest.notify_all();
+        }
+        Ok(result)
     }
 
     /// Waits until `serving == next && !busy`.
@@ -204,6 +418,26 @@ impl Tickets {
         }
         inner.state.run_rest();
         drop(inner);
+    }
+
+    /// As [`rest`](Self::rest), and calls `f` with the data under the same lock.
+    ///
+    /// Where `f` panics no field changes. `f` must not call this monitor.
+    pub fn rest_with<R>(&self, f: impl FnOnce(&mut D) -> R) -> R {
+        let mut inner = lock(&self.inner);
+        while !inner.state.can_rest() {
+            inner.asleep_rest += 1;
+            inner = wait(&self.can_rest, inner);
+            inner.asleep_rest -= 1;
+        }
+        let hand = HandOn(&self.can_rest);
+        let mut next = inner.state;
+        next.run_rest();
+        let result = f(&mut inner.data);
+        std::mem::forget(hand);
+        inner.state = next;
+        drop(inner);
+        result
     }
 
     /// As [`rest`](Self::rest), but does not wait until `serving == next && !busy`.
@@ -221,6 +455,28 @@ impl Tickets {
         Ok(())
     }
 
+    /// As [`try_rest`](Self::try_rest), and calls `f` with the data under the same lock.
+    ///
+    /// Where `f` panics no field changes. `f` must not call this monitor.
+    ///
+    /// # Errors
+    ///
+    /// [`Refused`] where `serving == next && !busy` is false. Then nothing changes.
+    pub fn try_rest_with<R>(&self, f: impl FnOnce(&mut D) -> R) -> Result<R, Refused> {
+        let mut inner = lock(&self.inner);
+        if !inner.state.can_rest() {
+            return Err(Refused);
+        }
+        let hand = HandOn(&self.can_rest);
+        let mut next = inner.state;
+        next.run_rest();
+        let result = f(&mut inner.data);
+        std::mem::forget(hand);
+        inner.state = next;
+        drop(inner);
+        Ok(result)
+    }
+
     /// Waits until `serving > next`.
     pub fn fail(&self) {
         let mut inner = lock(&self.inner);
@@ -231,6 +487,26 @@ impl Tickets {
         }
         inner.state.run_fail();
         drop(inner);
+    }
+
+    /// As [`fail`](Self::fail), and calls `f` with the data under the same lock.
+    ///
+    /// Where `f` panics no field changes. `f` must not call this monitor.
+    pub fn fail_with<R>(&self, f: impl FnOnce(&mut D) -> R) -> R {
+        let mut inner = lock(&self.inner);
+        while !inner.state.can_fail() {
+            inner.asleep_fail += 1;
+            inner = wait(&self.can_fail, inner);
+            inner.asleep_fail -= 1;
+        }
+        let hand = HandOn(&self.can_fail);
+        let mut next = inner.state;
+        next.run_fail();
+        let result = f(&mut inner.data);
+        std::mem::forget(hand);
+        inner.state = next;
+        drop(inner);
+        result
     }
 
     /// As [`fail`](Self::fail), but does not wait until `serving > next`.
@@ -247,6 +523,28 @@ impl Tickets {
         drop(inner);
         Ok(())
     }
+
+    /// As [`try_fail`](Self::try_fail), and calls `f` with the data under the same lock.
+    ///
+    /// Where `f` panics no field changes. `f` must not call this monitor.
+    ///
+    /// # Errors
+    ///
+    /// [`Refused`] where `serving > next` is false. Then nothing changes.
+    pub fn try_fail_with<R>(&self, f: impl FnOnce(&mut D) -> R) -> Result<R, Refused> {
+        let mut inner = lock(&self.inner);
+        if !inner.state.can_fail() {
+            return Err(Refused);
+        }
+        let hand = HandOn(&self.can_fail);
+        let mut next = inner.state;
+        next.run_fail();
+        let result = f(&mut inner.data);
+        std::mem::forget(hand);
+        inner.state = next;
+        drop(inner);
+        Ok(result)
+    }
 }
 
 impl Default for Tickets {
@@ -255,7 +553,7 @@ impl Default for Tickets {
     }
 }
 
-impl std::fmt::Debug for Tickets {
+impl<D> std::fmt::Debug for Tickets<D> {
     fn fmt(&self, f: &mut std::fmt::Formatter<'_>) -> std::fmt::Result {
         let state = match self.inner.try_lock() {
             Ok(inner) => Some(inner.state),
@@ -271,15 +569,30 @@ impl std::fmt::Debug for Tickets {
     }
 }
 
-/// What the mutex guards: the fields, and how many calls sleep on each condition.
-#[derive(Clone, Copy)]
+/// What the mutex guards: the fields, how many calls sleep on each condition, and the data.
 #[allow(dead_code)]
-struct Inner {
+struct Inner<D = ()> {
     state: State,
     asleep_enter: usize,
     asleep_leave: usize,
     asleep_rest: usize,
     asleep_fail: usize,
+    data: D,
+}
+
+impl<D> Inner<D> {
+    /// All but the data.
+    #[allow(dead_code)]
+    fn copy(&self) -> Inner {
+        Inner {
+            state: self.state,
+            asleep_enter: self.asleep_enter,
+            asleep_leave: self.asleep_leave,
+            asleep_rest: self.asleep_rest,
+            asleep_fail: self.asleep_fail,
+            data: (),
+        }
+    }
 }
 
 /// The fields of the monitor.
@@ -351,16 +664,26 @@ impl State {
     }
 }
 
-/// Locks the monitor. Nothing panics while it is locked, so there is no poison to heed.
-fn lock(inner: &Mutex<Inner>) -> MutexGuard<'_, Inner> {
+/// Locks the monitor, poisoned or not: where a function panicked no field has changed.
+fn lock<D>(inner: &Mutex<Inner<D>>) -> MutexGuard<'_, Inner<D>> {
     inner.lock().unwrap_or_else(PoisonError::into_inner)
 }
 
 /// Gives the lock back and waits on the condition, in one step, and takes the lock again.
-fn wait<'a>(condition: &Condvar, inner: MutexGuard<'a, Inner>) -> MutexGuard<'a, Inner> {
+fn wait<'a, D>(condition: &Condvar, inner: MutexGuard<'a, Inner<D>>) -> MutexGuard<'a, Inner<D>> {
     condition
         .wait(inner)
         .unwrap_or_else(PoisonError::into_inner)
+}
+
+/// Wakes one call that waits on the condition, where a block ends that changed nothing.
+#[allow(dead_code)]
+struct HandOn<'a>(&'a Condvar);
+
+impl Drop for HandOn<'_> {
+    fn drop(&mut self) {
+        self.0.notify_one();
+    }
 }
 
 /// A number would have left 64 bits.

@@ -4,6 +4,8 @@
 use std::sync::{Condvar, Mutex, MutexGuard, PoisonError};
 
 /// The monitor `TwoKinds`. Threads share it by reference. A call waits for its guard, unless it tries.
+///
+/// Its lock guards data `D` too, for the functions that calls are given.
 /**
 # Plan
 
@@ -29,8 +31,8 @@ block drain: 1 broadcast
 */
 #[allow(dead_code, non_camel_case_types)]
 #[allow(clippy::doc_markdown, clippy::upper_case_acronyms)]
-pub struct TwoKinds {
-    inner: Mutex<Inner>,
+pub struct TwoKinds<D = ()> {
+    inner: Mutex<Inner<D>>,
     /// For calls that wait until `total < ROOM`.
     can_put_red: Condvar,
     /// For calls that wait until `red > 0`.
@@ -50,6 +52,16 @@ impl TwoKinds {
     /// The monitor at its start.
     #[must_use]
     pub const fn new() -> Self {
+        Self::with_data(())
+    }
+}
+
+#[rustfmt::skip]
+#[allow(dead_code, non_snake_case, clippy::doc_markdown, clippy::style)]
+impl<D> TwoKinds<D> {
+    /// The monitor at its start, with these data.
+    #[must_use]
+    pub const fn with_data(data: D) -> Self {
         Self {
             inner: Mutex::new(Inner {
                 state: State::START,
@@ -57,12 +69,31 @@ impl TwoKinds {
                 asleep_get_red: 0,
                 asleep_get_blue: 0,
                 asleep_drain: 0,
+                data,
             }),
             can_put_red: Condvar::new(),
             can_get_red: Condvar::new(),
             can_get_blue: Condvar::new(),
             can_drain: Condvar::new(),
         }
+    }
+
+    /// The data, which nobody shares now.
+    #[must_use]
+    pub fn get_mut(&mut self) -> &mut D {
+        &mut self.inner.get_mut().unwrap_or_else(PoisonError::into_inner).data
+    }
+
+    /// The data, without the monitor.
+    #[must_use]
+    pub fn into_inner(self) -> D {
+        self.inner.into_inner().unwrap_or_else(PoisonError::into_inner).data
+    }
+
+    /// Whether a function that a call was given has panicked: the data are as it left them.
+    #[must_use]
+    pub fn is_poisoned(&self) -> bool {
+        self.inner.is_poisoned()
     }
 
     /// Waits until `total < ROOM`.
@@ -74,7 +105,7 @@ impl TwoKinds {
             inner.asleep_put_red -= 1;
         }
         inner.state.run_put_red();
-        let copy = *inner;
+        let copy = inner.copy();
         drop(inner);
         if copy.asleep_get_red > 0 {
             self.can_get_red.notify_one();
@@ -82,6 +113,33 @@ impl TwoKinds {
         if copy.asleep_drain > 0 && copy.state.can_drain() {
             self.can_drain.notify_one();
         }
+    }
+
+    /// As [`put_red`](Self::put_red), and calls `f` with the data under the same lock.
+    ///
+    /// Where `f` panics no field changes. `f` must not call this monitor.
+    pub fn put_red_with<R>(&self, f: impl FnOnce(&mut D) -> R) -> R {
+        let mut inner = lock(&self.inner);
+        while !inner.state.can_put_red() {
+            inner.asleep_put_red += 1;
+            inner = wait(&self.can_put_red, inner);
+            inner.asleep_put_red -= 1;
+        }
+        let hand = HandOn(&self.can_put_red);
+        let mut next = inner.state;
+        next.run_put_red();
+        let result = f(&mut inner.data);
+        std::mem::forget(hand);
+        inner.state = next;
+        let copy = inner.copy();
+        drop(inner);
+        if copy.asleep_get_red > 0 {
+            self.can_get_red.notify_one();
+        }
+        if copy.asleep_drain > 0 && copy.state.can_drain() {
+            self.can_drain.notify_one();
+        }
+        result
     }
 
     /// As [`put_red`](Self::put_red), but does not wait until `total < ROOM`.
@@ -95,7 +153,7 @@ impl TwoKinds {
             return Err(Refused);
         }
         inner.state.run_put_red();
-        let copy = *inner;
+        let copy = inner.copy();
         drop(inner);
         if copy.asleep_get_red > 0 {
             self.can_get_red.notify_one();
@@ -104,6 +162,35 @@ impl TwoKinds {
             self.can_drain.notify_one();
         }
         Ok(())
+    }
+
+    /// As [`try_put_red`](Self::try_put_red), and calls `f` with the data under the same lock.
+    ///
+    /// Where `f` panics no field changes. `f` must not call this monitor.
+    ///
+    /// # Errors
+    ///
+    /// [`Refused`] where `total < ROOM` is false. Then nothing changes.
+    pub fn try_put_red_with<R>(&self, f: impl FnOnce(&mut D) -> R) -> Result<R, Refused> {
+        let mut inner = lock(&self.inner);
+        if !inner.state.can_put_red() {
+            return Err(Refused);
+        }
+        let hand = HandOn(&self.can_put_red);
+        let mut next = inner.state;
+        next.run_put_red();
+        let result = f(&mut inner.data);
+        std::mem::forget(hand);
+        inner.state = next;
+        let copy = inner.copy();
+        drop(inner);
+        if copy.asleep_get_red > 0 {
+            self.can_get_red.notify_one();
+        }
+        if copy.asleep_drain > 0 && copy.state.can_drain() {
+            self.can_drain.notify_one();
+        }
+        Ok(result)
     }
 
     /// Waits until `total < ROOM`.
@@ -115,7 +202,7 @@ impl TwoKinds {
             inner.asleep_put_red -= 1;
         }
         inner.state.run_put_blue();
-        let copy = *inner;
+        let copy = inner.copy();
         drop(inner);
         if copy.asleep_get_blue > 0 {
             self.can_get_blue.notify_one();
@@ -123,6 +210,33 @@ impl TwoKinds {
         if copy.asleep_drain > 0 && copy.state.can_drain() {
             self.can_drain.notify_one();
         }
+    }
+
+    /// As [`put_blue`](Self::put_blue), and calls `f` with the data under the same lock.
+    ///
+    /// Where `f` panics no field changes. `f` must not call this monitor.
+    pub fn put_blue_with<R>(&self, f: impl FnOnce(&mut D) -> R) -> R {
+        let mut inner = lock(&self.inner);
+        while !inner.state.can_put_red() {
+            inner.asleep_put_red += 1;
+            inner = wait(&self.can_put_red, inner);
+            inner.asleep_put_red -= 1;
+        }
+        let hand = HandOn(&self.can_put_red);
+        let mut next = inner.state;
+        next.run_put_blue();
+        let result = f(&mut inner.data);
+        std::mem::forget(hand);
+        inner.state = next;
+        let copy = inner.copy();
+        drop(inner);
+        if copy.asleep_get_blue > 0 {
+            self.can_get_blue.notify_one();
+        }
+        if copy.asleep_drain > 0 && copy.state.can_drain() {
+            self.can_drain.notify_one();
+        }
+        result
     }
 
     /// As [`put_blue`](Self::put_blue), but does not wait until `total < ROOM`.
@@ -136,7 +250,7 @@ impl TwoKinds {
             return Err(Refused);
         }
         inner.state.run_put_blue();
-        let copy = *inner;
+        let copy = inner.copy();
         drop(inner);
         if copy.asleep_get_blue > 0 {
             self.can_get_blue.notify_one();
@@ -145,6 +259,35 @@ impl TwoKinds {
             self.can_drain.notify_one();
         }
         Ok(())
+    }
+
+    /// As [`try_put_blue`](Self::try_put_blue), and calls `f` with the data under the same lock.
+    ///
+    /// Where `f` panics no field changes. `f` must not call this monitor.
+    ///
+    /// # Errors
+    ///
+    /// [`Refused`] where `total < ROOM` is false. Then nothing changes.
+    pub fn try_put_blue_with<R>(&self, f: impl FnOnce(&mut D) -> R) -> Result<R, Refused> {
+        let mut inner = lock(&self.inner);
+        if !inner.state.can_put_red() {
+            return Err(Refused);
+        }
+        let hand = HandOn(&self.can_put_red);
+        let mut next = inner.state;
+        next.run_put_blue();
+        let result = f(&mut inner.data);
+        std::mem::forget(hand);
+        inner.state = next;
+        let copy = inner.copy();
+        drop(inner);
+        if copy.asleep_get_blue > 0 {
+            self.can_get_blue.notify_one();
+        }
+        if copy.asleep_drain > 0 && copy.state.can_drain() {
+            self.can_drain.notify_one();
+        }
+        Ok(result)
     }
 
     /// Waits until `total < ROOM`.
@@ -156,7 +299,7 @@ impl TwoKinds {
             inner.asleep_put_red -= 1;
         }
         inner.state.run_put(is_red);
-        let copy = *inner;
+        let copy = inner.copy();
         drop(inner);
         if copy.asleep_get_red > 0 && copy.state.can_get_red() {
             self.can_get_red.notify_one();
@@ -167,6 +310,36 @@ impl TwoKinds {
         if copy.asleep_drain > 0 && copy.state.can_drain() {
             self.can_drain.notify_one();
         }
+    }
+
+    /// As [`put`](Self::put), and calls `f` with the data under the same lock.
+    ///
+    /// Where `f` panics no field changes. `f` must not call this monitor.
+    pub fn put_with<R>(&self, is_red: bool, f: impl FnOnce(&mut D) -> R) -> R {
+        let mut inner = lock(&self.inner);
+        while !inner.state.can_put_red() {
+            inner.asleep_put_red += 1;
+            inner = wait(&self.can_put_red, inner);
+            inner.asleep_put_red -= 1;
+        }
+        let hand = HandOn(&self.can_put_red);
+        let mut next = inner.state;
+        next.run_put(is_red);
+        let result = f(&mut inner.data);
+        std::mem::forget(hand);
+        inner.state = next;
+        let copy = inner.copy();
+        drop(inner);
+        if copy.asleep_get_red > 0 && copy.state.can_get_red() {
+            self.can_get_red.notify_one();
+        }
+        if copy.asleep_get_blue > 0 && copy.state.can_get_blue() {
+            self.can_get_blue.notify_one();
+        }
+        if copy.asleep_drain > 0 && copy.state.can_drain() {
+            self.can_drain.notify_one();
+        }
+        result
     }
 
     /// As [`put`](Self::put), but does not wait until `total < ROOM`.
@@ -180,7 +353,7 @@ impl TwoKinds {
             return Err(Refused);
         }
         inner.state.run_put(is_red);
-        let copy = *inner;
+        let copy = inner.copy();
         drop(inner);
         if copy.asleep_get_red > 0 && copy.state.can_get_red() {
             self.can_get_red.notify_one();
@@ -194,6 +367,38 @@ impl TwoKinds {
         Ok(())
     }
 
+    /// As [`try_put`](Self::try_put), and calls `f` with the data under the same lock.
+    ///
+    /// Where `f` panics no field changes. `f` must not call this monitor.
+    ///
+    /// # Errors
+    ///
+    /// [`Refused`] where `total < ROOM` is false. Then nothing changes.
+    pub fn try_put_with<R>(&self, is_red: bool, f: impl FnOnce(&mut D) -> R) -> Result<R, Refused> {
+        let mut inner = lock(&self.inner);
+        if !inner.state.can_put_red() {
+            return Err(Refused);
+        }
+        let hand = HandOn(&self.can_put_red);
+        let mut next = inner.state;
+        next.run_put(is_red);
+        let result = f(&mut inner.data);
+        std::mem::forget(hand);
+        inner.state = next;
+        let copy = inner.copy();
+        drop(inner);
+        if copy.asleep_get_red > 0 && copy.state.can_get_red() {
+            self.can_get_red.notify_one();
+        }
+        if copy.asleep_get_blue > 0 && copy.state.can_get_blue() {
+            self.can_get_blue.notify_one();
+        }
+        if copy.asleep_drain > 0 && copy.state.can_drain() {
+            self.can_drain.notify_one();
+        }
+        Ok(result)
+    }
+
     /// Waits until `red > 0`.
     pub fn get_red(&self) {
         let mut inner = lock(&self.inner);
@@ -203,11 +408,35 @@ impl TwoKinds {
             inner.asleep_get_red -= 1;
         }
         inner.state.run_get_red();
-        let copy = *inner;
+        let copy = inner.copy();
         drop(inner);
         if copy.asleep_put_red > 0 {
             self.can_put_red.notify_one();
         }
+    }
+
+    /// As [`get_red`](Self::get_red), and calls `f` with the data under the same lock.
+    ///
+    /// Where `f` panics no field changes. `f` must not call this monitor.
+    pub fn get_red_with<R>(&self, f: impl FnOnce(&mut D) -> R) -> R {
+        let mut inner = lock(&self.inner);
+        while !inner.state.can_get_red() {
+            inner.asleep_get_red += 1;
+            inner = wait(&self.can_get_red, inner);
+            inner.asleep_get_red -= 1;
+        }
+        let hand = HandOn(&self.can_get_red);
+        let mut next = inner.state;
+        next.run_get_red();
+        let result = f(&mut inner.data);
+        std::mem::forget(hand);
+        inner.state = next;
+        let copy = inner.copy();
+        drop(inner);
+        if copy.asleep_put_red > 0 {
+            self.can_put_red.notify_one();
+        }
+        result
     }
 
     /// As [`get_red`](Self::get_red), but does not wait until `red > 0`.
@@ -221,12 +450,38 @@ impl TwoKinds {
             return Err(Refused);
         }
         inner.state.run_get_red();
-        let copy = *inner;
+        let copy = inner.copy();
         drop(inner);
         if copy.asleep_put_red > 0 {
             self.can_put_red.notify_one();
         }
         Ok(())
+    }
+
+    /// As [`try_get_red`](Self::try_get_red), and calls `f` with the data under the same lock.
+    ///
+    /// Where `f` panics no field changes. `f` must not call this monitor.
+    ///
+    /// # Errors
+    ///
+    /// [`Refused`] where `red > 0` is false. Then nothing changes.
+    pub fn try_get_red_with<R>(&self, f: impl FnOnce(&mut D) -> R) -> Result<R, Refused> {
+        let mut inner = lock(&self.inner);
+        if !inner.state.can_get_red() {
+            return Err(Refused);
+        }
+        let hand = HandOn(&self.can_get_red);
+        let mut next = inner.state;
+        next.run_get_red();
+        let result = f(&mut inner.data);
+        std::mem::forget(hand);
+        inner.state = next;
+        let copy = inner.copy();
+        drop(inner);
+        if copy.asleep_put_red > 0 {
+            self.can_put_red.notify_one();
+        }
+        Ok(result)
     }
 
     /// Waits until `red < total`.
@@ -238,11 +493,35 @@ impl TwoKinds {
             inner.asleep_get_blue -= 1;
         }
         inner.state.run_get_blue();
-        let copy = *inner;
+        let copy = inner.copy();
         drop(inner);
         if copy.asleep_put_red > 0 {
             self.can_put_red.notify_one();
         }
+    }
+
+    /// As [`get_blue`](Self::get_blue), and calls `f` with the data under the same lock.
+    ///
+    /// Where `f` panics no field changes. `f` must not call this monitor.
+    pub fn get_blue_with<R>(&self, f: impl FnOnce(&mut D) -> R) -> R {
+        let mut inner = lock(&self.inner);
+        while !inner.state.can_get_blue() {
+            inner.asleep_get_blue += 1;
+            inner = wait(&self.can_get_blue, inner);
+            inner.asleep_get_blue -= 1;
+        }
+        let hand = HandOn(&self.can_get_blue);
+        let mut next = inner.state;
+        next.run_get_blue();
+        let result = f(&mut inner.data);
+        std::mem::forget(hand);
+        inner.state = next;
+        let copy = inner.copy();
+        drop(inner);
+        if copy.asleep_put_red > 0 {
+            self.can_put_red.notify_one();
+        }
+        result
     }
 
     /// As [`get_blue`](Self::get_blue), but does not wait until `red < total`.
@@ -256,12 +535,38 @@ impl TwoKinds {
             return Err(Refused);
         }
         inner.state.run_get_blue();
-        let copy = *inner;
+        let copy = inner.copy();
         drop(inner);
         if copy.asleep_put_red > 0 {
             self.can_put_red.notify_one();
         }
         Ok(())
+    }
+
+    /// As [`try_get_blue`](Self::try_get_blue), and calls `f` with the data under the same lock.
+    ///
+    /// Where `f` panics no field changes. `f` must not call this monitor.
+    ///
+    /// # Errors
+    ///
+    /// [`Refused`] where `red < total` is false. Then nothing changes.
+    pub fn try_get_blue_with<R>(&self, f: impl FnOnce(&mut D) -> R) -> Result<R, Refused> {
+        let mut inner = lock(&self.inner);
+        if !inner.state.can_get_blue() {
+            return Err(Refused);
+        }
+        let hand = HandOn(&self.can_get_blue);
+        let mut next = inner.state;
+        next.run_get_blue();
+        let result = f(&mut inner.data);
+        std::mem::forget(hand);
+        inner.state = next;
+        let copy = inner.copy();
+        drop(inner);
+        if copy.asleep_put_red > 0 {
+            self.can_put_red.notify_one();
+        }
+        Ok(result)
     }
 
     /// Waits until `total == ROOM`.
@@ -273,11 +578,35 @@ impl TwoKinds {
             inner.asleep_drain -= 1;
         }
         inner.state.run_drain();
-        let copy = *inner;
+        let copy = inner.copy();
         drop(inner);
         if copy.asleep_put_red > 0 {
             self.can_put_red.notify_all();
         }
+    }
+
+    /// As [`drain`](Self::drain), and calls `f` with the data under the same lock.
+    ///
+    /// Where `f` panics no field changes. `f` must not call this monitor.
+    pub fn drain_with<R>(&self, f: impl FnOnce(&mut D) -> R) -> R {
+        let mut inner = lock(&self.inner);
+        while !inner.state.can_drain() {
+            inner.asleep_drain += 1;
+            inner = wait(&self.can_drain, inner);
+            inner.asleep_drain -= 1;
+        }
+        let hand = HandOn(&self.can_drain);
+        let mut next = inner.state;
+        next.run_drain();
+        let result = f(&mut inner.data);
+        std::mem::forget(hand);
+        inner.state = next;
+        let copy = inner.copy();
+        drop(inner);
+        if copy.asleep_put_red > 0 {
+            self.can_put_red.notify_all();
+        }
+        result
     }
 
     /// As [`drain`](Self::drain), but does not wait until `total == ROOM`.
@@ -291,12 +620,38 @@ impl TwoKinds {
             return Err(Refused);
         }
         inner.state.run_drain();
-        let copy = *inner;
+        let copy = inner.copy();
         drop(inner);
         if copy.asleep_put_red > 0 {
             self.can_put_red.notify_all();
         }
         Ok(())
+    }
+
+    /// As [`try_drain`](Self::try_drain), and calls `f` with the data under the same lock.
+    ///
+    /// Where `f` panics no field changes. `f` must not call this monitor.
+    ///
+    /// # Errors
+    ///
+    /// [`Refused`] where `total == ROOM` is false. Then nothing changes.
+    pub fn try_drain_with<R>(&self, f: impl FnOnce(&mut D) -> R) -> Result<R, Refused> {
+        let mut inner = lock(&self.inner);
+        if !inner.state.can_drain() {
+            return Err(Refused);
+        }
+        let hand = HandOn(&self.can_drain);
+        let mut next = inner.state;
+        next.run_drain();
+        let result = f(&mut inner.data);
+        std::mem::forget(hand);
+        inner.state = next;
+        let copy = inner.copy();
+        drop(inner);
+        if copy.asleep_put_red > 0 {
+            self.can_put_red.notify_all();
+        }
+        Ok(result)
     }
 }
 
@@ -306,7 +661,7 @@ impl Default for TwoKinds {
     }
 }
 
-impl std::fmt::Debug for TwoKinds {
+impl<D> std::fmt::Debug for TwoKinds<D> {
     fn fmt(&self, f: &mut std::fmt::Formatter<'_>) -> std::fmt::Result {
         let state = match self.inner.try_lock() {
             Ok(inner) => Some(inner.state),
@@ -322,15 +677,30 @@ impl std::fmt::Debug for TwoKinds {
     }
 }
 
-/// What the mutex guards: the fields, and how many calls sleep on each condition.
-#[derive(Clone, Copy)]
+/// What the mutex guards: the fields, how many calls sleep on each condition, and the data.
 #[allow(dead_code)]
-struct Inner {
+struct Inner<D = ()> {
     state: State,
     asleep_put_red: usize,
     asleep_get_red: usize,
     asleep_get_blue: usize,
     asleep_drain: usize,
+    data: D,
+}
+
+impl<D> Inner<D> {
+    /// All but the data.
+    #[allow(dead_code)]
+    fn copy(&self) -> Inner {
+        Inner {
+            state: self.state,
+            asleep_put_red: self.asleep_put_red,
+            asleep_get_red: self.asleep_get_red,
+            asleep_get_blue: self.asleep_get_blue,
+            asleep_drain: self.asleep_drain,
+            data: (),
+        }
+    }
 }
 
 /// The fields of the monitor.
@@ -397,16 +767,26 @@ impl State {
     }
 }
 
-/// Locks the monitor. Nothing panics while it is locked, so there is no poison to heed.
-fn lock(inner: &Mutex<Inner>) -> MutexGuard<'_, Inner> {
+/// Locks the monitor, poisoned or not: where a function panicked no field has changed.
+fn lock<D>(inner: &Mutex<Inner<D>>) -> MutexGuard<'_, Inner<D>> {
     inner.lock().unwrap_or_else(PoisonError::into_inner)
 }
 
 /// Gives the lock back and waits on the condition, in one step, and takes the lock again.
-fn wait<'a>(condition: &Condvar, inner: MutexGuard<'a, Inner>) -> MutexGuard<'a, Inner> {
+fn wait<'a, D>(condition: &Condvar, inner: MutexGuard<'a, Inner<D>>) -> MutexGuard<'a, Inner<D>> {
     condition
         .wait(inner)
         .unwrap_or_else(PoisonError::into_inner)
+}
+
+/// Wakes one call that waits on the condition, where a block ends that changed nothing.
+#[allow(dead_code)]
+struct HandOn<'a>(&'a Condvar);
+
+impl Drop for HandOn<'_> {
+    fn drop(&mut self) {
+        self.0.notify_one();
+    }
 }
 
 /// The guard was false, and the call did not wait. Nothing changed.

@@ -4,6 +4,8 @@
 use std::sync::{Condvar, Mutex, MutexGuard, PoisonError};
 
 /// The monitor `Weights`. Threads share it by reference. A call waits for its guard, unless it tries.
+///
+/// Its lock guards data `D` too, for the functions that calls are given.
 /**
 # Plan
 
@@ -22,8 +24,8 @@ block give: 1 signal tested, 2 signal tested, 3 signal tested
 */
 #[allow(dead_code, non_camel_case_types)]
 #[allow(clippy::doc_markdown, clippy::upper_case_acronyms)]
-pub struct Weights {
-    inner: Mutex<Inner>,
+pub struct Weights<D = ()> {
+    inner: Mutex<Inner<D>>,
     /// For calls that wait until `free >= 5`.
     can_take5: Condvar,
     /// For calls that wait until `free >= 10`.
@@ -43,6 +45,16 @@ impl Weights {
     /// The monitor at its start.
     #[must_use]
     pub const fn new() -> Self {
+        Self::with_data(())
+    }
+}
+
+#[rustfmt::skip]
+#[allow(dead_code, non_snake_case, clippy::doc_markdown, clippy::style)]
+impl<D> Weights<D> {
+    /// The monitor at its start, with these data.
+    #[must_use]
+    pub const fn with_data(data: D) -> Self {
         Self {
             inner: Mutex::new(Inner {
                 state: State::START,
@@ -50,12 +62,31 @@ impl Weights {
                 asleep_take10: 0,
                 asleep_take15: 0,
                 asleep_give: 0,
+                data,
             }),
             can_take5: Condvar::new(),
             can_take10: Condvar::new(),
             can_take15: Condvar::new(),
             can_give: Condvar::new(),
         }
+    }
+
+    /// The data, which nobody shares now.
+    #[must_use]
+    pub fn get_mut(&mut self) -> &mut D {
+        &mut self.inner.get_mut().unwrap_or_else(PoisonError::into_inner).data
+    }
+
+    /// The data, without the monitor.
+    #[must_use]
+    pub fn into_inner(self) -> D {
+        self.inner.into_inner().unwrap_or_else(PoisonError::into_inner).data
+    }
+
+    /// Whether a function that a call was given has panicked: the data are as it left them.
+    #[must_use]
+    pub fn is_poisoned(&self) -> bool {
+        self.inner.is_poisoned()
     }
 
     /// Waits until `free >= 5`.
@@ -67,11 +98,35 @@ impl Weights {
             inner.asleep_take5 -= 1;
         }
         inner.state.run_take5();
-        let copy = *inner;
+        let copy = inner.copy();
         drop(inner);
         if copy.asleep_give > 0 && copy.state.can_give() {
             self.can_give.notify_all();
         }
+    }
+
+    /// As [`take5`](Self::take5), and calls `f` with the data under the same lock.
+    ///
+    /// Where `f` panics no field changes. `f` must not call this monitor.
+    pub fn take5_with<R>(&self, f: impl FnOnce(&mut D) -> R) -> R {
+        let mut inner = lock(&self.inner);
+        while !inner.state.can_take5() {
+            inner.asleep_take5 += 1;
+            inner = wait(&self.can_take5, inner);
+            inner.asleep_take5 -= 1;
+        }
+        let hand = HandOn(&self.can_take5);
+        let mut next = inner.state;
+        next.run_take5();
+        let result = f(&mut inner.data);
+        std::mem::forget(hand);
+        inner.state = next;
+        let copy = inner.copy();
+        drop(inner);
+        if copy.asleep_give > 0 && copy.state.can_give() {
+            self.can_give.notify_all();
+        }
+        result
     }
 
     /// As [`take5`](Self::take5), but does not wait until `free >= 5`.
@@ -85,12 +140,38 @@ impl Weights {
             return Err(Refused);
         }
         inner.state.run_take5();
-        let copy = *inner;
+        let copy = inner.copy();
         drop(inner);
         if copy.asleep_give > 0 && copy.state.can_give() {
             self.can_give.notify_all();
         }
         Ok(())
+    }
+
+    /// As [`try_take5`](Self::try_take5), and calls `f` with the data under the same lock.
+    ///
+    /// Where `f` panics no field changes. `f` must not call this monitor.
+    ///
+    /// # Errors
+    ///
+    /// [`Refused`] where `free >= 5` is false. Then nothing changes.
+    pub fn try_take5_with<R>(&self, f: impl FnOnce(&mut D) -> R) -> Result<R, Refused> {
+        let mut inner = lock(&self.inner);
+        if !inner.state.can_take5() {
+            return Err(Refused);
+        }
+        let hand = HandOn(&self.can_take5);
+        let mut next = inner.state;
+        next.run_take5();
+        let result = f(&mut inner.data);
+        std::mem::forget(hand);
+        inner.state = next;
+        let copy = inner.copy();
+        drop(inner);
+        if copy.asleep_give > 0 && copy.state.can_give() {
+            self.can_give.notify_all();
+        }
+        Ok(result)
     }
 
     /// Waits until `free >= 10`.
@@ -102,11 +183,35 @@ impl Weights {
             inner.asleep_take10 -= 1;
         }
         inner.state.run_take10();
-        let copy = *inner;
+        let copy = inner.copy();
         drop(inner);
         if copy.asleep_give > 0 && copy.state.can_give() {
             self.can_give.notify_all();
         }
+    }
+
+    /// As [`take10`](Self::take10), and calls `f` with the data under the same lock.
+    ///
+    /// Where `f` panics no field changes. `f` must not call this monitor.
+    pub fn take10_with<R>(&self, f: impl FnOnce(&mut D) -> R) -> R {
+        let mut inner = lock(&self.inner);
+        while !inner.state.can_take10() {
+            inner.asleep_take10 += 1;
+            inner = wait(&self.can_take10, inner);
+            inner.asleep_take10 -= 1;
+        }
+        let hand = HandOn(&self.can_take10);
+        let mut next = inner.state;
+        next.run_take10();
+        let result = f(&mut inner.data);
+        std::mem::forget(hand);
+        inner.state = next;
+        let copy = inner.copy();
+        drop(inner);
+        if copy.asleep_give > 0 && copy.state.can_give() {
+            self.can_give.notify_all();
+        }
+        result
     }
 
     /// As [`take10`](Self::take10), but does not wait until `free >= 10`.
@@ -120,12 +225,38 @@ impl Weights {
             return Err(Refused);
         }
         inner.state.run_take10();
-        let copy = *inner;
+        let copy = inner.copy();
         drop(inner);
         if copy.asleep_give > 0 && copy.state.can_give() {
             self.can_give.notify_all();
         }
         Ok(())
+    }
+
+    /// As [`try_take10`](Self::try_take10), and calls `f` with the data under the same lock.
+    ///
+    /// Where `f` panics no field changes. `f` must not call this monitor.
+    ///
+    /// # Errors
+    ///
+    /// [`Refused`] where `free >= 10` is false. Then nothing changes.
+    pub fn try_take10_with<R>(&self, f: impl FnOnce(&mut D) -> R) -> Result<R, Refused> {
+        let mut inner = lock(&self.inner);
+        if !inner.state.can_take10() {
+            return Err(Refused);
+        }
+        let hand = HandOn(&self.can_take10);
+        let mut next = inner.state;
+        next.run_take10();
+        let result = f(&mut inner.data);
+        std::mem::forget(hand);
+        inner.state = next;
+        let copy = inner.copy();
+        drop(inner);
+        if copy.asleep_give > 0 && copy.state.can_give() {
+            self.can_give.notify_all();
+        }
+        Ok(result)
     }
 
     /// Waits until `free >= 15`.
@@ -137,11 +268,35 @@ impl Weights {
             inner.asleep_take15 -= 1;
         }
         inner.state.run_take15();
-        let copy = *inner;
+        let copy = inner.copy();
         drop(inner);
         if copy.asleep_give > 0 && copy.state.can_give() {
             self.can_give.notify_all();
         }
+    }
+
+    /// As [`take15`](Self::take15), and calls `f` with the data under the same lock.
+    ///
+    /// Where `f` panics no field changes. `f` must not call this monitor.
+    pub fn take15_with<R>(&self, f: impl FnOnce(&mut D) -> R) -> R {
+        let mut inner = lock(&self.inner);
+        while !inner.state.can_take15() {
+            inner.asleep_take15 += 1;
+            inner = wait(&self.can_take15, inner);
+            inner.asleep_take15 -= 1;
+        }
+        let hand = HandOn(&self.can_take15);
+        let mut next = inner.state;
+        next.run_take15();
+        let result = f(&mut inner.data);
+        std::mem::forget(hand);
+        inner.state = next;
+        let copy = inner.copy();
+        drop(inner);
+        if copy.asleep_give > 0 && copy.state.can_give() {
+            self.can_give.notify_all();
+        }
+        result
     }
 
     /// As [`take15`](Self::take15), but does not wait until `free >= 15`.
@@ -155,12 +310,38 @@ impl Weights {
             return Err(Refused);
         }
         inner.state.run_take15();
-        let copy = *inner;
+        let copy = inner.copy();
         drop(inner);
         if copy.asleep_give > 0 && copy.state.can_give() {
             self.can_give.notify_all();
         }
         Ok(())
+    }
+
+    /// As [`try_take15`](Self::try_take15), and calls `f` with the data under the same lock.
+    ///
+    /// Where `f` panics no field changes. `f` must not call this monitor.
+    ///
+    /// # Errors
+    ///
+    /// [`Refused`] where `free >= 15` is false. Then nothing changes.
+    pub fn try_take15_with<R>(&self, f: impl FnOnce(&mut D) -> R) -> Result<R, Refused> {
+        let mut inner = lock(&self.inner);
+        if !inner.state.can_take15() {
+            return Err(Refused);
+        }
+        let hand = HandOn(&self.can_take15);
+        let mut next = inner.state;
+        next.run_take15();
+        let result = f(&mut inner.data);
+        std::mem::forget(hand);
+        inner.state = next;
+        let copy = inner.copy();
+        drop(inner);
+        if copy.asleep_give > 0 && copy.state.can_give() {
+            self.can_give.notify_all();
+        }
+        Ok(result)
     }
 
     /// Waits until `free < LIMIT`.
@@ -172,7 +353,7 @@ impl Weights {
             inner.asleep_give -= 1;
         }
         inner.state.run_give();
-        let copy = *inner;
+        let copy = inner.copy();
         drop(inner);
         if copy.asleep_take5 > 0 && copy.state.can_take5() {
             self.can_take5.notify_one();
@@ -183,6 +364,36 @@ impl Weights {
         if copy.asleep_take15 > 0 && copy.state.can_take15() {
             self.can_take15.notify_one();
         }
+    }
+
+    /// As [`give`](Self::give), and calls `f` with the data under the same lock.
+    ///
+    /// Where `f` panics no field changes. `f` must not call this monitor.
+    pub fn give_with<R>(&self, f: impl FnOnce(&mut D) -> R) -> R {
+        let mut inner = lock(&self.inner);
+        while !inner.state.can_give() {
+            inner.asleep_give += 1;
+            inner = wait(&self.can_give, inner);
+            inner.asleep_give -= 1;
+        }
+        let hand = HandOn(&self.can_give);
+        let mut next = inner.state;
+        next.run_give();
+        let result = f(&mut inner.data);
+        std::mem::forget(hand);
+        inner.state = next;
+        let copy = inner.copy();
+        drop(inner);
+        if copy.asleep_take5 > 0 && copy.state.can_take5() {
+            self.can_take5.notify_one();
+        }
+        if copy.asleep_take10 > 0 && copy.state.can_take10() {
+            self.can_take10.notify_one();
+        }
+        if copy.asleep_take15 > 0 && copy.state.can_take15() {
+            self.can_take15.notify_one();
+        }
+        result
     }
 
     /// As [`give`](Self::give), but does not wait until `free < LIMIT`.
@@ -196,7 +407,7 @@ impl Weights {
             return Err(Refused);
         }
         inner.state.run_give();
-        let copy = *inner;
+        let copy = inner.copy();
         drop(inner);
         if copy.asleep_take5 > 0 && copy.state.can_take5() {
             self.can_take5.notify_one();
@@ -209,6 +420,38 @@ impl Weights {
         }
         Ok(())
     }
+
+    /// As [`try_give`](Self::try_give), and calls `f` with the data under the same lock.
+    ///
+    /// Where `f` panics no field changes. `f` must not call this monitor.
+    ///
+    /// # Errors
+    ///
+    /// [`Refused`] where `free < LIMIT` is false. Then nothing changes.
+    pub fn try_give_with<R>(&self, f: impl FnOnce(&mut D) -> R) -> Result<R, Refused> {
+        let mut inner = lock(&self.inner);
+        if !inner.state.can_give() {
+            return Err(Refused);
+        }
+        let hand = HandOn(&self.can_give);
+        let mut next = inner.state;
+        next.run_give();
+        let result = f(&mut inner.data);
+        std::mem::forget(hand);
+        inner.state = next;
+        let copy = inner.copy();
+        drop(inner);
+        if copy.asleep_take5 > 0 && copy.state.can_take5() {
+            self.can_take5.notify_one();
+        }
+        if copy.asleep_take10 > 0 && copy.state.can_take10() {
+            self.can_take10.notify_one();
+        }
+        if copy.asleep_take15 > 0 && copy.state.can_take15() {
+            self.can_take15.notify_one();
+        }
+        Ok(result)
+    }
 }
 
 impl Default for Weights {
@@ -217,7 +460,7 @@ impl Default for Weights {
     }
 }
 
-impl std::fmt::Debug for Weights {
+impl<D> std::fmt::Debug for Weights<D> {
     fn fmt(&self, f: &mut std::fmt::Formatter<'_>) -> std::fmt::Result {
         let state = match self.inner.try_lock() {
             Ok(inner) => Some(inner.state),
@@ -233,15 +476,30 @@ impl std::fmt::Debug for Weights {
     }
 }
 
-/// What the mutex guards: the fields, and how many calls sleep on each condition.
-#[derive(Clone, Copy)]
+/// What the mutex guards: the fields, how many calls sleep on each condition, and the data.
 #[allow(dead_code)]
-struct Inner {
+struct Inner<D = ()> {
     state: State,
     asleep_take5: usize,
     asleep_take10: usize,
     asleep_take15: usize,
     asleep_give: usize,
+    data: D,
+}
+
+impl<D> Inner<D> {
+    /// All but the data.
+    #[allow(dead_code)]
+    fn copy(&self) -> Inner {
+        Inner {
+            state: self.state,
+            asleep_take5: self.asleep_take5,
+            asleep_take10: self.asleep_take10,
+            asleep_take15: self.asleep_take15,
+            asleep_give: self.asleep_give,
+            data: (),
+        }
+    }
 }
 
 /// The fields of the monitor.
@@ -292,16 +550,26 @@ impl State {
     }
 }
 
-/// Locks the monitor. Nothing panics while it is locked, so there is no poison to heed.
-fn lock(inner: &Mutex<Inner>) -> MutexGuard<'_, Inner> {
+/// Locks the monitor, poisoned or not: where a function panicked no field has changed.
+fn lock<D>(inner: &Mutex<Inner<D>>) -> MutexGuard<'_, Inner<D>> {
     inner.lock().unwrap_or_else(PoisonError::into_inner)
 }
 
 /// Gives the lock back and waits on the condition, in one step, and takes the lock again.
-fn wait<'a>(condition: &Condvar, inner: MutexGuard<'a, Inner>) -> MutexGuard<'a, Inner> {
+fn wait<'a, D>(condition: &Condvar, inner: MutexGuard<'a, Inner<D>>) -> MutexGuard<'a, Inner<D>> {
     condition
         .wait(inner)
         .unwrap_or_else(PoisonError::into_inner)
+}
+
+/// Wakes one call that waits on the condition, where a block ends that changed nothing.
+#[allow(dead_code)]
+struct HandOn<'a>(&'a Condvar);
+
+impl Drop for HandOn<'_> {
+    fn drop(&mut self) {
+        self.0.notify_one();
+    }
 }
 
 /// The guard was false, and the call did not wait. Nothing changed.

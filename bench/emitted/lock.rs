@@ -4,6 +4,8 @@
 use std::sync::{Condvar, Mutex, MutexGuard, PoisonError};
 
 /// The monitor `Lock`. Threads share it by reference. A call waits for its guard, unless it tries.
+///
+/// Its lock guards data `D` too, for the functions that calls are given.
 /**
 # Plan
 
@@ -17,8 +19,8 @@ block release: 1 signal
 */
 #[allow(dead_code, non_camel_case_types)]
 #[allow(clippy::doc_markdown, clippy::upper_case_acronyms)]
-pub struct Lock {
-    inner: Mutex<Inner>,
+pub struct Lock<D = ()> {
+    inner: Mutex<Inner<D>>,
     /// For calls that wait until `!held`.
     can_acquire: Condvar,
     /// For calls that wait until `held`.
@@ -31,15 +33,44 @@ impl Lock {
     /// The monitor at its start.
     #[must_use]
     pub const fn new() -> Self {
+        Self::with_data(())
+    }
+}
+
+#[rustfmt::skip]
+#[allow(dead_code, non_snake_case, clippy::doc_markdown, clippy::style)]
+impl<D> Lock<D> {
+    /// The monitor at its start, with these data.
+    #[must_use]
+    pub const fn with_data(data: D) -> Self {
         Self {
             inner: Mutex::new(Inner {
                 state: State::START,
                 asleep_acquire: 0,
                 asleep_release: 0,
+                data,
             }),
             can_acquire: Condvar::new(),
             can_release: Condvar::new(),
         }
+    }
+
+    /// The data, which nobody shares now.
+    #[must_use]
+    pub fn get_mut(&mut self) -> &mut D {
+        &mut self.inner.get_mut().unwrap_or_else(PoisonError::into_inner).data
+    }
+
+    /// The data, without the monitor.
+    #[must_use]
+    pub fn into_inner(self) -> D {
+        self.inner.into_inner().unwrap_or_else(PoisonError::into_inner).data
+    }
+
+    /// Whether a function that a call was given has panicked: the data are as it left them.
+    #[must_use]
+    pub fn is_poisoned(&self) -> bool {
+        self.inner.is_poisoned()
     }
 
     /// Waits until `!held`.
@@ -51,11 +82,35 @@ impl Lock {
             inner.asleep_acquire -= 1;
         }
         inner.state.run_acquire();
-        let copy = *inner;
+        let copy = inner.copy();
         drop(inner);
         if copy.asleep_release > 0 {
             self.can_release.notify_one();
         }
+    }
+
+    /// As [`acquire`](Self::acquire), and calls `f` with the data under the same lock.
+    ///
+    /// Where `f` panics no field changes. `f` must not call this monitor.
+    pub fn acquire_with<R>(&self, f: impl FnOnce(&mut D) -> R) -> R {
+        let mut inner = lock(&self.inner);
+        while !inner.state.can_acquire() {
+            inner.asleep_acquire += 1;
+            inner = wait(&self.can_acquire, inner);
+            inner.asleep_acquire -= 1;
+        }
+        let hand = HandOn(&self.can_acquire);
+        let mut next = inner.state;
+        next.run_acquire();
+        let result = f(&mut inner.data);
+        std::mem::forget(hand);
+        inner.state = next;
+        let copy = inner.copy();
+        drop(inner);
+        if copy.asleep_release > 0 {
+            self.can_release.notify_one();
+        }
+        result
     }
 
     /// As [`acquire`](Self::acquire), but does not wait until `!held`.
@@ -69,12 +124,38 @@ impl Lock {
             return Err(Refused);
         }
         inner.state.run_acquire();
-        let copy = *inner;
+        let copy = inner.copy();
         drop(inner);
         if copy.asleep_release > 0 {
             self.can_release.notify_one();
         }
         Ok(())
+    }
+
+    /// As [`try_acquire`](Self::try_acquire), and calls `f` with the data under the same lock.
+    ///
+    /// Where `f` panics no field changes. `f` must not call this monitor.
+    ///
+    /// # Errors
+    ///
+    /// [`Refused`] where `!held` is false. Then nothing changes.
+    pub fn try_acquire_with<R>(&self, f: impl FnOnce(&mut D) -> R) -> Result<R, Refused> {
+        let mut inner = lock(&self.inner);
+        if !inner.state.can_acquire() {
+            return Err(Refused);
+        }
+        let hand = HandOn(&self.can_acquire);
+        let mut next = inner.state;
+        next.run_acquire();
+        let result = f(&mut inner.data);
+        std::mem::forget(hand);
+        inner.state = next;
+        let copy = inner.copy();
+        drop(inner);
+        if copy.asleep_release > 0 {
+            self.can_release.notify_one();
+        }
+        Ok(result)
     }
 
     /// Waits until `held`.
@@ -86,11 +167,35 @@ impl Lock {
             inner.asleep_release -= 1;
         }
         inner.state.run_release();
-        let copy = *inner;
+        let copy = inner.copy();
         drop(inner);
         if copy.asleep_acquire > 0 {
             self.can_acquire.notify_one();
         }
+    }
+
+    /// As [`release`](Self::release), and calls `f` with the data under the same lock.
+    ///
+    /// Where `f` panics no field changes. `f` must not call this monitor.
+    pub fn release_with<R>(&self, f: impl FnOnce(&mut D) -> R) -> R {
+        let mut inner = lock(&self.inner);
+        while !inner.state.can_release() {
+            inner.asleep_release += 1;
+            inner = wait(&self.can_release, inner);
+            inner.asleep_release -= 1;
+        }
+        let hand = HandOn(&self.can_release);
+        let mut next = inner.state;
+        next.run_release();
+        let result = f(&mut inner.data);
+        std::mem::forget(hand);
+        inner.state = next;
+        let copy = inner.copy();
+        drop(inner);
+        if copy.asleep_acquire > 0 {
+            self.can_acquire.notify_one();
+        }
+        result
     }
 
     /// As [`release`](Self::release), but does not wait until `held`.
@@ -104,12 +209,38 @@ impl Lock {
             return Err(Refused);
         }
         inner.state.run_release();
-        let copy = *inner;
+        let copy = inner.copy();
         drop(inner);
         if copy.asleep_acquire > 0 {
             self.can_acquire.notify_one();
         }
         Ok(())
+    }
+
+    /// As [`try_release`](Self::try_release), and calls `f` with the data under the same lock.
+    ///
+    /// Where `f` panics no field changes. `f` must not call this monitor.
+    ///
+    /// # Errors
+    ///
+    /// [`Refused`] where `held` is false. Then nothing changes.
+    pub fn try_release_with<R>(&self, f: impl FnOnce(&mut D) -> R) -> Result<R, Refused> {
+        let mut inner = lock(&self.inner);
+        if !inner.state.can_release() {
+            return Err(Refused);
+        }
+        let hand = HandOn(&self.can_release);
+        let mut next = inner.state;
+        next.run_release();
+        let result = f(&mut inner.data);
+        std::mem::forget(hand);
+        inner.state = next;
+        let copy = inner.copy();
+        drop(inner);
+        if copy.asleep_acquire > 0 {
+            self.can_acquire.notify_one();
+        }
+        Ok(result)
     }
 }
 
@@ -119,7 +250,7 @@ impl Default for Lock {
     }
 }
 
-impl std::fmt::Debug for Lock {
+impl<D> std::fmt::Debug for Lock<D> {
     fn fmt(&self, f: &mut std::fmt::Formatter<'_>) -> std::fmt::Result {
         let state = match self.inner.try_lock() {
             Ok(inner) => Some(inner.state),
@@ -135,13 +266,26 @@ impl std::fmt::Debug for Lock {
     }
 }
 
-/// What the mutex guards: the fields, and how many calls sleep on each condition.
-#[derive(Clone, Copy)]
+/// What the mutex guards: the fields, how many calls sleep on each condition, and the data.
 #[allow(dead_code)]
-struct Inner {
+struct Inner<D = ()> {
     state: State,
     asleep_acquire: usize,
     asleep_release: usize,
+    data: D,
+}
+
+impl<D> Inner<D> {
+    /// All but the data.
+    #[allow(dead_code)]
+    fn copy(&self) -> Inner {
+        Inner {
+            state: self.state,
+            asleep_acquire: self.asleep_acquire,
+            asleep_release: self.asleep_release,
+            data: (),
+        }
+    }
 }
 
 /// The fields of the monitor.
@@ -176,16 +320,26 @@ impl State {
     }
 }
 
-/// Locks the monitor. Nothing panics while it is locked, so there is no poison to heed.
-fn lock(inner: &Mutex<Inner>) -> MutexGuard<'_, Inner> {
+/// Locks the monitor, poisoned or not: where a function panicked no field has changed.
+fn lock<D>(inner: &Mutex<Inner<D>>) -> MutexGuard<'_, Inner<D>> {
     inner.lock().unwrap_or_else(PoisonError::into_inner)
 }
 
 /// Gives the lock back and waits on the condition, in one step, and takes the lock again.
-fn wait<'a>(condition: &Condvar, inner: MutexGuard<'a, Inner>) -> MutexGuard<'a, Inner> {
+fn wait<'a, D>(condition: &Condvar, inner: MutexGuard<'a, Inner<D>>) -> MutexGuard<'a, Inner<D>> {
     condition
         .wait(inner)
         .unwrap_or_else(PoisonError::into_inner)
+}
+
+/// Wakes one call that waits on the condition, where a block ends that changed nothing.
+#[allow(dead_code)]
+struct HandOn<'a>(&'a Condvar);
+
+impl Drop for HandOn<'_> {
+    fn drop(&mut self) {
+        self.0.notify_one();
+    }
 }
 
 /// The guard was false, and the call did not wait. Nothing changed.

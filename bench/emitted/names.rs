@@ -10,6 +10,8 @@ use std::sync::{Condvar, Mutex, MutexGuard, PoisonError};
 /// assert!(false);
 ///
 /// The monitor `state`. Threads share it by reference. A call waits for its guard, unless it tries.
+///
+/// Its lock guards data `D` too, for the functions that calls are given.
 /**
 # Plan
 
@@ -30,8 +32,8 @@ block try_new_: none
 #[allow(non_snake_case, non_upper_case_globals)]
 #[allow(dead_code, non_camel_case_types)]
 #[allow(clippy::doc_markdown, clippy::upper_case_acronyms)]
-pub struct State_ {
-    inner: Mutex<Inner>,
+pub struct State_<D = ()> {
+    inner: Mutex<Inner<D>>,
     /// For calls that wait until `Ok && state > Mutex`.
     can_new_: Condvar,
     /// For calls that wait until `answer * 2 >= narrow - match`.
@@ -51,17 +53,46 @@ impl State_ {
     /// The monitor at its start.
     #[must_use]
     pub const fn new() -> Self {
+        Self::with_data(())
+    }
+}
+
+#[rustfmt::skip]
+#[allow(dead_code, non_snake_case, clippy::doc_markdown, clippy::style)]
+impl<D> State_<D> {
+    /// The monitor at its start, with these data.
+    #[must_use]
+    pub const fn with_data(data: D) -> Self {
         Self {
             inner: Mutex::new(Inner {
                 state: State::START,
                 asleep_new_: 0,
                 asleep_await_: 0,
                 asleep2_await_: 0,
+                data,
             }),
             can_new_: Condvar::new(),
             can_await_: Condvar::new(),
             can2_await_: Condvar::new(),
         }
+    }
+
+    /// The data, which nobody shares now.
+    #[must_use]
+    pub fn get_mut(&mut self) -> &mut D {
+        &mut self.inner.get_mut().unwrap_or_else(PoisonError::into_inner).data
+    }
+
+    /// The data, without the monitor.
+    #[must_use]
+    pub fn into_inner(self) -> D {
+        self.inner.into_inner().unwrap_or_else(PoisonError::into_inner).data
+    }
+
+    /// Whether a function that a call was given has panicked: the data are as it left them.
+    #[must_use]
+    pub fn is_poisoned(&self) -> bool {
+        self.inner.is_poisoned()
     }
 
     /// Takes a state?and more: ??.
@@ -87,6 +118,30 @@ impl State_ {
         Ok(answer)
     }
 
+    /// As [`new_`](Self::new_), and calls `f` with the data and the answer under the same lock.
+    ///
+    /// Where `f` panics no field changes. `f` must not call this monitor.
+    ///
+    /// # Errors
+    ///
+    /// [`Overflow`] where a number would leave 64 bits. Then nothing changes.
+    pub fn new__with<R>(&self, state: i64, ok: bool, f: impl FnOnce(&mut D, bool) -> R) -> Result<R, Overflow> {
+        let mut inner = lock(&self.inner);
+        while !inner.state.can_new_(state, ok) {
+            inner.asleep_new_ += 1;
+            inner = wait(&self.can_new_, inner);
+            inner.asleep_new_ -= 1;
+        }
+        let hand = HandOn(&self.can_new_);
+        let mut next = inner.state;
+        let answer = next.run_new_(state, ok)?;
+        let result = f(&mut inner.data, answer);
+        std::mem::forget(hand);
+        inner.state = next;
+        drop(inner);
+        Ok(result)
+    }
+
     /// \- Waits: with start_read, a - 1.
     ///
     /// Waits until `answer * 2 >= narrow - match`.
@@ -109,7 +164,7 @@ impl State_ {
             self.can_await_.notify_one();
             return Err(Overflow);
         };
-        let copy = *inner;
+        let copy = inner.copy();
         drop(inner);
         if copy.asleep2_await_ > 0 {
             self.can2_await_.notify_all();
@@ -124,12 +179,57 @@ impl State_ {
             self.can2_await_.notify_one();
             return Err(Overflow);
         };
-        let copy = *inner;
+        let copy = inner.copy();
         drop(inner);
         if copy.asleep_await_ > 0 {
             self.can_await_.notify_all();
         }
         Ok(answer)
+    }
+
+    /// As [`await_`](Self::await_), and calls `f` with the data and the answer under the same lock, in its last block.
+    ///
+    /// Where `f` panics that block changes no field. `f` must not call this monitor.
+    ///
+    /// # Errors
+    ///
+    /// [`Overflow`] where a number would leave 64 bits. Its block then changes nothing, and no later one runs.
+    pub fn await__with<R>(&self, answer_: i64, narrow_: i64, f: impl FnOnce(&mut D, i64) -> R) -> Result<R, Overflow> {
+        let mut drop_: i64 = 0;
+        let mut lock_: bool = true;
+        let mut inner = lock(&self.inner);
+        while !inner.state.can_await_(answer_, narrow_, drop_, lock_) {
+            inner.asleep_await_ += 1;
+            inner = wait(&self.can_await_, inner);
+            inner.asleep_await_ -= 1;
+        }
+        let Ok(()) = inner.state.run_await_(answer_, narrow_, &mut drop_, &mut lock_) else {
+            self.can_await_.notify_one();
+            return Err(Overflow);
+        };
+        let copy = inner.copy();
+        drop(inner);
+        if copy.asleep2_await_ > 0 {
+            self.can2_await_.notify_all();
+        }
+        let mut inner = lock(&self.inner);
+        while !inner.state.can2_await_(answer_, narrow_, drop_, lock_) {
+            inner.asleep2_await_ += 1;
+            inner = wait(&self.can2_await_, inner);
+            inner.asleep2_await_ -= 1;
+        }
+        let hand = HandOn(&self.can2_await_);
+        let mut next = inner.state;
+        let answer = next.run2_await_(answer_, narrow_, &mut drop_, &mut lock_)?;
+        let result = f(&mut inner.data, answer);
+        std::mem::forget(hand);
+        inner.state = next;
+        let copy = inner.copy();
+        drop(inner);
+        if copy.asleep_await_ > 0 {
+            self.can_await_.notify_all();
+        }
+        Ok(result)
     }
 
     /// As [`await_`](Self::await_), but does not wait until `answer * 2 >= narrow - match`.
@@ -150,7 +250,7 @@ impl State_ {
             self.can_await_.notify_one();
             return Err(Failed::Overflow);
         };
-        let copy = *inner;
+        let copy = inner.copy();
         drop(inner);
         if copy.asleep2_await_ > 0 {
             self.can2_await_.notify_all();
@@ -165,7 +265,7 @@ impl State_ {
             self.can2_await_.notify_one();
             return Err(Failed::Overflow);
         };
-        let copy = *inner;
+        let copy = inner.copy();
         drop(inner);
         if copy.asleep_await_ > 0 {
             self.can_await_.notify_all();
@@ -173,11 +273,69 @@ impl State_ {
         Ok(answer)
     }
 
+    /// As [`try_await_`](Self::try_await_), and calls `f` with the data and the answer under the same lock, in its last block.
+    ///
+    /// Where `f` panics that block changes no field. `f` must not call this monitor.
+    ///
+    /// # Errors
+    ///
+    /// [`Failed::Refused`] where `answer * 2 >= narrow - match` is false. Then nothing changes.
+    ///
+    /// [`Failed::Overflow`] where a number would leave 64 bits. Its block then changes nothing, and no later one runs.
+    pub fn try_await__with<R>(&self, answer_: i64, narrow_: i64, f: impl FnOnce(&mut D, i64) -> R) -> Result<R, Failed> {
+        let mut drop_: i64 = 0;
+        let mut lock_: bool = true;
+        let mut inner = lock(&self.inner);
+        if !inner.state.can_await_(answer_, narrow_, drop_, lock_) {
+            return Err(Failed::Refused);
+        }
+        let Ok(()) = inner.state.run_await_(answer_, narrow_, &mut drop_, &mut lock_) else {
+            self.can_await_.notify_one();
+            return Err(Failed::Overflow);
+        };
+        let copy = inner.copy();
+        drop(inner);
+        if copy.asleep2_await_ > 0 {
+            self.can2_await_.notify_all();
+        }
+        let mut inner = lock(&self.inner);
+        while !inner.state.can2_await_(answer_, narrow_, drop_, lock_) {
+            inner.asleep2_await_ += 1;
+            inner = wait(&self.can2_await_, inner);
+            inner.asleep2_await_ -= 1;
+        }
+        let hand = HandOn(&self.can2_await_);
+        let mut next = inner.state;
+        let answer = next.run2_await_(answer_, narrow_, &mut drop_, &mut lock_)?;
+        let result = f(&mut inner.data, answer);
+        std::mem::forget(hand);
+        inner.state = next;
+        let copy = inner.copy();
+        drop(inner);
+        if copy.asleep_await_ > 0 {
+            self.can_await_.notify_all();
+        }
+        Ok(result)
+    }
+
     /// Does not wait.
     pub fn try_new_(&self) {
         let mut inner = lock(&self.inner);
         inner.state.run_try_new_();
         drop(inner);
+    }
+
+    /// As [`try_new_`](Self::try_new_), and calls `f` with the data under the same lock.
+    ///
+    /// Where `f` panics no field changes. `f` must not call this monitor.
+    pub fn try_new__with<R>(&self, f: impl FnOnce(&mut D) -> R) -> R {
+        let mut inner = lock(&self.inner);
+        let mut next = inner.state;
+        next.run_try_new_();
+        let result = f(&mut inner.data);
+        inner.state = next;
+        drop(inner);
+        result
     }
 }
 
@@ -187,7 +345,7 @@ impl Default for State_ {
     }
 }
 
-impl std::fmt::Debug for State_ {
+impl<D> std::fmt::Debug for State_<D> {
     fn fmt(&self, f: &mut std::fmt::Formatter<'_>) -> std::fmt::Result {
         let state = match self.inner.try_lock() {
             Ok(inner) => Some(inner.state),
@@ -203,15 +361,29 @@ impl std::fmt::Debug for State_ {
     }
 }
 
-/// What the mutex guards: the fields, and how many calls sleep on each condition.
-#[derive(Clone, Copy)]
+/// What the mutex guards: the fields, how many calls sleep on each condition, and the data.
 #[allow(dead_code)]
 #[allow(non_snake_case, non_upper_case_globals)]
-struct Inner {
+struct Inner<D = ()> {
     state: State,
     asleep_new_: usize,
     asleep_await_: usize,
     asleep2_await_: usize,
+    data: D,
+}
+
+impl<D> Inner<D> {
+    /// All but the data.
+    #[allow(dead_code)]
+    fn copy(&self) -> Inner {
+        Inner {
+            state: self.state,
+            asleep_new_: self.asleep_new_,
+            asleep_await_: self.asleep_await_,
+            asleep2_await_: self.asleep2_await_,
+            data: (),
+        }
+    }
 }
 
 /// The fields of the monitor.
@@ -286,16 +458,26 @@ impl State {
     }
 }
 
-/// Locks the monitor. Nothing panics while it is locked, so there is no poison to heed.
-fn lock(inner: &Mutex<Inner>) -> MutexGuard<'_, Inner> {
+/// Locks the monitor, poisoned or not: where a function panicked no field has changed.
+fn lock<D>(inner: &Mutex<Inner<D>>) -> MutexGuard<'_, Inner<D>> {
     inner.lock().unwrap_or_else(PoisonError::into_inner)
 }
 
 /// Gives the lock back and waits on the condition, in one step, and takes the lock again.
-fn wait<'a>(condition: &Condvar, inner: MutexGuard<'a, Inner>) -> MutexGuard<'a, Inner> {
+fn wait<'a, D>(condition: &Condvar, inner: MutexGuard<'a, Inner<D>>) -> MutexGuard<'a, Inner<D>> {
     condition
         .wait(inner)
         .unwrap_or_else(PoisonError::into_inner)
+}
+
+/// Wakes one call that waits on the condition, where a block ends that changed nothing.
+#[allow(dead_code)]
+struct HandOn<'a>(&'a Condvar);
+
+impl Drop for HandOn<'_> {
+    fn drop(&mut self) {
+        self.0.notify_one();
+    }
 }
 
 /// A number would have left 64 bits.

@@ -4,6 +4,8 @@
 use std::sync::{Condvar, Mutex, MutexGuard, PoisonError};
 
 /// The monitor `Twice`. Threads share it by reference. A call waits for its guard, unless it tries.
+///
+/// Its lock guards data `D` too, for the functions that calls are given.
 /**
 # Plan
 
@@ -18,8 +20,8 @@ block pair.2: none
 */
 #[allow(dead_code, non_camel_case_types)]
 #[allow(clippy::doc_markdown, clippy::upper_case_acronyms)]
-pub struct Twice {
-    inner: Mutex<Inner>,
+pub struct Twice<D = ()> {
+    inner: Mutex<Inner<D>>,
     /// For calls that wait until `level > seen + 1`.
     can2_pair: Condvar,
 }
@@ -30,13 +32,42 @@ impl Twice {
     /// The monitor at its start.
     #[must_use]
     pub const fn new() -> Self {
+        Self::with_data(())
+    }
+}
+
+#[rustfmt::skip]
+#[allow(dead_code, non_snake_case, clippy::doc_markdown, clippy::style)]
+impl<D> Twice<D> {
+    /// The monitor at its start, with these data.
+    #[must_use]
+    pub const fn with_data(data: D) -> Self {
         Self {
             inner: Mutex::new(Inner {
                 state: State::START,
                 asleep2_pair: 0,
+                data,
             }),
             can2_pair: Condvar::new(),
         }
+    }
+
+    /// The data, which nobody shares now.
+    #[must_use]
+    pub fn get_mut(&mut self) -> &mut D {
+        &mut self.inner.get_mut().unwrap_or_else(PoisonError::into_inner).data
+    }
+
+    /// The data, without the monitor.
+    #[must_use]
+    pub fn into_inner(self) -> D {
+        self.inner.into_inner().unwrap_or_else(PoisonError::into_inner).data
+    }
+
+    /// Whether a function that a call was given has panicked: the data are as it left them.
+    #[must_use]
+    pub fn is_poisoned(&self) -> bool {
+        self.inner.is_poisoned()
     }
 
     /// Does not wait.
@@ -50,7 +81,7 @@ impl Twice {
         let mut seen: i64 = 0;
         let mut inner = lock(&self.inner);
         inner.state.run_pair(&mut seen)?;
-        let copy = *inner;
+        let copy = inner.copy();
         drop(inner);
         if copy.asleep2_pair > 0 {
             self.can2_pair.notify_all();
@@ -65,6 +96,38 @@ impl Twice {
         drop(inner);
         Ok(answer)
     }
+
+    /// As [`pair`](Self::pair), and calls `f` with the data and the answer under the same lock, in its last block.
+    ///
+    /// Where `f` panics that block changes no field. `f` must not call this monitor.
+    ///
+    /// # Errors
+    ///
+    /// [`Overflow`] where a number would leave 64 bits. Its block then changes nothing, and no later one runs.
+    pub fn pair_with<R>(&self, f: impl FnOnce(&mut D, i64) -> R) -> Result<R, Overflow> {
+        let mut seen: i64 = 0;
+        let mut inner = lock(&self.inner);
+        inner.state.run_pair(&mut seen)?;
+        let copy = inner.copy();
+        drop(inner);
+        if copy.asleep2_pair > 0 {
+            self.can2_pair.notify_all();
+        }
+        let mut inner = lock(&self.inner);
+        while !inner.state.can2_pair(seen) {
+            inner.asleep2_pair += 1;
+            inner = wait(&self.can2_pair, inner);
+            inner.asleep2_pair -= 1;
+        }
+        let hand = HandOn(&self.can2_pair);
+        let mut next = inner.state;
+        let answer = next.run2_pair(&mut seen);
+        let result = f(&mut inner.data, answer);
+        std::mem::forget(hand);
+        inner.state = next;
+        drop(inner);
+        Ok(result)
+    }
 }
 
 impl Default for Twice {
@@ -73,7 +136,7 @@ impl Default for Twice {
     }
 }
 
-impl std::fmt::Debug for Twice {
+impl<D> std::fmt::Debug for Twice<D> {
     fn fmt(&self, f: &mut std::fmt::Formatter<'_>) -> std::fmt::Result {
         let state = match self.inner.try_lock() {
             Ok(inner) => Some(inner.state),
@@ -89,12 +152,24 @@ impl std::fmt::Debug for Twice {
     }
 }
 
-/// What the mutex guards: the fields, and how many calls sleep on each condition.
-#[derive(Clone, Copy)]
+/// What the mutex guards: the fields, how many calls sleep on each condition, and the data.
 #[allow(dead_code)]
-struct Inner {
+struct Inner<D = ()> {
     state: State,
     asleep2_pair: usize,
+    data: D,
+}
+
+impl<D> Inner<D> {
+    /// All but the data.
+    #[allow(dead_code)]
+    fn copy(&self) -> Inner {
+        Inner {
+            state: self.state,
+            asleep2_pair: self.asleep2_pair,
+            data: (),
+        }
+    }
 }
 
 /// The fields of the monitor.
@@ -127,16 +202,26 @@ impl State {
     }
 }
 
-/// Locks the monitor. Nothing panics while it is locked, so there is no poison to heed.
-fn lock(inner: &Mutex<Inner>) -> MutexGuard<'_, Inner> {
+/// Locks the monitor, poisoned or not: where a function panicked no field has changed.
+fn lock<D>(inner: &Mutex<Inner<D>>) -> MutexGuard<'_, Inner<D>> {
     inner.lock().unwrap_or_else(PoisonError::into_inner)
 }
 
 /// Gives the lock back and waits on the condition, in one step, and takes the lock again.
-fn wait<'a>(condition: &Condvar, inner: MutexGuard<'a, Inner>) -> MutexGuard<'a, Inner> {
+fn wait<'a, D>(condition: &Condvar, inner: MutexGuard<'a, Inner<D>>) -> MutexGuard<'a, Inner<D>> {
     condition
         .wait(inner)
         .unwrap_or_else(PoisonError::into_inner)
+}
+
+/// Wakes one call that waits on the condition, where a block ends that changed nothing.
+#[allow(dead_code)]
+struct HandOn<'a>(&'a Condvar);
+
+impl Drop for HandOn<'_> {
+    fn drop(&mut self) {
+        self.0.notify_one();
+    }
 }
 
 /// A number would have left 64 bits.
