@@ -8,6 +8,8 @@ use std::sync::{Condvar, Mutex, MutexGuard, PoisonError};
 /// is there for the compiler alone, which now knows that no number falls below its least.
 ///
 /// The monitor `MapGate`. Threads share it by reference. A call waits for its guard, unless it tries.
+///
+/// Its lock guards data `D` too, for the functions that calls are given.
 /**
 # Plan
 
@@ -28,8 +30,8 @@ block endWrite: 1 broadcast tested, 3 signal
 */
 #[allow(dead_code, non_camel_case_types)]
 #[allow(clippy::doc_markdown, clippy::upper_case_acronyms)]
-pub struct MapGate {
-    inner: Mutex<Inner>,
+pub struct MapGate<D = ()> {
+    inner: Mutex<Inner<D>>,
     /// For calls that wait until `state >= 0 && queued == 0`.
     can_start_read: Condvar,
     /// For calls that wait until `state == 0`.
@@ -42,15 +44,44 @@ impl MapGate {
     /// The monitor at its start.
     #[must_use]
     pub const fn new() -> Self {
+        Self::with_data(())
+    }
+}
+
+#[rustfmt::skip]
+#[allow(dead_code, non_snake_case, clippy::doc_markdown, clippy::style)]
+impl<D> MapGate<D> {
+    /// The monitor at its start, with these data.
+    #[must_use]
+    pub const fn with_data(data: D) -> Self {
         Self {
             inner: Mutex::new(Inner {
                 state: State::START,
                 asleep_start_read: 0,
                 asleep2_start_write: 0,
+                data,
             }),
             can_start_read: Condvar::new(),
             can2_start_write: Condvar::new(),
         }
+    }
+
+    /// The data, which nobody shares now.
+    #[must_use]
+    pub fn get_mut(&mut self) -> &mut D {
+        &mut self.inner.get_mut().unwrap_or_else(PoisonError::into_inner).data
+    }
+
+    /// The data, without the monitor.
+    #[must_use]
+    pub fn into_inner(self) -> D {
+        self.inner.into_inner().unwrap_or_else(PoisonError::into_inner).data
+    }
+
+    /// Whether a function that a call was given has panicked: the data are as it left them.
+    #[must_use]
+    pub fn is_poisoned(&self) -> bool {
+        self.inner.is_poisoned()
     }
 
     /// Waits until `state >= 0 && queued == 0`.
@@ -73,6 +104,30 @@ impl MapGate {
         Ok(())
     }
 
+    /// As [`start_read`](Self::start_read), and calls `f` with the data under the same lock.
+    ///
+    /// Where `f` panics no field changes. `f` must not call this monitor.
+    ///
+    /// # Errors
+    ///
+    /// [`Overflow`] where a number would leave 64 bits. Then nothing changes.
+    pub fn start_read_with<R>(&self, f: impl FnOnce(&mut D) -> R) -> Result<R, Overflow> {
+        let mut inner = lock(&self.inner);
+        while !inner.state.can_start_read() {
+            inner.asleep_start_read += 1;
+            inner = wait(&self.can_start_read, inner);
+            inner.asleep_start_read -= 1;
+        }
+        let hand = HandOn(&self.can_start_read);
+        let mut next = inner.state;
+        next.run_start_read()?;
+        let result = f(&mut inner.data);
+        std::mem::forget(hand);
+        inner.state = next;
+        drop(inner);
+        Ok(result)
+    }
+
     /// As [`start_read`](Self::start_read), but does not wait until `state >= 0 && queued == 0`.
     ///
     /// # Errors
@@ -93,15 +148,56 @@ impl MapGate {
         Ok(())
     }
 
+    /// As [`try_start_read`](Self::try_start_read), and calls `f` with the data under the same lock.
+    ///
+    /// Where `f` panics no field changes. `f` must not call this monitor.
+    ///
+    /// # Errors
+    ///
+    /// [`Failed::Refused`] where `state >= 0 && queued == 0` is false. Then nothing changes.
+    ///
+    /// [`Failed::Overflow`] where a number would leave 64 bits. Then nothing changes.
+    pub fn try_start_read_with<R>(&self, f: impl FnOnce(&mut D) -> R) -> Result<R, Failed> {
+        let mut inner = lock(&self.inner);
+        if !inner.state.can_start_read() {
+            return Err(Failed::Refused);
+        }
+        let hand = HandOn(&self.can_start_read);
+        let mut next = inner.state;
+        next.run_start_read()?;
+        let result = f(&mut inner.data);
+        std::mem::forget(hand);
+        inner.state = next;
+        drop(inner);
+        Ok(result)
+    }
+
     /// Does not wait.
     pub fn end_read(&self) {
         let mut inner = lock(&self.inner);
         inner.state.run_end_read();
-        let copy = *inner;
+        let copy = inner.copy();
         drop(inner);
         if copy.asleep2_start_write > 0 && copy.state.can2_start_write() {
             self.can2_start_write.notify_one();
         }
+    }
+
+    /// As [`end_read`](Self::end_read), and calls `f` with the data under the same lock.
+    ///
+    /// Where `f` panics no field changes. `f` must not call this monitor.
+    pub fn end_read_with<R>(&self, f: impl FnOnce(&mut D) -> R) -> R {
+        let mut inner = lock(&self.inner);
+        let mut next = inner.state;
+        next.run_end_read();
+        let result = f(&mut inner.data);
+        inner.state = next;
+        let copy = inner.copy();
+        drop(inner);
+        if copy.asleep2_start_write > 0 && copy.state.can2_start_write() {
+            self.can2_start_write.notify_one();
+        }
+        result
     }
 
     /// Does not wait.
@@ -126,11 +222,38 @@ impl MapGate {
         Ok(())
     }
 
+    /// As [`start_write`](Self::start_write), and calls `f` with the data under the same lock, in its last block.
+    ///
+    /// Where `f` panics that block changes no field. `f` must not call this monitor.
+    ///
+    /// # Errors
+    ///
+    /// [`Overflow`] where a number would leave 64 bits. Its block then changes nothing, and no later one runs.
+    pub fn start_write_with<R>(&self, f: impl FnOnce(&mut D) -> R) -> Result<R, Overflow> {
+        let mut inner = lock(&self.inner);
+        inner.state.run_start_write()?;
+        drop(inner);
+        let mut inner = lock(&self.inner);
+        while !inner.state.can2_start_write() {
+            inner.asleep2_start_write += 1;
+            inner = wait(&self.can2_start_write, inner);
+            inner.asleep2_start_write -= 1;
+        }
+        let hand = HandOn(&self.can2_start_write);
+        let mut next = inner.state;
+        next.run2_start_write();
+        let result = f(&mut inner.data);
+        std::mem::forget(hand);
+        inner.state = next;
+        drop(inner);
+        Ok(result)
+    }
+
     /// Does not wait.
     pub fn end_write(&self) {
         let mut inner = lock(&self.inner);
         inner.state.run_end_write();
-        let copy = *inner;
+        let copy = inner.copy();
         drop(inner);
         if copy.asleep_start_read > 0 && copy.state.can_start_read() {
             self.can_start_read.notify_all();
@@ -138,6 +261,26 @@ impl MapGate {
         if copy.asleep2_start_write > 0 {
             self.can2_start_write.notify_one();
         }
+    }
+
+    /// As [`end_write`](Self::end_write), and calls `f` with the data under the same lock.
+    ///
+    /// Where `f` panics no field changes. `f` must not call this monitor.
+    pub fn end_write_with<R>(&self, f: impl FnOnce(&mut D) -> R) -> R {
+        let mut inner = lock(&self.inner);
+        let mut next = inner.state;
+        next.run_end_write();
+        let result = f(&mut inner.data);
+        inner.state = next;
+        let copy = inner.copy();
+        drop(inner);
+        if copy.asleep_start_read > 0 && copy.state.can_start_read() {
+            self.can_start_read.notify_all();
+        }
+        if copy.asleep2_start_write > 0 {
+            self.can2_start_write.notify_one();
+        }
+        result
     }
 }
 
@@ -147,7 +290,7 @@ impl Default for MapGate {
     }
 }
 
-impl std::fmt::Debug for MapGate {
+impl<D> std::fmt::Debug for MapGate<D> {
     fn fmt(&self, f: &mut std::fmt::Formatter<'_>) -> std::fmt::Result {
         let state = match self.inner.try_lock() {
             Ok(inner) => Some(inner.state),
@@ -163,13 +306,26 @@ impl std::fmt::Debug for MapGate {
     }
 }
 
-/// What the mutex guards: the fields, and how many calls sleep on each condition.
-#[derive(Clone, Copy)]
+/// What the mutex guards: the fields, how many calls sleep on each condition, and the data.
 #[allow(dead_code)]
-struct Inner {
+struct Inner<D = ()> {
     state: State,
     asleep_start_read: usize,
     asleep2_start_write: usize,
+    data: D,
+}
+
+impl<D> Inner<D> {
+    /// All but the data.
+    #[allow(dead_code)]
+    fn copy(&self) -> Inner {
+        Inner {
+            state: self.state,
+            asleep_start_read: self.asleep_start_read,
+            asleep2_start_write: self.asleep2_start_write,
+            data: (),
+        }
+    }
 }
 
 /// The fields of the monitor.
@@ -225,16 +381,26 @@ impl State {
     }
 }
 
-/// Locks the monitor. Nothing panics while it is locked, so there is no poison to heed.
-fn lock(inner: &Mutex<Inner>) -> MutexGuard<'_, Inner> {
+/// Locks the monitor, poisoned or not: where a function panicked no field has changed.
+fn lock<D>(inner: &Mutex<Inner<D>>) -> MutexGuard<'_, Inner<D>> {
     inner.lock().unwrap_or_else(PoisonError::into_inner)
 }
 
 /// Gives the lock back and waits on the condition, in one step, and takes the lock again.
-fn wait<'a>(condition: &Condvar, inner: MutexGuard<'a, Inner>) -> MutexGuard<'a, Inner> {
+fn wait<'a, D>(condition: &Condvar, inner: MutexGuard<'a, Inner<D>>) -> MutexGuard<'a, Inner<D>> {
     condition
         .wait(inner)
         .unwrap_or_else(PoisonError::into_inner)
+}
+
+/// Wakes one call that waits on the condition, where a block ends that changed nothing.
+#[allow(dead_code)]
+struct HandOn<'a>(&'a Condvar);
+
+impl Drop for HandOn<'_> {
+    fn drop(&mut self) {
+        self.0.notify_one();
+    }
 }
 
 /// A number would have left 64 bits.

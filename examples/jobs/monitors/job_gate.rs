@@ -3,36 +3,36 @@
 
 use std::sync::{Condvar, Mutex, MutexGuard, PoisonError};
 
-/// Who may touch a queue of jobs, and when. A push reserves a place, stores its job, and publishes
-/// it. A pop claims a job, takes it out, and releases its place. After \`close\` nothing is reserved
-/// any more; what was reserved before is still published, claimed and done.
+/// How many jobs a queue has, and who may come in. After \`close\` nothing is pushed any more; what is
+/// in the queue is still popped.
 ///
 /// The monitor `JobGate`. Threads share it by reference. A call waits for its guard, unless it tries.
+///
+/// Its lock guards data `D` too, for the functions that calls are given.
 /**
 # Plan
 
 ```text
 plan JobGate
-keep used <= 8
-keep ready >= 0
-condition 1 signal: used < CAP || !open
-condition 2 broadcast: true
-condition 3 signal: ready > 0 || !open && filling == 0
-block reserve: none
-block publish: 3 broadcast
-block claim: none
-block release: 1 signal
-block close: 1 broadcast, 3 broadcast tested
+keep count >= 0
+keep count <= 8
+condition 1 signal: count < CAP || !open
+condition 2 signal: count > 0 || !open
+condition 3 broadcast: true
+block push: 2 signal
+block pop: 1 signal
+block close: 1 broadcast, 2 broadcast
+block look: none
 ```
 */
 #[allow(dead_code, non_camel_case_types)]
 #[allow(clippy::doc_markdown, clippy::upper_case_acronyms)]
-pub struct JobGate {
-    inner: Mutex<Inner>,
-    /// For calls that wait until `used < CAP || !open`.
-    can_reserve: Condvar,
-    /// For calls that wait until `ready > 0 || !open && filling == 0`.
-    can_claim: Condvar,
+pub struct JobGate<D = ()> {
+    inner: Mutex<Inner<D>>,
+    /// For calls that wait until `count < CAP || !open`.
+    can_push: Condvar,
+    /// For calls that wait until `count > 0 || !open`.
+    can_pop: Condvar,
 }
 
 #[rustfmt::skip]
@@ -44,131 +44,274 @@ impl JobGate {
     /// The monitor at its start.
     #[must_use]
     pub const fn new() -> Self {
+        Self::with_data(())
+    }
+}
+
+#[rustfmt::skip]
+#[allow(dead_code, non_snake_case, clippy::doc_markdown, clippy::style)]
+impl<D> JobGate<D> {
+    /// The monitor at its start, with these data.
+    #[must_use]
+    pub const fn with_data(data: D) -> Self {
         Self {
             inner: Mutex::new(Inner {
                 state: State::START,
-                asleep_reserve: 0,
-                asleep_claim: 0,
+                asleep_push: 0,
+                asleep_pop: 0,
+                data,
             }),
-            can_reserve: Condvar::new(),
-            can_claim: Condvar::new(),
+            can_push: Condvar::new(),
+            can_pop: Condvar::new(),
         }
     }
 
-    /// Waits until `used < CAP || !open`.
-    ///
-    /// # Errors
-    ///
-    /// [`Overflow`] where a number would leave 64 bits. Then nothing changes.
-    pub fn reserve(&self) -> Result<bool, Overflow> {
-        let mut inner = lock(&self.inner);
-        while !inner.state.can_reserve() {
-            inner.asleep_reserve += 1;
-            inner = wait(&self.can_reserve, inner);
-            inner.asleep_reserve -= 1;
-        }
-        let Ok(answer) = inner.state.run_reserve() else {
-            self.can_reserve.notify_one();
-            return Err(Overflow);
-        };
-        drop(inner);
-        Ok(answer)
+    /// The data, which nobody shares now.
+    #[must_use]
+    pub fn get_mut(&mut self) -> &mut D {
+        &mut self.inner.get_mut().unwrap_or_else(PoisonError::into_inner).data
     }
 
-    /// As [`reserve`](Self::reserve), but does not wait until `used < CAP || !open`.
-    ///
-    /// # Errors
-    ///
-    /// [`Failed::Refused`] where `used < CAP || !open` is false. Then nothing changes.
-    ///
-    /// [`Failed::Overflow`] where a number would leave 64 bits. Then nothing changes.
-    pub fn try_reserve(&self) -> Result<bool, Failed> {
-        let mut inner = lock(&self.inner);
-        if !inner.state.can_reserve() {
-            return Err(Failed::Refused);
-        }
-        let Ok(answer) = inner.state.run_reserve() else {
-            self.can_reserve.notify_one();
-            return Err(Failed::Overflow);
-        };
-        drop(inner);
-        Ok(answer)
+    /// The data, without the monitor.
+    #[must_use]
+    pub fn into_inner(self) -> D {
+        self.inner.into_inner().unwrap_or_else(PoisonError::into_inner).data
     }
 
-    /// Does not wait.
-    ///
-    /// # Errors
-    ///
-    /// [`Overflow`] where a number would leave 64 bits. Then nothing changes.
-    pub fn publish(&self) -> Result<(), Overflow> {
-        let mut inner = lock(&self.inner);
-        inner.state.run_publish()?;
-        let copy = *inner;
-        drop(inner);
-        if copy.asleep_claim > 0 {
-            self.can_claim.notify_all();
-        }
-        Ok(())
+    /// Whether a function that a call was given has panicked: the data are as it left them.
+    #[must_use]
+    pub fn is_poisoned(&self) -> bool {
+        self.inner.is_poisoned()
     }
 
-    /// Waits until `ready > 0 || !open && filling == 0`.
-    pub fn claim(&self) -> bool {
-        let mut found: bool = false;
+    /// Waits until `count < CAP || !open`.
+    pub fn push(&self) -> bool {
         let mut inner = lock(&self.inner);
-        while !inner.state.can_claim() {
-            inner.asleep_claim += 1;
-            inner = wait(&self.can_claim, inner);
-            inner.asleep_claim -= 1;
+        while !inner.state.can_push() {
+            inner.asleep_push += 1;
+            inner = wait(&self.can_push, inner);
+            inner.asleep_push -= 1;
         }
-        let answer = inner.state.run_claim(&mut found);
+        let answer = inner.state.run_push();
+        let copy = inner.copy();
         drop(inner);
+        if copy.asleep_pop > 0 {
+            self.can_pop.notify_one();
+        }
         answer
     }
 
-    /// As [`claim`](Self::claim), but does not wait until `ready > 0 || !open && filling == 0`.
+    /// As [`push`](Self::push), and calls `f` with the data and the answer under the same lock.
+    ///
+    /// Where `f` panics no field changes. `f` must not call this monitor.
+    pub fn push_with<R>(&self, f: impl FnOnce(&mut D, bool) -> R) -> R {
+        let mut inner = lock(&self.inner);
+        while !inner.state.can_push() {
+            inner.asleep_push += 1;
+            inner = wait(&self.can_push, inner);
+            inner.asleep_push -= 1;
+        }
+        let hand = HandOn(&self.can_push);
+        let mut next = inner.state;
+        let answer = next.run_push();
+        let result = f(&mut inner.data, answer);
+        std::mem::forget(hand);
+        inner.state = next;
+        let copy = inner.copy();
+        drop(inner);
+        if copy.asleep_pop > 0 {
+            self.can_pop.notify_one();
+        }
+        result
+    }
+
+    /// As [`push`](Self::push), but does not wait until `count < CAP || !open`.
     ///
     /// # Errors
     ///
-    /// [`Refused`] where `ready > 0 || !open && filling == 0` is false. Then nothing changes.
-    pub fn try_claim(&self) -> Result<bool, Refused> {
-        let mut found: bool = false;
+    /// [`Refused`] where `count < CAP || !open` is false. Then nothing changes.
+    pub fn try_push(&self) -> Result<bool, Refused> {
         let mut inner = lock(&self.inner);
-        if !inner.state.can_claim() {
+        if !inner.state.can_push() {
             return Err(Refused);
         }
-        let answer = inner.state.run_claim(&mut found);
+        let answer = inner.state.run_push();
+        let copy = inner.copy();
         drop(inner);
+        if copy.asleep_pop > 0 {
+            self.can_pop.notify_one();
+        }
         Ok(answer)
     }
 
-    /// Does not wait.
+    /// As [`try_push`](Self::try_push), and calls `f` with the data and the answer under the same lock.
+    ///
+    /// Where `f` panics no field changes. `f` must not call this monitor.
     ///
     /// # Errors
     ///
-    /// [`Overflow`] where a number would leave 64 bits. Then nothing changes.
-    pub fn release(&self) -> Result<(), Overflow> {
+    /// [`Refused`] where `count < CAP || !open` is false. Then nothing changes.
+    pub fn try_push_with<R>(&self, f: impl FnOnce(&mut D, bool) -> R) -> Result<R, Refused> {
         let mut inner = lock(&self.inner);
-        inner.state.run_release()?;
-        let copy = *inner;
-        drop(inner);
-        if copy.asleep_reserve > 0 {
-            self.can_reserve.notify_one();
+        if !inner.state.can_push() {
+            return Err(Refused);
         }
-        Ok(())
+        let hand = HandOn(&self.can_push);
+        let mut next = inner.state;
+        let answer = next.run_push();
+        let result = f(&mut inner.data, answer);
+        std::mem::forget(hand);
+        inner.state = next;
+        let copy = inner.copy();
+        drop(inner);
+        if copy.asleep_pop > 0 {
+            self.can_pop.notify_one();
+        }
+        Ok(result)
+    }
+
+    /// Waits until `count > 0 || !open`.
+    pub fn pop(&self) -> bool {
+        let mut found: bool = false;
+        let mut inner = lock(&self.inner);
+        while !inner.state.can_pop() {
+            inner.asleep_pop += 1;
+            inner = wait(&self.can_pop, inner);
+            inner.asleep_pop -= 1;
+        }
+        let answer = inner.state.run_pop(&mut found);
+        let copy = inner.copy();
+        drop(inner);
+        if copy.asleep_push > 0 {
+            self.can_push.notify_one();
+        }
+        answer
+    }
+
+    /// As [`pop`](Self::pop), and calls `f` with the data and the answer under the same lock.
+    ///
+    /// Where `f` panics no field changes. `f` must not call this monitor.
+    pub fn pop_with<R>(&self, f: impl FnOnce(&mut D, bool) -> R) -> R {
+        let mut found: bool = false;
+        let mut inner = lock(&self.inner);
+        while !inner.state.can_pop() {
+            inner.asleep_pop += 1;
+            inner = wait(&self.can_pop, inner);
+            inner.asleep_pop -= 1;
+        }
+        let hand = HandOn(&self.can_pop);
+        let mut next = inner.state;
+        let answer = next.run_pop(&mut found);
+        let result = f(&mut inner.data, answer);
+        std::mem::forget(hand);
+        inner.state = next;
+        let copy = inner.copy();
+        drop(inner);
+        if copy.asleep_push > 0 {
+            self.can_push.notify_one();
+        }
+        result
+    }
+
+    /// As [`pop`](Self::pop), but does not wait until `count > 0 || !open`.
+    ///
+    /// # Errors
+    ///
+    /// [`Refused`] where `count > 0 || !open` is false. Then nothing changes.
+    pub fn try_pop(&self) -> Result<bool, Refused> {
+        let mut found: bool = false;
+        let mut inner = lock(&self.inner);
+        if !inner.state.can_pop() {
+            return Err(Refused);
+        }
+        let answer = inner.state.run_pop(&mut found);
+        let copy = inner.copy();
+        drop(inner);
+        if copy.asleep_push > 0 {
+            self.can_push.notify_one();
+        }
+        Ok(answer)
+    }
+
+    /// As [`try_pop`](Self::try_pop), and calls `f` with the data and the answer under the same lock.
+    ///
+    /// Where `f` panics no field changes. `f` must not call this monitor.
+    ///
+    /// # Errors
+    ///
+    /// [`Refused`] where `count > 0 || !open` is false. Then nothing changes.
+    pub fn try_pop_with<R>(&self, f: impl FnOnce(&mut D, bool) -> R) -> Result<R, Refused> {
+        let mut found: bool = false;
+        let mut inner = lock(&self.inner);
+        if !inner.state.can_pop() {
+            return Err(Refused);
+        }
+        let hand = HandOn(&self.can_pop);
+        let mut next = inner.state;
+        let answer = next.run_pop(&mut found);
+        let result = f(&mut inner.data, answer);
+        std::mem::forget(hand);
+        inner.state = next;
+        let copy = inner.copy();
+        drop(inner);
+        if copy.asleep_push > 0 {
+            self.can_push.notify_one();
+        }
+        Ok(result)
     }
 
     /// Does not wait.
     pub fn close(&self) {
         let mut inner = lock(&self.inner);
         inner.state.run_close();
-        let copy = *inner;
+        let copy = inner.copy();
         drop(inner);
-        if copy.asleep_reserve > 0 {
-            self.can_reserve.notify_all();
+        if copy.asleep_push > 0 {
+            self.can_push.notify_all();
         }
-        if copy.asleep_claim > 0 && copy.state.can_claim() {
-            self.can_claim.notify_all();
+        if copy.asleep_pop > 0 {
+            self.can_pop.notify_all();
         }
+    }
+
+    /// As [`close`](Self::close), and calls `f` with the data under the same lock.
+    ///
+    /// Where `f` panics no field changes. `f` must not call this monitor.
+    pub fn close_with<R>(&self, f: impl FnOnce(&mut D) -> R) -> R {
+        let mut inner = lock(&self.inner);
+        let mut next = inner.state;
+        next.run_close();
+        let result = f(&mut inner.data);
+        inner.state = next;
+        let copy = inner.copy();
+        drop(inner);
+        if copy.asleep_push > 0 {
+            self.can_push.notify_all();
+        }
+        if copy.asleep_pop > 0 {
+            self.can_pop.notify_all();
+        }
+        result
+    }
+
+    /// Does not wait.
+    pub fn look(&self) {
+        let mut inner = lock(&self.inner);
+        inner.state.run_look();
+        drop(inner);
+    }
+
+    /// As [`look`](Self::look), and calls `f` with the data under the same lock.
+    ///
+    /// Where `f` panics no field changes. `f` must not call this monitor.
+    pub fn look_with<R>(&self, f: impl FnOnce(&mut D) -> R) -> R {
+        let mut inner = lock(&self.inner);
+        let mut next = inner.state;
+        next.run_look();
+        let result = f(&mut inner.data);
+        inner.state = next;
+        drop(inner);
+        result
     }
 }
 
@@ -178,7 +321,7 @@ impl Default for JobGate {
     }
 }
 
-impl std::fmt::Debug for JobGate {
+impl<D> std::fmt::Debug for JobGate<D> {
     fn fmt(&self, f: &mut std::fmt::Formatter<'_>) -> std::fmt::Result {
         let state = match self.inner.try_lock() {
             Ok(inner) => Some(inner.state),
@@ -194,22 +337,33 @@ impl std::fmt::Debug for JobGate {
     }
 }
 
-/// What the mutex guards: the fields, and how many calls sleep on each condition.
-#[derive(Clone, Copy)]
+/// What the mutex guards: the fields, how many calls sleep on each condition, and the data.
 #[allow(dead_code)]
-struct Inner {
+struct Inner<D = ()> {
     state: State,
-    asleep_reserve: usize,
-    asleep_claim: usize,
+    asleep_push: usize,
+    asleep_pop: usize,
+    data: D,
+}
+
+impl<D> Inner<D> {
+    /// All but the data.
+    #[allow(dead_code)]
+    fn copy(&self) -> Inner {
+        Inner {
+            state: self.state,
+            asleep_push: self.asleep_push,
+            asleep_pop: self.asleep_pop,
+            data: (),
+        }
+    }
 }
 
 /// The fields of the monitor.
 #[derive(Clone, Copy, Debug)]
 #[allow(dead_code)]
 struct State {
-    used: i64,
-    filling: i64,
-    ready: i64,
+    count: i64,
     open: bool,
 }
 
@@ -218,83 +372,60 @@ struct State {
 #[allow(unused, unused_comparisons, clippy::all, clippy::pedantic)]
 impl State {
     const START: Self = Self {
-        used: 0,
-        filling: 0,
-        ready: 0,
+        count: 0,
         open: true,
     };
 
-    fn can_reserve(&self) -> bool {
-        self.used < JobGate::CAP || !self.open
+    fn can_push(&self) -> bool {
+        self.count < JobGate::CAP || !self.open
     }
 
-    fn run_reserve(&mut self) -> Result<bool, Overflow> {
-        let mut next = *self;
-        if next.open {
-            next.used = narrow(i128::from(next.used) + 1)?;
-            next.filling = narrow(i128::from(next.filling) + 1)?;
+    fn run_push(&mut self) -> bool {
+        if self.open {
+            self.count = self.count + 1;
         }
-        *self = next;
-        Ok(self.open)
+        self.open
     }
 
-    fn run_publish(&mut self) -> Result<(), Overflow> {
-        let mut next = *self;
-        next.filling = narrow(i128::from(next.filling) - 1)?;
-        next.ready = narrow(i128::from(next.ready) + 1)?;
-        *self = next;
-        Ok(())
+    fn can_pop(&self) -> bool {
+        self.count > 0 || !self.open
     }
 
-    fn can_claim(&self) -> bool {
-        self.ready > 0 || !self.open && self.filling == 0
-    }
-
-    fn run_claim(&mut self, found: &mut bool) -> bool {
-        *found = self.ready > 0;
+    fn run_pop(&mut self, found: &mut bool) -> bool {
+        *found = self.count > 0;
         if *found {
-            self.ready = self.ready - 1;
+            self.count = self.count - 1;
         }
         *found
-    }
-
-    fn run_release(&mut self) -> Result<(), Overflow> {
-        self.used = narrow(i128::from(self.used) - 1)?;
-        Ok(())
     }
 
     fn run_close(&mut self) {
         self.open = false;
     }
+
+    fn run_look(&mut self) {}
 }
 
-/// Locks the monitor. Nothing panics while it is locked, so there is no poison to heed.
-fn lock(inner: &Mutex<Inner>) -> MutexGuard<'_, Inner> {
+/// Locks the monitor, poisoned or not: where a function panicked no field has changed.
+fn lock<D>(inner: &Mutex<Inner<D>>) -> MutexGuard<'_, Inner<D>> {
     inner.lock().unwrap_or_else(PoisonError::into_inner)
 }
 
 /// Gives the lock back and waits on the condition, in one step, and takes the lock again.
-fn wait<'a>(condition: &Condvar, inner: MutexGuard<'a, Inner>) -> MutexGuard<'a, Inner> {
+fn wait<'a, D>(condition: &Condvar, inner: MutexGuard<'a, Inner<D>>) -> MutexGuard<'a, Inner<D>> {
     condition
         .wait(inner)
         .unwrap_or_else(PoisonError::into_inner)
 }
 
-/// A number would have left 64 bits.
-#[derive(Clone, Copy, Debug, PartialEq, Eq)]
-pub struct Overflow;
+/// Wakes one call that waits on the condition, where a block ends that changed nothing.
+#[allow(dead_code)]
+struct HandOn<'a>(&'a Condvar);
 
-impl std::fmt::Display for Overflow {
-    fn fmt(&self, f: &mut std::fmt::Formatter<'_>) -> std::fmt::Result {
-        f.write_str("a number would leave 64 bits")
+impl Drop for HandOn<'_> {
+    fn drop(&mut self) {
+        self.0.notify_one();
     }
-}
-
-impl std::error::Error for Overflow {}
-
-/// The number, where it has 64 bits.
-fn narrow(number: i128) -> Result<i64, Overflow> {
-    i64::try_from(number).map_err(|_| Overflow)
 }
 
 /// The guard was false, and the call did not wait. Nothing changed.
@@ -308,29 +439,3 @@ impl std::fmt::Display for Refused {
 }
 
 impl std::error::Error for Refused {}
-
-/// Why a call that tries has no answer.
-#[derive(Clone, Copy, Debug, PartialEq, Eq)]
-pub enum Failed {
-    /// The guard was false, and the call did not wait. Nothing changed.
-    Refused,
-    /// A number would have left 64 bits.
-    Overflow,
-}
-
-impl From<Overflow> for Failed {
-    fn from(_: Overflow) -> Self {
-        Self::Overflow
-    }
-}
-
-impl std::fmt::Display for Failed {
-    fn fmt(&self, f: &mut std::fmt::Formatter<'_>) -> std::fmt::Result {
-        f.write_str(match self {
-            Self::Refused => "the guard is false",
-            Self::Overflow => "a number would leave 64 bits",
-        })
-    }
-}
-
-impl std::error::Error for Failed {}

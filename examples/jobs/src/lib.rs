@@ -1,8 +1,7 @@
 //! A bounded queue of jobs that threads share, and worker threads that do them.
 //!
 //! Who may come in and when stands in `monitors/job_gate.mon`. Expresso makes a module of it, in
-//! which nobody had to write a signal. The jobs themselves lie beside it, in a mutex of their own
-//! that is held for a single push or pop.
+//! which nobody had to write a signal, and which keeps the jobs under its own mutex.
 
 #![forbid(unsafe_code)]
 #![warn(missing_docs)]

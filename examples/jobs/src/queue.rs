@@ -1,20 +1,15 @@
 use std::collections::VecDeque;
 use std::error::Error;
 use std::fmt;
-use std::sync::{Mutex, MutexGuard, PoisonError};
 
-use crate::job_gate::{Failed, JobGate};
-
-/// Why a call of the gate can't fail: its numbers stay between 0 and the capacity.
-const SMALL: &str = "the gate counts no further than its capacity";
+use crate::job_gate::{JobGate, Refused};
 
 /// A queue with room for [`CAPACITY`](Self::CAPACITY) jobs, first in, first out.
 ///
 /// Threads share it by reference. Each job that was pushed is popped once, by one thread.
 #[derive(Debug)]
 pub struct JobQueue<T> {
-    gate: JobGate,
-    jobs: Mutex<VecDeque<T>>,
+    gate: JobGate<VecDeque<T>>,
 }
 
 impl<T> JobQueue<T> {
@@ -25,8 +20,7 @@ impl<T> JobQueue<T> {
     #[must_use]
     pub fn new() -> Self {
         Self {
-            gate: JobGate::new(),
-            jobs: Mutex::new(VecDeque::with_capacity(Self::CAPACITY)),
+            gate: JobGate::with_data(VecDeque::with_capacity(Self::CAPACITY)),
         }
     }
 
@@ -36,12 +30,13 @@ impl<T> JobQueue<T> {
     ///
     /// [`Closed`], with the job, where the queue is closed or is closed while the call waits.
     pub fn push(&self, job: T) -> Result<(), Closed<T>> {
-        if self.gate.reserve().expect(SMALL) {
-            self.store(job);
+        self.gate.push_with(|jobs, open| {
+            if !open {
+                return Err(Closed(job));
+            }
+            jobs.push_back(job);
             Ok(())
-        } else {
-            Err(Closed(job))
-        }
+        })
     }
 
     /// Puts a job at the end, and does not wait for room.
@@ -50,14 +45,17 @@ impl<T> JobQueue<T> {
     ///
     /// [`TryPushError`], with the job, where there is no room or the queue is closed.
     pub fn try_push(&self, job: T) -> Result<(), TryPushError<T>> {
-        match self.gate.try_reserve() {
-            Ok(true) => {
-                self.store(job);
-                Ok(())
+        // Lent to the function, so that a call that is refused gives it back.
+        let mut job = Some(job);
+        let pushed = self.gate.try_push_with(|jobs, open| {
+            if open {
+                jobs.extend(job.take());
             }
-            Ok(false) => Err(TryPushError::Closed(job)),
-            Err(Failed::Refused) => Err(TryPushError::Full(job)),
-            Err(Failed::Overflow) => panic!("{SMALL}"),
+        });
+        match (pushed, job) {
+            (_, None) => Ok(()),
+            (Ok(()), Some(job)) => Err(TryPushError::Closed(job)),
+            (Err(Refused), Some(job)) => Err(TryPushError::Full(job)),
         }
     }
 
@@ -65,7 +63,7 @@ impl<T> JobQueue<T> {
     ///
     /// `None` says that the queue is closed and that its last job is gone.
     pub fn pop(&self) -> Option<T> {
-        self.gate.claim().then(|| self.take())
+        self.gate.pop_with(|jobs, _found| jobs.pop_front())
     }
 
     /// Takes jobs, and waits for them, until the queue is closed and its last job is gone.
@@ -82,34 +80,12 @@ impl<T> JobQueue<T> {
 
     /// How many jobs lie in the queue at this moment.
     pub fn len(&self) -> usize {
-        self.jobs().len()
+        self.gate.look_with(|jobs| jobs.len())
     }
 
     /// Whether no job lies in the queue at this moment.
     pub fn is_empty(&self) -> bool {
-        self.jobs().is_empty()
-    }
-
-    /// Stores a job for which there is a place, and only then says that it is there.
-    fn store(&self, job: T) {
-        {
-            let mut jobs = self.jobs();
-            debug_assert!(jobs.len() < Self::CAPACITY, "a place was reserved");
-            jobs.push_back(job);
-        }
-        self.gate.publish().expect(SMALL);
-    }
-
-    /// Takes a job that was claimed, and only then gives its place away.
-    fn take(&self) -> T {
-        let job = self.jobs().pop_front().expect("a claimed job was stored");
-        self.gate.release().expect(SMALL);
-        job
-    }
-
-    /// The jobs. A thread that panics holding them has changed nothing, so poison is of no account.
-    fn jobs(&self) -> MutexGuard<'_, VecDeque<T>> {
-        self.jobs.lock().unwrap_or_else(PoisonError::into_inner)
+        self.len() == 0
     }
 }
 
@@ -170,53 +146,31 @@ impl<T> Error for TryPushError<T> {}
 #[cfg(test)]
 mod tests {
     use super::*;
-    use crate::job_gate::Refused;
 
-    /// What goes wrong where a job is published before it is stored: another thread claims it and
-    /// finds nothing. The two threads are played by one here, in the order that harms.
+    /// The gate counts the jobs: so many are there whenever another thread may look.
     #[test]
-    fn a_job_is_stored_before_it_is_published() {
-        let queue = JobQueue::new();
-        // Thread A, wrongly: publish, and be held up before the push.
-        assert_eq!(queue.gate.reserve(), Ok(true));
-        assert_eq!(queue.gate.publish(), Ok(()));
-        // Thread B: it is let in, and there is no job.
-        assert!(queue.gate.claim());
-        assert_eq!(queue.jobs().pop_front(), None);
-        // Thread A goes on, too late.
-        queue.jobs().push_back("a job that nobody comes for");
-        assert_eq!(queue.len(), 1);
-        assert_eq!(queue.gate.try_claim(), Err(Refused));
-    }
-
-    /// A thread that was let in before the close is waited for, so that its job is done.
-    #[test]
-    fn nobody_leaves_while_a_job_is_on_its_way() {
-        let queue = JobQueue::new();
-        // Thread A: let in, and held up before the push.
-        assert_eq!(queue.gate.reserve(), Ok(true));
-        queue.close();
-        // Thread B: neither a job nor the end.
-        assert_eq!(queue.gate.try_claim(), Err(Refused));
-        // Thread A goes on.
-        queue.store("the last job");
-        assert_eq!(queue.pop(), Some("the last job"));
-        assert_eq!(queue.pop(), None);
-    }
-
-    /// What goes wrong where a place is released before its job is taken out: the next push finds
-    /// the queue as full as it may be.
-    #[test]
-    fn a_place_is_released_after_its_job_is_taken() {
+    fn the_gate_counts_the_jobs() {
         let queue = JobQueue::new();
         for job in 0..JobQueue::<usize>::CAPACITY {
-            queue.push(job).unwrap();
+            assert_eq!(queue.len(), job);
+            assert_eq!(queue.push(job), Ok(()));
         }
-        // Thread A, wrongly: release, and be held up before the pop.
-        assert!(queue.gate.claim());
-        assert_eq!(queue.gate.release(), Ok(()));
-        // Thread B: it is let in, and there is no room.
-        assert_eq!(queue.gate.try_reserve(), Ok(true));
-        assert_eq!(queue.len(), JobQueue::<usize>::CAPACITY);
+        assert_eq!(queue.gate.try_push(), Err(Refused));
+        assert_eq!(queue.try_push(99), Err(TryPushError::Full(99)));
+        assert_eq!(queue.pop(), Some(0));
+        assert_eq!(queue.try_push(99), Ok(()));
+    }
+
+    /// A function that panics leaves the gate as it was.
+    #[test]
+    fn a_panic_pushes_nothing() {
+        use std::panic::{catch_unwind, AssertUnwindSafe};
+        let queue = JobQueue::<u8>::new();
+        let pushed = catch_unwind(AssertUnwindSafe(|| queue.gate.push_with(|_, _| panic!("no"))));
+        assert!(pushed.is_err());
+        assert!(queue.gate.is_poisoned());
+        assert!(queue.is_empty());
+        assert_eq!(queue.push(1), Ok(()));
+        assert_eq!(queue.pop(), Some(1));
     }
 }
