@@ -167,8 +167,9 @@ def slip_monitors():
 
 
 def audits(checker):
-    """The plan that GUIDE shows, and each message of its table on plans."""
-    lock = next(it for it in re.findall(BLOCK, GUIDE, re.M) if it.startswith("plan Lock\n"))
+    """The plans that GUIDE shows, each message of its table on plans, and a state that it shows of what is unproved."""
+    lock, slots, state = (next(it for it in re.findall(BLOCK, GUIDE, re.M) if it.startswith(start))
+                          for start in ("plan Lock\n", "plan Buffer\ncondition", "unproved: none put 2\n"))
     whole = lock.replace("release: none", "release: 1 signal")
     reach, add = "method reach(int n) waituntil (n <= x) { }", "method add() waituntil (true) { x = x + 1; }"
     level = checker.file("level.mon", f"monitor Level {{ int x = 0; {reach} {add} }}")
@@ -199,6 +200,9 @@ def audits(checker):
     for number, (monitor, text, line) in enumerate(rows):
         file = checker.file(f"{number}.plan", text)
         checker.wants("GUIDE", int(line != "lawful"), line.replace("PLAN", file) + "\n", ["audit", monitor, file])
+    for note, text in ("2 signal", "lawful\n"), ("none", state):
+        file = checker.file("slots.plan", slots.replace("put: 2 signal", f"put: {note}"))
+        checker.wants("GUIDE", int(text == state), text, ["audit", "--count", four, file])
 
 
 def main(words):

@@ -22,8 +22,10 @@ from tables import Tables  # noqa: E402
 RANDOM_PLANS, SEED = 20, 53
 
 # Plans of the rows that `audit --count` refuses though no wake-up of three clients is lost: nobody waits for `true`;
-# whoever waits to be `drained` is woken by broadcasts alone; and where nothing is left nobody can `grow`.
-HARMLESS = {"unproved: counts 2 release", "unproved: counts 3 drained", "unproved: gives 1 grow"}
+# whoever waits to be `drained` is woken by broadcasts alone; where nothing is left nobody can `grow`; and nothing rests
+# on what is kept.
+HARMLESS = {"unproved: counts 2 release", "unproved: counts 3 drained", "unproved: gives 1 grow",
+            "unproved: keep count <= 3 put", "unproved: keep x >= 0 m"}
 
 # Counted wrongly: one signal is for two, and for one none is needed; or one is for any number.
 FAULTS = {"more": 1}, {"most": 1}
@@ -36,7 +38,7 @@ def plans_of_rows():
         if "--count" in call.words and (command, call.status) == ("compile", "Done"):
             yield call.row, call.files[files[0]].decode(), call.text.decode(), "lawful"
         elif "--count" in call.words and command == "audit" and call.text.startswith((b"lawful", b"un")):
-            yield call.row, *(call.files[name].decode() for name in files), call.text.decode().strip()
+            yield call.row, *(call.files[name].decode() for name in files), call.text.decode().splitlines()[0]
 
 
 def random_monitor(chance):

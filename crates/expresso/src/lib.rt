@@ -7,10 +7,11 @@
 //! schedule in place of threads, `stress` runs a large input, and `block` has a caller for each
 //! client run it in place of workers. `report` prints the plan with a certificate of each claim
 //! that it rests on, and `recheck` checks such a text without the prover. `audit` says whether a
-//! plan that was written by hand is lawful, with `--count` also by counting, or what it lacks.
-//! `explain` prints a plan, with `--count` the counted one, with a state that shows why each thing
-//! stands in it that costs something. `emit` prints a monitor under the counted plan as a module of
-//! Rust, for threads of any program to call. `--version` prints the program's name and version.
+//! plan that was written by hand is lawful, with `--count` also by counting, or what it lacks, then
+//! with a state that shows why. `explain` prints a plan, with `--count` the counted one, with a
+//! state that shows why each thing stands in it that costs something. `emit` prints a monitor under
+//! the counted plan as a module of Rust, for threads of any program to call. `--version` prints the
+//! program's name and version.
 //!
 //! `--relay` asks for the plan with its signals relayed, and `--count` for the counted plan; of
 //! both the placed and the counted one `report` prints the certificates.

@@ -395,7 +395,7 @@ pub record IsPlanRefusal (held : List ℕ
   pub bytes : List ℕ
   pub holds : HoldsMonitor held monitor_file tree monitor
   pub told : HoldsBytes held plan_file bytes
-  pub line : IsPlanRefusalLine count monitor plan_file bytes text
+  pub line : IsPlanRefusalLine count tree monitor plan_file bytes text
 
 -- the line of the first of both files that is not accepted
 abbrev pub IsAuditRefusal : (List ℕ → Option (List ℕ)) → Bool → List ℕ → List ℕ → List ℕ → Type 0

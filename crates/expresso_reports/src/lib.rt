@@ -3,9 +3,10 @@
 //! `report` prints the plan of a monitor with a certificate of each claim that it rests on
 //! ([`report_file`], with `--fits` [`report_fits`]), and `recheck` checks such a text without the
 //! prover ([`recheck_files`]). `audit` says whether a plan that was written by hand is lawful, with
-//! `--count` also by counting, or what it lacks ([`audit_files`]). `explain` prints a plan, with
-//! `--count` the counted one, with a state that shows why each thing stands in it that costs
-//! something ([`explain_file`], [`explain_counted_file`], with `--fits` [`explain_fits`]).
+//! `--count` also by counting, or what it lacks, then with a state that shows why
+//! ([`audit_files`]). `explain` prints a plan, with `--count` the counted one, with a state that
+//! shows why each thing stands in it that costs something ([`explain_file`],
+//! [`explain_counted_file`], with `--fits` [`explain_fits`]).
 //!
 //! Each call ends as `CommandEnds` of `expresso_answers` says of its command. The laws of `laws`
 //! say that no wake-up is lost under what `recheck` accepts or `audit` calls lawful, and that

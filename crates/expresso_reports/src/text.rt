@@ -7,6 +7,7 @@ ghost use Rattle.plan_counted.specs.Counted.{AreBacked};
 ghost use Rattle.report_recheck.specs.Reports.{placed_text};
 ghost use Rattle.report_tally.specs.CountedTexts.{counted_text};
 ghost use Rattle.report_audit.specs.FindingText.{finding_text};
+ghost use Rattle.report_failures.specs.FailureText.{failing_finding_text};
 ghost use Rattle.expresso_answers.specs.Texts.{count_explained_text, explained_text};
 ghost use Rattle.expresso_reports.specs.inner.Auditing.{audit_status};
 ghost use Rattle.expresso_answers.specs.Ending.{IsWritten};
@@ -18,7 +19,9 @@ use lang_monitor::Monitor;
 use lang_tree::MonitorTree;
 use machine_events::Plan;
 use plan_place::PlacedPlan;
+use plan_why::Failure;
 use report_audit::{Finding, write_finding};
+use report_failures::write_failing_finding;
 use report_reasons::{write_broadcast_reasons, write_reasons};
 use report_recheck::write_report;
 use report_tally::write_counted_report;
@@ -130,5 +133,22 @@ pub(crate) fn show_finding<S: Sink>(
         (S.seen out.old) (S.seen out.new) }
 {
     let outcome = write_finding(monitor, plan, &finding, out);
+    finish(audit_status(finding), outcome, out)
+}
+
+/// Writes that line, and of a claim or a question that it names why it has no certificate.
+pub(crate) fn show_failing_finding<S: Sink>(
+    tree: &MonitorTree,
+    monitor: &Monitor,
+    plan: &Plan,
+    finding: Finding,
+    failure: Option<Failure>,
+    out: &mut S,
+) -> Status
+    ensures { IsWritten (audit_status finding)
+        (failing_finding_text tree.now monitor.now plan.now finding failure) result
+        (S.seen out.old) (S.seen out.new) }
+{
+    let outcome = write_failing_finding(tree, monitor, plan, finding, failure, out);
     finish(audit_status(finding), outcome, out)
 }

@@ -1,0 +1,3 @@
+pub mod FindingFailures
+pub mod FailureText
+pub mod inner
