@@ -3,14 +3,20 @@
 
 It reads a module as it is printed, statement by statement, and shares no code with the product. Each of two or three
 threads makes any few calls, of any methods with any of a few arguments, or stops. A sleeper may wake by nothing at any
-time. So that numbers leave their width soon, the test `narrow` takes WIDTH as the most.
+time, and a function that a call is given may panic. So that numbers leave their width soon, the test `narrow` takes
+WIDTH as the most.
+
+The data of a module are the fields once more: what a body does to the fields, the function that the call is given does
+to the data, and where none is given they change with the fields.
 
 Checked of each state that is reached, where nobody holds the mutex:
 
   counts    the count of a condition is how many are in `wait` on it
   pending   where a thread sleeps whose guard is true, one is woken on its condition, or has a note on it to make
   guards    a body runs only where its guard is true
-  changes   a call that is refused, or overflows, has changed nothing in its last block
+  changes   a call that is refused, or overflows, or whose function panics, has changed nothing in its last block
+  data      the data are as the fields: each function runs once, and while its thread has the mutex
+  poison    where a function has panicked the mutex is still taken
 
 What a thread does while it has the mutex is one step: nothing else reaches what the mutex guards. It ends with status 1
 where a module breaks one of these, or where a fault does not break the one that it should.
@@ -30,7 +36,7 @@ from emitted import Source, module_text  # noqa: E402
 ROOT = pathlib.Path(__file__).resolve().parent.parent
 WIDTH = 2
 KINDS = {"i64": (1, 2), "bool": (False, True)}
-MOST_STATES = 20_000
+MOST_STATES = 40_000
 
 
 class Broken(Exception):
@@ -88,16 +94,21 @@ def function(head, lines, constants):
 
 # ---- the statements of methods
 # a statement, by its kind, with what it names; `jump` is the number of the one that comes next where it is jumped
-Step = namedtuple("Step", "kind what more jump", defaults=(None, None, None))
+Step = namedtuple("Step", "kind what more jump", defaults=(None, (), None))
 Method = namedtuple("Method", "inputs locals steps")
 CALL = r"inner\.state\.(\w+)\((.*)\)"
 FORMS = [  # a line, its kind, and which of its groups are kept
     (r"let mut inner = lock\(&self\.inner\);", "lock"), (rf"while !{CALL} {{", "while"), (rf"if !{CALL} {{", "unless"),
     (r"inner\.(\w+) (\+|-)= 1;", "count"), (r"inner = wait\(&self\.(\w+), inner\);", "wait"),
     (r"return Err\((?:Failed::)?(\w+)\);", "return"), (rf"(?:let answer = )?{CALL}(\?)?;", "run"),
-    (rf"let Ok\(.*\) = {CALL} else {{", "else"), (r"let copy = \*inner;", "copy"), (r"drop\(inner\);", "drop"),
+    (rf"let Ok\(.*\) = {CALL} else {{", "else"), (r"let copy = inner\.copy\(\);", "copy"), (r"drop\(inner\);", "drop"),
     (r"if copy\.(\w+) > 0(?: && copy\.state\.(\w+)\(\))? {", "if"), (r"self\.(\w+)\.notify_(one|all)\(\);", "notify"),
-    (r"let mut (\w+): \w+ = (.*);", "local"), (r"};?", "end"), (r"Ok\(.*\)|answer", "answer"),
+    (r"let mut (\w+): \w+ = (.*);", "local"), (r"};?", "end"), (r"Ok\(.*\)|answer|result", "answer"),
+    # of a call that is given a function
+    (r"let hand = HandOn\(&self\.(\w+)\);", "hand"), (r"let mut next = inner\.state;", "next"),
+    (r"(?:let answer = )?next\.(\w+)\((.*)\)(\?)?;", "work"),
+    (r"let result = f\(&mut inner\.data(?:, answer)?\);", "give"), (r"std::mem::forget\(hand\);", "forget"),
+    (r"inner\.state = next;", "keep"),
 ]
 
 
@@ -143,10 +154,12 @@ class Module:
             made = function(head, body.splitlines(), constants)
             self.functions[made.__name__] = made
         self.methods = {}
-        method = r"^    pub fn (\w+)\(&self(.*?)\).* \{\n((?:        .*\n)*)    \}"
+        method = r"^    pub fn (?!is_poisoned\b)(\w+)(?:<R>)?\(&self(.*?)\).* \{\n((?:        .*\n)*)    \}"
         for name, taken, body in re.findall(method, text, re.M):
             steps, locals_ = steps_of(body.splitlines())
-            self.methods[name] = Method(re.findall(r", (\w+): (\w+)", taken), locals_, steps)
+            self.methods[name] = Method(re.findall(r", (\w+): (i64|bool)", taken), locals_, steps)
+        self.hands_on = bool(re.search(r"^impl Drop for HandOn<'_> \{\n.*\n +self\.0\.notify_one\(\);", text, re.M))
+        self.heeds_poison = bool(re.search(r"\.(lock\(\)|wait\(inner\))\s*\.unwrap\(\)", text))
         self.call = functools.lru_cache(None)(self.call)
 
     def calls(self):
@@ -173,8 +186,9 @@ class Module:
 # A thread has so many calls left. In one it is at a statement, asleep or woken on a condition; it knows the values of
 # inputs and locals, and the copy that its notes hang on.
 Thread = namedtuple("Thread", "left where method at known copy", defaults=("out", None, 0, (), None))
-# the thread that has the mutex, and the rest of the state
-Held = namedtuple("Held", "thread fields counts others before")
+# The thread that has the mutex, and the rest of the state; the fields when it took the mutex, and the data. Of a call
+# that is given a function: the copy of the fields, the condition that is told where it stops short, and what it does.
+Held = namedtuple("Held", "thread fields counts others before data next hand turn", defaults=(None, None, None))
 
 
 class Explorer:
@@ -205,6 +219,8 @@ class Explorer:
                 thread = thread._replace(at=thread.at + 1 if self.is_called_for(thread.copy, step) else step.jump)
             elif step.kind == "answer":
                 return Thread(thread.left)
+            elif step.kind not in ("notify", "lock"):
+                raise Broken("data")
             else:
                 return thread if step.kind == "notify" else thread._replace(copy=None)
 
@@ -214,11 +230,22 @@ class Explorer:
         for some in [asleep] if all_ or not asleep else [[one] for one in asleep]:
             yield tuple(one._replace(where=("woken", name)) if k in some else one for k, one in enumerate(threads))
 
-    def ends(self, held, how):
+    def released(self, held, *threads):
+        """The mutex is given back."""
+        if held.data != held.fields:
+            raise Broken("data")
+        return held.fields, held.counts, held.others + threads
+
+    def ends(self, held, is_done):
         """The call is over, and the mutex is given back."""
-        if how != "answer" and held.fields != held.before:
+        if not is_done and held.fields != held.before:
             raise Broken("changes")
-        return held.fields, held.counts, held.others + (Thread(held.thread.left),)
+        return self.released(held, Thread(held.thread.left))
+
+    def stops(self, held):
+        """The call ends short of its answer, with a number or a panic; before that `hand` is dropped."""
+        for woken in self.woken(held.others, held.hand if self.m.hands_on else None, False):
+            yield self.ends(held._replace(others=woken), False)
 
     def jumps(self, thread, step, fields):
         if step.kind == "if":
@@ -227,38 +254,71 @@ class Explorer:
 
     def section(self, held):
         """What a thread that has the mutex does, up to where it gives it back, in each way."""
-        thread, fields, counts, others, _ = held
+        thread, fields = held.thread, held.fields
         step, after = self.step(thread), thread._replace(at=thread.at + 1)
         if step.kind in ("while", "unless", "if", "goto"):
             at = step.jump if self.jumps(thread, step, fields) else after.at
             yield from self.section(held._replace(thread=thread._replace(at=at)))
-        elif step.kind == "count":
-            by = 1 if step.more == ("+",) else -1
-            yield from self.section(held._replace(thread=after, counts=self.counted(counts, step.what, by)))
-        elif step.kind == "wait":
-            yield fields, counts, others + (after._replace(where=("asleep", step.what)),)
-        elif step.kind in ("run", "else"):
+        elif step.kind in ("run", "else", "work"):
             yield from self.body(held, step, after)
-        elif step.kind == "copy":
-            yield from self.section(held._replace(thread=after._replace(copy=(fields, counts))))
-        elif step.kind == "drop":
-            yield fields, counts, others + (self.on(after),)
+        elif step.kind == "give":
+            yield from self.function(held, after)
         elif step.kind == "notify":
-            for woken in self.woken(others, step.what, step.more == ("all",)):
+            for woken in self.woken(held.others, step.what, step.more == ("all",)):
                 yield from self.section(held._replace(thread=after, others=woken))
+        elif step.kind == "wait":
+            yield self.released(held, after._replace(where=("asleep", step.what)))
+        elif step.kind == "drop":
+            yield self.released(held, self.on(after))
+        elif step.kind in ("return", "answer"):
+            yield self.ends(held, step.kind == "answer")
         else:
-            yield self.ends(held, step.what or "answer")
+            yield from self.section(self.changed(held._replace(thread=after), step))
+
+    def changed(self, held, step):
+        """After a statement that has one outcome."""
+        if step.kind == "count":
+            by = 1 if step.more == ("+",) else -1
+            return held._replace(counts=self.counted(held.counts, step.what, by))
+        if step.kind == "copy":
+            return held._replace(thread=held.thread._replace(copy=(held.fields, held.counts)))
+        if step.kind in ("hand", "forget"):
+            return held._replace(hand=step.what)
+        if step.kind == "next":
+            return held._replace(next=held.fields)
+        if step.kind == "keep":
+            return held._replace(fields=held.next)
+        raise Broken(f"no statement of a section: {step.kind}")
 
     def body(self, held, step, after):
+        """The body of a block, on the fields or on the copy of them."""
         test = self.guard(after)
         if test.kind != "lock" and not self.truth(after, test, held.fields):
             raise Broken("guards")
-        answer, fields, known = self.m.call(step.what, step.more[0], held.fields, after.known)
-        if answer is OverflowError and step.kind == "run":
-            yield self.ends(held._replace(fields=fields), "Overflow")
+        works, (handed, *_) = step.kind == "work", step.more
+        answer, fields, known = self.m.call(step.what, handed, held.next if works else held.fields, after.known)
+        if answer is OverflowError and step.kind != "else":
+            yield from self.stops(held if works else held._replace(fields=fields))
+            return
+        at = step.jump if step.kind == "else" and answer is not OverflowError else after.at
+        held = held._replace(thread=after._replace(at=at, known=known))
+        if works:
+            yield from self.section(held._replace(next=fields, turn=(step.what, handed, after.known)))
         else:
-            at = step.jump if step.kind == "else" and answer is not OverflowError else after.at
-            yield from self.section(held._replace(thread=after._replace(at=at, known=known), fields=fields))
+            yield from self.section(held._replace(fields=fields, data=held.data if answer is OverflowError else fields))
+
+    def function(self, held, after):
+        """The function that the call is given returns, or panics."""
+        if held.turn is None or self.m.heeds_poison:
+            raise Broken("poison" if held.turn else "data")
+        name, handed, known = held.turn
+        _, data, _ = self.m.call(name, handed, held.data, known)
+        yield from self.section(held._replace(thread=after, data=data))
+        yield from self.stops(held)
+
+    def taken(self, thread, fields, counts, others):
+        """The mutex is taken."""
+        return Held(thread, fields, counts, others, before=fields, data=fields)
 
     def moves(self, fields, counts, threads):
         for k, one in enumerate(threads):
@@ -268,13 +328,13 @@ class Explorer:
             if one.where == "out" and one.left:
                 for name, given in self.m.calls():
                     called = Thread(one.left - 1, "at", name, 1, given + self.m.methods[name].locals)
-                    yield from self.section(Held(called, fields, counts, others, fields))
+                    yield from self.section(self.taken(called, fields, counts, others))
             elif one.where[0] == "asleep":
                 yield fields, counts, others + (one._replace(where=("woken", one.where[1])),)
             elif one.where[0] == "woken":
-                yield from self.section(Held(one._replace(where="at"), fields, counts, others, fields))
+                yield from self.section(self.taken(one._replace(where="at"), fields, counts, others))
             elif one.where == "at" and self.step(one).kind == "lock":
-                yield from self.section(Held(one._replace(at=one.at + 1), fields, counts, others, fields))
+                yield from self.section(self.taken(one._replace(at=one.at + 1), fields, counts, others))
             elif one.where == "at":
                 step = self.step(one)
                 for woken in self.woken(others, step.what, step.more == ("all",)):
@@ -341,14 +401,16 @@ CASES = {
 Fault = namedtuple("Fault", "name module calls breaks text instead")
 LOOP = r"( +inner = wait\(.*\n)( +inner\.\w+ -= 1;\n)"
 NOTE = r"        if copy\.asleep_get > 0 \{\n    (.*\n)        \}\n"
+GIVEN = r"(.*f\(&mut inner.*\n)(.*forget.*\n)?(        inner\.state = next;\n)"
+AFTER = r"(.*f\(&mut inner.*\n)((?:.*\n)*?        drop\(inner\);\n)"
 FAULTS = [
     Fault("who waits is not counted", "buffer", (2, 1), "counts", r" +inner\.\w+ \+= 1;\n", ""),
     Fault("the count is taken off before the wait", "buffer", (2, 1), "counts", LOOP, r"\2\1"),
     Fault("the count of another condition", "buffer", (2, 1), "pending", r"copy\.asleep_get", "copy.asleep_put"),
     Fault("the count is read before the wait", "buffer", (2, 2), "pending",
-          r"(        while (?:.*\n){6})        let copy = \*inner;\n", r"        let copy = *inner;\n\1"),
+          r"(        while (?:.*\n){6})        let copy = inner\.copy\(\);\n", r"        let copy = inner.copy();\n\1"),
     Fault("the state is read before the body", "readers_writers", (2, 2), "pending",
-          r"(        inner\.state\.run_end_read\(\);\n)(        let copy = \*inner;\n)", r"\2\1"),
+          r"(        inner\.state\.run_end_read\(\);\n)(        let copy = inner\.copy\(\);\n)", r"\2\1"),
     Fault("an `if` for a `while`", "buffer", (2, 1), "guards", r"while !", "if !"),
     Fault("a wait on another condition", "buffer", (2, 1), "counts", r"wait\(&self\.can_put", "wait(&self.can_get"),
     Fault("a note on another condition", "buffer", (2, 1), "pending", r"can_get\.notify", "can_put.notify"),
@@ -361,6 +423,18 @@ FAULTS = [
           r"(        next\.total = .*\n)(        \*self = next;\n)", r"\2\1"),
     Fault("a refusal that changes something", "buffer", (2, 1), "changes",
           r"(        if !inner(?:.*\n){3})(        inner\.state\.run_put\(\);\n)", r"\2\1"),
+    Fault("no note where the function panics", "buffer", (1, 1, 1), "pending", r" +self\.0\.notify_one\(\);\n", ""),
+    Fault("a note of another condition where it panics", "buffer", (1, 1, 1), "pending", r"HandOn\(&self\.can_get",
+          "HandOn(&self.can_put"),
+    Fault("the note is forgotten before the function", "buffer", (1, 1, 1), "pending",
+          r"(hand = .*can_get(?:.*\n){3})(.*f\(.*\n)(.*forget.*\n)", r"\1\3\2"),
+    Fault("the state is stored before the function", "buffer", (2, 1), "changes", GIVEN, r"\3\1\2"),
+    Fault("a function after the mutex is given back", "buffer", (2, 1), "data", AFTER, r"\2\1"),
+    Fault("a function of a call that is refused", "buffer", (2, 1), "data",
+          r"(        if !inner(?:.*\n){3}(?:.*\n){3})(.*f\(.*\n)", r"\2\1"),
+    Fault("no function", "buffer", (2, 1), "data", r".*f\(&mut inner.*\n", ""),
+    Fault("a function that runs twice", "buffer", (2, 1), "data", r"(.*f\(&mut inner.*\n)", r"\1\1"),
+    Fault("a lock that heeds poison", "buffer", (1, 1), "poison", r"(\.lock\(\)\.unwrap)_or_else\(.*\)", r"\1()"),
     Fault("a note whatever the count: no fault", "buffer", (3, 2), None, NOTE, r"\1"),
 ]
 
