@@ -4,10 +4,11 @@
   emitted_random.py MONITORS [SEED]     so many monitors; SEED is 1 where it is left out
 
 Each module is compiled by rustc in both editions without a warning, and called on one thread: what
-the calls answer must be what plain arithmetic over the monitor's text says. EXPRESSO=PROGRAM takes
-the modules of that program, which must be those of the second printer, tools/emitted.py; without it
-those of the second printer alone are taken, under a plan that wakes everyone. Which blocks keep 64
-bits is what tools/fits.py finds. It ends with status 1 where one differs.
+the calls answer must be what plain arithmetic over the monitor's text says. Some calls are given a
+function, which counts in the data how many ran, or panics. EXPRESSO=PROGRAM takes the modules of
+that program, which must be those of the second printer, tools/emitted.py; without it those of the
+second printer alone are taken, under a plan that wakes everyone. Which blocks keep 64 bits is what
+tools/fits.py finds. It ends with status 1 where one differs.
 """
 
 import math
@@ -23,13 +24,14 @@ sys.dont_write_bytecode = True
 ROOT = pathlib.Path(__file__).resolve().parent.parent
 sys.path.insert(0, str(ROOT / "tools"))
 
-from emitted import Source, module_text  # noqa: E402
+from emitted import Source, has_try, has_with, module_text  # noqa: E402
 from fits import whole_blocks  # noqa: E402
 from trees import If, Return, read_tree  # noqa: E402
 
 WORDS = ("self Self _ __ Ok Err Some None state State next answer match match_ try startRead start_read x X y new lock "
          "wait drop narrow inner Inner copy asleep_x Overflow Mutex Option Refused Failed From i64 i128 std async dyn a__b can_x run_x x_ "
-         "_x await clone Result try_x try_new_ box gen readX read_x").split()
+         "_x await clone Result try_x try_new_ box gen readX read_x f hand result data Data D R HandOn FnOnce Drop "
+         "with_data get_mut into_inner is_poisoned x_with try_x_with readX_with try_start_read_with Default").split()
 LEAST, MOST = -2 ** 63, 2 ** 63 - 1
 CALLS, BATCH, LONG = 40, 20, 0.01
 SIGNS = "==", "!=", "<", "<=", ">", ">="
@@ -194,44 +196,94 @@ def shown(answer):
     return "()" if answer is None else str(answer).lower()
 
 
-def called(source, method, first, arguments, state, tries):
-    """What a call answers and the state after it; None where it would wait."""
-    fails = any(map(source.fails, range(first, first + len(method.blocks))))
+# what a call comes to: "Ok", "Refused" or "Overflow"; its answer, the fields after it, and those before its last block
+Outcome = namedtuple("Outcome", "end answer state before")
+
+
+def called(method, arguments, state, tries):
+    """What a call comes to; None where it would wait."""
     known, own = dict(state), [one.name for one in method.inputs + method.own_locals]
     known |= dict(zip(own, arguments + [literal(one.start) for one in method.own_locals]))
-    answer = None
+    answer, before = None, state
     for number, block in enumerate(method.blocks):
         if not value(block.guard, known):
-            return ("Err(Refused)", state) if tries and not number else None
-        after = dict(known)
+            return Outcome("Refused", None, state, state) if tries and not number else None
+        after, before = dict(known), {name: known[name] for name in state}
         try:
             answer = run(block.body, after)
         except Overflow:
-            return "Err(Overflow)", {name: known[name] for name in state}
+            return Outcome("Overflow", None, before, before)
         known = after
-    return f"Ok({shown(answer)})" if fails or tries else shown(answer), {name: known[name] for name in state}
+    return Outcome("Ok", answer, {name: known[name] for name in state}, before)
+
+
+# what calls are given, that have no answer or have one
+FUNCTIONS = {
+    ("counts", False): ["|ran| { *ran += 1; *ran }"], ("counts", True): ["|ran, answer| { *ran += 1; (*ran, answer) }"],
+    ("panics", False): ["|_| -> i32 { panic!() }"], ("panics", True): ["|_, _| -> i32 { panic!() }"],
+}
+
+
+class Caller:
+    """Makes statements that call and print, and the lines that they should print."""
+
+    def __init__(self, source, dice):
+        self.source, self.dice, self.lines, self.wanted = source, dice, [], []
+        self.state = {one.name: literal(one.start) for one in source.tree.declared}
+        self.ran, self.is_poisoned, self.methods, first = 0, False, [], 0
+        for method in source.tree.methods:
+            self.methods.append((method, first))
+            first += len(method.blocks)
+
+    def prints(self, text, wanted):
+        self.lines.append(f'    println!("{{:?}}", {text});')
+        self.wanted.append(wanted)
+
+    def call(self):
+        """Any method with any arguments, in one of three ways, where it wouldn't wait."""
+        method, first = self.dice.choice(self.methods)
+        names, tries = self.source.names, has_try(self.source, method, first)
+        arguments = [self.dice.random() < 0.5 if one.kind == "bool" else self.dice.choice([0, 1, -1, 5, MOST, LEAST])
+                     for one in method.inputs]
+        outcome = called(method, arguments, self.state, tries)
+        if outcome is None:
+            return
+        fails = any(map(self.source.fails, range(first, first + len(method.blocks))))
+        way = self.dice.choice(["plain", "counts", "counts", "panics"])
+        way = way if has_with(self.source, method, tries) else "plain"
+        answers = bool(self.source.answer(first + len(method.blocks) - 1))
+        given = [*map(shown, arguments), *FUNCTIONS.get((way, answers), [])]
+        name = ("try_" if tries else "") + (names.member if way == "plain" else names.working)(method.name)
+        text = f"monitor.{name}({', '.join(given)})"
+        if way == "panics":
+            self.panics(outcome, text)
+        else:
+            self.returns(outcome, text, fails or tries, way == "counts", answers)
+
+    def panics(self, outcome, text):
+        """Only the blocks before the last one have changed something."""
+        does = outcome.end == "Ok"
+        self.state, self.is_poisoned = outcome.before if does else outcome.state, self.is_poisoned or does
+        self.prints(f"catch_unwind(AssertUnwindSafe(|| {text})).is_err()", shown(does))
+
+    def returns(self, outcome, text, is_result, counts, answers):
+        self.state, answer = outcome.state, shown(outcome.answer)
+        if counts and outcome.end == "Ok":
+            self.ran += 1
+            answer = f"({self.ran}, {answer})" if answers else str(self.ran)
+        done = f"Ok({answer})" if is_result else answer
+        self.prints(text, done if outcome.end == "Ok" else f"Err({outcome.end})")
 
 
 def calls_of(source, dice):
     """Statements that call and print, and the lines that they should print."""
-    names, tree = source.names, source.tree
-    state = {one.name: literal(one.start) for one in tree.declared}
-    firsts, lines, wanted, first = [], [], [], 0
-    for method in tree.methods:
-        firsts.append((method, first))
-        first += len(method.blocks)
+    caller = Caller(source, dice)
     for _ in range(CALLS):
-        method, first = dice.choice(firsts)
-        tries = source.is_waited_on(source.condition_of(first)) and names.is_free(names.tried(method.name))
-        arguments = [dice.random() < 0.5 if one.kind == "bool" else dice.choice([0, 1, -1, 5, MOST, LEAST])
-                     for one in method.inputs]
-        answered = called(source, method, first, arguments, state, tries)
-        if answered is not None:
-            line, state = answered
-            name = names.tried(method.name) if tries else names.member(method.name)
-            lines.append(f'    println!("{{:?}}", monitor.{name}({", ".join(map(shown, arguments))}));')
-            wanted.append(line)
-    return lines, wanted
+        caller.call()
+    caller.prints("monitor.is_poisoned()", shown(caller.is_poisoned))
+    caller.prints("monitor.get_mut()", str(caller.ran))
+    caller.prints("monitor.into_inner()", str(caller.ran))
+    return caller.lines, caller.wanted
 
 
 # ---- the comparison
@@ -301,11 +353,13 @@ def agree(cases, work):
     for place, case in enumerate(cases):
         (work / f"m{place}.rs").write_text(case.module)
         library.append(f"/// It.\npub mod m{place};\n")
-        lines = [f"    let monitor = m{place}::{case.kind}::new();", *case.lines]
+        lines = [f"    let mut monitor = m{place}::{case.kind}::with_data(0_i32);", *case.lines]
         program.append(f"mod m{place};\n\nfn call{place}() {{\n" + "\n".join(lines) + "\n}\n")
     calls = "".join(f"    call{place}();\n" for place in range(len(cases)))
     (work / "lib.rs").write_text("\n".join(library))
-    (work / "main.rs").write_text("\n".join([*program, f"fn main() {{\n{calls}}}\n"]))
+    quiet = "    std::panic::set_hook(Box::new(|_| ()));\n"
+    program.insert(0, "use std::panic::{catch_unwind, AssertUnwindSafe};\n")
+    (work / "main.rs").write_text("\n".join([*program, f"fn main() {{\n{quiet}{calls}}}\n"]))
     if not compiles(work, "2021") or not compiles(work, "2024") or not builds(work):
         return False
     got, wanted = ran(work / "main"), [line for case in cases for line in case.wanted]
@@ -332,9 +386,10 @@ def main(count, seed):
             cases = [case for case in found if case]
             judge(cases, seed, work)
         taken += len(cases)
-        lines += [line for case in cases for line in case.wanted]
-    overflows = lines.count("Err(Overflow)")
-    print(f"{taken} monitors of {count}, {len(lines)} calls, of which {overflows} overflow: "
+        lines += [pair for case in cases for pair in zip(case.lines, case.wanted)]
+    overflows = [wanted for _, wanted in lines].count("Err(Overflow)")
+    panics = [wanted for line, wanted in lines if "catch_unwind" in line].count("true")
+    print(f"{taken} monitors of {count}, {len(lines)} lines, of which {overflows} overflow and {panics} panic: "
           "as the reference")
 
 
