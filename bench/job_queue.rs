@@ -21,7 +21,10 @@ const CAPACITY: usize = 64;
 type Job = Box<dyn FnOnce() + Send>;
 
 /// A queue of jobs that threads share.
-trait Queue: Default + Sync {
+trait Queue: Sync {
+    /// A queue that has no jobs yet.
+    fn empty() -> Self;
+
     /// Stores a job, once there is room.
     fn push(&self, job: Job);
 
@@ -47,6 +50,10 @@ struct HandState {
 }
 
 impl Queue for Hand {
+    fn empty() -> Self {
+        Self::default()
+    }
+
     fn push(&self, job: Job) {
         let state = self.state.lock().unwrap();
         let mut state = self
@@ -76,37 +83,30 @@ impl Queue for Hand {
     }
 }
 
-/// The emitted gate, and the jobs behind a mutex of their own.
-#[derive(Default)]
-struct Emitted {
-    gate: JobGate,
-    jobs: Mutex<VecDeque<Job>>,
-}
+/// The emitted gate, with the jobs for its data.
+type Emitted = JobGate<VecDeque<Job>>;
 
 impl Queue for Emitted {
+    fn empty() -> Self {
+        Self::with_data(VecDeque::new())
+    }
+
     fn push(&self, job: Job) {
-        self.gate.reserve();
-        self.jobs.lock().unwrap().push_back(job);
-        self.gate.publish().unwrap();
+        self.push_with(|jobs| jobs.push_back(job));
     }
 
     fn pop(&self) -> Option<Job> {
-        if !self.gate.claim() {
-            return None;
-        }
-        let job = self.jobs.lock().unwrap().pop_front();
-        self.gate.release().unwrap();
-        job
+        self.pop_with(|jobs, _found| jobs.pop_front())
     }
 
     fn close(&self) {
-        self.gate.close();
+        JobGate::close(self);
     }
 }
 
 /// Has the producers push all jobs and the workers run them, and answers how many ran.
 fn run<Q: Queue>(producers: u64, workers: u64, jobs: u64) -> u64 {
-    let queue = Q::default();
+    let queue = Q::empty();
     let ran = Arc::new(AtomicU64::new(0));
     thread::scope(|scope| {
         let mut pushing = Vec::new();

@@ -1,8 +1,8 @@
 #!/usr/bin/env bash
-# Compares a job queue on the module that `expresso emit` prints of `job_gate.mon` with the same by
-# hand (`job_queue.rs`: one mutex, two condition variables, one waiter woken for each job and each
-# slot): median wall times, and their ratio, for so many threads that push beside so many that run
-# jobs. The runs of a row are interleaved.
+# Compares a job queue whose jobs are the data of the module that `expresso emit` prints of
+# `job_gate.mon` with the same by hand (`job_queue.rs`: one mutex, two condition variables, one
+# waiter woken for each job and each slot): median wall times, and their ratio, for so many threads
+# that push beside so many that run jobs. The runs of a row are interleaved.
 #
 #   bench/queue.sh             builds the program and the queues, and measures
 #   EXPRESSO=PROGRAM ROUNDS=N  take this program and build none; so many rounds in place of eleven
