@@ -166,7 +166,9 @@ mod tests {
     fn a_panic_pushes_nothing() {
         use std::panic::{catch_unwind, AssertUnwindSafe};
         let queue = JobQueue::<u8>::new();
-        let pushed = catch_unwind(AssertUnwindSafe(|| queue.gate.push_with(|_, _| panic!("no"))));
+        let pushed = catch_unwind(AssertUnwindSafe(|| {
+            queue.gate.push_with(|_, _| panic!("no"))
+        }));
         assert!(pushed.is_err());
         assert!(queue.gate.is_poisoned());
         assert!(queue.is_empty());
