@@ -2,7 +2,7 @@
 # Has the program print the module of each monitor of examples/, which must be the one that is kept there. Then, where
 # cargo is installed, each project is built without a warning, tested and run, with no network: with the modules that
 # are kept, and with those that the program prints. Fails where one of them does, or prints what examples/README.md
-# hasn't.
+# hasn't, or where README.md shows another examples/queue.rs or has a command that doesn't run it.
 cd "$(dirname "$0")/.." || exit 1
 program=$PWD/crates/expresso_cli/out/expresso_cli
 made=$(mktemp -d) || exit 1
@@ -59,6 +59,14 @@ if ! has cargo; then
     echo "cargo is not installed here, so examples/ was not built"
     exit
 fi
+sed -n '/^```rust$/,/^```$/p' README.md | sed '1d;$d' | cmp - examples/queue.rs || fail "README.md shows another queue.rs"
+if has rustfmt; then
+    rustfmt --edition 2021 --check examples/queue.rs || fail "queue.rs: rustfmt"
+fi
+queue=$(grep -m 1 '^rustc .* examples/queue.rs && ' README.md) || fail "README.md has no command that runs queue.rs"
+queue=$(bash -c "${queue//\/tmp/$made}" 2>&1) || fail "queue.rs: $queue"
+grep -qF "println!(\"$queue\")" README.md || fail "queue.rs prints $queue"
+echo "README.md's queue prints: $queue"
 export RUSTFLAGS="-D warnings" CARGO_TARGET_DIR=$made/target
 for project in jobs cache; do
     (unset EXPRESSO && PATH=$(without_expresso) && build "$project") || exit 1
