@@ -5,7 +5,8 @@
 //! [`names_are_no_keywords`] that each may stand in Rust. [`write_try_name`] writes the name of the
 //! method that tries, which no other has where [`is_try_free`] ([`try_names_stay_apart`]), and
 //! [`write_with_name`] and [`write_try_with_name`] those of the methods whose calls are given a
-//! function ([`with_names_stay_apart`]). [`has_odd_name`] says whether rustc's lints would speak of a name (`specs/Lints`).
+//! function, where [`is_with_free`] and [`is_try_with_free`] ([`with_names_stay_apart`]).
+//! [`has_odd_name`] says whether rustc's lints would speak of a name (`specs/Lints`).
 #![tactic(auto)]
 
 mod laws;
