@@ -1,6 +1,6 @@
 -- What the answers make of a column, and of the table.
-use Rattle.std.proofs.Common.{◌≡◌, ◌==◌, inl, inr, ℕ, ◌+◌, ◌-◌, ◌<◌, ◌≤◌, Bool, true, false, not, ◌&&◌, List, [], ◌∷◌, length, get_or, Option, Some, None, refl, sym, ap, subst, ◌∙◌, arith}
-use Rattle.std.specs.Prelude.{nat_lt, slice_get, IsSomeAnd, unwrap_or, IfOk, IfSome, Result, Ok, Err}
+use Rattle.std.proofs.Common.{◌≡◌, ◌==◌, inl, inr, ℕ, ◌-◌, ◌<◌, ◌≤◌, Bool, true, false, not, ◌&&◌, List, [], ◌∷◌, length, get_or, Option, Some, None, refl, sym, ap, subst, ◌∙◌}
+use Rattle.std.specs.Prelude.{slice_get, IsSomeAnd, unwrap_or, IfOk, IfSome, Result, Ok, Err}
 use Rattle.std.specs.declared.alloc.AllocError.{AllocError}
 use Rattle.std.proofs.lemmas.Option.{none-some, slice_get-get_or}
 use Rattle.std.specs.List.{enumerate_from, list_all}
@@ -28,12 +28,12 @@ use Rattle.plan_prune.specs.Invariants.{IsDecision}
 use Rattle.plan_place.specs.Backing.{reads_none, waits_at}
 use Rattle.plan_place.specs.Relayed.{is_broadcast}
 use Rattle.plan_count.specs.declared.question.Question.{Question}
-use Rattle.plan_count.specs.Questions.{HasRowAt, question_query}
+use Rattle.plan_count.specs.Questions.{question_query}
 use Rattle.plan_counted.specs.declared.counted.Column.{Column}
 use Rattle.plan_counted.specs.declared.counted.Told.{Told}
 use Rattle.plan_counted.specs.declared.counted.Told.TheVariants as telling
-use Rattle.plan_counted.specs.Counted.{AreBacked, IsBacked, IsBarred, IsColumnBacked, IsTried, ROWS_TRIED}
-use Rattle.plan_counted.specs.inner.Answers.{AreBarredBefore, AreColumns, IsAnswerTo, IsChained, IsColumn, IsOneAnswer, IsRowAnswer, IsToldAt, IsToldOf, NeedsNote}
+use Rattle.plan_counted.specs.Counted.{AreBacked, IsBacked, IsColumnBacked}
+use Rattle.plan_counted.specs.inner.Answers.{AreColumns, IsAnswerTo, IsChained, IsColumn, IsOneAnswer, IsRowAnswer, IsToldAt, IsToldOf, NeedsNote}
 use Rattle.plan_counted.proofs.Table.{has_if}
 
 -- ---- answers
@@ -114,32 +114,6 @@ left monitor plan condition is = λ kind row tried may. absurd (true≢false (sy
         by_found : (found : Option Condition) → IsSomeAnd found (λ held. held.reads_inputs ≡ false) → option_map_or (λ held. not held.reads_inputs) found false ≡ true
         by_found None some = absurd some
         by_found (Some held) some = ap not some
-
--- ---- rows, one after the other
-
--- where each row before this one is barred, and the guard has no such row, none is left
-pub no_more_rows : (monitor : MonitorParts) (plan : Plan) (condition row : ℕ) → 1 ≤ row → AreBarredBefore monitor plan condition row
-    → (HasRowAt monitor condition row → ⊥) → IsColumn monitor plan condition None
-no_more_rows monitor plan condition row low before missing = λ kind tried_row tried. by_less tried_row tried (nat_lt tried_row row) refl
-  where
-    by_less : (other : ℕ) → IsTried monitor condition other → (less : Bool) → nat_lt other row ≡ less → IsBarred monitor plan condition other
-    by_less other tried true is = before other tried.has.first (grind (arith, is))
-    by_less other tried false is = let last = tried.has.last in absurd (missing (record { first = low; last = grind (arith, is, last) }))
-
--- where each of the first rows is barred
-pub all_tried : (monitor : MonitorParts) (plan : Plan) (condition : ℕ) → AreBarredBefore monitor plan condition (ROWS_TRIED + 1) → IsColumn monitor plan condition None
-all_tried monitor plan condition before = λ kind row tried. let limit = tried.limit in before row tried.has.first (omega (arith, limit))
-
-pub one_more_row : (monitor : MonitorParts) (plan : Plan) (condition row : ℕ) → AreBarredBefore monitor plan condition row → IsBarred monitor plan condition row
-    → AreBarredBefore monitor plan condition (row + 1)
-one_more_row monitor plan condition row before here earlier first less = by_less (nat_lt earlier row) refl
-  where
-    by_less : (below : Bool) → nat_lt earlier row ≡ below → IsBarred monitor plan condition earlier
-    by_less true is = before earlier first (grind (arith, is))
-    by_less false is = subst (IsBarred monitor plan condition) (same is) here
-      where
-        same : nat_lt earlier row ≡ false → row ≡ earlier
-        same is = grind (arith, is, less)
 
 -- ---- what the answers back
 

@@ -1,7 +1,7 @@
 -- The plan that the answers make fits, is lawful by counting, and is the placed plan, counted.
-use Rattle.std.proofs.Common.{◌≡◌, inl, inr, ℕ, zero, suc, ◌+◌, ◌-◌, ◌<◌, ◌≤◌, Bool, true, false, List, [], ◌∷◌, map, length, Option, Some, None, refl, sym, ap, subst, ◌∙◌, arith}
+use Rattle.std.proofs.Common.{◌≡◌, inl, inr, ℕ, zero, suc, ◌+◌, ◌-◌, ◌<◌, ◌≤◌, Bool, true, false, List, [], ◌∷◌, map, length, count_by, Option, Some, None, refl, sym, ap, subst, ◌∙◌, arith}
 use Rattle.std.specs.Prelude.{All, slice_get, unwrap_or, IsSomeAnd, IfSome, is_some}
-use Rattle.std.specs.List.{enumerate_from}
+use Rattle.std.specs.List.{enumerate_from, range_with_len}
 use Rattle.std.proofs.lemmas.Bool.{true≢false, cases_eq}
 use Rattle.std.proofs.lemmas.List.Elements.{All-nil, All-cons, All-head, All-tail}
 use Rattle.std.proofs.lemmas.Option.{slice_get_within}
@@ -26,9 +26,10 @@ use Rattle.plan_count.specs.Questions.{AnswersCount, IsToldRight}
 use Rattle.plan_counted.specs.declared.counted.Column.{Column}
 use Rattle.plan_counted.specs.declared.counted.Told.{Told}
 use Rattle.plan_counted.specs.declared.counted.Told.TheVariants as telling
-use Rattle.plan_counted.specs.Counted.{IsTold, column_at, counted_kind, counted_notes, counted_of, told_by, told_note, told_on, is_tested}
+use Rattle.plan_counted.specs.Counted.{HasNoFewer, IsTold, broadcasts_on, column_at, counted_kind, counted_notes, counted_of, told_by, told_note, told_on, is_for_all, is_tested}
 use Rattle.plan_counted.specs.CountedAndRelayed.{CountsBroadcasts}
-use Rattle.plan_counted.specs.inner.Answers.{AnsweredColumnsCount, AnsweredColumnsFit, AnsweredColumnsLicense, AreColumns, IsColumn, IsColumnOf, IsToldAt, IsToldOf}
+use Rattle.plan_counted.specs.inner.Answers.{AnsweredColumnsCount, AnsweredColumnsFit, AnsweredColumnsLicense, AreColumns, IsColumn, IsColumnOf, IsToldAt, IsToldOf, broadcasts_told, gives_all}
+use Rattle.plan_counted.proofs.Best.{counted_list}
 use Rattle.plan_counted.proofs.Table.{has_if, kind_at, kind_missing, length_numbered, made_on, none_if, note_is, note_left, notes_missing, notes_there, on_theirs, broadcast_found}
 
 -- ---- what is known of a condition
@@ -295,6 +296,35 @@ noted_as monitor plan columns condition row block there =
       ];
     }
 
+-- the plan has as many broadcasts on the condition as its column
+broadcasts_same : (monitor : MonitorParts) (plan : Plan) (columns : columns_type) (condition : ℕ) (column : Column) → FitsPlan monitor plan
+    → AreColumns monitor plan columns → 1 ≤ condition → condition ≤ length monitor.conditions → column_at columns condition ≡ Some column
+    → IsColumnOf monitor plan condition column → broadcasts_on monitor (counted_of plan columns) condition ≡ broadcasts_told column.told
+broadcasts_same monitor plan columns condition column fits are first last is known =
+    ap (λ (count : ℕ). count_by has (range_with_len 0 count)) (sym known.told.many)
+    ∙ counted_list gives_all has 0 column.told (λ block told there.
+    let same : 0 + block ≡ block = omega arith in
+    ap has same ∙ by_block block told there)
+  where
+    has : ℕ → Bool
+    has block = is_for_all (note_on (notes_at (counted_of plan columns) block) condition)
+
+    by_told : (told : Told) (placed : Option Note) → is_for_all (told_note condition told placed) ≡ gives_all told
+    by_told (telling.Nothing counts) placed = refl
+    by_told (telling.Signal gives before) placed = refl
+    by_told telling.Broadcast placed = refl
+
+    by_block : (block : ℕ) (told : Told) → slice_get column.told block ≡ Some told → has block ≡ gives_all told
+    by_block block told there =
+        let low = slice_get_within column.told block told there in
+        let many = known.told.many in
+        let own = at_index plan.notes block (omega (arith, fits.notes, low, many)) in
+        let placed = note_on (notes_at plan block) condition in
+        ap is_for_all (note_is plan columns block condition own.0 own.1 first (omega (arith, are.many))
+        ∙ ap (λ (held : Option Column). told_on condition block held placed) is
+        ∙ ap (λ (held : Option Told). told_by condition held placed) there)
+        ∙ by_told told placed
+
 pub counted_from : AnsweredColumnsLicense
 counted_from monitor plan columns rule fits are = record {
   kept = refl;
@@ -310,9 +340,12 @@ counted_from monitor plan columns rule fits are = record {
         reads_none = known.reads_none;
         row = column.row;
         tried = known.tried;
-        first = known.first;
         told = λ block within. noted_as monitor plan columns condition column.row block
             (told_there monitor plan columns condition block column fits are is.0 is.1 there known within);
+        fewest = λ other tried. subst (HasNoFewer monitor plan condition other)
+            (sym (broadcasts_same monitor plan columns condition column fits are is.0 is.1 there known)) (known.fewest other tried);
+        first = λ earlier low less. subst (λ (many : ℕ). HasNoFewer monitor plan condition earlier (many + 1))
+            (sym (broadcasts_same monitor plan columns condition column fits are is.0 is.1 there known)) (known.first earlier low less);
       }));
 }
 

@@ -1,6 +1,6 @@
 -- Where no question may stay open a plan that is counted is so exactly.
-use Rattle.std.proofs.Common.{◌≡◌, ◌==◌, ◌↔◌, inl, inr, ℕ, ◌<◌, ◌≤◌, Bool, true, false, Option, Some, None, length, refl, sym, subst, ◌∙◌, arith}
-use Rattle.std.specs.Prelude.{nat_lt, slice_get, IsSomeAnd}
+use Rattle.std.proofs.Common.{◌≡◌, ◌==◌, ◌↔◌, inl, inr, ℕ, ◌+◌, ◌<◌, ◌≤◌, Bool, true, false, Option, Some, None, length, count_by, refl, sym, subst, ◌∙◌, arith}
+use Rattle.std.specs.Prelude.{slice_get, IsSomeAnd}
 use Rattle.std.specs.Option.{option_map_or}
 use Rattle.std.proofs.lemmas.Bool.{true≢false, eq-eqb}
 use Rattle.std.proofs.lemmas.Option.{slice_get_within}
@@ -13,12 +13,13 @@ use Rattle.machine_events.specs.declared.plan.Plan.{Plan}
 use Rattle.machine_events.specs.Plans.{condition_kind, notes_at}
 use Rattle.machine_events.proofs.Facing.{is_some_and}
 use Rattle.logic_wp.specs.PlainClaims.{WaitsAt}
-use Rattle.plan_place.specs.Backing.{waits_at}
+use Rattle.plan_place.specs.Backing.{block_numbers, waits_at}
 use Rattle.plan_place.specs.Relayed.{note_on}
 use Rattle.plan_count.specs.declared.question.Question.TheVariants as questions
 use Rattle.plan_count.specs.Questions.{MayBeAsked}
-use Rattle.plan_counted.specs.Counted.{IsBarred, IsMadeSignal, IsNoted, IsTold, IsUnnoted}
-use Rattle.plan_counted.specs.Exact.{CountedIsExact, CountsBy, HasNoOpenQuestion, IsExactlyTold, IsExactlyToldByFirst, IsOneEnough}
+use Rattle.plan_counted.specs.Counted.{HasNoFewer, IsBarred, IsMadeSignal, IsNoted, IsTold, IsUnnoted, WantsBroadcast, broadcasts_on, is_for_all}
+use Rattle.plan_counted.specs.Exact.{CountedIsExact, CountsBy, HasNoOpenQuestion, IsExactlyTold, IsExactlyToldBy, IsExactlyToldByBest, IsOneEnough}
+use Rattle.plan_counted.proofs.Best.{counted_more}
 
 waits_to : (monitor : MonitorParts) (condition block : ℕ) → WaitsAt monitor block condition → waits_at monitor condition block ≡ true
 waits_to monitor condition block = by_found (slice_get monitor.blocks block)
@@ -101,19 +102,62 @@ exactly_told monitor placed counted condition block none made within = record {
           | inr open_first ↦ absurd (none (questions.First condition made.row block) may open_first)
         ]
 
-by_first : (monitor : MonitorParts) (placed counted : Plan) (condition : ℕ) → HasNoOpenQuestion monitor placed.kept
-    → IsMadeSignal monitor placed counted condition → IsExactlyToldByFirst monitor placed counted condition
-by_first monitor placed counted condition none made = record {
+-- where a block wants a broadcast by a row, a plan that has exactly what is needed by it has one
+wanted_given : (monitor : MonitorParts) (placed plan : Plan) (condition row block : ℕ) → HasNoOpenQuestion monitor placed.kept
+    → IsExactlyToldBy monitor placed plan condition row → block < length monitor.blocks → WantsBroadcast monitor placed condition row block
+    → is_for_all (note_on (notes_at plan block) condition) ≡ true
+wanted_given monitor placed plan condition row block none exactly within wants = by_note (note_on (notes_at plan block) condition) refl
+  where
+    may : MayBeAsked monitor condition row block
+    may = record { is_block = within; reads_none = exactly.counts.may.reads_none; has_row = exactly.counts.tried.has }
+
+    by_all : (note : Note) → note_on (notes_at plan block) condition ≡ Some note → (all : Bool) → note.all ≡ all → all ≡ true
+    by_all note there true is = refl
+    by_all note there false is =
+        let enough = ((exactly.told block within).signals note there).0 is in
+        elim (wants.all enough.gives enough.first) [
+          | inl open_gives ↦ absurd (none (questions.Gives condition row block) may open_gives)
+          | inr open_first ↦ absurd (none (questions.First condition row block) may open_first)
+        ]
+
+    by_note : (found : Option Note) → note_on (notes_at plan block) condition ≡ found → is_for_all found ≡ true
+    by_note None there =
+        let unnoted = (exactly.told block within).unnoted.0 there in
+        absurd (none (questions.Counts condition row block) may (wants.noted unnoted.none unnoted.counts))
+    by_note (Some note) there = by_all note there note.all refl
+
+-- by no row by which the condition may be counted are there fewer
+no_fewer : (monitor : MonitorParts) (placed plan : Plan) (condition row many : ℕ) → HasNoOpenQuestion monitor placed.kept
+    → IsExactlyToldBy monitor placed plan condition row → HasNoFewer monitor placed condition row many → many ≤ broadcasts_on monitor plan condition
+no_fewer monitor placed plan condition row many none exactly (inl barred) = absurd (none_barred monitor placed condition row none exactly.counts barred)
+no_fewer monitor placed plan condition row many none exactly (inr wants) =
+    let enough = wants.enough in
+    let more = counted_more wants.want (λ block. is_for_all (note_on (notes_at plan block) condition)) 0 (length monitor.blocks)
+    (λ block low high is.
+    let within : block < length monitor.blocks = omega (arith, high) in
+    wanted_given monitor placed plan condition row block none exactly within (wants.each block within is)) in
+    at_most many (count_by wants.want (block_numbers monitor)) (broadcasts_on monitor plan condition) enough more
+  where
+    at_most : (a b c : ℕ) → a ≤ b → b ≤ c → a ≤ c
+    at_most a b c one other = omega (arith, one, other)
+
+by_best : (monitor : MonitorParts) (placed counted : Plan) (condition : ℕ) → HasNoOpenQuestion monitor placed.kept
+    → IsMadeSignal monitor placed counted condition → IsExactlyToldByBest monitor placed counted condition
+by_best monitor placed counted condition none made = record {
   row = made.row;
-  counts = counts_by monitor placed counted condition made;
-  first = λ earlier counts. by_less earlier counts (nat_lt earlier made.row) refl;
-  told = λ block within. exactly_told monitor placed counted condition block none made within;
+  exactly = record {
+    counts = counts_by monitor placed counted condition made;
+    told = λ block within. exactly_told monitor placed counted condition block none made within;
+  };
+  fewest = λ other plan exactly. no_fewer monitor placed plan condition other (broadcasts_on monitor counted condition) none exactly
+      (made.fewest other exactly.counts.tried);
+  first = λ earlier plan less exactly. more (broadcasts_on monitor counted condition) (broadcasts_on monitor plan condition)
+      (no_fewer monitor placed plan condition earlier (broadcasts_on monitor counted condition + 1) none exactly
+      (made.first earlier exactly.counts.tried.has.first less));
 }
   where
-    by_less : (earlier : ℕ) → CountsBy monitor placed condition earlier → (less : Bool) → nat_lt earlier made.row ≡ less → made.row ≤ earlier
-    by_less earlier counts true is =
-        absurd (none_barred monitor placed condition earlier none counts (made.first earlier counts.tried.has.first (grind (arith, is))))
-    by_less earlier counts false is = grind (arith, is)
+    more : (a b : ℕ) → a + 1 ≤ b → a < b
+    more a b less = omega (arith, less)
 
 pub counted_exact : CountedIsExact
 counted_exact monitor placed counted from none = record {
@@ -129,6 +173,6 @@ counted_exact monitor placed counted from none = record {
   );
   told = λ condition is kind signal. elim (from.each condition is) [
     | inl left ↦ absurd (two_kinds (condition_kind counted condition) (left.kind ∙ kind) signal)
-    | inr made ↦ by_first monitor placed counted condition none made
+    | inr made ↦ by_best monitor placed counted condition none made
   ];
 }

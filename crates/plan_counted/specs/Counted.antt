@@ -1,8 +1,8 @@
 -- Counted plans: as a placed plan, but conditions of kind broadcast that may be counted by a row of
 -- their guards are of kind signal, with a note of a block where its question with no note is open,
--- and a broadcast where those with one signal are.
+-- and a broadcast where those with one signal are: by the row that has the fewest broadcasts.
 use Rattle.std.specs.Prelude.{◌≡◌, ◌⊎◌, ℕ, ◌-◌, ◌<◌, ◌≤◌, Bool, true, false, List, map, Option}
-use Rattle.std.specs.Prelude.{Some, None, length, All, slice_get, unwrap_or}
+use Rattle.std.specs.Prelude.{Some, None, length, All, slice_get, unwrap_or, ◌+◌, count_by}
 use Rattle.std.specs.List.{flat_map, enumerate_from, range_with_len}
 use Rattle.std.specs.Option.{option_map_or, option_to_list}
 use Rattle.logic_cert.specs.declared.cert.Cert.{Cert}
@@ -17,7 +17,7 @@ use Rattle.machine_events.specs.Plans.{notes_at, condition_kind}
 use Rattle.logic_wp.specs.PlainClaims.{IsBlockNumber, IsConditionNumber, ReadsNone, WaitsAt}
 use Rattle.logic_wp.specs.NegatedQueries.{negated_query}
 use Rattle.plan_prune.specs.Hardness.{MayStayOpen}
-use Rattle.plan_place.specs.Backing.{waits_at}
+use Rattle.plan_place.specs.Backing.{block_numbers, waits_at}
 use Rattle.plan_place.specs.Relayed.{note_on}
 use Rattle.plan_count.specs.declared.question.Question.{Question}
 use Rattle.plan_count.specs.declared.question.Question.TheVariants as questions
@@ -62,6 +62,43 @@ pub record HasOpenBlock (monitor : MonitorParts) (plan : Plan) (condition row : 
 abbrev pub IsBarred : MonitorParts → Plan → ℕ → ℕ → Type 0
 IsBarred monitor plan condition row =
     MayCount monitor plan condition row → HasOpenBlock monitor plan condition row
+
+-- ---- how many broadcasts a row costs
+
+-- a note that wakes all clients that wait at its condition
+abbrev pub is_for_all : Option Note → Bool
+is_for_all note = option_map_or (λ held. held.all) note false
+
+-- how many blocks have a broadcast on the condition
+abbrev pub broadcasts_on : MonitorParts → Plan → ℕ → ℕ
+broadcasts_on monitor plan condition =
+    count_by (λ block. is_for_all (note_on (notes_at plan block) condition)) (block_numbers monitor)
+
+-- By the row the block has no less than a broadcast on the condition: a note is placed, or the
+-- question with no note fails or may stay open, and so does one of those with one signal.
+pub record WantsBroadcast (monitor : MonitorParts) (placed : Plan) (condition row block : ℕ) :
+    Type 0 where
+  pub noted : note_on (notes_at placed block) condition ≡ None
+      → IsSo monitor placed.kept (questions.Counts condition row block)
+      → IsOpen monitor placed.kept (questions.Counts condition row block)
+  pub all : IsSo monitor placed.kept (questions.Gives condition row block)
+      → IsSo monitor placed.kept (questions.First condition row block)
+      → IsOpen monitor placed.kept (questions.Gives condition row block)
+      ⊎ IsOpen monitor placed.kept (questions.First condition row block)
+
+-- so many blocks at least want a broadcast by the row
+pub record WantBroadcasts (monitor : MonitorParts) (placed : Plan) (condition row many : ℕ) :
+    Type 0 where
+  pub want : ℕ → Bool
+  pub each : (block : ℕ) → IsBlockNumber monitor block → want block ≡ true
+      → WantsBroadcast monitor placed condition row block
+  pub enough : many ≤ count_by want (block_numbers monitor)
+
+-- by the row the condition is not counted with fewer broadcasts than so many: it is barred, or so
+-- many blocks want one
+abbrev pub HasNoFewer : MonitorParts → Plan → ℕ → ℕ → ℕ → Type 0
+HasNoFewer monitor placed condition row many =
+    IsBarred monitor placed condition row ⊎ WantBroadcasts monitor placed condition row many
 
 -- ---- conditions that are left as they were
 
@@ -110,7 +147,8 @@ IsTold monitor placed condition row block None = IsUnnoted monitor placed condit
 IsTold monitor placed condition row block (Some note) =
     IsNoted monitor placed condition row block note
 
--- was of kind broadcast, and is of kind signal and counted: by the first row that is not barred
+-- Was of kind broadcast, and is of kind signal and counted by a row: by no other that is tried it
+-- has fewer broadcasts, and by each earlier one it has more.
 pub record IsMadeSignal (monitor : MonitorParts) (placed counted : Plan) (condition : ℕ) : Type 0
   where
     pub was : condition_kind placed condition ≡ Some kinds.Broadcast
@@ -118,10 +156,12 @@ pub record IsMadeSignal (monitor : MonitorParts) (placed counted : Plan) (condit
     pub reads_none : ReadsNone monitor condition
     pub row : ℕ
     pub tried : IsTried monitor condition row
-    pub first : (earlier : ℕ) → 1 ≤ earlier → earlier < row
-        → IsBarred monitor placed condition earlier
     pub told : (block : ℕ) → IsBlockNumber monitor block
         → IsTold monitor placed condition row block (note_on (notes_at counted block) condition)
+    pub fewest : (other : ℕ) → IsTried monitor condition other
+        → HasNoFewer monitor placed condition other (broadcasts_on monitor counted condition)
+    pub first : (earlier : ℕ) → 1 ≤ earlier → earlier < row
+        → HasNoFewer monitor placed condition earlier (broadcasts_on monitor counted condition + 1)
 
 -- ---- plans
 

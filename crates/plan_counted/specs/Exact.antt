@@ -1,6 +1,6 @@
 -- Exactly counted plans: what may be counted is, with no note but those that are placed or needed,
--- and with no broadcast where a signal is enough.
-use Rattle.std.specs.Prelude.{◌≡◌, ◌↔◌, ℕ, ◌≤◌, false, List, Some, None}
+-- with no broadcast where a signal is enough, and by the row that needs the fewest broadcasts.
+use Rattle.std.specs.Prelude.{◌≡◌, ◌↔◌, ℕ, ◌<◌, ◌≤◌, false, List, Some, None}
 use Rattle.lang_monitor.specs.declared.candidate.Candidate.{Candidate}
 use Rattle.lang_monitor.specs.MonitorParts.{MonitorParts}
 use Rattle.machine_events.specs.declared.plan.CondKind.TheVariants as kinds
@@ -13,6 +13,7 @@ use Rattle.plan_count.specs.declared.question.Question.{Question}
 use Rattle.plan_count.specs.declared.question.Question.TheVariants as questions
 use Rattle.plan_count.specs.Questions.{IsSo, MayAskQuestion}
 use Rattle.plan_counted.specs.Counted.{IsCountedFrom, IsOpen, IsTried, IsUnnoted, MayCount}
+use Rattle.plan_counted.specs.Counted.{broadcasts_on}
 
 -- the prover may leave no question open
 abbrev pub HasNoOpenQuestion : MonitorParts → List Candidate → Type 0
@@ -44,17 +45,27 @@ pub record CountsBy (monitor : MonitorParts) (placed : Plan) (condition row : �
 abbrev pub MayCountBySome : MonitorParts → Plan → ℕ → Type 0
 MayCountBySome monitor placed condition = (row : ℕ) × CountsBy monitor placed condition row
 
--- by the first row by which the condition may be counted each block has exactly what it needs
-pub record IsExactlyToldByFirst (monitor : MonitorParts) (placed counted : Plan) (condition : ℕ) :
+-- by the row the condition may be counted, and each block has exactly what it needs
+pub record IsExactlyToldBy (monitor : MonitorParts) (placed counted : Plan) (condition row : ℕ) :
     Type 0 where
-  pub row : ℕ
   pub counts : CountsBy monitor placed condition row
-  pub first : (earlier : ℕ) → CountsBy monitor placed condition earlier → row ≤ earlier
   pub told : (block : ℕ) → IsBlockNumber monitor block
       → IsExactlyTold monitor placed counted condition row block
 
--- what may be counted is, with a note exactly where one is placed or needed, and a signal exactly
--- where one is enough
+-- By a row each block has exactly what it needs: whatever plan has so by another row has no fewer
+-- broadcasts on the condition, and by an earlier one it has more.
+pub record IsExactlyToldByBest (monitor : MonitorParts) (placed counted : Plan) (condition : ℕ) :
+    Type 0 where
+  pub row : ℕ
+  pub exactly : IsExactlyToldBy monitor placed counted condition row
+  pub fewest : (other : ℕ) (plan : Plan) → IsExactlyToldBy monitor placed plan condition other
+      → broadcasts_on monitor counted condition ≤ broadcasts_on monitor plan condition
+  pub first : (earlier : ℕ) (plan : Plan) → earlier < row
+      → IsExactlyToldBy monitor placed plan condition earlier
+      → broadcasts_on monitor counted condition < broadcasts_on monitor plan condition
+
+-- what may be counted is, by the row with the fewest broadcasts, with a note exactly where one is
+-- placed or needed, and a signal exactly where one is enough
 pub record IsExactlyCounted (monitor : MonitorParts) (placed counted : Plan) : Type 0 where
   -- a condition that was of kind broadcast is of kind signal exactly where it may be counted
   pub made_signal : (condition : ℕ) → IsConditionNumber monitor condition
@@ -64,7 +75,7 @@ pub record IsExactlyCounted (monitor : MonitorParts) (placed counted : Plan) : T
   pub told : (condition : ℕ) → IsConditionNumber monitor condition
       → condition_kind placed condition ≡ Some kinds.Broadcast
       → condition_kind counted condition ≡ Some kinds.Signal
-      → IsExactlyToldByFirst monitor placed counted condition
+      → IsExactlyToldByBest monitor placed counted condition
 
 -- where no question may stay open a plan that is counted is so exactly
 abbrev pub CountedIsExact : Type 0

@@ -9,7 +9,8 @@ ghost use Rattle.logic_wp.specs.Expressible.{is_expressible};
 ghost use Rattle.logic_wp.specs.PlainClaims.{ReadsNone};
 ghost use Rattle.plan_count.specs.Questions.{HasRowAt, MayBeAsked};
 ghost use Rattle.plan_counted.specs.inner.Answers.{AreColumns, IsColumn, IsOneAnswer, IsRowAnswer};
-ghost use Rattle.plan_counted.specs.inner.Answers.{IsToldAnswer};
+ghost use Rattle.plan_counted.specs.inner.Answers.{IsToldAnswer, better_of, broadcasts_told};
+ghost use Rattle.plan_counted.specs.inner.Answers.{fewer_of, gives_all, has_no_broadcast};
 
 use super::asking::answer;
 use super::counted::{Column, ROWS_TRIED, Told};
@@ -120,8 +121,62 @@ fn told_by(
     Ok(Some(Seq::of(column)))
 }
 
-/// How the condition, which was of kind broadcast and reads no inputs, is counted: by the first row
-/// by which it can be.
+// ---- the row with the fewest broadcasts
+
+fn gives_all(told: &Told) -> bool
+    ensures { result ≡ gives_all told.now }
+{
+    match told {
+        Told::Nothing { .. } => false,
+        Told::Signal { .. } => false,
+        Told::Broadcast => true,
+    }
+}
+
+/// How many blocks have a broadcast.
+fn broadcasts(told: &[Told]) -> usize
+    ensures { result ≡ broadcasts_told told.now }
+{
+    told.iter().filter(|one| gives_all(*one)).count()
+}
+
+/// Whether a row was found by which no block has a broadcast.
+fn has_no_broadcast(best: &Option<Column>) -> bool
+    ensures { result ≡ has_no_broadcast best.now }
+{
+    match best {
+        Some(column) => broadcasts(column.told.items()) == 0,
+        None => false,
+    }
+}
+
+/// The second, where it has fewer broadcasts.
+fn fewer_of(column: Column, other: Column) -> Column
+    ensures { result ≡ fewer_of column other }
+{
+    if broadcasts(other.told.items()) < broadcasts(column.told.items()) {
+        other
+    } else {
+        column
+    }
+}
+
+/// What was found, or the row, where by it the blocks have fewer broadcasts.
+fn better_of(best: Option<Column>, row: u32, told: Option<Seq<Told>>) -> Option<Column>
+    ensures { result ≡ better_of best row told }
+{
+    match told {
+        None => best,
+        Some(told) => match best {
+            None => Some(Column { row, told }),
+            Some(column) => Some(fewer_of(column, Column { row, told })),
+        },
+    }
+}
+
+/// How the condition, which was of kind broadcast and reads no inputs, is counted: by the first of
+/// the rows by which it has the fewest broadcasts. Where it has none by a row, no further one is
+/// tried.
 fn column(
     alloc: Global,
     monitor: &Monitor,
@@ -134,17 +189,19 @@ fn column(
     requires kind { is_broadcast (slice_get plan.now.kinds (condition - 1)) ≡ true }
     ensures { IfOk result (IsColumn monitor.now plan.now condition) }
 {
+    let mut best = None;
     for index in 0..ROWS_TRIED {
         let row = index + 1;
+        if has_no_broadcast(&best) {
+            return Ok(best);
+        }
         if !has_row(monitor, condition, row) {
-            return Ok(None);
+            return Ok(best);
         }
-        match told_by(alloc, monitor, plan, condition, row)? {
-            Some(told) => return Ok(Some(Column { row, told })),
-            None => {}
-        }
+        let told = told_by(alloc, monitor, plan, condition, row)?;
+        best = better_of(best, row, told);
     }
-    Ok(None)
+    Ok(best)
 }
 
 /// How the condition is counted, where it is.

@@ -22,7 +22,8 @@ pub(crate) fn answered_columns_count()
 
 /// A counted plan is exact where the prover may leave no question open: a condition that was of
 /// kind broadcast is of kind signal exactly where it may be counted, and then a block has no note
-/// on it exactly where it needs none, and a signal exactly where one is enough.
+/// on it exactly where it needs none, and a signal exactly where one is enough, by the first of the
+/// rows that need the fewest broadcasts.
 pub fn counted_plans_are_exact()
     ensures { CountedIsExact }
 {}

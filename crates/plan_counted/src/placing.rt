@@ -26,12 +26,13 @@ use std::alloc::{AllocError, Global};
 ///
 /// A condition of kind broadcast that reads no inputs is of kind signal where no note is placed on
 /// it in a block that waits at it, and a certificate is found of each of these that it leaves the
-/// condition counted with none, by one of the first rows of its guard: by the first one of which
-/// this is so. Then a block has a note on it where one is placed, or where no certificate is found
-/// that it leaves the condition counted with none: a signal where certificates are found that this
-/// is enough, else a broadcast. It is tested where the placed note is, and where none is placed.
-/// Every other condition stays as it is. So the plan is lawful by counting, and does more than it
-/// has to only where a query may stay open (`specs/Counted`, `IsCountedFrom`).
+/// condition counted with none, by one of the first rows of its guard. By such a row a block has a
+/// note on it where one is placed, or where no certificate is found that it leaves the condition
+/// counted with none: a signal where certificates are found that this is enough, else a broadcast.
+/// It is tested where the placed note is, and where none is placed. Of these rows the one is taken
+/// that has the fewest broadcasts, and of several such ones the first. Every other condition stays
+/// as it is. So the plan is lawful by counting, and does more than it has to only where a query may
+/// stay open (`specs/Counted`, `IsCountedFrom`).
 pub fn count_plan(
     alloc: Global,
     monitor: &Monitor,

@@ -1,7 +1,8 @@
 -- What is known of the table of a counted plan once the prover has answered.
 use Rattle.std.specs.Prelude.{◌≡◌, ◌⊎◌, ℕ, ◌<◌, ◌≤◌, Bool, true, false, List, Option, Some, None}
-use Rattle.std.specs.Prelude.{length, All}
+use Rattle.std.specs.Prelude.{length, All, ◌+◌, ◌==◌, cond, count_by, nat_lt}
 use Rattle.std.specs.List.{enumerate_from}
+use Rattle.std.specs.Option.{option_map_or}
 use Rattle.logic_cert.specs.declared.cert.Cert.{Cert}
 use Rattle.lang_monitor.specs.declared.candidate.Candidate.{Candidate}
 use Rattle.lang_monitor.specs.MonitorParts.{MonitorParts, IsMonitor}
@@ -17,8 +18,8 @@ use Rattle.plan_count.specs.Questions.{IsSo}
 use Rattle.plan_counted.specs.declared.counted.Column.{Column}
 use Rattle.plan_counted.specs.declared.counted.Told.{Told}
 use Rattle.plan_counted.specs.declared.counted.Told.TheVariants as telling
-use Rattle.plan_counted.specs.Counted.{Certifies, IsBarred, IsCountedFrom, IsOpen, IsTried}
-use Rattle.plan_counted.specs.Counted.{counted_of}
+use Rattle.plan_counted.specs.Counted.{Certifies, HasNoFewer, IsBarred, IsCountedFrom, IsOpen}
+use Rattle.plan_counted.specs.Counted.{IsTried, counted_of}
 
 -- ---- one question
 
@@ -100,14 +101,61 @@ abbrev pub AreBarredBefore : MonitorParts → Plan → ℕ → ℕ → Type 0
 AreBarredBefore monitor plan condition row =
     (earlier : ℕ) → 1 ≤ earlier → earlier < row → IsBarred monitor plan condition earlier
 
+-- ---- the row with the fewest broadcasts
+
+abbrev pub gives_all : Told → Bool
+gives_all (telling.Nothing counts) = false
+gives_all (telling.Signal gives first) = false
+gives_all telling.Broadcast = true
+
+-- how many blocks have a broadcast
+abbrev pub broadcasts_told : List Told → ℕ
+broadcasts_told told = count_by gives_all told
+
+abbrev pub has_no_broadcast : Option Column → Bool
+has_no_broadcast column = option_map_or (λ held. broadcasts_told held.told == 0) column false
+
+-- the second, where it has fewer broadcasts
+abbrev pub fewer_of : Column → Column → Column
+fewer_of column other =
+    cond (nat_lt (broadcasts_told other.told) (broadcasts_told column.told)) other column
+
+-- what was found, or a row by which blocks have this, where it has fewer broadcasts
+abbrev pub better_of : Option Column → ℕ → Option (List Told) → Option Column
+better_of best row None = best
+better_of None row (Some told) = Some (record { row = row; told = told })
+better_of (Some column) row (Some told) =
+    Some (fewer_of column (record { row = row; told = told }))
+
+-- of the rows before this one none has fewer broadcasts, and each before the column's has more
+pub record IsBestOf (monitor : MonitorParts) (plan : Plan) (condition row : ℕ) (column : Column) :
+    Type 0 where
+  pub tried : IsTried monitor condition column.row
+  pub told : AreToldBy monitor plan condition column.row column.told
+  pub fewest : (other : ℕ) → 1 ≤ other → other < row
+      → HasNoFewer monitor plan condition other (broadcasts_told column.told)
+  pub first : (earlier : ℕ) → 1 ≤ earlier → earlier < column.row
+      → HasNoFewer monitor plan condition earlier (broadcasts_told column.told + 1)
+
+-- the best of the rows before this one, where not each is barred
+abbrev pub IsBestBefore : MonitorParts → Plan → ℕ → ℕ → Option Column → Type 0
+IsBestBefore monitor plan condition row None = AreBarredBefore monitor plan condition row
+IsBestBefore monitor plan condition row (Some column) =
+    IsBestOf monitor plan condition row column
+
+-- ---- all rows
+
 -- a condition that was of kind broadcast and is counted, and what each block has on it
 pub record IsColumnOf (monitor : MonitorParts) (plan : Plan) (condition : ℕ) (column : Column) :
     Type 0 where
   pub was : condition_kind plan condition ≡ Some kinds.Broadcast
   pub reads_none : ReadsNone monitor condition
   pub tried : IsTried monitor condition column.row
-  pub first : AreBarredBefore monitor plan condition column.row
   pub told : AreToldBy monitor plan condition column.row column.told
+  pub fewest : (other : ℕ) → IsTried monitor condition other
+      → HasNoFewer monitor plan condition other (broadcasts_told column.told)
+  pub first : (earlier : ℕ) → 1 ≤ earlier → earlier < column.row
+      → HasNoFewer monitor plan condition earlier (broadcasts_told column.told + 1)
 
 abbrev pub IsColumn : MonitorParts → Plan → ℕ → Option Column → Type 0
 IsColumn monitor plan condition (Some column) = IsColumnOf monitor plan condition column
