@@ -5,8 +5,8 @@
 # tools/install.sh [PREFIX] --remove         takes away what stands there
 #
 # It builds in a folder of its own. Nothing below PREFIX changes before the program is there and has
-# printed its usage and version, and a second call does nothing where nothing has changed. After a failure the
-# proofs made so far are kept, in ~/.cache/expresso, and the next call goes on from there.
+# printed its usage and version, and a second call does nothing where nothing has changed. What earlier runs of
+# `rt ci` proved of the same text is not proved again where the kit keeps it, nor what a call that failed did.
 here=$PWD
 cd "$(dirname "$0")/.." || exit 1
 rt=${RT:-rt}
@@ -96,8 +96,8 @@ is_installed() {
 build() {
     local at=0 begin=$SECONDS crate line minutes=$((work / jobs))
     [ "$minutes" -ge "$chain" ] || minutes=$chain
-    say "Proving ${#crates[@]} crates, $jobs at a time: about $minutes minutes where the processors are idle."
-    say "What is proved is kept in $cache until the program stands: up to $room GB."
+    say "Proving ${#crates[@]} crates, $jobs at a time: about $minutes minutes where the processors are idle,"
+    say "less where the kit has kept proofs. $cache takes up to $room GB until the program stands."
     mkdir -p "$cache" || fail "no folder $cache"
     exec 9>"$cache/lock"
     flock -n 9 || fail "another call is building in $cache"
@@ -114,18 +114,19 @@ build() {
     for crate in "${crates[@]}"; do
         grep -w "^$crate" crates.txt
     done >"$cache/crates.txt"
-    (cd "$cache" && exec "$rt" all check --jobs "$jobs" 2>&1 9>&-) | tee "$cache/log" | while IFS= read -r line; do
+    # (the checks want the top of a repository)
+    mkdir -p "$cache/.git" || fail "no room in $cache"
+    (cd "$cache" && RT_JOBS=$jobs exec "$rt" ci 2>&1 9>&-) | tee "$cache/log" | while IFS= read -r line; do
         case $line in
-            '== summary') ;;
-            '== '*)
+            'rt: '*' NOT PROVED'* | *': its tests '*) ;;
+            'rt: '*' proved' | 'rt: '*' is kept: '*)
                 at=$((at + 1))
-                say "$at of ${#crates[@]}: ${line#== }, $(((SECONDS - begin + 30) / 60)) minutes"
+                line=${line#rt: }
+                say "$at of ${#crates[@]}: ${line%% *}, $(((SECONDS - begin + 30) / 60)) minutes"
                 ;;
         esac
     done
     [ "${PIPESTATUS[0]}" = 0 ] || fail "not everything was proved; $cache/log says why, and what was proved is kept"
-    say "Building the program."
-    (cd "$cache/crates/expresso_cli" && exec "$rt" run -- --help 2>>"$cache/log" 9>&-) >"$cache/usage"
     program=$cache/crates/expresso_cli/out/expresso_cli
     [ -x "$program" ] || fail "the program was not built; $cache/log says why, and what was proved is kept"
 }

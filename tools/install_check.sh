@@ -55,18 +55,19 @@ cat >"$RT" <<'STUB'
 fails=$(cat "$MADE/fails" 2>/dev/null)
 case $1 in
     version) echo "a kit for tests" ;;
-    all)
+    ci)
         while read -r line; do
-            echo "== ${line%%[: ]*}"
+            crate=${line%%[: ]*}
             echo x >>"$MADE/calls"
-            [ "${line%%[: ]*}" != "$fails" ] || exit 1
-            mkdir -p "crates/${line%%[: ]*}/out"
+            [ "$crate" != "$fails" ] || { echo "rt: $crate NOT PROVED"; exit 1; }
+            echo "== $crate"
+            case $crate in
+                lang_*) echo "rt: $crate is kept: an earlier run proved the same files" ;;
+                *) echo "rt: $crate proved" ;;
+            esac
+            mkdir -p "crates/$crate/out"
         done <crates.txt
-        echo "== summary"
-        ;;
-    run)
-        mkdir -p out
-        [ "$fails" != link ] || exit 1
+        [ "$fails" != link ] || exit 0
         {
             echo '#!/bin/sh'
             echo "[ \"\$1\" != --version ] || { echo 'expresso $(cat "$MADE/version")'; exit; }"
@@ -74,9 +75,8 @@ case $1 in
             cat "$MADE/usage"
             echo END
             echo 'exit 2'
-        } >out/expresso_cli
-        chmod +x out/expresso_cli
-        out/expresso_cli
+        } >crates/expresso_cli/out/expresso_cli
+        chmod +x crates/expresso_cli/out/expresso_cli
         ;;
 esac
 STUB
