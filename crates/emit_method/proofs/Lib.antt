@@ -1,7 +1,1 @@
-pub mod Choices
-mod Lookups
-mod Arguments
-mod Runs
 mod Wakes
-mod Blocks
-mod Tests

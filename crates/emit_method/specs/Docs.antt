@@ -12,7 +12,7 @@ use Rattle.emit_code.specs.Code.{is_waited_on}
 use Rattle.emit_comments.specs.Comments.{leading_docs, line_of}
 use Rattle.emit_names.specs.declared.style.Style.TheVariants as styles
 use Rattle.emit_names.specs.Names.{member_name, try_name}
-use Rattle.emit_method.specs.Statements.{MethodParts}
+use Rattle.emit_statements.specs.Statements.{MethodParts}
 
 -- ---- what a block waits for, by its number among those of its method, from 0
 

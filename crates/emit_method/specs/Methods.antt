@@ -16,8 +16,9 @@ use Rattle.emit_names.specs.Names.{is_try_free, is_try_with_free, is_with_free, 
 use Rattle.emit_names.specs.Names.{try_with_name, with_name}
 use Rattle.emit_bodies.specs.Blocks.{kind_declared, kind_text, parameter_text}
 use Rattle.emit_bodies.specs.Bodies.{answer_text, arrow_text}
-use Rattle.emit_method.specs.Sources.{SourceParts, answer_of}
-use Rattle.emit_method.specs.Statements.{MethodParts, first_of, method_fails, ops_text, end_text}
+use Rattle.emit_statements.specs.Sources.{SourceParts, answer_of}
+use Rattle.emit_statements.specs.Statements.{MethodParts, first_of, method_fails, ops_text}
+use Rattle.emit_statements.specs.Statements.{end_text}
 use Rattle.emit_method.specs.Docs.{docs_text, plain_called}
 
 -- ---- locals

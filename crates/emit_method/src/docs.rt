@@ -5,7 +5,7 @@ ghost use Rattle.std.specs.List.{enumerate_from, flat_map};
 ghost use Rattle.machine_events.specs.Configurations.{block_condition};
 ghost use Rattle.emit_code.specs.Code.{is_waited_on};
 ghost use Rattle.base_io.specs.Writing.{Wrote};
-ghost use Rattle.emit_method.specs.Statements.{method_seen};
+ghost use Rattle.emit_statements.specs.Statements.{method_seen};
 ghost use Rattle.emit_method.specs.Docs.{ERRORS, docs_text, errors_text, first_guard, going_text};
 ghost use Rattle.emit_method.specs.Docs.{likeness_text, other_error, own_comments, refused_by};
 ghost use Rattle.emit_method.specs.Docs.{failure_docs, handed_text, own_docs, panics_text};
@@ -13,10 +13,10 @@ ghost use Rattle.emit_method.specs.Docs.{refusal_docs, trying_docs, waiting_docs
 ghost use Rattle.emit_method.specs.Docs.{waits_until, work_docs, work_likeness};
 
 use crate::methods::write_plain_called;
-use crate::source::{Calls, condition_of, is_waited_on};
 use base_io::{Sink, SinkFailed, write_piece};
 use emit_comments::{line_of, write_leading};
 use emit_names::{Style, write_member};
+use emit_statements::{Calls, condition_of, is_waited_on};
 use lang_base::Kind;
 use lang_printer::write_around;
 use lang_tree::{BlockTree, MethodTree};

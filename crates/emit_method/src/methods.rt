@@ -5,8 +5,8 @@ ghost use Rattle.std.specs.List.{flat_map};
 ghost use Rattle.emit_bodies.specs.Blocks.{parameter_text};
 ghost use Rattle.emit_bodies.specs.Bodies.{answer_text};
 ghost use Rattle.base_io.specs.Writing.{Wrote};
-ghost use Rattle.emit_method.specs.Sources.{seen};
-ghost use Rattle.emit_method.specs.Statements.{method_seen};
+ghost use Rattle.emit_statements.specs.Sources.{seen};
+ghost use Rattle.emit_statements.specs.Statements.{method_seen};
 ghost use Rattle.emit_method.specs.Docs.{plain_called};
 ghost use Rattle.emit_method.specs.Methods.{both_text, called_text, error_text, function_end};
 ghost use Rattle.emit_method.specs.Methods.{function_text, has_try, has_with, head_text};
@@ -17,13 +17,15 @@ ghost use Rattle.emit_method.specs.inner.Parts.{calls_text};
 
 use crate::declared::write_typed_start;
 use crate::docs::write_docs;
-use crate::source::{Calls, Source, answer_of, condition_of, count_of, first_of, is_waited_on};
-use crate::statements::{method_fails, write_blocks, write_end};
 use base_io::{Sink, SinkFailed, write_piece, write_pieces};
 use emit_bodies::{kind_bytes, write_arrow, write_parameters};
 use emit_names::{
     Style, is_try_free, is_try_with_free, is_with_free, write_input, write_member, write_try_name,
     write_try_with_name, write_with_name,
+};
+use emit_statements::{
+    Calls, Source, answer_of, condition_of, count_of, first_of, is_waited_on, method_fails,
+    write_blocks, write_end,
 };
 use lang_base::{Kind, Named};
 use lang_monitor::Monitor;

@@ -7,7 +7,7 @@ use Rattle.lang_tree.specs.declared.tree.StmtTree.{StmtTree}
 use Rattle.machine_events.specs.Configurations.{block_condition}
 use Rattle.emit_bodies.specs.Bodies.{body_text}
 use Rattle.emit_bodies.specs.Guards.{guard_text}
-use Rattle.emit_method.specs.Sources.{SourceParts, answer_of, is_whole, reads_inputs}
+use Rattle.emit_statements.specs.Sources.{SourceParts, answer_of, is_whole, reads_inputs}
 use Rattle.emit_module.specs.Modules.{body_function, test_function, tests_guard}
 
 module _ (source : SourceParts) (method : MethodTree) (place block : ℕ) (parts : BlockTree) where

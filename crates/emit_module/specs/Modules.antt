@@ -22,9 +22,9 @@ use Rattle.emit_names.specs.Lints.{has_odd_name}
 use Rattle.emit_bodies.specs.Blocks.{kind_declared, kind_text}
 use Rattle.emit_bodies.specs.Bodies.{body_text}
 use Rattle.emit_bodies.specs.Guards.{guard_text}
-use Rattle.emit_method.specs.Sources.{SourceParts, source_of, answer_of, is_whole, reads_inputs}
-use Rattle.emit_method.specs.Conditions.{around_count, around_name, first_block}
-use Rattle.emit_method.specs.Statements.{method_fails, method_shortens}
+use Rattle.emit_statements.specs.Sources.{SourceParts, source_of, answer_of, is_whole, reads_inputs}
+use Rattle.emit_statements.specs.Conditions.{around_count, around_name, first_block}
+use Rattle.emit_statements.specs.Statements.{method_fails, method_shortens}
 use Rattle.emit_method.specs.Methods.{has_try, methods_text, start_text, typed_start}
 use Rattle.emit_module.specs.Fixed.{VERSION, HEAD, NEW, WITH, WITH_DATA, DATA, DEFAULT, DEBUG}
 use Rattle.emit_module.specs.Fixed.{DEBUG_END, INNER, COPY, COPY_END, STATE, STATE_IMPL, LOCK, WAIT}

@@ -4,8 +4,8 @@ ghost use Rattle.std.specs.Prelude.{◌≡◌, ◌||◌, false, not, true};
 ghost use Rattle.std.specs.List.{enumerate_from, flat_map, list_any};
 ghost use Rattle.emit_code.specs.Code.{is_always};
 ghost use Rattle.base_io.specs.Writing.{Wrote};
-ghost use Rattle.emit_method.specs.Sources.{seen};
-ghost use Rattle.emit_method.specs.Statements.{method_fails, method_shortens};
+ghost use Rattle.emit_statements.specs.Sources.{seen};
+ghost use Rattle.emit_statements.specs.Statements.{method_fails, method_shortens};
 ghost use Rattle.emit_method.specs.Methods.{methods_text};
 ghost use Rattle.emit_module.specs.Fixed.{FAILED, REFUSED};
 ghost use Rattle.emit_module.specs.Modules.{constant_docs, constant_line, constant_text};
@@ -27,10 +27,9 @@ use crate::fixed::{
 use crate::state::{write_inner, write_state, write_state_impl};
 use base_io::{Sink, SinkFailed, write_piece};
 use emit_comments::{first_line, has_comments, line_of, write_comments, write_leading};
-use emit_method::{
-    Source, has_try, is_always, method_fails, method_shortens, write_methods_of, write_typed_start,
-};
+use emit_method::{has_try, write_methods_of, write_typed_start};
 use emit_names::{Style, write_member, write_type};
+use emit_statements::{Source, is_always, method_fails, method_shortens};
 use lang_base::Named;
 use lang_monitor::{Condition, Monitor};
 use lang_tree::{Decl, MethodTree, MonitorTree};

@@ -6,7 +6,7 @@ ghost use Rattle.std.specs.List.{enumerate_from, flat_map, list_any};
 ghost use Rattle.emit_bodies.specs.Bodies.{body_text};
 ghost use Rattle.emit_bodies.specs.Guards.{guard_text};
 ghost use Rattle.base_io.specs.Writing.{Wrote};
-ghost use Rattle.emit_method.specs.Sources.{seen};
+ghost use Rattle.emit_statements.specs.Sources.{seen};
 ghost use Rattle.emit_module.specs.Modules.{block_functions, body_function, brace_by, brace_text};
 ghost use Rattle.emit_module.specs.Modules.{inner_text, is_field, is_first};
 ghost use Rattle.emit_module.specs.Modules.{method_functions, starts_end, starts_end_by};
@@ -19,7 +19,7 @@ use crate::fields::{ConditionLine, FieldLine, write_conditions, write_fields};
 use crate::fixed::{copy_bytes, copy_end, inner_bytes, state_bytes, state_impl_bytes};
 use base_io::{Sink, SinkFailed, write_piece};
 use emit_bodies::{write_body, write_guard};
-use emit_method::{
+use emit_statements::{
     Source, answer_of, condition_of, first_block, first_of, is_waited_on, is_whole, reads_inputs,
 };
 use lang_base::Kind;

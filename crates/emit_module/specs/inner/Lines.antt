@@ -8,8 +8,8 @@ use Rattle.emit_code.specs.Code.{is_always}
 use Rattle.emit_names.specs.declared.style.Style.TheVariants as styles
 use Rattle.emit_names.specs.Names.{member_name}
 use Rattle.emit_bodies.specs.Blocks.{kind_declared, kind_text}
-use Rattle.emit_method.specs.Sources.{SourceParts}
-use Rattle.emit_method.specs.Conditions.{around_count, around_name}
+use Rattle.emit_statements.specs.Sources.{SourceParts}
+use Rattle.emit_statements.specs.Conditions.{around_count, around_name}
 use Rattle.emit_method.specs.Methods.{start_text}
 use Rattle.emit_module.specs.declared.fields.FieldLine.{FieldLine}
 use Rattle.emit_module.specs.declared.fields.FieldLine.TheVariants as lines

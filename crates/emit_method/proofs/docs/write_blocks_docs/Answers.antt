@@ -2,7 +2,7 @@ use Rattle.std.proofs.Common.{refl}
 use Rattle.base_io.proofs.Writing.{wrote_same}
 use Rattle.emit_comments.proofs.Numbered.{numbered_done, numbered_stopped, numbered_went}
 use Rattle.emit_method.specs.Docs.{waiting_text}
-use Rattle.emit_method.specs.Statements.{method_seen}
+use Rattle.emit_statements.specs.Statements.{method_seen}
 use Rattle.emit_method.proofs.docs.write_blocks_docs.Goals as goal
 
 pub loop-place-preserved : goal.loop-place-preserved

@@ -2,7 +2,7 @@ use Rattle.std.proofs.Common.{take, Ok}
 use Rattle.base_io.specs.Writing.{Wrote}
 use Rattle.emit_comments.proofs.Numbered.{numbered}
 use Rattle.emit_method.specs.Docs.{waiting_text}
-use Rattle.emit_method.specs.Statements.{method_seen}
+use Rattle.emit_statements.specs.Statements.{method_seen}
 use Rattle.std.specs.List.{enumerate_from, flat_map}
 use Rattle.emit_method.proofs.docs.write_blocks_docs.Given as goal
 

@@ -1,7 +1,7 @@
 use Rattle.emit_method.specs.Docs.{trying_docs, waiting_docs}
-use Rattle.emit_method.specs.Statements.{method_seen}
+use Rattle.emit_statements.specs.Statements.{method_seen}
 use Rattle.base_io.proofs.Writing.{wrote_same}
-use Rattle.emit_method.proofs.Choices.{if_false, if_true}
+use Rattle.emit_statements.proofs.Choices.{if_false, if_true}
 use Rattle.emit_method.proofs.docs.write_own_docs.Goals as goal
 
 pub returns-then-it : goal.returns-then-it

@@ -1,5 +1,5 @@
 use Rattle.emit_method.specs.Docs.{refusal_docs}
-use Rattle.emit_method.specs.Statements.{method_seen}
+use Rattle.emit_statements.specs.Statements.{method_seen}
 use Rattle.base_io.proofs.Writing.{wrote_both, wrote_fails, wrote_longer}
 use Rattle.emit_method.proofs.docs.write_trying.Goals as goal
 

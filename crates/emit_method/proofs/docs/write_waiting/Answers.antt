@@ -1,7 +1,7 @@
 use Rattle.std.proofs.Common.{refl}
 use Rattle.base_io.proofs.Writing.{wrote_same}
 use Rattle.emit_method.proofs.Wakes.{waits_not, waits_then}
-use Rattle.emit_method.specs.Statements.{method_seen}
+use Rattle.emit_statements.specs.Statements.{method_seen}
 use Rattle.emit_method.proofs.docs.write_waiting.Goals as goal
 
 pub returns-then-not-is_waited_on : goal.returns-then-not-is_waited_on

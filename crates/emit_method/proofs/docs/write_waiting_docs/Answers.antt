@@ -1,7 +1,7 @@
 use Rattle.std.proofs.Common.{ap, length, List}
 use Rattle.emit_comments.proofs.Numbered.{numbered}
 use Rattle.emit_method.specs.Docs.{errors_text, waiting_text}
-use Rattle.emit_method.specs.Statements.{method_seen}
+use Rattle.emit_statements.specs.Statements.{method_seen}
 use Rattle.lang_tree.specs.declared.tree.BlockTree.{BlockTree}
 use Rattle.std.specs.List.{enumerate_from, flat_map}
 use Rattle.base_io.proofs.Writing.{wrote_both, wrote_fails, wrote_longer, wrote_same}

@@ -1,5 +1,5 @@
 use Rattle.emit_method.specs.Methods.{with_text}
-use Rattle.emit_method.specs.Sources.{seen}
+use Rattle.emit_statements.specs.Sources.{seen}
 use Rattle.base_io.proofs.Writing.{wrote_both, wrote_fails, wrote_longer}
 use Rattle.emit_method.proofs.methods.write_both.Goals as goal
 

@@ -1,9 +1,9 @@
 use Rattle.std.proofs.Common.{◌++◌, codes}
 use Rattle.emit_method.specs.Docs.{plain_called}
 use Rattle.emit_method.specs.Methods.{work_called}
-use Rattle.emit_method.specs.Statements.{method_seen}
+use Rattle.emit_statements.specs.Statements.{method_seen}
 use Rattle.base_io.proofs.Writing.{wrote_same}
-use Rattle.emit_method.proofs.Choices.{if_false, if_true}
+use Rattle.emit_statements.proofs.Choices.{if_false, if_true}
 use Rattle.emit_method.proofs.methods.write_called.Goals as goal
 
 pub returns-then-not-it : goal.returns-then-not-it

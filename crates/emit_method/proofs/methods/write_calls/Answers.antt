@@ -2,8 +2,7 @@ use Rattle.std.proofs.Common.{codes}
 use Rattle.std.specs.List.{flat_map}
 use Rattle.emit_method.specs.Docs.{docs_text}
 use Rattle.emit_method.specs.Methods.{head_text, local_line}
-use Rattle.emit_method.specs.Statements.{end_text, method_seen}
-use Rattle.emit_method.specs.inner.Parts.{blocks_ops}
+use Rattle.emit_statements.specs.Statements.{blocks_ops, end_text, method_seen}
 use Rattle.base_io.proofs.Writing.{wrote_both, wrote_fails, wrote_longer}
 use Rattle.emit_method.proofs.methods.write_calls.Goals as goal
 

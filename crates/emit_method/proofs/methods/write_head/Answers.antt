@@ -2,7 +2,7 @@ use Rattle.std.proofs.Common.{codes}
 use Rattle.std.specs.List.{flat_map}
 use Rattle.emit_bodies.specs.Blocks.{parameter_text}
 use Rattle.emit_method.specs.Methods.{called_text, function_text, method_arrow}
-use Rattle.emit_method.specs.Statements.{method_seen}
+use Rattle.emit_statements.specs.Statements.{method_seen}
 use Rattle.base_io.proofs.Writing.{wrote_both, wrote_fails, wrote_longer}
 use Rattle.emit_method.proofs.methods.write_head.Goals as goal
 

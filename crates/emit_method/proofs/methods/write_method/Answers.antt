@@ -1,8 +1,8 @@
 use Rattle.std.proofs.Common.{◌∙◌, ap}
 use Rattle.base_io.proofs.Writing.{wrote_same}
 use Rattle.emit_method.specs.Methods.{parts_of}
-use Rattle.emit_method.specs.Sources.{seen}
-use Rattle.emit_method.specs.Statements.{MethodParts}
+use Rattle.emit_statements.specs.Sources.{seen}
+use Rattle.emit_statements.specs.Statements.{MethodParts}
 use Rattle.emit_method.specs.inner.Parts.{calls_text}
 use Rattle.emit_method.proofs.methods.write_method.Goals as goal
 

@@ -1,8 +1,8 @@
 use Rattle.std.proofs.Common.{◌∙◌}
 use Rattle.base_io.proofs.Writing.{wrote_same}
-use Rattle.emit_method.proofs.Choices.{if_false, if_true}
+use Rattle.emit_statements.proofs.Choices.{if_false, if_true}
 use Rattle.emit_method.specs.Methods.{own_arrow, work_arrow}
-use Rattle.emit_method.specs.Statements.{method_seen}
+use Rattle.emit_statements.specs.Statements.{method_seen}
 use Rattle.emit_method.proofs.methods.write_method_arrow.Goals as goal
 
 pub returns-then-it : goal.returns-then-it

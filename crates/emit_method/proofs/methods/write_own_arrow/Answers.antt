@@ -1,7 +1,7 @@
 use Rattle.emit_bodies.specs.Bodies.{arrow_text}
 use Rattle.emit_method.specs.Methods.{try_arrow}
 use Rattle.base_io.proofs.Writing.{wrote_same}
-use Rattle.emit_method.proofs.Choices.{if_false, if_true}
+use Rattle.emit_statements.proofs.Choices.{if_false, if_true}
 use Rattle.emit_method.proofs.methods.write_own_arrow.Goals as goal
 
 pub returns-then-not-it : goal.returns-then-not-it

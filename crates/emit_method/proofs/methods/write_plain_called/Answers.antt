@@ -1,7 +1,7 @@
 use Rattle.emit_names.specs.Names.{member_name, try_name}
 use Rattle.emit_names.specs.declared.style.Style.TheVariants as styles
 use Rattle.base_io.proofs.Writing.{wrote_same}
-use Rattle.emit_method.proofs.Choices.{if_false, if_true}
+use Rattle.emit_statements.proofs.Choices.{if_false, if_true}
 use Rattle.emit_method.proofs.methods.write_plain_called.Goals as goal
 
 pub returns-then-it : goal.returns-then-it

@@ -1,8 +1,8 @@
 use Rattle.std.proofs.Common.{[], rules, true}
 use Rattle.base_io.proofs.Writing.{wrote_same}
-use Rattle.emit_method.proofs.Choices.{no_text, yes_text}
+use Rattle.emit_statements.proofs.Choices.{no_text, yes_text}
 use Rattle.emit_method.specs.Methods.{has_try, both_text}
-use Rattle.emit_method.specs.Sources.{seen}
+use Rattle.emit_statements.specs.Sources.{seen}
 use Rattle.emit_method.proofs.methods.write_try.Goals as goal
 
 pub returns-then-not-has_try : goal.returns-then-not-has_try

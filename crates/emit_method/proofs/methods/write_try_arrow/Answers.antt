@@ -1,6 +1,6 @@
 use Rattle.std.proofs.Common.{codes, refl}
 use Rattle.base_io.proofs.Writing.{wrote_same}
-use Rattle.emit_method.proofs.Choices.{three}
+use Rattle.emit_statements.proofs.Choices.{three}
 use Rattle.emit_method.proofs.methods.write_try_arrow.Goals as goal
 
 pub returns : goal.returns

@@ -1,6 +1,6 @@
 use Rattle.emit_names.specs.Names.{try_with_name, with_name}
 use Rattle.base_io.proofs.Writing.{wrote_same}
-use Rattle.emit_method.proofs.Choices.{if_false, if_true}
+use Rattle.emit_statements.proofs.Choices.{if_false, if_true}
 use Rattle.emit_method.proofs.methods.write_work_called.Goals as goal
 
 pub returns-then-it : goal.returns-then-it

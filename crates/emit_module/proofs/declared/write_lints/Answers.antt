@@ -1,6 +1,6 @@
 use Rattle.std.proofs.Common.{codes, [], rules}
 use Rattle.base_io.proofs.Writing.{wrote_same}
-use Rattle.emit_method.proofs.Choices.{no_text, yes_text}
+use Rattle.emit_statements.proofs.Choices.{no_text, yes_text}
 use Rattle.emit_names.specs.Lints.{has_odd_name}
 use Rattle.emit_module.proofs.declared.write_lints.Goals as goal
 

@@ -1,6 +1,6 @@
 use Rattle.std.proofs.Common.{ap, sym}
 use Rattle.base_io.proofs.Writing.{wrote_same}
-use Rattle.emit_method.specs.Sources.{seen}
+use Rattle.emit_statements.specs.Sources.{seen}
 use Rattle.emit_module.specs.declared.fields.ConditionLine.{ConditionLine}
 use Rattle.emit_module.specs.inner.Lines.{condition_at}
 use Rattle.emit_module.proofs.fields.write_condition.Goals as goal

@@ -1,9 +1,9 @@
 use Rattle.std.proofs.Common.{[], rules}
 use Rattle.emit_code.specs.Code.{is_always}
 use Rattle.base_io.proofs.Writing.{wrote_same}
-use Rattle.emit_method.proofs.Choices.{no_text, yes_text}
+use Rattle.emit_statements.proofs.Choices.{no_text, yes_text}
 use Rattle.emit_module.specs.inner.Lines.{condition_at}
-use Rattle.emit_method.specs.Sources.{seen}
+use Rattle.emit_statements.specs.Sources.{seen}
 use Rattle.emit_module.proofs.fields.write_condition_line.Goals as goal
 
 pub returns-then-is_always : goal.returns-then-is_always

@@ -1,6 +1,6 @@
 use Rattle.std.proofs.Common.{codes}
-use Rattle.emit_method.specs.Sources.{seen}
-use Rattle.emit_method.specs.Conditions.{around_count}
+use Rattle.emit_statements.specs.Sources.{seen}
+use Rattle.emit_statements.specs.Conditions.{around_count}
 use Rattle.base_io.proofs.Writing.{wrote_both, wrote_fails, wrote_longer}
 use Rattle.emit_module.proofs.fields.write_copied_count.Goals as goal
 

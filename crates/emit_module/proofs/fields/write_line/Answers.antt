@@ -1,6 +1,6 @@
 use Rattle.std.proofs.Common.{[], rules}
 use Rattle.base_io.proofs.Writing.{wrote_same}
-use Rattle.emit_method.proofs.Choices.{no_text, yes_text}
+use Rattle.emit_statements.proofs.Choices.{no_text, yes_text}
 use Rattle.emit_module.specs.Modules.{is_field}
 use Rattle.emit_module.specs.inner.Lines.{field_at}
 use Rattle.emit_module.proofs.fields.write_line.Goals as goal

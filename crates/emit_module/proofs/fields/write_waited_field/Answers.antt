@@ -1,7 +1,7 @@
 use Rattle.std.proofs.Common.{codes, ◌+◌, ◌++◌, ap}
 use Rattle.base_io.proofs.Writing.{wrote_both, wrote_fails, wrote_longer, wrote_same}
-use Rattle.emit_method.specs.Conditions.{around_name}
-use Rattle.emit_method.specs.Sources.{seen}
+use Rattle.emit_statements.specs.Conditions.{around_name}
+use Rattle.emit_statements.specs.Sources.{seen}
 use Rattle.emit_module.proofs.fields.write_waited_field.Goals as goal
 
 pub returns-in_err-write_pieces : goal.returns-in_err-write_pieces

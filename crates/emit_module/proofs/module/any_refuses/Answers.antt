@@ -1,6 +1,6 @@
 use Rattle.std.proofs.Common.{◌∙◌}
 use Rattle.emit_comments.proofs.Numbered.{tested_all, tested_more}
-use Rattle.emit_method.specs.Sources.{seen}
+use Rattle.emit_statements.specs.Sources.{seen}
 use Rattle.emit_module.specs.Modules.{refuses_so}
 use Rattle.emit_module.proofs.module.any_refuses.Goals as goal
 

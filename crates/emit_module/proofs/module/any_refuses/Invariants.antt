@@ -1,6 +1,6 @@
 use Rattle.std.proofs.Common.{◌≡◌, take}
 use Rattle.emit_comments.proofs.Numbered.{numbered_test}
-use Rattle.emit_method.specs.Sources.{seen}
+use Rattle.emit_statements.specs.Sources.{seen}
 use Rattle.emit_module.specs.Modules.{refuses_so}
 use Rattle.std.specs.List.{enumerate_from, list_any}
 use Rattle.emit_module.proofs.module.any_refuses.Given as goal

@@ -1,7 +1,7 @@
 use Rattle.std.proofs.Common.{◌∙◌}
 use Rattle.emit_comments.proofs.Numbered.{tested_all, tested_more}
-use Rattle.emit_method.specs.Sources.{seen}
-use Rattle.emit_method.specs.Statements.{method_shortens}
+use Rattle.emit_statements.specs.Sources.{seen}
+use Rattle.emit_statements.specs.Statements.{method_shortens}
 use Rattle.emit_module.proofs.module.any_shortens.Goals as goal
 
 pub loop-number-preserved : goal.loop-number-preserved

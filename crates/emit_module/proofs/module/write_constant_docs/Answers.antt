@@ -1,7 +1,7 @@
 use Rattle.std.proofs.Common.{codes}
 use Rattle.base_io.proofs.Writing.{wrote_same}
 use Rattle.emit_comments.specs.Comments.{comment_docs, has_comments}
-use Rattle.emit_method.proofs.Choices.{no_text, yes_text}
+use Rattle.emit_statements.proofs.Choices.{no_text, yes_text}
 use Rattle.emit_module.specs.Modules.{plain_docs}
 use Rattle.emit_module.proofs.module.write_constant_docs.Goals as goal
 

@@ -1,6 +1,6 @@
 use Rattle.std.proofs.Common.{◌∙◌, ap, sym, rules}
 use Rattle.base_io.proofs.Writing.{wrote_same}
-use Rattle.emit_method.specs.Sources.{seen}
+use Rattle.emit_statements.specs.Sources.{seen}
 use Rattle.emit_module.specs.Modules.{constant_line, constant_text}
 use Rattle.emit_module.proofs.module.write_constant_line.Goals as goal
 

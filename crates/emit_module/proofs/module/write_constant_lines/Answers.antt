@@ -1,6 +1,6 @@
 use Rattle.std.proofs.Common.{refl}
 use Rattle.base_io.proofs.Rows.{row_stopped, row_went}
-use Rattle.emit_method.specs.Sources.{seen}
+use Rattle.emit_statements.specs.Sources.{seen}
 use Rattle.emit_module.specs.Modules.{constant_line}
 use Rattle.emit_module.proofs.module.write_constant_lines.Goals as goal
 

@@ -1,6 +1,6 @@
 use Rattle.std.proofs.Common.{take, Ok}
 use Rattle.base_io.specs.Writing.{Wrote}
-use Rattle.emit_method.specs.Sources.{seen}
+use Rattle.emit_statements.specs.Sources.{seen}
 use Rattle.emit_module.specs.Modules.{constant_line}
 use Rattle.std.specs.List.{flat_map}
 use Rattle.emit_module.proofs.module.write_constant_lines.Given as goal

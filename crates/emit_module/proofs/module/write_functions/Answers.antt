@@ -1,6 +1,6 @@
 use Rattle.std.proofs.Common.{◌∙◌, ap, Bool, true, false}
 use Rattle.emit_module.specs.Fixed.{FAILED, OVERFLOW, REFUSED, WAIT, WHOLE}
-use Rattle.emit_method.specs.Sources.{seen}
+use Rattle.emit_statements.specs.Sources.{seen}
 use Rattle.emit_module.specs.Modules.{fails_somewhere, has_calls, refuses_somewhere, shortens_somewhere, text_if, waits_somewhere}
 use Rattle.base_io.proofs.Writing.{wrote_both, wrote_fails, wrote_longer, wrote_same}
 use Rattle.emit_module.proofs.module.write_functions.Goals as goal

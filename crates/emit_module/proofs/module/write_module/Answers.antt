@@ -1,4 +1,4 @@
-use Rattle.emit_method.specs.Sources.{seen}
+use Rattle.emit_statements.specs.Sources.{seen}
 use Rattle.emit_module.specs.Modules.{functions_text, impl_text, inner_text, state_impl_text, state_text, struct_text, traits_text, use_text}
 use Rattle.base_io.proofs.Writing.{wrote_both, wrote_fails, wrote_longer}
 use Rattle.emit_module.proofs.module.write_module.Goals as goal

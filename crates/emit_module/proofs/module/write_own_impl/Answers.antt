@@ -1,5 +1,5 @@
 use Rattle.std.proofs.Common.{codes}
-use Rattle.emit_method.specs.Sources.{seen}
+use Rattle.emit_statements.specs.Sources.{seen}
 use Rattle.emit_names.specs.Names.{type_name}
 use Rattle.emit_module.specs.Fixed.{NEW}
 use Rattle.emit_module.specs.Modules.{constants_text, lints_text}

@@ -1,5 +1,5 @@
 use Rattle.std.proofs.Common.{◌∙◌, ap, Bool, false}
-use Rattle.emit_method.specs.Sources.{seen}
+use Rattle.emit_statements.specs.Sources.{seen}
 use Rattle.emit_module.specs.Modules.{refuses_somewhere, text_if}
 use Rattle.base_io.proofs.Writing.{wrote_same}
 use Rattle.emit_module.proofs.module.write_refused.Goals as goal

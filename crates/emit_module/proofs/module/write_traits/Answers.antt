@@ -1,6 +1,6 @@
 use Rattle.base_io.proofs.Writing.{wrote_both, wrote_fails, wrote_longer}
 use Rattle.emit_module.specs.Modules.{debug_text}
-use Rattle.emit_method.specs.Sources.{seen}
+use Rattle.emit_statements.specs.Sources.{seen}
 use Rattle.emit_module.proofs.module.write_traits.Goals as goal
 
 pub returns-in_err-write_default : goal.returns-in_err-write_default

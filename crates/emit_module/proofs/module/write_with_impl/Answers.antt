@@ -3,7 +3,7 @@ use Rattle.std.specs.List.{enumerate_from, flat_map}
 use Rattle.lang_tree.specs.declared.tree.MethodTree.{MethodTree}
 use Rattle.emit_comments.proofs.Numbered.{numbered}
 use Rattle.emit_names.specs.Names.{type_name}
-use Rattle.emit_method.specs.Sources.{seen}
+use Rattle.emit_statements.specs.Sources.{seen}
 use Rattle.emit_method.specs.Methods.{methods_text}
 use Rattle.emit_module.specs.Fixed.{DATA}
 use Rattle.emit_module.specs.Modules.{with_data_text}

@@ -1,6 +1,6 @@
 use Rattle.base_io.proofs.Writing.{wrote_same}
 use Rattle.emit_module.proofs.Functions.{body_says}
-use Rattle.emit_method.specs.Sources.{seen}
+use Rattle.emit_statements.specs.Sources.{seen}
 use Rattle.emit_module.proofs.state.write_body_function.Goals as goal
 
 pub returns : goal.returns

@@ -2,7 +2,7 @@ use Rattle.std.proofs.Common.{refl}
 use Rattle.base_io.proofs.Writing.{wrote_same}
 use Rattle.emit_comments.proofs.Numbered.{numbered_done, numbered_stopped, numbered_went}
 use Rattle.emit_module.specs.Modules.{block_functions}
-use Rattle.emit_method.specs.Sources.{seen}
+use Rattle.emit_statements.specs.Sources.{seen}
 use Rattle.emit_module.proofs.state.write_functions_from.Goals as goal
 
 pub loop-place-preserved : goal.loop-place-preserved

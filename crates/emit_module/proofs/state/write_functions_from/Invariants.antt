@@ -2,7 +2,7 @@ use Rattle.std.proofs.Common.{take, Ok}
 use Rattle.base_io.specs.Writing.{Wrote}
 use Rattle.emit_comments.proofs.Numbered.{numbered}
 use Rattle.emit_module.specs.Modules.{block_functions}
-use Rattle.emit_method.specs.Sources.{seen}
+use Rattle.emit_statements.specs.Sources.{seen}
 use Rattle.std.specs.List.{enumerate_from, flat_map}
 use Rattle.emit_module.proofs.state.write_functions_from.Given as goal
 

@@ -2,7 +2,7 @@ use Rattle.std.proofs.Common.{codes, ap, List}
 use Rattle.std.specs.List.{enumerate_from, flat_map}
 use Rattle.lang_monitor.specs.declared.monitor.Condition.{Condition}
 use Rattle.emit_comments.proofs.Numbered.{numbered}
-use Rattle.emit_method.specs.Sources.{seen}
+use Rattle.emit_statements.specs.Sources.{seen}
 use Rattle.emit_module.specs.Fixed.{COPY, COPY_END}
 use Rattle.emit_module.specs.Modules.{count_copy, count_field, lints_text}
 use Rattle.base_io.proofs.Writing.{wrote_both, wrote_fails, wrote_longer, wrote_same}

@@ -2,7 +2,7 @@ use Rattle.std.proofs.Common.{◌∙◌, ap, List, ℕ}
 use Rattle.base_io.proofs.Writing.{wrote_same}
 use Rattle.emit_comments.proofs.Numbered.{numbered}
 use Rattle.emit_module.specs.Modules.{block_functions}
-use Rattle.emit_method.specs.Sources.{seen}
+use Rattle.emit_statements.specs.Sources.{seen}
 use Rattle.lang_tree.specs.declared.tree.BlockTree.{BlockTree}
 use Rattle.std.specs.List.{enumerate_from, flat_map}
 use Rattle.emit_module.proofs.state.write_method_functions.Goals as goal

@@ -1,7 +1,7 @@
 use Rattle.std.proofs.Common.{rules}
 use Rattle.base_io.proofs.Writing.{wrote_same}
 use Rattle.emit_module.proofs.Functions.{no_test, some_test}
-use Rattle.emit_method.specs.Sources.{seen}
+use Rattle.emit_statements.specs.Sources.{seen}
 use Rattle.emit_module.proofs.state.write_test_function.Goals as goal
 
 pub returns-then-not-tests_guard : goal.returns-then-not-tests_guard

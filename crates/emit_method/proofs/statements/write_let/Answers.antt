@@ -1,8 +1,0 @@
-use Rattle.std.proofs.Common.{◌∙◌, ap}
-use Rattle.base_io.proofs.Writing.{wrote_same}
-use Rattle.emit_method.specs.Statements.{let_text}
-use Rattle.emit_method.proofs.statements.write_let.Goals as goal
-
-pub returns : goal.returns
-returns g c =
-    wrote_same _ (c.let_bytes.ensures ∙ ap let_text c.answer_of.ensures) c.write_piece.ensures

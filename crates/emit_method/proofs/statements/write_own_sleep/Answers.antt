@@ -1,9 +1,0 @@
-use Rattle.std.proofs.Common.{ap}
-use Rattle.base_io.proofs.Writing.{wrote_same}
-use Rattle.emit_method.specs.Sources.{seen}
-use Rattle.emit_method.specs.Statements.{sleep_text}
-use Rattle.emit_method.proofs.statements.write_own_sleep.Goals as goal
-
-pub returns : goal.returns
-returns g c =
-    wrote_same _ (ap (sleep_text (seen c.args.it.now.source.now)) c.condition_of-condition.ensures) c.write_sleep.ensures

@@ -1,0 +1,7 @@
+pub mod Choices
+mod Lookups
+mod Arguments
+mod Runs
+mod Heard
+mod Blocks
+mod Tests

@@ -1,0 +1,10 @@
+use Rattle.std.proofs.Common.{◌≡◌, ◌+◌, take}
+use Rattle.std.specs.List.{enumerate_from, list_any}
+use Rattle.emit_comments.proofs.Numbered.{numbered_test}
+use Rattle.emit_statements.specs.Sources.{seen}
+use Rattle.emit_statements.specs.Statements.{block_fails}
+use Rattle.emit_statements.proofs.statements.any_fails.Given as goal
+
+abbrev pub invariant-loop-place : goal.invariant-loop-place
+invariant-loop-place l =
+    l.found ≡ list_any (numbered_test (λ place. block_fails (seen l.source) l.method (l.first + place))) (take l.place (enumerate_from 0 l.blocks))

@@ -1,0 +1,4 @@
+pub mod Sources
+pub mod Conditions
+pub mod Statements
+pub mod inner
