@@ -7,7 +7,7 @@ use crate::slip::{Slip, expecting, saying};
 use base_io::{GrowingSink, write_piece};
 use lang_monitor::Monitor;
 use machine_events::Plan;
-use plan_prune::candidates;
+use plan_candidates::candidates;
 use report_text::{write_candidate, write_plan};
 use std::alloc::{AllocError, Global};
 

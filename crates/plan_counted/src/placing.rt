@@ -19,7 +19,7 @@ use super::laws::{answered_columns_count, counted_plans_are_exact, counted_plans
 use base_list::Seq;
 use lang_monitor::{Candidate, Monitor};
 use machine_events::{CondKind, Note, NoteList, Plan};
-use plan_prune::candidates_have_formulas;
+use plan_candidates::candidates_have_formulas;
 use std::alloc::{AllocError, Global};
 
 /// The plan, counted. It fails only for want of memory.

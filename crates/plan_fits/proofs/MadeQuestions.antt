@@ -41,7 +41,7 @@ use Rattle.logic_wp.specs.Expressible.{is_expressible}
 use Rattle.logic_wp.specs.Limits.{value_if}
 use Rattle.logic_wp.specs.NegatedQueries.{part_before}
 use Rattle.machine_implicit.proofs.Placed.{some_of}
-use Rattle.plan_prune.proofs.SomeOf.{some_pass}
+use Rattle.plan_candidates.proofs.SomeOf.{some_pass}
 use Rattle.plan_fits.specs.Answers.{IsFitAnswer, IsWhole}
 use Rattle.plan_fits.specs.Outside.{answers_outside, assigns_number, assigns_outside, assigns_step, bounds_from, bounds_of, hyps_of, outside_64, path_outside}
 use Rattle.plan_fits.specs.Within.{has_room, has_room_at_end, is_step_within, is_way_within}

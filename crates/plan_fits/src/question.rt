@@ -19,7 +19,7 @@ use base_list::Seq;
 use lang_monitor::{Block, Candidate, Monitor, Query};
 use logic_linear::{Formula, MOST_NODES, nodes};
 use logic_wp::{keeps, paths_of};
-use plan_prune::candidates_have_formulas;
+use plan_candidates::candidates_have_formulas;
 use std::alloc::{AllocError, Global};
 
 /// The kept candidates, the bounds of 64 bits and the guard.

@@ -17,9 +17,9 @@ ghost use Rattle.plan_needs.specs.inner.Asked.{IsAskedOf};
 use super::asking::{claim_failure, question_failure};
 use super::rows::counted_row;
 use lang_monitor::{Candidate, Claim, Monitor};
+use plan_candidates::candidates_have_formulas;
 use plan_count::{Question, has_row};
 use plan_counted::CountedPlan;
-use plan_prune::candidates_have_formulas;
 use plan_why::{Answer, Failure, Reason, Thing, is_block_of, things_of};
 use std::alloc::{AllocError, Global};
 

@@ -18,9 +18,9 @@ use super::broadcasts::{BlockBroadcast, BroadcastReason};
 use super::rows::counted_row;
 use lang_monitor::{Candidate, Monitor};
 use machine_events::{Note, NoteList};
+use plan_candidates::candidates_have_formulas;
 use plan_count::Question;
 use plan_counted::{Column, CountedPlan};
-use plan_prune::candidates_have_formulas;
 use plan_why::Failure;
 use std::alloc::{AllocError, Global};
 

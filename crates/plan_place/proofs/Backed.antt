@@ -25,7 +25,7 @@ use Rattle.machine_events.specs.declared.plan.Plan.{Plan}
 use Rattle.machine_events.specs.Plans.{condition_kind, has_note}
 use Rattle.logic_wp.specs.NegatedQueries.{negated_query}
 use Rattle.logic_wp.specs.PlainClaims.{ReadsNone, WaitsAt}
-use Rattle.plan_prune.specs.Invariants.{keeps_claims}
+use Rattle.plan_candidates.specs.Claims.{keeps_claims}
 use Rattle.plan_place.specs.declared.placed.Proof.{Proof}
 use Rattle.plan_place.specs.Backing.{AreProofs, HasCertificate, IsBacked, backed_claims, block_numbers, kind_claims, reads_none, unnoted_claims, untested_claims, waits_at}
 use Rattle.machine_events.proofs.Facing.{all_at}

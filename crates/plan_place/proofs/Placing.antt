@@ -22,7 +22,8 @@ use Rattle.plan_place.specs.declared.placed.Proof.{Proof}
 use Rattle.plan_place.specs.Backing.{AreProofs, Certifies, backed_claims, kind_claims, reads_none, unnoted_claims, untested_claims, waits_at}
 use Rattle.plan_place.specs.inner.Answers.{Adds, AreNotes, IsAnswerTo, IsNote, proof_of_kept, unnoted_claim, unnoted_up_to}
 use Rattle.plan_prune.specs.declared.kept.Kept.{Kept}
-use Rattle.plan_prune.specs.Invariants.{AreProofs as AreKept, keeps_claims}
+use Rattle.plan_candidates.specs.Claims.{keeps_claims}
+use Rattle.plan_prune.specs.Invariants.{AreProofs as AreKept}
 use Rattle.plan_place.proofs.Lists.{numbered_more, range_more, same_filter}
 
 -- ---- proofs

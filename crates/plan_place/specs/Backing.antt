@@ -16,7 +16,7 @@ use Rattle.machine_events.specs.declared.plan.Note.{Note}
 use Rattle.machine_events.specs.declared.plan.Plan.{Plan}
 use Rattle.machine_events.specs.Plans.{has_note}
 use Rattle.logic_wp.specs.NegatedQueries.{negated_query}
-use Rattle.plan_prune.specs.Invariants.{keeps_claims}
+use Rattle.plan_candidates.specs.Claims.{keeps_claims}
 use Rattle.plan_place.specs.declared.placed.Proof.{Proof}
 
 -- ---- claims, with blocks numbered from 0 and conditions from 1

@@ -15,7 +15,7 @@ use Rattle.plan_prune.specs.Invariants.{ContainsEasy, IsGreatest, IsInvariant, N
 use Rattle.plan_prune.specs.inner.Asking.{MustStay}
 use Rattle.plan_prune.specs.inner.Pruning.{IsLeft, IsRoundOf}
 use Rattle.plan_prune.proofs.HardClaims.{none_open}
-use Rattle.plan_prune.proofs.SomeOf.{filter_contains, remove_contains, some_filter, some_hold, some_remove, some_same, some_trans}
+use Rattle.plan_candidates.proofs.SomeOf.{filter_contains, remove_contains, some_filter, some_hold, some_remove, some_same, some_trans}
 
 -- ---- at the start
 

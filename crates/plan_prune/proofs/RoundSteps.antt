@@ -16,11 +16,12 @@ use Rattle.lang_monitor.specs.Queries.{keeps_query}
 use Rattle.lang_monitor.specs.Triples.{Keeps}
 use Rattle.plan_prune.specs.declared.kept.Kept.{Kept}
 use Rattle.logic_cert.specs.declared.cert.Cert.{Cert}
-use Rattle.plan_prune.specs.Invariants.{IsDecision, Proves, claim_of, keeps_claims}
+use Rattle.plan_candidates.specs.Claims.{keeps_claims}
+use Rattle.plan_prune.specs.Invariants.{IsDecision, Proves, claim_of}
 use Rattle.logic_wp.specs.Expressible.{is_expressible}
 use Rattle.plan_prune.specs.inner.Asking.{AllKeep, AreAskable, IsAskable, AreProofsBelow, IsFoundAt, IsProofAt, MustStay}
 use Rattle.plan_prune.specs.inner.Pruning.{IsRoundOf}
-use Rattle.plan_prune.proofs.SomeOf.{some_more, some_pass, some_push}
+use Rattle.plan_candidates.proofs.SomeOf.{some_more, some_pass, some_push}
 
 -- ---- one block
 

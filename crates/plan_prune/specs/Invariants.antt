@@ -1,6 +1,6 @@
 -- Invariants: candidates that are true at the start and that each block keeps, with certificates.
 use Rattle.std.specs.Prelude.{◌≡◌, ◌↔◌, ℕ, ◌<◌, List, map, length, All, Option, Some, None}
-use Rattle.std.specs.List.{Contains, flat_map, range_with_len}
+use Rattle.std.specs.List.{Contains}
 use Rattle.logic_cert.specs.declared.cert.Cert.{Cert}
 use Rattle.logic_cert.specs.Refutes.{Refutes}
 use Rattle.lang_monitor.specs.declared.candidate.Candidate.{Candidate}
@@ -12,6 +12,7 @@ use Rattle.lang_monitor.specs.MonitorParts.{MonitorParts}
 use Rattle.lang_monitor.specs.Queries.{query_of}
 use Rattle.lang_monitor.specs.Triples.{IsInductive, IsValidQuery}
 use Rattle.logic_wp.specs.NegatedQueries.{negated_query}
+use Rattle.plan_candidates.specs.Claims.{keeps_claims}
 use Rattle.plan_prune.specs.declared.kept.Kept.{Kept}
 use Rattle.plan_prune.specs.Hardness.{MayBeKept, MayStayOpen}
 
@@ -24,13 +25,6 @@ IsDecision monitor query (Some cert) = Refutes (negated_query monitor query) cer
 IsDecision monitor query None = IsValidQuery monitor query → MayStayOpen monitor query
 
 -- ---- the proofs of an invariant
-
--- the claims that each block keeps each of the candidates: candidates in order, and of each the
--- blocks
-abbrev pub keeps_claims : MonitorParts → List Candidate → List Claim
-keeps_claims monitor kept =
-    flat_map (λ candidate. map (claims.Keeps candidate) (range_with_len 0 (length monitor.blocks)))
-    kept
 
 abbrev pub claim_of : Kept → Claim
 claim_of proof = claims.Keeps proof.candidate proof.block

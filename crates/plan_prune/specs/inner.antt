@@ -1,4 +1,2 @@
 pub mod Asking
-pub mod Numbers
 pub mod Pruning
-pub mod Starts

@@ -3,27 +3,21 @@
 //! the start, then in rounds those that some block does not keep under the others, until each block
 //! keeps each.
 //!
-//! [`candidates`] lists the candidates of a monitor, [`certificate_of`] decides a query, and
-//! [`invariant`] sifts the candidates one after the other, and prunes what is left in rounds, with
-//! a certificate for each that is kept and each block (`specs/Invariants`). Which queries may stay
-//! open, which claims are hard and which monitors are small: `specs/Hardness`.
+//! [`certificate_of`] decides a query, and [`invariant`] sifts the candidates of a monitor one
+//! after the other, and prunes what is left in rounds, with a certificate for each that is kept and
+//! each block (`specs/Invariants`). Which queries may stay open, which claims are hard and which
+//! monitors are small: `specs/Hardness`.
 #![tactic(auto)]
 
-mod bounds;
 mod certificate;
 mod grounds;
 mod kept;
 mod laws;
-mod listing;
-mod pool;
 mod pruning;
 mod rounds;
 mod sifting;
-mod starts;
 
 pub use certificate::certificate_of;
 pub use kept::{Invariant, Kept};
 pub use laws::{easy_monitors_have_no_open_claim, open_claims_are_hard, plain_claims_are_not_hard};
-pub use listing::candidates;
 pub use pruning::invariant;
-pub use starts::{are_true_at_start, candidates_have_formulas};

@@ -12,10 +12,10 @@ ghost use Rattle.plan_prune.specs.inner.Pruning.{IsLeft, IsPruned};
 use super::kept::Invariant;
 use super::rounds::{Round, next_round};
 use super::sifting::sifted;
-use super::starts::{read_starts, true_at_start};
 use base_list::Seq;
 use lang_monitor::{Candidate, Monitor};
 use logic_wp::candidates_are_expressible;
+use plan_candidates::{read_starts, true_at_start};
 use std::alloc::{AllocError, Global};
 
 /// What is left of the candidates after the last round, which drops none.

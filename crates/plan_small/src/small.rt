@@ -15,7 +15,8 @@ use super::simple::{are_simple_blocks, has_difference_rows};
 use lang_monitor::{Candidate, Claim, Monitor};
 use logic_linear::{Formula, MOST_CUBES, cubes};
 use logic_wp::{claim_query, negated};
-use plan_prune::{candidates, candidates_have_formulas, plain_claims_are_not_hard};
+use plan_candidates::{candidates, candidates_have_formulas};
+use plan_prune::plain_claims_are_not_hard;
 use std::alloc::{AllocError, Global};
 
 /// Whether the formula has few cubes, and difference rows alone.

@@ -23,8 +23,8 @@ use lang_monitor::{Claim, Monitor};
 use logic_cert::refuted_formula_is_false;
 use logic_wp::refuted_query_is_valid;
 use machine_events::{Plan, counting_applies};
+use plan_candidates::candidates_have_formulas;
 use plan_count::answers_count;
-use plan_prune::candidates_have_formulas;
 use report_recheck::claims_of;
 use std::alloc::{AllocError, Global};
 

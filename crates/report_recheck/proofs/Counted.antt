@@ -11,7 +11,7 @@ use Rattle.lang_monitor.specs.declared.monitor.Field.{Field}
 use Rattle.lang_monitor.specs.Bodies.{number_of_value}
 use Rattle.lang_monitor.specs.Candidates.{AreSomeOf, bounded, candidates_of, distinct, field_candidates, guard_bounds, int_fields, int_number, kind_candidates, pair_candidates, pool}
 use Rattle.lang_monitor.specs.MonitorParts.{MonitorParts, IsMonitor}
-use Rattle.plan_prune.proofs.SomeOf.{some_length}
+use Rattle.plan_candidates.proofs.SomeOf.{some_length}
 
 doubled : (field : ℕ) (bounds : List ℤ)
     → length (flat_map (bounded field) bounds) ≡ 2 * length bounds

@@ -27,7 +27,7 @@ use Rattle.logic_wp.specs.Limits.{is_query_within}
 use Rattle.logic_wp.specs.NegatedQueries.{negated_query}
 use Rattle.plan_prune.specs.Hardness.{HasNoHardClaim}
 use Rattle.plan_prune.specs.Hardness.IsHard.{beyond_limits}
-use Rattle.plan_prune.specs.Invariants.{keeps_claims}
+use Rattle.plan_candidates.specs.Claims.{keeps_claims}
 use Rattle.plan_place.specs.declared.placed.PlacedPlan.{PlacedPlan}
 use Rattle.plan_place.specs.declared.placed.Proof.{Proof}
 use Rattle.plan_place.specs.Backing.{AreProofs, backed_claims, block_numbers, condition_numbers, kind_claims, reads_none, unnoted_claims, untested_claims, waits_at}

@@ -17,7 +17,7 @@ use logic_cert::refuted_formula_is_false;
 use logic_outline::{Outline, is_refuted};
 use logic_wp::{claim_query, negated, refuted_query_is_valid};
 use machine_events::Plan;
-use plan_prune::candidates_have_formulas;
+use plan_candidates::candidates_have_formulas;
 use std::alloc::{AllocError, Global};
 
 /// Checks a report, which has one certificate for each claim that its plan rests on, and asks no

@@ -5,7 +5,7 @@ ghost use Rattle.std.specs.Prelude.{if◌then◌else◌};
 ghost use Rattle.std.specs.List.{enumerate_from, flat_map};
 ghost use Rattle.lang_base.specs.Limits.{BLOCKS, CONDITIONS};
 ghost use Rattle.machine_events.specs.Plans.{has_note};
-ghost use Rattle.plan_prune.specs.Invariants.{keeps_claims};
+ghost use Rattle.plan_candidates.specs.Claims.{keeps_claims};
 ghost use Rattle.lang_monitor.specs.declared.claim.Claim.TheVariants.{Keeps};
 ghost use Rattle.plan_place.specs.Backing.{backed_claims, block_numbers, kind_claims};
 ghost use Rattle.plan_place.specs.Backing.{unnoted_claims, untested_claims};

@@ -12,7 +12,7 @@ use super::after::after;
 use super::writing::{field_bytes, flag_bytes};
 use itoa::Buffer;
 use lang_monitor::{Candidate, Field, Monitor};
-use plan_prune::candidates;
+use plan_candidates::candidates;
 use std::alloc::{AllocError, Global};
 
 /// The candidates whose lines stand at the front of the bytes, in the order of the monitor's, and

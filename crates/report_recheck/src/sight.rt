@@ -10,8 +10,8 @@ ghost use Rattle.report_recheck.specs.inner.Sight.{is_way_suited};
 
 use lang_monitor::{Condition, Monitor};
 use machine_events::{CondKind, Note, NoteList, Plan};
+use plan_candidates::are_true_at_start;
 use plan_place::reads_none;
-use plan_prune::are_true_at_start;
 
 /// Whether what a plan keeps is true at the start, and its kinds and notes suit the conditions. It
 /// takes no memory.

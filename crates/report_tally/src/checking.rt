@@ -16,8 +16,8 @@ use logic_cert::refuted_formula_is_false;
 use logic_outline::{Outline, is_refuted};
 use logic_wp::{negated, refuted_query_is_valid};
 use machine_events::counting_applies;
+use plan_candidates::candidates_have_formulas;
 use plan_count::{Question, answers_count, question_query};
-use plan_prune::candidates_have_formulas;
 use report_recheck::{Verdict, first_open, is_lawful_at_sight, line_of};
 use std::alloc::{AllocError, Global};
 

@@ -14,7 +14,7 @@ use base_list::Seq;
 use lang_monitor::Monitor;
 use logic_outline::Outline;
 use machine_events::Plan;
-use plan_prune::candidates_have_formulas;
+use plan_candidates::candidates_have_formulas;
 use report_recheck::{claims_of, plan_front, read_proofs};
 use std::alloc::{AllocError, Global};
 

@@ -4,7 +4,7 @@ use Rattle.lang_monitor.specs.declared.candidate.Candidate.{Candidate}
 use Rattle.machine_events.specs.declared.plan.CondKind.{CondKind}
 use Rattle.machine_events.specs.declared.plan.Note.{Note}
 use Rattle.machine_events.specs.declared.plan.Plan.{Plan}
-use Rattle.plan_prune.specs.Invariants.{keeps_claims}
+use Rattle.plan_candidates.specs.Claims.{keeps_claims}
 use Rattle.plan_place.specs.Backing.{AreProofs, backed_claims, kind_claims, unnoted_claims, untested_claims}
 use Rattle.plan_place.specs.inner.Answers.{AreAskable, AreKinds, AreNotesOfEach, IsAnswered, proof_of_kept}
 use Rattle.plan_place.proofs.Backed.{proofs_back}

@@ -1,7 +1,7 @@
 use Rattle.lang_monitor.specs.Candidates.{candidates_of}
 use Rattle.logic_wp.specs.Expressible.{is_expressible}
 use Rattle.plan_prune.proofs.Pruned.{greatest_left, invariant_left, left_first}
-use Rattle.plan_prune.proofs.SomeOf.{some_pass}
+use Rattle.plan_candidates.proofs.SomeOf.{some_pass}
 use Rattle.plan_prune.proofs.pruning.invariant.Goals as goal
 
 pub pruned-requires-clause-first : goal.pruned-requires-clause-first

@@ -4,7 +4,7 @@ use Rattle.lang_monitor.specs.Candidates.{candidates_of}
 use Rattle.plan_prune.specs.inner.Pruning.{IsRoundOf}
 use Rattle.plan_prune.proofs.Pruned.{left_after, none_dropped}
 use Rattle.plan_prune.proofs.RoundSteps.{askable_some}
-use Rattle.plan_prune.proofs.SomeOf.{some_length}
+use Rattle.plan_candidates.proofs.SomeOf.{some_length}
 use Rattle.plan_prune.proofs.pruning.pruned.Goals as goal
 
 pub next_round-requires : goal.next_round-requires

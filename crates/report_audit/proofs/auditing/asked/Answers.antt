@@ -6,7 +6,7 @@ use Rattle.logic_wp.specs.Expressible.{is_expressible}
 use Rattle.logic_wp.specs.PlainClaims.{MayAsk}
 use Rattle.plan_place.specs.Backing.{backed_claims}
 use Rattle.plan_place.proofs.Backed.{Laws}
-use Rattle.plan_prune.proofs.SomeOf.{some_pass}
+use Rattle.plan_candidates.proofs.SomeOf.{some_pass}
 use Rattle.report_recheck.proofs.Askable.{claims_askable}
 use Rattle.report_audit.specs.Findings.{is_asked}
 use Rattle.report_audit.specs.inner.Asked.{IsFirstOpen}

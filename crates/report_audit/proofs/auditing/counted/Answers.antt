@@ -5,7 +5,7 @@ use Rattle.lang_monitor.specs.Candidates.{candidates_of}
 use Rattle.logic_wp.specs.Expressible.{is_expressible}
 use Rattle.logic_wp.specs.PlainClaims.{MayAsk}
 use Rattle.plan_place.specs.Backing.{backed_claims}
-use Rattle.plan_prune.proofs.SomeOf.{some_pass}
+use Rattle.plan_candidates.proofs.SomeOf.{some_pass}
 use Rattle.report_recheck.proofs.Askable.{claims_askable}
 use Rattle.report_audit.specs.CountedFindings.{is_common}
 use Rattle.report_audit.specs.inner.Asked.{IsFirstOpen}

@@ -2,7 +2,7 @@ use Rattle.std.proofs.Common.{◌≡◌, true, ℕ, length, All, sym, ap, subst,
 use Rattle.std.specs.List.{list_all, zip}
 use Rattle.lang_monitor.specs.Candidates.{candidates_of}
 use Rattle.logic_wp.specs.Expressible.{is_expressible}
-use Rattle.plan_prune.proofs.SomeOf.{some_pass}
+use Rattle.plan_candidates.proofs.SomeOf.{some_pass}
 use Rattle.plan_place.proofs.Backed.{Laws}
 use Rattle.logic_wp.specs.PlainClaims.{MayAsk}
 use Rattle.report_recheck.specs.Verdicts.{IsFirstOpen}

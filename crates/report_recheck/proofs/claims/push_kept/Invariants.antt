@@ -1,5 +1,5 @@
 use Rattle.std.proofs.Common.{◌≡◌, ◌++◌, take}
-use Rattle.plan_prune.specs.Invariants.{keeps_claims}
+use Rattle.plan_candidates.specs.Claims.{keeps_claims}
 use Rattle.report_recheck.proofs.claims.push_kept.Given as goal
 
 abbrev pub invariant-loop-candidate : goal.invariant-loop-candidate

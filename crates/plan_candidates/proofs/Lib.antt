@@ -1,0 +1,4 @@
+mod ListSteps
+mod PoolNumbers
+pub mod SomeOf
+mod StartTruths

@@ -1,7 +1,0 @@
-use Rattle.std.proofs.Common.{◌≡◌, ◌∷◌, pos, take}
-use Rattle.std.specs.List.{flat_map}
-use Rattle.lang_monitor.specs.Candidates.{guard_bounds}
-use Rattle.plan_prune.proofs.bounds.numbers_of.Given as goal
-
-abbrev pub invariant-loop-block : goal.invariant-loop-block
-invariant-loop-block l = l.numbers.items ≡ pos 0 ∷ l.start ∷ flat_map (guard_bounds l.field) (take l.block-index l.blocks)
