@@ -275,7 +275,7 @@ What is asked of a block
   lang_monitor Bodies IsValid
   lang_monitor Queries keeps_query none_needed_query one_enough_query no_test_query
 A plan is backed, and a certificate refutes
-  plan_place Backing IsBacked HasCertificate Certifies backed_claims
+  plan_claims Backing IsBacked HasCertificate Certifies backed_claims
   logic_cert Refutes Refutes RefutesFrom closes are_opposite chain_closes chain_goes is_absurd
 A run of the implicit monitor
   machine_implicit Runs IsRun IsRunBy IsNextCommit Ends CanAct

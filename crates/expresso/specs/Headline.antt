@@ -16,7 +16,7 @@ use Rattle.machine_events.specs.Plans.{FitsPlan, IsLawful, has_note, notes_at}
 use Rattle.machine_events.specs.PlanText.{plan_text}
 use Rattle.machine_explicit.specs.Sections.{spurious_in}
 use Rattle.plan_prune.specs.Hardness.{HasNoHardClaim}
-use Rattle.plan_place.specs.Backing.{IsBacked}
+use Rattle.plan_claims.specs.Backing.{IsBacked}
 use Rattle.plan_place.specs.Exact.{IsExact, IsLicensed}
 use Rattle.report_text.specs.LogText.{log_text}
 use Rattle.machine_events.specs.Configurations.{system_under}

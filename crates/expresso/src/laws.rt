@@ -2,7 +2,7 @@
 
 ghost use Rattle.std.specs.Prelude.{◌≡◌, ℕ, List, Option};
 ghost use Rattle.front_command.specs.declared.plan_choice.PlanChoice.{PlanChoice};
-ghost use Rattle.plan_place.specs.Backing.{AreProofs, backed_claims};
+ghost use Rattle.plan_claims.specs.Backing.{AreProofs, backed_claims};
 ghost use Rattle.expresso_answers.specs.declared.status.Status.{Status};
 ghost use Rattle.expresso.specs.ReportedRuns.{AreRunAndReport};
 

@@ -4,8 +4,8 @@ use Rattle.lang_monitor.specs.MonitorParts.{MonitorParts}
 use Rattle.machine_events.specs.declared.plan.Plan.{Plan}
 use Rattle.machine_events.specs.Plans.{FitsPlan, has_note, notes_at}
 use Rattle.machine_events.specs.Counts.{IsLawfulByCounting}
-use Rattle.plan_place.specs.declared.placed.PlacedPlan.{PlacedPlan}
-use Rattle.plan_place.specs.Backing.{AreProofs, backed_claims}
+use Rattle.plan_claims.specs.declared.placed.PlacedPlan.{PlacedPlan}
+use Rattle.plan_claims.specs.Backing.{AreProofs, backed_claims}
 use Rattle.logic_outline.specs.Outlines.{HasTypedNumbers}
 use Rattle.report_tally.specs.CountedTexts.{HasTypedColumn}
 use Rattle.plan_counted.specs.declared.counted.CountedPlan.{CountedPlan}

@@ -42,8 +42,8 @@ use Rattle.expresso_answers.specs.ClientFiles.{AreAccepted, IsFirstOfClients}
 use Rattle.expresso_answers.specs.ReportFiles.{IsAcceptanceLine, IsRechecked, IsReportRefusalLine}
 use Rattle.expresso_answers.specs.PlanFiles.{IsAudited, IsLawfulLine, IsPlanRefusalLine}
 use Rattle.expresso_answers.specs.PlanFiles.{MayBeLawful}
-use Rattle.plan_place.specs.declared.placed.PlacedPlan.{PlacedPlan}
-use Rattle.plan_place.specs.Backing.{AreProofs, backed_claims}
+use Rattle.plan_claims.specs.declared.placed.PlacedPlan.{PlacedPlan}
+use Rattle.plan_claims.specs.Backing.{AreProofs, backed_claims}
 use Rattle.plan_counted.specs.declared.counted.CountedPlan.{CountedPlan}
 use Rattle.report_tally.specs.declared.report.CountedReport.{CountedReport}
 use Rattle.report_tally.specs.CountedReports.{counted_report_text}

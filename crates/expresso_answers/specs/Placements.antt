@@ -10,8 +10,8 @@ use Rattle.machine_events.specs.Plans.{FitsPlan, IsLawful, has_note, notes_at}
 use Rattle.machine_events.specs.Counts.{IsLawfulByCounting}
 use Rattle.plan_prune.specs.Hardness.{HasNoHardClaim}
 use Rattle.logic_outline.specs.Outlines.{HasTypedNumbers}
-use Rattle.plan_place.specs.declared.placed.PlacedPlan.{PlacedPlan}
-use Rattle.plan_place.specs.Backing.{AreProofs, IsBacked, backed_claims}
+use Rattle.plan_claims.specs.declared.placed.PlacedPlan.{PlacedPlan}
+use Rattle.plan_claims.specs.Backing.{AreProofs, IsBacked, backed_claims}
 use Rattle.plan_place.specs.Exact.{IsExact, IsLicensed}
 use Rattle.plan_place.specs.Relayed.{relay_of}
 use Rattle.plan_counted.specs.declared.counted.CountedPlan.{CountedPlan}

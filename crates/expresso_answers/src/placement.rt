@@ -1,14 +1,15 @@
 //! The plan that a monitor is compiled to, and the one that is asked for.
 
 ghost use Rattle.std.specs.Prelude.{IfOk};
-ghost use Rattle.plan_place.specs.Backing.{AreProofs, backed_claims};
+ghost use Rattle.plan_claims.specs.Backing.{AreProofs, backed_claims};
 ghost use Rattle.expresso_answers.specs.Placements.{IsChosen, IsCounting, IsPlacement};
 
 use front_command::PlanChoice;
 use lang_monitor::Monitor;
 use machine_events::Plan;
+use plan_claims::PlacedPlan;
 use plan_counted::{CountedPlan, count_plan, relay_uncounted};
-use plan_place::{PlacedPlan, place, relay, relayed_plans_are_lawful};
+use plan_place::{place, relay, relayed_plans_are_lawful};
 use report_recheck::read_numbers;
 use report_tally::read_column_numbers;
 use std::alloc::{AllocError, Global};

@@ -7,8 +7,8 @@ use Rattle.lang_monitor.specs.MonitorParts.{MonitorParts}
 use Rattle.machine_events.specs.declared.plan.Plan.{Plan}
 use Rattle.logic_cert.specs.declared.cert.Cert.{Cert}
 use Rattle.logic_outline.specs.Outlines.{HasTypedNumbers}
-use Rattle.plan_place.specs.declared.placed.PlacedPlan.{PlacedPlan}
-use Rattle.plan_place.specs.Backing.{AreProofs, backed_claims}
+use Rattle.plan_claims.specs.declared.placed.PlacedPlan.{PlacedPlan}
+use Rattle.plan_claims.specs.Backing.{AreProofs, backed_claims}
 use Rattle.plan_counted.specs.declared.counted.CountedPlan.{CountedPlan}
 use Rattle.plan_needs.specs.declared.broadcasts.BroadcastReason.{BroadcastReason}
 use Rattle.plan_why.specs.declared.reason.Reason.{Reason}

@@ -7,8 +7,8 @@ use Rattle.base_io.specs.Outside.{FilesSeen, SinkSeen, IsRead}
 use Rattle.lang_tree.specs.declared.tree.MonitorTree.{MonitorTree}
 use Rattle.lang_monitor.specs.declared.candidate.Candidate.{Candidate}
 use Rattle.lang_monitor.specs.MonitorParts.{MonitorParts}
-use Rattle.plan_place.specs.declared.placed.PlacedPlan.{PlacedPlan}
-use Rattle.plan_place.specs.Backing.{AreProofs, backed_claims}
+use Rattle.plan_claims.specs.declared.placed.PlacedPlan.{PlacedPlan}
+use Rattle.plan_claims.specs.Backing.{AreProofs, backed_claims}
 use Rattle.report_text.specs.FaultText.{not_report_text, other_too_long_text}
 use Rattle.report_recheck.specs.declared.report.Verdict.{Verdict}
 use Rattle.report_recheck.specs.declared.report.Verdict.TheVariants as verdicts

@@ -13,9 +13,9 @@ use Rattle.lang_monitor.specs.MonitorParts.{MonitorParts, IsMonitor}
 use Rattle.machine_events.specs.PlanText.{block_name}
 use Rattle.machine_events.specs.Plans.{FitsPlan, IsLawful}
 use Rattle.plan_prune.specs.Hardness.{HasNoHardClaim}
-use Rattle.plan_place.specs.declared.placed.PlacedPlan.{PlacedPlan}
-use Rattle.plan_place.specs.declared.placed.Proof.{Proof}
-use Rattle.plan_place.specs.Backing.{AreProofs, backed_claims}
+use Rattle.plan_claims.specs.declared.placed.PlacedPlan.{PlacedPlan}
+use Rattle.plan_claims.specs.declared.placed.Proof.{Proof}
+use Rattle.plan_claims.specs.Backing.{AreProofs, backed_claims}
 use Rattle.plan_counted.specs.declared.counted.CountedPlan.{CountedPlan}
 use Rattle.report_recheck.specs.declared.report.Report.{Report}
 use Rattle.report_recheck.specs.declared.report.Verdict.{Verdict}

@@ -1,7 +1,7 @@
 -- Files that hold what `report` printed.
 use Rattle.std.specs.Prelude.{◌≡◌, ◌≤◌, ℕ, ◌+◌, List, Option, Some, length}
 use Rattle.plan_prune.specs.Hardness.{HasNoHardClaim}
-use Rattle.plan_place.specs.declared.placed.PlacedPlan.{PlacedPlan}
+use Rattle.plan_claims.specs.declared.placed.PlacedPlan.{PlacedPlan}
 use Rattle.plan_counted.specs.declared.counted.CountedPlan.{CountedPlan}
 use Rattle.report_tally.specs.CountedTexts.{counted_report_of}
 use Rattle.report_tally.specs.EasyCountings.{OwesNothingOpen}

@@ -20,7 +20,7 @@ use expresso_answers::{Counting, Status, finish};
 use lang_monitor::Monitor;
 use lang_tree::MonitorTree;
 use logic_cert::Cert;
-use plan_place::PlacedPlan;
+use plan_claims::PlacedPlan;
 use report_fits::{Fit, FitReason, write_fit_reasons, write_fits, write_fitting};
 use report_recheck::{Verdict, write_report, write_verdict};
 use report_tally::write_counted_report;

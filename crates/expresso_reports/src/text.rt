@@ -18,7 +18,7 @@ use expresso_answers::{Counting, Status, finish};
 use lang_monitor::Monitor;
 use lang_tree::MonitorTree;
 use machine_events::Plan;
-use plan_place::PlacedPlan;
+use plan_claims::PlacedPlan;
 use plan_why::Failure;
 use report_audit::{Finding, write_finding};
 use report_failures::write_failing_finding;

@@ -25,7 +25,7 @@ use Rattle.logic_wp.specs.NegatedQueries.{negated_query}
 use Rattle.logic_wp.specs.PlainClaims.{ReadsNone, WaitsAt}
 use Rattle.plan_prune.specs.Hardness.{MayStayOpen}
 use Rattle.plan_prune.specs.Invariants.{IsDecision}
-use Rattle.plan_place.specs.Backing.{reads_none, waits_at}
+use Rattle.plan_claims.specs.Backing.{reads_none, waits_at}
 use Rattle.plan_place.specs.Relayed.{is_broadcast}
 use Rattle.plan_count.specs.declared.question.Question.{Question}
 use Rattle.plan_count.specs.Questions.{question_query}

@@ -9,9 +9,9 @@ use Rattle.lang_monitor.specs.MonitorParts.{MonitorParts}
 use Rattle.machine_events.specs.declared.plan.Plan.{Plan}
 use Rattle.machine_events.specs.Plans.{condition_kind, has_note, notes_at}
 use Rattle.logic_wp.specs.PlainClaims.{ReadsNone}
-use Rattle.plan_place.specs.Backing.{block_numbers}
+use Rattle.plan_claims.specs.Backing.{block_numbers}
 use Rattle.plan_place.specs.Relayed.{is_broadcast}
-use Rattle.plan_place.proofs.Lists.{in_numbered}
+use Rattle.plan_claims.proofs.Lists.{in_numbered}
 use Rattle.plan_count.specs.Questions.{HasRowAt}
 use Rattle.plan_counted.specs.declared.counted.Column.{Column}
 use Rattle.plan_counted.specs.declared.counted.Told.{Told}

@@ -20,7 +20,7 @@ use Rattle.machine_events.specs.CountClaims.{GuardsCount, IsLawfulByGuards}
 use Rattle.machine_events.proofs.Facing.{at_index, all_at}
 use Rattle.logic_wp.specs.PlainClaims.{ReadsNone}
 use Rattle.plan_place.specs.Relayed.{note_on}
-use Rattle.plan_place.proofs.Lists.{in_numbered}
+use Rattle.plan_claims.proofs.Lists.{in_numbered}
 use Rattle.plan_place.proofs.NotesOn.{all_made, made_rise, on_found}
 use Rattle.plan_count.specs.Questions.{AnswersCount, IsToldRight}
 use Rattle.plan_counted.specs.declared.counted.Column.{Column}

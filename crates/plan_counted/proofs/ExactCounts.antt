@@ -13,7 +13,7 @@ use Rattle.machine_events.specs.declared.plan.Plan.{Plan}
 use Rattle.machine_events.specs.Plans.{condition_kind, notes_at}
 use Rattle.machine_events.proofs.Facing.{is_some_and}
 use Rattle.logic_wp.specs.PlainClaims.{WaitsAt}
-use Rattle.plan_place.specs.Backing.{block_numbers, waits_at}
+use Rattle.plan_claims.specs.Backing.{block_numbers, waits_at}
 use Rattle.plan_place.specs.Relayed.{note_on}
 use Rattle.plan_count.specs.declared.question.Question.TheVariants as questions
 use Rattle.plan_count.specs.Questions.{MayBeAsked}

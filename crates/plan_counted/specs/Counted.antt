@@ -17,7 +17,7 @@ use Rattle.machine_events.specs.Plans.{notes_at, condition_kind}
 use Rattle.logic_wp.specs.PlainClaims.{IsBlockNumber, IsConditionNumber, ReadsNone, WaitsAt}
 use Rattle.logic_wp.specs.NegatedQueries.{negated_query}
 use Rattle.plan_prune.specs.Hardness.{MayStayOpen}
-use Rattle.plan_place.specs.Backing.{block_numbers, waits_at}
+use Rattle.plan_claims.specs.Backing.{block_numbers, waits_at}
 use Rattle.plan_place.specs.Relayed.{note_on}
 use Rattle.plan_count.specs.declared.question.Question.{Question}
 use Rattle.plan_count.specs.declared.question.Question.TheVariants as questions

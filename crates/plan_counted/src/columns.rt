@@ -3,7 +3,7 @@
 ghost use Rattle.std.specs.Prelude.{◌≡◌, ◌-◌, ◌≤◌, IfOk, true, slice_get};
 ghost use Rattle.std.specs.List.{list_all};
 ghost use Rattle.machine_events.specs.Plans.{FitsPlan, has_note};
-ghost use Rattle.plan_place.specs.Backing.{reads_none};
+ghost use Rattle.plan_claims.specs.Backing.{reads_none};
 ghost use Rattle.plan_place.specs.Relayed.{is_broadcast};
 ghost use Rattle.logic_wp.specs.Expressible.{is_expressible};
 ghost use Rattle.logic_wp.specs.PlainClaims.{ReadsNone};
@@ -17,8 +17,9 @@ use super::counted::{Column, ROWS_TRIED, Told};
 use base_list::Seq;
 use lang_monitor::{Candidate, Monitor};
 use machine_events::{Note, Plan};
+use plan_claims::{reads_none, waits_at};
 use plan_count::{Question, has_row};
-use plan_place::{is_broadcast_at, reads_none, waits_at};
+use plan_place::is_broadcast_at;
 use std::alloc::{AllocError, Global};
 
 /// A signal or a broadcast, as the prover answers whether one signal leaves the condition counted.

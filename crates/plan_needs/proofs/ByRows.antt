@@ -8,7 +8,7 @@ use Rattle.lang_monitor.specs.declared.query.Query.{Query}
 use Rattle.lang_monitor.specs.MonitorParts.{MonitorParts}
 use Rattle.lang_monitor.specs.Queries.{waiting_guard}
 use Rattle.machine_events.specs.declared.plan.Plan.{Plan}
-use Rattle.plan_place.proofs.Lists.{in_numbered}
+use Rattle.plan_claims.proofs.Lists.{in_numbered}
 use Rattle.plan_count.specs.Questions.{HasRowAt, MayBeAsked}
 use Rattle.plan_counted.specs.declared.counted.Column.{Column}
 use Rattle.plan_counted.specs.Counted.{AreBacked, IsColumnBacked}

@@ -24,11 +24,11 @@ use Rattle.machine_events.proofs.Facing.{at_index, all_at, is_some_and}
 use Rattle.logic_wp.specs.PlainClaims.{IsBlockNumber, IsClaimOf, IsConditionNumber, ReadsNone, WaitsAt}
 use Rattle.plan_prune.specs.Hardness.{HasNoOpenClaim, MayBeKept}
 use Rattle.plan_prune.specs.Invariants.{IsGreatest}
-use Rattle.plan_place.specs.Backing.{HasCertificate}
+use Rattle.plan_claims.specs.Backing.{HasCertificate}
 use Rattle.plan_place.specs.Exact.{HasOpenBlock, HaveTheirKinds, IsExact, IsLicensed, IsOpenUnder, MaySignal, NeedsTest}
 use Rattle.plan_place.specs.inner.Answers.{AreNotes, IsAnswered, IsKindOf, IsNote, IsUnproved}
-use Rattle.plan_place.proofs.Lists.{in_numbered, all_numbers}
-use Rattle.plan_place.proofs.Backed.{Laws, held, unnoted_backed, signals_backed, untested_backed}
+use Rattle.plan_claims.proofs.Lists.{in_numbered, all_numbers}
+use Rattle.plan_claims.proofs.Backed.{Laws, held, unnoted_backed, signals_backed, untested_backed}
 
 -- ---- parts of a plan
 

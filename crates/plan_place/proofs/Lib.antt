@@ -1,5 +1,3 @@
-pub mod Lists
-pub mod Backed
 pub mod Answered
 pub mod Placing
 pub mod ApartCandidates

@@ -13,7 +13,7 @@ use Rattle.machine_events.specs.declared.plan.Note.{Note}
 use Rattle.machine_events.specs.Plans.{has_note}
 use Rattle.machine_events.specs.Rising.{AreRising}
 use Rattle.plan_place.specs.Relayed.{note_on}
-use Rattle.plan_place.proofs.Lists.{range_more}
+use Rattle.plan_claims.proofs.Lists.{range_more}
 use Rattle.plan_place.proofs.Placing.{rises_more}
 
 -- ---- one note, or none, for each condition of a range

@@ -2,7 +2,7 @@
 use Rattle.std.proofs.Common.{◌≡◌, ℕ, ◌+◌, ◌<◌, List, [], ◌∷◌, ◌++◌, map, take, length, get_or, sym, ap, ◌∙◌, arith}
 use Rattle.std.specs.List.{enumerate_from}
 use Rattle.std.proofs.lemmas.List.{map-append, take_more, length-take}
-use Rattle.plan_place.proofs.Lists.{numbered_more}
+use Rattle.plan_claims.proofs.Lists.{numbered_more}
 
 pub mapped_turn : {X Y : Type 0} (f : ℕ → X → Y) (first index last : ℕ) (xs : List X) (d x : X) (before after : List Y) → index < length xs
     → first + index ≡ last → x ≡ get_or xs index d

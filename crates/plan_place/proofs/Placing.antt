@@ -18,13 +18,13 @@ use Rattle.machine_events.specs.declared.plan.CondKind.{CondKind}
 use Rattle.machine_events.specs.declared.plan.Note.{Note}
 use Rattle.machine_events.specs.declared.plan.Plan.{Plan}
 use Rattle.machine_events.specs.Plans.{has_note}
-use Rattle.plan_place.specs.declared.placed.Proof.{Proof}
-use Rattle.plan_place.specs.Backing.{AreProofs, Certifies, backed_claims, kind_claims, reads_none, unnoted_claims, untested_claims, waits_at}
+use Rattle.plan_claims.specs.declared.placed.Proof.{Proof}
+use Rattle.plan_claims.specs.Backing.{AreProofs, Certifies, backed_claims, kind_claims, reads_none, unnoted_claims, untested_claims, waits_at}
 use Rattle.plan_place.specs.inner.Answers.{Adds, AreNotes, IsAnswerTo, IsNote, proof_of_kept, unnoted_claim, unnoted_up_to}
 use Rattle.plan_prune.specs.declared.kept.Kept.{Kept}
 use Rattle.plan_candidates.specs.Claims.{keeps_claims}
 use Rattle.plan_prune.specs.Invariants.{AreProofs as AreKept}
-use Rattle.plan_place.proofs.Lists.{numbered_more, range_more, same_filter}
+use Rattle.plan_claims.proofs.Lists.{numbered_more, range_more, same_filter}
 
 -- ---- proofs
 

@@ -20,7 +20,7 @@ use Rattle.machine_events.specs.declared.plan.Note.{Note}
 use Rattle.machine_events.specs.declared.plan.Plan.{Plan}
 use Rattle.machine_events.specs.Plans.{EachNoteOn, FitsNote, FitsNotes, FitsPlan, IsCondition, IsLawful, IsUntestedBroadcast, condition_kind, has_note, notes_at}
 use Rattle.machine_events.proofs.Facing.{at_index, all_at}
-use Rattle.plan_place.specs.Backing.{reads_none, waits_at}
+use Rattle.plan_claims.specs.Backing.{reads_none, waits_at}
 use Rattle.plan_place.specs.Relayed.{hands_on, is_broadcast, note_on, relay_of, relayed_kind, relayed_note, relayed_notes, relayed_on, tested_signal}
 use Rattle.plan_place.proofs.NotesOn.{AreOnTheirs, RiseTo, all_made, is_some, made_rise, not_made, on_found, on_is}
 

@@ -28,9 +28,9 @@ use Rattle.machine_events.specs.Plans.{notes_at}
 use Rattle.machine_events.proofs.Sound.{target_apart}
 use Rattle.machine_events.proofs.Standings.{apart, one_phase, put_other, put_same, stands_within, stays, unwoken_stays}
 use Rattle.logic_wp.specs.PlainClaims.{ReadsNone}
-use Rattle.plan_place.specs.Backing.{reads_none}
+use Rattle.plan_claims.specs.Backing.{reads_none}
 use Rattle.plan_place.specs.Relayed.{WakesAtMostOne, relay_of}
-use Rattle.plan_place.proofs.Backed.{reads_as_test}
+use Rattle.plan_claims.proofs.Backed.{reads_as_test}
 use Rattle.plan_place.proofs.NotesOn.{NoneOn, OnceOn, once_made}
 use Rattle.plan_place.proofs.RelayedPlans.{each_made, made_on, of_each, on_theirs}
 

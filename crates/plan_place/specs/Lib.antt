@@ -1,4 +1,3 @@
-pub mod Backing
 pub mod Exact
 pub mod Relayed
 pub mod inner

@@ -19,7 +19,7 @@ use Rattle.machine_events.specs.Configurations.Phase.{Waiting}
 use Rattle.machine_events.specs.Logs.{IsLegal, IsSection}
 use Rattle.machine_events.specs.Plans.{FitsPlan, IsLawful, has_note, notes_at}
 use Rattle.logic_wp.specs.PlainClaims.{ReadsNone}
-use Rattle.plan_place.specs.Backing.{condition_numbers, reads_none, waits_at}
+use Rattle.plan_claims.specs.Backing.{condition_numbers, reads_none, waits_at}
 
 -- ---- kinds
 

@@ -4,9 +4,9 @@ ghost use Rattle.std.specs.Prelude.{IfOk};
 ghost use Rattle.logic_wp.specs.PlainClaims.{MayAsk};
 ghost use Rattle.plan_place.specs.inner.Answers.{AreAskable, IsAnswerTo};
 
-use super::placed::Proof;
 use lang_monitor::{Candidate, Claim, Monitor};
 use logic_wp::claim_query;
+use plan_claims::Proof;
 use plan_prune::certificate_of;
 use std::alloc::{AllocError, Global};
 

@@ -2,13 +2,13 @@
 
 ghost use Rattle.std.specs.Prelude.{◌≡◌, ◌<◌, ◌≤◌, IfOk, length, option_map};
 ghost use Rattle.std.specs.List.{enumerate_from, flat_map};
-ghost use Rattle.plan_place.specs.Backing.{AreProofs, kind_claims};
+ghost use Rattle.plan_claims.specs.Backing.{AreProofs, kind_claims};
 ghost use Rattle.plan_place.specs.inner.Answers.{Adds, AreAskable, AreKinds, AreOfClass, IsKindOf};
 
 use super::asking::proof_of;
-use super::placed::Proof;
 use lang_monitor::{Candidate, Claim, Monitor};
 use machine_events::CondKind;
+use plan_claims::Proof;
 use std::alloc::{AllocError, Global};
 
 /// The kinds of conditions, and the proofs that they rest on.

@@ -4,14 +4,14 @@ ghost use Rattle.std.specs.Prelude.{◌≡◌, ◌<◌, ◌≤◌, ◌++◌, ◌
 ghost use Rattle.std.specs.Prelude.{IfOk, OnOk, IfSome, option_to_list};
 ghost use Rattle.std.specs.List.{enumerate_from, flat_map};
 ghost use Rattle.machine_events.specs.PlanText.{note_kind};
-ghost use Rattle.plan_place.specs.Backing.{AreProofs, unnoted_claims, untested_claims};
+ghost use Rattle.plan_claims.specs.Backing.{AreProofs, unnoted_claims, untested_claims};
 ghost use Rattle.plan_place.specs.inner.Answers.{Adds, AreAskable, AreNotes, AreNotesOfEach};
 ghost use Rattle.plan_place.specs.inner.Answers.{IsMade, IsNote, IsTested, unnoted_claim};
 
 use super::asking::proof_of;
-use super::placed::Proof;
 use lang_monitor::{Candidate, Claim, Monitor};
 use machine_events::{CondKind, Note, NoteList};
+use plan_claims::Proof;
 use std::alloc::{AllocError, Global};
 
 /// Proofs that were found while notes were placed.

@@ -4,17 +4,17 @@ ghost use Rattle.std.specs.Prelude.{◌≡◌, ◌++◌, IfOk, map};
 ghost use Rattle.machine_events.specs.Plans.{FitsPlan, IsLawful};
 ghost use Rattle.plan_prune.specs.Hardness.{HasNoHardClaim, HasNoOpenClaim, IsSmall};
 ghost use Rattle.plan_prune.specs.Invariants.{IsGreatest};
-ghost use Rattle.plan_place.specs.Backing.{AreProofs, IsBacked, backed_claims};
+ghost use Rattle.plan_claims.specs.Backing.{AreProofs, IsBacked, backed_claims};
 ghost use Rattle.plan_place.specs.Exact.{IsExact, IsLicensed};
 ghost use Rattle.plan_place.specs.inner.Answers.{AreAskable, IsAnswered, proof_of_kept};
 
 use super::kinds::{Kinds, kinds_of_all};
 use super::laws::answered_plans_are_placed;
 use super::notes::{Found, Notes, notes_of_all};
-use super::placed::{PlacedPlan, Proof};
 use base_list::Seq;
 use lang_monitor::{Claim, Monitor};
 use machine_events::Plan;
+use plan_claims::{PlacedPlan, Proof};
 use plan_prune::{Invariant, Kept, invariant};
 use std::alloc::{AllocError, Global};
 

@@ -11,10 +11,11 @@ ghost use Rattle.plan_place.specs.Relayed.{tested_signal};
 
 use super::laws::relayed_plans_are_lawful;
 use super::notes::push_some;
-use super::parts::{is_broadcast_at, reads_none, waits_at};
+use super::parts::is_broadcast_at;
 use base_list::Seq;
 use lang_monitor::{Candidate, Monitor};
 use machine_events::{CondKind, Note, NoteList, Plan};
+use plan_claims::{reads_none, waits_at};
 use std::alloc::{AllocError, Global};
 
 /// The plan, relayed: on a condition that reads no inputs one waiter at a time is woken, and each

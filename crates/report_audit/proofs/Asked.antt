@@ -8,7 +8,7 @@ use Rattle.std.proofs.lemmas.Option.{slice_get-get_or}
 use Rattle.lang_monitor.specs.declared.candidate.Candidate.{Candidate}
 use Rattle.lang_monitor.specs.declared.claim.Claim.{Claim}
 use Rattle.lang_monitor.specs.MonitorParts.{MonitorParts}
-use Rattle.plan_place.specs.Backing.{HasCertificate}
+use Rattle.plan_claims.specs.Backing.{HasCertificate}
 use Rattle.report_recheck.proofs.Pairs.{all_taken, one_more_at}
 use Rattle.report_audit.specs.inner.Asked.{IsAnswer, IsFirstOpen}
 

@@ -17,7 +17,7 @@ use Rattle.machine_events.specs.declared.plan.Note.{Note}
 use Rattle.machine_events.specs.declared.plan.Plan.{Plan}
 use Rattle.machine_events.specs.Plans.{EachNoteOn, IsCondition, IsUntestedBroadcast, condition_kind}
 use Rattle.logic_wp.specs.PlainClaims.{IsConditionNumber}
-use Rattle.plan_place.specs.Backing.{reads_none}
+use Rattle.plan_claims.specs.Backing.{reads_none}
 use Rattle.plan_place.specs.Relayed.{is_broadcast}
 use Rattle.report_recheck.specs.Reports.{AreNotesOf, IsOnCondition, IsPlanOf}
 use Rattle.report_recheck.specs.Verdicts.{IsLawfulAtSight}

@@ -17,8 +17,8 @@ use Rattle.logic_wp.specs.NegatedQueries.{negated_query}
 use Rattle.logic_wp.specs.PlainClaims.{ReadsNone}
 use Rattle.plan_prune.specs.Hardness.{MayStayOpen}
 use Rattle.plan_prune.specs.Invariants.{IsDecision}
-use Rattle.plan_place.specs.Backing.{block_numbers, waits_at}
-use Rattle.plan_place.proofs.Lists.{range_more}
+use Rattle.plan_claims.specs.Backing.{block_numbers, waits_at}
+use Rattle.plan_claims.proofs.Lists.{range_more}
 use Rattle.plan_count.specs.declared.question.Question.{Question}
 use Rattle.plan_count.specs.declared.question.Question.TheVariants as questions
 use Rattle.plan_count.specs.Questions.{HasRowAt, MayAskQuestion, MayBeAsked, question_query}

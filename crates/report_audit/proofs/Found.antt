@@ -16,9 +16,9 @@ use Rattle.machine_events.specs.declared.plan.Note.{Note}
 use Rattle.machine_events.specs.declared.plan.Plan.{Plan}
 use Rattle.machine_events.specs.CountClaims.{AreNoted}
 use Rattle.machine_events.specs.Plans.{IsLawful, has_note, notes_at}
-use Rattle.plan_place.specs.Backing.{HasCertificate, backed_claims}
-use Rattle.plan_place.proofs.Backed.{Laws, held, of_kept, of_signal, of_unnoted}
-use Rattle.plan_place.proofs.Lists.{all_filtered}
+use Rattle.plan_claims.specs.Backing.{HasCertificate, backed_claims}
+use Rattle.plan_claims.proofs.Backed.{Laws, held, of_kept, of_signal, of_unnoted}
+use Rattle.plan_claims.proofs.Lists.{all_filtered}
 use Rattle.report_recheck.specs.Reports.{IsPlanOf}
 use Rattle.report_recheck.specs.Verdicts.{IsLawfulAtSight}
 use Rattle.report_recheck.proofs.Pairs.{all_at, at_place, from_places}

@@ -21,9 +21,9 @@ use Rattle.machine_events.specs.Plans.{has_note, notes_at}
 use Rattle.machine_events.specs.Counts.{IsPassedOn}
 use Rattle.machine_events.specs.CountClaims.{GuardsCount, IsLawfulByGuards}
 use Rattle.logic_wp.specs.NegatedQueries.{negated_query}
-use Rattle.plan_place.specs.Backing.{HasCertificate, backed_claims, block_numbers, waits_at}
-use Rattle.plan_place.proofs.Backed.{Laws, held, of_signal}
-use Rattle.plan_place.proofs.Lists.{all_filtered, all_flat, in_range}
+use Rattle.plan_claims.specs.Backing.{HasCertificate, backed_claims, block_numbers, waits_at}
+use Rattle.plan_claims.proofs.Backed.{Laws, held, of_signal}
+use Rattle.plan_claims.proofs.Lists.{all_filtered, all_flat, in_range}
 use Rattle.plan_count.specs.declared.question.Question.{Question}
 use Rattle.plan_count.specs.declared.question.Question.TheVariants as questions
 use Rattle.plan_count.specs.Questions.{AnswersCount, AreToldRight, IsSo, IsToldRight, question_query}

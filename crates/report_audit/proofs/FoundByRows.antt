@@ -21,7 +21,7 @@ use Rattle.machine_events.specs.Counts.{IsPassedOn}
 use Rattle.logic_wp.specs.PlainClaims.{ReadsNone}
 use Rattle.plan_prune.specs.Hardness.{HasNoOpenClaim}
 use Rattle.plan_candidates.specs.Claims.{keeps_claims}
-use Rattle.plan_place.specs.Backing.{backed_claims, block_numbers, kind_claims, unnoted_claims, untested_claims, waits_at}
+use Rattle.plan_claims.specs.Backing.{backed_claims, block_numbers, kind_claims, unnoted_claims, untested_claims, waits_at}
 use Rattle.plan_count.specs.declared.question.Question.{Question}
 use Rattle.plan_count.specs.Questions.{AreToldRight, CountsWithNone, CountsWithOne, HasRowAt, IsSo, IsToldRight, MayAskQuestion, MayBeAsked}
 use Rattle.plan_counted.specs.Exact.{HasNoOpenQuestion}

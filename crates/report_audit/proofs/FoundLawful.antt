@@ -22,7 +22,7 @@ use Rattle.machine_events.specs.Plans.{IsLawful, condition_kind, has_note, notes
 use Rattle.logic_wp.specs.PlainClaims.{IsClaimOf}
 use Rattle.plan_prune.specs.Hardness.{HasNoOpenClaim, MayBeKept}
 use Rattle.plan_candidates.specs.Claims.{keeps_claims}
-use Rattle.plan_place.specs.Backing.{backed_claims, block_numbers, condition_numbers, kind_claims, reads_none, unnoted_claims, untested_claims, waits_at}
+use Rattle.plan_claims.specs.Backing.{backed_claims, block_numbers, condition_numbers, kind_claims, reads_none, unnoted_claims, untested_claims, waits_at}
 use Rattle.report_recheck.specs.Reports.{IsPlanOf}
 use Rattle.report_recheck.specs.Verdicts.{IsLawfulAtSight}
 use Rattle.report_recheck.proofs.Askable.{flat_all, numbered_all, range_all}

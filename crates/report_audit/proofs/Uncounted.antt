@@ -13,7 +13,7 @@ use Rattle.machine_events.specs.declared.plan.Plan.{Plan}
 use Rattle.machine_events.specs.Plans.{condition_kind}
 use Rattle.logic_wp.specs.Expressible.{is_expressible}
 use Rattle.logic_wp.specs.PlainClaims.{IsConditionNumber, MayAsk, ReadsNone}
-use Rattle.plan_place.specs.Backing.{HasCertificate, backed_claims}
+use Rattle.plan_claims.specs.Backing.{HasCertificate, backed_claims}
 use Rattle.plan_place.specs.Relayed.{is_broadcast}
 use Rattle.plan_count.specs.declared.question.Question.{Question}
 use Rattle.plan_count.specs.declared.question.Question.TheVariants as questions

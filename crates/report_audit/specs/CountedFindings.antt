@@ -18,7 +18,7 @@ use Rattle.machine_events.specs.Plans.{has_broadcast, has_note, notes_at}
 use Rattle.machine_events.specs.CountClaims.{AreNoted}
 use Rattle.machine_events.specs.Counts.{IsLawfulByCounting, IsPassedOn}
 use Rattle.logic_wp.specs.PlainClaims.{IsConditionNumber}
-use Rattle.plan_place.specs.Backing.{HasCertificate, backed_claims, block_numbers, waits_at}
+use Rattle.plan_claims.specs.Backing.{HasCertificate, backed_claims, block_numbers, waits_at}
 use Rattle.plan_place.specs.Exact.{IsOpenUnder}
 use Rattle.plan_count.specs.declared.question.Question.{Question}
 use Rattle.plan_count.specs.declared.question.Question.TheVariants as questions

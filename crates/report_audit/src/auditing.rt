@@ -5,7 +5,7 @@ ghost use Rattle.plan_counted.specs.Exact.{HasNoOpenQuestion};
 ghost use Rattle.machine_events.specs.Plans.{IsLawful};
 ghost use Rattle.lang_monitor.specs.Candidates.{AllHold};
 ghost use Rattle.lang_monitor.specs.MonitorParts.{start_of};
-ghost use Rattle.plan_place.specs.Backing.{HasCertificate, backed_claims};
+ghost use Rattle.plan_claims.specs.Backing.{HasCertificate, backed_claims};
 ghost use Rattle.plan_prune.specs.Hardness.{HasNoHardClaim, HasNoOpenClaim};
 ghost use Rattle.report_recheck.specs.Reports.{IsPlanOf};
 ghost use Rattle.report_recheck.specs.Verdicts.{IsLawfulAtSight};

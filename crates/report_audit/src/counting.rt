@@ -4,7 +4,7 @@ ghost use Rattle.std.specs.Prelude.{◌≡◌, ◌++◌, ◌≤◌, IfOk, OnOk, 
 ghost use Rattle.std.specs.Prelude.{if◌then◌else◌};
 ghost use Rattle.std.specs.List.{list_all};
 ghost use Rattle.machine_events.specs.Plans.{has_broadcast, notes_at};
-ghost use Rattle.plan_place.specs.Backing.{backed_claims};
+ghost use Rattle.plan_claims.specs.Backing.{backed_claims};
 ghost use Rattle.logic_wp.specs.Expressible.{is_expressible};
 ghost use Rattle.logic_wp.specs.PlainClaims.{IsConditionNumber, MayAsk, ReadsNone};
 ghost use Rattle.plan_count.specs.declared.question.Question.TheVariants.{Counts};
@@ -19,9 +19,10 @@ ghost use Rattle.report_audit.specs.inner.Counted.{IsFirstUnanswered, IsReply, I
 use super::asking::{first_unproved, has_note_at, passing_of};
 use lang_monitor::{Candidate, Claim, Monitor};
 use machine_events::{Note, Plan};
+use plan_claims::waits_at;
 use plan_count::{Question, has_row, question_query};
 use plan_counted::ROWS_TRIED;
-use plan_place::{is_broadcast_at, waits_at};
+use plan_place::is_broadcast_at;
 use plan_prune::certificate_of;
 use std::alloc::{AllocError, Global};
 

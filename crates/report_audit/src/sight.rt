@@ -11,7 +11,8 @@ ghost use Rattle.report_audit.specs.inner.Seen.{SuitsAs, suits_on};
 use lang_monitor::{Candidate, Monitor};
 use machine_events::{Note, NoteList, Plan};
 use plan_candidates::are_true_at_start;
-use plan_place::{is_broadcast_at, reads_none};
+use plan_claims::reads_none;
+use plan_place::is_broadcast_at;
 
 // ---- the start
 

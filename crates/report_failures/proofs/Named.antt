@@ -10,7 +10,7 @@ use Rattle.lang_monitor.specs.MonitorParts.{MonitorParts, IsMonitor}
 use Rattle.machine_events.specs.declared.plan.Plan.{Plan}
 use Rattle.logic_wp.specs.Expressible.{is_expressible}
 use Rattle.logic_wp.specs.PlainClaims.{IsBlockNumber, MayAsk, ReadsNone}
-use Rattle.plan_place.specs.Backing.{backed_claims}
+use Rattle.plan_claims.specs.Backing.{backed_claims}
 use Rattle.plan_candidates.proofs.SomeOf.{some_pass}
 use Rattle.plan_count.specs.declared.question.Question.{Question}
 use Rattle.plan_why.specs.declared.failing.Failure.{Failure}

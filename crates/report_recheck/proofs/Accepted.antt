@@ -18,9 +18,9 @@ use Rattle.machine_events.specs.declared.plan.Plan.{Plan}
 use Rattle.machine_events.specs.Plans.{has_note, notes_at}
 use Rattle.logic_wp.specs.Limits.{is_query_within}
 use Rattle.plan_candidates.specs.Claims.{keeps_claims}
-use Rattle.plan_place.specs.Backing.{HasCertificate, IsBacked, backed_claims, block_numbers, kind_claims, unnoted_claims, untested_claims}
-use Rattle.plan_place.proofs.Backed.{Laws, held, signals_backed, unnoted_backed}
-use Rattle.plan_place.proofs.Lists.{all_flat, all_left, all_mapped, in_range}
+use Rattle.plan_claims.specs.Backing.{HasCertificate, IsBacked, backed_claims, block_numbers, kind_claims, unnoted_claims, untested_claims}
+use Rattle.plan_claims.proofs.Backed.{Laws, held, signals_backed, unnoted_backed}
+use Rattle.plan_claims.proofs.Lists.{all_flat, all_left, all_mapped, in_range}
 use Rattle.report_recheck.specs.declared.report.Report.{Report}
 use Rattle.report_recheck.specs.Reports.{IsReport, proofs_of}
 use Rattle.report_recheck.specs.Verdicts.{AreChecked, IsAccepted, IsFirstOpen, IsLawfulAtSight, IsProof, IsUnproved, plan_lines}

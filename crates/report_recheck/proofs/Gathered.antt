@@ -4,7 +4,7 @@ use Rattle.std.specs.List.{filter, flat_map, enumerate_from, range_with_len}
 use Rattle.std.proofs.lemmas.List.{map-append, take_more, length-take}
 use Rattle.std.proofs.lemmas.List.Concat.{flat_map-append}
 use Rattle.std.proofs.lemmas.List.Elements.{filter-append}
-use Rattle.plan_place.proofs.Lists.{numbered_more, range_more}
+use Rattle.plan_claims.proofs.Lists.{numbered_more, range_more}
 
 -- one more number
 pub mapped_more : {X : Type 0} (f : ℕ → X) (first index last : ℕ) (old before after : List X)

@@ -8,9 +8,9 @@ use Rattle.machine_events.specs.declared.plan.Note.{Note}
 use Rattle.machine_events.specs.declared.plan.Plan.{Plan}
 use Rattle.machine_events.specs.Plans.{FitsNote, FitsNotes, FitsPlan}
 use Rattle.machine_events.specs.PlanText.{plan_text}
-use Rattle.plan_place.specs.declared.placed.PlacedPlan.{PlacedPlan}
-use Rattle.plan_place.specs.declared.placed.Proof.{Proof}
-use Rattle.plan_place.specs.Backing.{backed_claims}
+use Rattle.plan_claims.specs.declared.placed.PlacedPlan.{PlacedPlan}
+use Rattle.plan_claims.specs.declared.placed.Proof.{Proof}
+use Rattle.plan_claims.specs.Backing.{backed_claims}
 use Rattle.report_recheck.specs.Reports.{AreNotesOf, IsOnCondition, IsPlanOf, IsReport, placed_text, proof_text, proofs_text, report_of, report_text}
 use Rattle.report_recheck.proofs.Askable.{within_some}
 use Rattle.report_recheck.proofs.Pairs.{all_at, from_places}

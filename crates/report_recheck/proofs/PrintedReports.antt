@@ -4,8 +4,8 @@ use Rattle.std.proofs.Common.{◌≡◌, length, Option, Some, None, sym, ap, su
 use Rattle.std.specs.Prelude.{All}
 use Rattle.std.proofs.lemmas.List.Elements.{All-map}
 use Rattle.lang_monitor.specs.MonitorParts.{MonitorParts}
-use Rattle.plan_place.specs.declared.placed.PlacedPlan.{PlacedPlan}
-use Rattle.plan_place.specs.declared.placed.Proof.{Proof}
+use Rattle.plan_claims.specs.declared.placed.PlacedPlan.{PlacedPlan}
+use Rattle.plan_claims.specs.declared.placed.Proof.{Proof}
 use Rattle.report_recheck.specs.declared.report.Report.{Report}
 use Rattle.report_recheck.specs.declared.report.Verdict.{Verdict}
 use Rattle.report_recheck.specs.declared.report.Verdict.TheVariants as verdicts

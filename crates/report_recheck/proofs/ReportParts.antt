@@ -10,7 +10,7 @@ use Rattle.lang_monitor.specs.declared.claim.Claim.{Claim}
 use Rattle.lang_monitor.specs.MonitorParts.{MonitorParts}
 use Rattle.machine_events.specs.declared.plan.Plan.{Plan}
 use Rattle.machine_events.specs.PlanText.{plan_text}
-use Rattle.plan_place.specs.Backing.{backed_claims}
+use Rattle.plan_claims.specs.Backing.{backed_claims}
 use Rattle.lang_base.proofs.Cuts.{same_first}
 use Rattle.report_recheck.specs.declared.report.Report.{Report}
 use Rattle.logic_outline.specs.Readings.{IsRead}

@@ -28,10 +28,10 @@ use Rattle.logic_wp.specs.NegatedQueries.{negated_query}
 use Rattle.plan_prune.specs.Hardness.{HasNoHardClaim}
 use Rattle.plan_prune.specs.Hardness.IsHard.{beyond_limits}
 use Rattle.plan_candidates.specs.Claims.{keeps_claims}
-use Rattle.plan_place.specs.declared.placed.PlacedPlan.{PlacedPlan}
-use Rattle.plan_place.specs.declared.placed.Proof.{Proof}
-use Rattle.plan_place.specs.Backing.{AreProofs, backed_claims, block_numbers, condition_numbers, kind_claims, reads_none, unnoted_claims, untested_claims, waits_at}
-use Rattle.plan_place.proofs.Lists.{all_mapped}
+use Rattle.plan_claims.specs.declared.placed.PlacedPlan.{PlacedPlan}
+use Rattle.plan_claims.specs.declared.placed.Proof.{Proof}
+use Rattle.plan_claims.specs.Backing.{AreProofs, backed_claims, block_numbers, condition_numbers, kind_claims, reads_none, unnoted_claims, untested_claims, waits_at}
+use Rattle.plan_claims.proofs.Lists.{all_mapped}
 use Rattle.report_recheck.specs.declared.report.Verdict.{Verdict}
 use Rattle.report_recheck.specs.declared.report.Verdict.TheVariants as verdicts
 use Rattle.report_recheck.specs.Reports.{proofs_of, report_of}

@@ -3,8 +3,8 @@ use Rattle.std.specs.Prelude.{All}
 use Rattle.lang_monitor.specs.MonitorParts.{MonitorParts, IsMonitor}
 use Rattle.machine_events.specs.Plans.{FitsPlan, IsLawful}
 use Rattle.plan_prune.specs.Hardness.{HasNoHardClaim}
-use Rattle.plan_place.specs.declared.placed.PlacedPlan.{PlacedPlan}
-use Rattle.plan_place.specs.Backing.{AreProofs, backed_claims}
+use Rattle.plan_claims.specs.declared.placed.PlacedPlan.{PlacedPlan}
+use Rattle.plan_claims.specs.Backing.{AreProofs, backed_claims}
 use Rattle.logic_outline.specs.Outlines.{HasTypedNumbers}
 
 -- No claim of the monitor is hard, and the lawful plan was placed with a proof of each claim that

@@ -12,8 +12,8 @@ use Rattle.machine_events.specs.declared.plan.Note.{Note}
 use Rattle.machine_events.specs.declared.plan.Plan.{Plan}
 use Rattle.machine_events.specs.Rising.{AreRising}
 use Rattle.machine_events.specs.PlanText.{block_name, candidate_text, plan_text}
-use Rattle.plan_place.specs.declared.placed.PlacedPlan.{PlacedPlan}
-use Rattle.plan_place.specs.Backing.{backed_claims}
+use Rattle.plan_claims.specs.declared.placed.PlacedPlan.{PlacedPlan}
+use Rattle.plan_claims.specs.Backing.{backed_claims}
 use Rattle.report_recheck.specs.declared.report.Report.{Report}
 
 -- ---- plans of a monitor, lawful or not

@@ -13,7 +13,7 @@ use Rattle.machine_events.specs.declared.plan.CondKind.TheVariants as kinds
 use Rattle.machine_events.specs.declared.plan.Plan.{Plan}
 use Rattle.machine_events.specs.Plans.{EachNoteOn, IsCondition, IsLawful, WakesAll, condition_kind}
 use Rattle.logic_wp.specs.Limits.{is_query_within}
-use Rattle.plan_place.specs.Backing.{Certifies}
+use Rattle.plan_claims.specs.Backing.{Certifies}
 use Rattle.report_recheck.specs.declared.report.Report.{Report}
 use Rattle.report_recheck.specs.declared.report.Verdict.{Verdict}
 use Rattle.report_recheck.specs.declared.report.Verdict.TheVariants as verdicts

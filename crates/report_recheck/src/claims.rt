@@ -7,13 +7,13 @@ ghost use Rattle.lang_base.specs.Limits.{BLOCKS, CONDITIONS};
 ghost use Rattle.machine_events.specs.Plans.{has_note};
 ghost use Rattle.plan_candidates.specs.Claims.{keeps_claims};
 ghost use Rattle.lang_monitor.specs.declared.claim.Claim.TheVariants.{Keeps};
-ghost use Rattle.plan_place.specs.Backing.{backed_claims, block_numbers, kind_claims};
-ghost use Rattle.plan_place.specs.Backing.{unnoted_claims, untested_claims};
+ghost use Rattle.plan_claims.specs.Backing.{backed_claims, block_numbers, kind_claims};
+ghost use Rattle.plan_claims.specs.Backing.{unnoted_claims, untested_claims};
 ghost use Rattle.report_recheck.specs.Reports.{IsPlanOf};
 
 use lang_monitor::{Candidate, Claim, Monitor};
 use machine_events::{CondKind, Note, NoteList, Plan};
-use plan_place::{reads_none, waits_at};
+use plan_claims::{reads_none, waits_at};
 use std::alloc::{AllocError, Global};
 
 /// The claims that a plan rests on, in their order. It fails only for want of memory.

@@ -7,7 +7,7 @@ use super::report::Report;
 use base_list::Seq;
 use logic_cert::Cert;
 use logic_outline::{Outline, outlined};
-use plan_place::{PlacedPlan, Proof};
+use plan_claims::{PlacedPlan, Proof};
 use std::alloc::{AllocError, Global};
 
 /// The report of a plan that was placed: the plan, and the certificates of its proofs in their

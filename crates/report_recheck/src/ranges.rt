@@ -4,7 +4,7 @@ ghost use Rattle.std.specs.Prelude.{◌<◌, ◌^◌, All};
 ghost use Rattle.logic_outline.specs.Outlines.{HasTypedNumbers, IsCombine, IsFactor};
 
 use logic_cert::{Cert, Combine};
-use plan_place::{PlacedPlan, Proof};
+use plan_claims::{PlacedPlan, Proof};
 
 /// The numbers of the certificates of a placed plan are of their types. It reads each of them,
 /// since a contract knows the range of a number that was read, and does nothing else.

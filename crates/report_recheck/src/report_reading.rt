@@ -3,7 +3,7 @@
 ghost use Rattle.std.specs.Prelude.{◌≡◌, ◌++◌, [], ℕ, IfOk, List, MatchOption, codes};
 ghost use Rattle.logic_cert.specs.declared.cert.Cert.{Cert};
 ghost use Rattle.logic_cert.specs.CertText.{cert_text};
-ghost use Rattle.plan_place.specs.Backing.{backed_claims};
+ghost use Rattle.plan_claims.specs.Backing.{backed_claims};
 ghost use Rattle.report_recheck.specs.Readings.{IsReadable, IsReportRead};
 ghost use Rattle.report_recheck.specs.Reports.{IsPlanOf, claim_text, proof_text, proofs_text};
 ghost use Rattle.report_recheck.specs.Fronts.{Anything, AreFor, IsAfter, IsFront, IsNoFront};

@@ -11,7 +11,7 @@ ghost use Rattle.report_recheck.specs.inner.Sight.{is_way_suited};
 use lang_monitor::{Condition, Monitor};
 use machine_events::{CondKind, Note, NoteList, Plan};
 use plan_candidates::are_true_at_start;
-use plan_place::reads_none;
+use plan_claims::reads_none;
 
 /// Whether what a plan keeps is true at the start, and its kinds and notes suit the conditions. It
 /// takes no memory.

@@ -12,7 +12,7 @@ use base_io::{Sink, SinkFailed, write_piece, write_pieces};
 use itoa::Buffer;
 use lang_monitor::{Candidate, Claim, Field, Monitor};
 use logic_cert::{Cert, print_cert};
-use plan_place::{PlacedPlan, Proof};
+use plan_claims::{PlacedPlan, Proof};
 use report_text::{write_block_name, write_candidate, write_plan};
 
 /// Writes the report of a plan that was placed: the text of the plan, and then a line for each

@@ -24,10 +24,10 @@ use Rattle.machine_events.specs.CountClaims.{GuardsCount, IsLawfulByGuards}
 use Rattle.machine_events.specs.Plans.{IsCondition, IsLawful, condition_kind, has_note, notes_at}
 use Rattle.logic_wp.specs.Limits.{is_query_within}
 use Rattle.logic_wp.specs.NegatedQueries.{negated_query}
-use Rattle.plan_place.specs.Backing.{HasCertificate, backed_claims, block_numbers}
+use Rattle.plan_claims.specs.Backing.{HasCertificate, backed_claims, block_numbers}
 use Rattle.plan_place.specs.Relayed.{note_on}
-use Rattle.plan_place.proofs.Backed.{Laws, held, of_kept, of_signal, of_unnoted}
-use Rattle.plan_place.proofs.Lists.{all_filtered, all_flat, in_numbered, in_range}
+use Rattle.plan_claims.proofs.Backed.{Laws, held, of_kept, of_signal, of_unnoted}
+use Rattle.plan_claims.proofs.Lists.{all_filtered, all_flat, in_numbered, in_range}
 use Rattle.plan_count.specs.declared.question.Question.{Question}
 use Rattle.plan_count.specs.declared.question.Question.TheVariants as questions
 use Rattle.plan_count.specs.Questions.{AnswersCount, HasRowAt, IsSo, IsToldRight, question_query}

@@ -6,7 +6,7 @@ use Rattle.lang_monitor.specs.MonitorParts.{MonitorParts}
 use Rattle.machine_events.specs.declared.plan.Note.{Note}
 use Rattle.machine_events.specs.declared.plan.Plan.{Plan}
 use Rattle.machine_events.specs.Plans.{notes_at}
-use Rattle.plan_place.specs.Backing.{block_numbers}
+use Rattle.plan_claims.specs.Backing.{block_numbers}
 use Rattle.plan_place.specs.Relayed.{note_on}
 use Rattle.logic_wp.specs.PlainClaims.{IsBlockNumber}
 use Rattle.plan_count.specs.declared.question.Question.TheVariants as questions

@@ -15,7 +15,7 @@ use Rattle.lang_monitor.specs.MonitorParts.{MonitorParts}
 use Rattle.machine_events.specs.declared.plan.CondKind.TheVariants as kinds
 use Rattle.machine_events.specs.declared.plan.Plan.{Plan}
 use Rattle.logic_wp.specs.PlainClaims.{ReadsNone}
-use Rattle.plan_place.specs.Backing.{reads_none}
+use Rattle.plan_claims.specs.Backing.{reads_none}
 use Rattle.plan_count.specs.declared.question.Question.{Question}
 use Rattle.plan_count.specs.Questions.{HasRowAt}
 use Rattle.report_recheck.specs.Fronts.{Anything, AreFor, IsFront, IsNoFront}

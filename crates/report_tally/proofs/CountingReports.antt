@@ -16,17 +16,17 @@ use Rattle.machine_events.specs.declared.plan.Note.{Note}
 use Rattle.machine_events.specs.declared.plan.Plan.{Plan}
 use Rattle.machine_events.specs.Plans.{condition_kind, notes_at}
 use Rattle.machine_events.specs.PlanText.{plan_text}
-use Rattle.plan_place.specs.declared.placed.PlacedPlan.{PlacedPlan}
-use Rattle.plan_place.specs.declared.placed.Proof.{Proof}
+use Rattle.plan_claims.specs.declared.placed.PlacedPlan.{PlacedPlan}
+use Rattle.plan_claims.specs.declared.placed.Proof.{Proof}
 use Rattle.logic_wp.specs.PlainClaims.{IsConditionNumber}
-use Rattle.plan_place.specs.Backing.{waits_at}
+use Rattle.plan_claims.specs.Backing.{waits_at}
 use Rattle.plan_place.specs.Relayed.{note_on}
 use Rattle.plan_counted.specs.declared.counted.CountedPlan.{CountedPlan}
 use Rattle.plan_counted.specs.declared.counted.Column.{Column}
 use Rattle.plan_counted.specs.declared.counted.Told.{Told}
 use Rattle.plan_counted.specs.Counted.{IsColumnBacked, IsCountedFrom, IsMadeSignal, IsTold as IsToldFrom, IsWholeColumn, column_at, counted_kind, counted_kinds, counted_of, told_by, told_on}
 use Rattle.plan_counted.proofs.Table.{length_numbered, note_is, numbered_at}
-use Rattle.plan_place.proofs.Lists.{in_numbered}
+use Rattle.plan_claims.proofs.Lists.{in_numbered}
 use Rattle.plan_count.specs.declared.question.Question.{Question}
 use Rattle.plan_count.specs.Questions.{HasRowAt}
 use Rattle.report_recheck.specs.Reports.{proof_text, proofs_text}

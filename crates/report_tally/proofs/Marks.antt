@@ -12,8 +12,8 @@ use Rattle.lang_monitor.specs.MonitorParts.{MonitorParts, IsMonitor}
 use Rattle.machine_events.specs.declared.plan.CondKind.{CondKind}
 use Rattle.machine_events.specs.declared.plan.CondKind.TheVariants as kinds
 use Rattle.machine_events.specs.declared.plan.Plan.{Plan}
-use Rattle.plan_place.specs.Backing.{backed_claims}
-use Rattle.plan_place.proofs.Backed.{of_signal}
+use Rattle.plan_claims.specs.Backing.{backed_claims}
+use Rattle.plan_claims.proofs.Backed.{of_signal}
 use Rattle.plan_counted.proofs.Table.{length_numbered, none_numbered, numbered_at}
 use Rattle.report_recheck.specs.Reports.{IsPlanOf}
 use Rattle.report_tally.specs.CountedReports.{AreCounted, is_counted, is_owed, owed_claims}

@@ -15,7 +15,7 @@ use Rattle.machine_events.specs.declared.plan.Note.{Note}
 use Rattle.machine_events.specs.declared.plan.Plan.{Plan}
 use Rattle.machine_events.specs.Plans.{notes_at}
 use Rattle.machine_events.specs.PlanText.{block_mark, block_name, method_name, name_in}
-use Rattle.plan_place.specs.Backing.{block_numbers}
+use Rattle.plan_claims.specs.Backing.{block_numbers}
 use Rattle.plan_place.specs.Relayed.{note_on}
 use Rattle.plan_count.specs.declared.question.Question.{Question}
 use Rattle.plan_count.specs.declared.question.Question.TheVariants as questions

@@ -15,7 +15,7 @@ use Rattle.lang_monitor.specs.declared.claim.Claim.TheVariants as claims
 use Rattle.lang_monitor.specs.MonitorParts.{MonitorParts, IsMonitor}
 use Rattle.machine_events.specs.declared.plan.Plan.{Plan}
 use Rattle.machine_events.specs.PlanText.{plan_text}
-use Rattle.plan_place.specs.Backing.{backed_claims}
+use Rattle.plan_claims.specs.Backing.{backed_claims}
 use Rattle.plan_count.specs.declared.question.Question.{Question}
 use Rattle.plan_count.specs.declared.question.Question.TheVariants as questions
 use Rattle.report_questions.specs.QuestionText.{question_text}

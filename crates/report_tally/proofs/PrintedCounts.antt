@@ -16,10 +16,10 @@ use Rattle.logic_wp.specs.PlainClaims.{IsClaimOf, has_few_cubes, is_within_limit
 use Rattle.logic_wp.specs.Limits.{is_query_within}
 use Rattle.logic_wp.specs.NegatedQueries.{negated_query}
 use Rattle.plan_prune.specs.Hardness.{HasNoOpenClaim, MayStayOpen, limits}
-use Rattle.plan_place.specs.declared.placed.PlacedPlan.{PlacedPlan}
-use Rattle.plan_place.specs.declared.placed.Proof.{Proof}
-use Rattle.plan_place.specs.Backing.{backed_claims}
-use Rattle.plan_place.proofs.Lists.{all_mapped}
+use Rattle.plan_claims.specs.declared.placed.PlacedPlan.{PlacedPlan}
+use Rattle.plan_claims.specs.declared.placed.Proof.{Proof}
+use Rattle.plan_claims.specs.Backing.{backed_claims}
+use Rattle.plan_claims.proofs.Lists.{all_mapped}
 use Rattle.plan_count.specs.declared.question.Question.{Question}
 use Rattle.plan_count.specs.declared.question.Question.TheVariants as questions
 use Rattle.plan_count.specs.Questions.{MayAskQuestion, question_query}

@@ -17,7 +17,7 @@ use Rattle.machine_events.specs.declared.plan.Note.{Note}
 use Rattle.machine_events.specs.declared.plan.Plan.{Plan}
 use Rattle.machine_events.specs.Plans.{has_note, notes_at}
 use Rattle.plan_candidates.specs.Claims.{keeps_claims}
-use Rattle.plan_place.specs.Backing.{backed_claims, block_numbers, condition_numbers, kind_claims, reads_none, unnoted_claims, untested_claims, waits_at}
+use Rattle.plan_claims.specs.Backing.{backed_claims, block_numbers, condition_numbers, kind_claims, reads_none, unnoted_claims, untested_claims, waits_at}
 use Rattle.plan_place.specs.Relayed.{note_on}
 use Rattle.plan_place.proofs.NotesOn.{is_some, on_found, on_is}
 use Rattle.plan_counted.specs.declared.counted.Column.{Column}

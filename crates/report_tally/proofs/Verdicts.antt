@@ -9,7 +9,7 @@ use Rattle.lang_monitor.specs.declared.claim.Claim.{Claim}
 use Rattle.lang_monitor.specs.MonitorParts.{MonitorParts}
 use Rattle.logic_wp.specs.Expressible.{is_expressible}
 use Rattle.logic_wp.specs.PlainClaims.{MayAsk}
-use Rattle.plan_place.specs.Backing.{backed_claims}
+use Rattle.plan_claims.specs.Backing.{backed_claims}
 use Rattle.plan_count.specs.declared.question.Question.{Question}
 use Rattle.report_recheck.specs.Verdicts.{AreChecked, IsFirstOpen, IsLawfulAtSight, plan_lines}
 use Rattle.report_recheck.proofs.Askable.{claims_askable}

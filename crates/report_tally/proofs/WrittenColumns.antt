@@ -6,7 +6,7 @@ use Rattle.std.proofs.lemmas.List.{take_all}
 use Rattle.std.proofs.lemmas.List.FromFn.{get_or-enumerate_from, length-enumerate_from}
 use Rattle.lang_monitor.specs.declared.candidate.Candidate.{Candidate}
 use Rattle.lang_monitor.specs.MonitorParts.{MonitorParts, IsMonitor}
-use Rattle.plan_place.proofs.Lists.{all_numbers}
+use Rattle.plan_claims.proofs.Lists.{all_numbers}
 use Rattle.report_text.proofs.PlanRows.{both}
 use Rattle.plan_counted.specs.declared.counted.Column.{Column}
 use Rattle.plan_counted.specs.Counted.{IsColumnBacked}

@@ -10,9 +10,9 @@ use Rattle.lang_monitor.specs.declared.claim.Claim.TheVariants as claims
 use Rattle.lang_monitor.specs.MonitorParts.{MonitorParts, IsMonitor}
 use Rattle.machine_events.specs.Plans.{FitsPlan}
 use Rattle.machine_events.specs.PlanText.{plan_text}
-use Rattle.plan_place.specs.declared.placed.PlacedPlan.{PlacedPlan}
-use Rattle.plan_place.specs.declared.placed.Proof.{Proof}
-use Rattle.plan_place.specs.Backing.{backed_claims}
+use Rattle.plan_claims.specs.declared.placed.PlacedPlan.{PlacedPlan}
+use Rattle.plan_claims.specs.declared.placed.Proof.{Proof}
+use Rattle.plan_claims.specs.Backing.{backed_claims}
 use Rattle.plan_count.specs.declared.question.Question.TheVariants as questions
 use Rattle.plan_counted.specs.declared.counted.Column.{Column}
 use Rattle.plan_counted.specs.declared.counted.CountedPlan.{CountedPlan}

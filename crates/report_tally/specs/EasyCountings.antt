@@ -8,8 +8,8 @@ use Rattle.lang_monitor.specs.Queries.{query_of}
 use Rattle.machine_events.specs.Counts.{IsLawfulByCounting}
 use Rattle.machine_events.specs.Plans.{IsLawful}
 use Rattle.plan_prune.specs.Hardness.{MayStayOpen}
-use Rattle.plan_place.specs.declared.placed.PlacedPlan.{PlacedPlan}
-use Rattle.plan_place.specs.Backing.{AreProofs, backed_claims}
+use Rattle.plan_claims.specs.declared.placed.PlacedPlan.{PlacedPlan}
+use Rattle.plan_claims.specs.Backing.{AreProofs, backed_claims}
 use Rattle.plan_count.specs.declared.question.Question.{Question}
 use Rattle.plan_counted.specs.declared.counted.CountedPlan.{CountedPlan}
 use Rattle.plan_counted.specs.Counted.{IsOpen}

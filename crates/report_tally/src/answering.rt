@@ -21,8 +21,8 @@ use base_io::GrowingSink;
 use lang_monitor::Monitor;
 use logic_outline::Outline;
 use machine_events::Plan;
+use plan_claims::reads_none;
 use plan_count::{Question, has_row};
-use plan_place::reads_none;
 use report_recheck::{after_piece, read_cert_line};
 use std::alloc::{AllocError, Global};
 

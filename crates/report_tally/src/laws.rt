@@ -2,7 +2,7 @@
 
 ghost use Rattle.std.specs.Prelude.{◌≡◌, ◌↔◌, ℕ, ◌+◌, All, List, Option, Some, length};
 ghost use Rattle.lang_monitor.specs.MonitorParts.{MonitorParts};
-ghost use Rattle.plan_place.specs.declared.placed.PlacedPlan.{PlacedPlan};
+ghost use Rattle.plan_claims.specs.declared.placed.PlacedPlan.{PlacedPlan};
 ghost use Rattle.machine_events.specs.Counts.{IsLawfulByCounting};
 ghost use Rattle.plan_prune.specs.Hardness.{HasNoOpenClaim};
 ghost use Rattle.plan_counted.specs.declared.counted.CountedPlan.{CountedPlan};

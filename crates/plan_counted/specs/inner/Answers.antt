@@ -11,7 +11,7 @@ use Rattle.machine_events.specs.declared.plan.Plan.{Plan}
 use Rattle.machine_events.specs.Plans.{FitsPlan, IsLawful, condition_kind, has_note, notes_at}
 use Rattle.machine_events.specs.Counts.{IsLawfulByCounting}
 use Rattle.logic_wp.specs.PlainClaims.{ReadsNone}
-use Rattle.plan_place.specs.Backing.{waits_at}
+use Rattle.plan_claims.specs.Backing.{waits_at}
 use Rattle.plan_count.specs.declared.question.Question.{Question}
 use Rattle.plan_count.specs.declared.question.Question.TheVariants as questions
 use Rattle.plan_count.specs.Questions.{IsSo}

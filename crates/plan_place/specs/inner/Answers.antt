@@ -20,8 +20,8 @@ use Rattle.logic_wp.specs.PlainClaims.{IsConditionNumber, ReadsNone, WaitsAt}
 use Rattle.plan_prune.specs.Hardness.{HasNoHardClaim, MayStayOpen}
 use Rattle.plan_prune.specs.Invariants.{ContainsEasy, IsGreatest, IsInvariant}
 use Rattle.plan_prune.specs.declared.kept.Kept.{Kept}
-use Rattle.plan_place.specs.declared.placed.Proof.{Proof}
-use Rattle.plan_place.specs.Backing.{AreProofs, Certifies, IsBacked, kind_claims}
+use Rattle.plan_claims.specs.declared.placed.Proof.{Proof}
+use Rattle.plan_claims.specs.Backing.{AreProofs, Certifies, IsBacked, kind_claims}
 
 -- ---- one claim
 

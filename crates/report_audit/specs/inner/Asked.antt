@@ -7,7 +7,7 @@ use Rattle.lang_monitor.specs.MonitorParts.{MonitorParts}
 use Rattle.lang_monitor.specs.Queries.{query_of}
 use Rattle.lang_monitor.specs.Triples.{Holds}
 use Rattle.plan_prune.specs.Hardness.{MayStayOpen}
-use Rattle.plan_place.specs.Backing.{HasCertificate}
+use Rattle.plan_claims.specs.Backing.{HasCertificate}
 
 -- the claim holds only where its query may stay open
 abbrev pub IsOpen : MonitorParts → List Candidate → Claim → Type 0

@@ -7,7 +7,7 @@ use Rattle.lang_monitor.specs.MonitorParts.{MonitorParts, start_of}
 use Rattle.machine_events.specs.declared.plan.Note.{Note}
 use Rattle.machine_events.specs.declared.plan.Plan.{Plan}
 use Rattle.logic_wp.specs.PlainClaims.{IsConditionNumber}
-use Rattle.plan_place.specs.Backing.{reads_none}
+use Rattle.plan_claims.specs.Backing.{reads_none}
 use Rattle.plan_place.specs.Relayed.{is_broadcast}
 use Rattle.report_audit.specs.Findings.{IsSuited}
 

@@ -9,7 +9,7 @@ use Rattle.machine_events.specs.declared.plan.Plan.{Plan}
 use Rattle.machine_events.specs.PlanText.{blocks_text, conditions_text, kept_text, kind_text}
 use Rattle.machine_events.specs.PlanText.{note_kind, note_text, tested_text}
 use Rattle.logic_cert.specs.declared.cert.Cert.{Cert}
-use Rattle.plan_place.specs.Backing.{backed_claims}
+use Rattle.plan_claims.specs.Backing.{backed_claims}
 use Rattle.report_recheck.specs.declared.report.Report.{Report}
 use Rattle.report_recheck.specs.Readings.{IsReadable}
 use Rattle.report_recheck.specs.Reports.{AreNotesOf, proofs_text}

@@ -7,7 +7,7 @@ use Rattle.lang_monitor.specs.MonitorParts.{MonitorParts}
 use Rattle.machine_events.specs.declared.plan.CondKind.{CondKind}
 use Rattle.machine_events.specs.declared.plan.CondKind.TheVariants as kinds
 use Rattle.machine_events.specs.declared.plan.Note.{Note}
-use Rattle.plan_place.specs.Backing.{reads_none}
+use Rattle.plan_claims.specs.Backing.{reads_none}
 
 abbrev pub is_broadcast : CondKind → Bool
 is_broadcast kinds.Signal = false

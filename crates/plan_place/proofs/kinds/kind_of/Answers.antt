@@ -1,5 +1,5 @@
 use Rattle.machine_events.specs.declared.plan.CondKind.TheVariants as kinds
-use Rattle.plan_place.specs.Backing.{kind_claims}
+use Rattle.plan_claims.specs.Backing.{kind_claims}
 use Rattle.plan_place.proofs.Placing.{adds_proofs}
 use Rattle.plan_place.proofs.kinds.kind_of.Goals as goal
 

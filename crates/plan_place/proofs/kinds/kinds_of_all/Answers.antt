@@ -1,7 +1,7 @@
 use Rattle.std.proofs.Common.{ℕ, ◌+◌, arith}
 use Rattle.std.proofs.lemmas.Grind.{common_steps}
 use Rattle.machine_events.specs.declared.plan.CondKind.{CondKind}
-use Rattle.plan_place.specs.Backing.{kind_claims}
+use Rattle.plan_claims.specs.Backing.{kind_claims}
 use Rattle.plan_place.specs.inner.Answers.{IsKindOf}
 use Rattle.plan_place.proofs.Placing.{each_more, proofs_more}
 use Rattle.plan_place.proofs.kinds.kinds_of_all.Goals as goal

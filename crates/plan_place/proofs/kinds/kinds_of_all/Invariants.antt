@@ -1,6 +1,6 @@
 use Rattle.std.specs.Prelude.{◌≡◌, length}
 use Rattle.std.specs.List.{enumerate_from, flat_map}
-use Rattle.plan_place.specs.Backing.{AreProofs, kind_claims}
+use Rattle.plan_claims.specs.Backing.{AreProofs, kind_claims}
 use Rattle.plan_place.specs.inner.Answers.{AreKinds}
 use Rattle.plan_place.proofs.kinds.kinds_of_all.Given as goal
 

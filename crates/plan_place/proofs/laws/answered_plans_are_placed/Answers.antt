@@ -3,7 +3,7 @@ use Rattle.machine_events.specs.declared.plan.Plan.{Plan}
 use Rattle.plan_prune.specs.Hardness.{HasNoHardClaim}
 use Rattle.plan_place.specs.Exact.{IsExact}
 use Rattle.plan_place.specs.inner.Answers.{IsAnswered}
-use Rattle.plan_place.proofs.Backed.{Laws}
+use Rattle.plan_claims.proofs.Backed.{Laws}
 use Rattle.plan_place.proofs.Answered.{may_be_kept, plan_exact, plan_fits}
 use Rattle.plan_place.proofs.Answered.{plan_lawful, plan_licensed}
 use Rattle.plan_place.proofs.laws.answered_plans_are_placed.Goals as goal

@@ -1,6 +1,6 @@
 use Rattle.std.proofs.Common.{◌≡◌, ℕ, ◌+◌, length, List, refl, sym, ap, subst, ◌∙◌, arith}
 use Rattle.machine_events.specs.declared.plan.Note.{Note}
-use Rattle.plan_place.specs.Backing.{untested_claims}
+use Rattle.plan_claims.specs.Backing.{untested_claims}
 use Rattle.plan_place.specs.inner.Answers.{Adds, AreNotes, unnoted_claim, unnoted_up_to}
 use Rattle.std.specs.Prelude.{option_to_list}
 use Rattle.plan_place.proofs.Placing.{adds_then, notes_more, unnoted_more, untested_more}

@@ -1,4 +1,4 @@
-use Rattle.plan_place.specs.Backing.{untested_claims}
+use Rattle.plan_claims.specs.Backing.{untested_claims}
 use Rattle.plan_place.specs.inner.Answers.{Adds, AreNotes, unnoted_up_to}
 use Rattle.plan_place.proofs.notes.notes_of.Given as goal
 

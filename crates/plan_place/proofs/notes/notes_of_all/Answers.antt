@@ -1,7 +1,7 @@
 use Rattle.std.proofs.Common.{ℕ, length, List, arith}
 use Rattle.std.proofs.lemmas.Grind.{common_steps}
 use Rattle.machine_events.specs.declared.plan.Note.{Note}
-use Rattle.plan_place.specs.Backing.{unnoted_claims, untested_claims}
+use Rattle.plan_claims.specs.Backing.{unnoted_claims, untested_claims}
 use Rattle.plan_place.specs.inner.Answers.{AreNotes}
 use Rattle.plan_place.proofs.Placing.{each_more, proofs_more}
 use Rattle.plan_place.proofs.notes.notes_of_all.Goals as goal

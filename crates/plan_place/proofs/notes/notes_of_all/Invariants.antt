@@ -1,6 +1,6 @@
 use Rattle.std.specs.Prelude.{◌≡◌, length}
 use Rattle.std.specs.List.{enumerate_from, flat_map}
-use Rattle.plan_place.specs.Backing.{AreProofs, unnoted_claims, untested_claims}
+use Rattle.plan_claims.specs.Backing.{AreProofs, unnoted_claims, untested_claims}
 use Rattle.plan_place.specs.inner.Answers.{AreNotesOfEach}
 use Rattle.plan_place.proofs.notes.notes_of_all.Given as goal
 

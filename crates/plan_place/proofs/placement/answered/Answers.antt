@@ -5,9 +5,9 @@ use Rattle.machine_events.specs.declared.plan.CondKind.{CondKind}
 use Rattle.machine_events.specs.declared.plan.Note.{Note}
 use Rattle.machine_events.specs.declared.plan.Plan.{Plan}
 use Rattle.plan_candidates.specs.Claims.{keeps_claims}
-use Rattle.plan_place.specs.Backing.{AreProofs, backed_claims, kind_claims, unnoted_claims, untested_claims}
+use Rattle.plan_claims.specs.Backing.{AreProofs, backed_claims, kind_claims, unnoted_claims, untested_claims}
 use Rattle.plan_place.specs.inner.Answers.{AreAskable, AreKinds, AreNotesOfEach, IsAnswered, proof_of_kept}
-use Rattle.plan_place.proofs.Backed.{proofs_back}
+use Rattle.plan_claims.proofs.Backed.{proofs_back}
 use Rattle.plan_place.proofs.Placing.{kept_proofs, proofs_of_plan}
 use Rattle.plan_place.proofs.placement.answered.Goals as goal
 use Rattle.plan_place.proofs.placement.answered.Goals.{In_ok-kept, After-of-3}

@@ -4,7 +4,7 @@ use Rattle.std.specs.List.{filter, list_all}
 use Rattle.lang_monitor.specs.Candidates.{candidates_of}
 use Rattle.logic_wp.specs.Expressible.{is_expressible}
 use Rattle.logic_wp.specs.PlainClaims.{MayAsk}
-use Rattle.plan_place.specs.Backing.{backed_claims}
+use Rattle.plan_claims.specs.Backing.{backed_claims}
 use Rattle.plan_candidates.proofs.SomeOf.{some_pass}
 use Rattle.report_recheck.proofs.Askable.{claims_askable}
 use Rattle.report_audit.specs.CountedFindings.{is_common}

@@ -1,7 +1,7 @@
 use Rattle.std.proofs.Common.{subst}
 use Rattle.lang_monitor.specs.Candidates.{candidates_of}
 use Rattle.logic_wp.specs.Expressible.{is_expressible}
-use Rattle.plan_place.proofs.Backed.{Laws}
+use Rattle.plan_claims.proofs.Backed.{Laws}
 use Rattle.plan_candidates.proofs.SomeOf.{some_pass}
 use Rattle.report_audit.specs.inner.Counted.{IsFirstFound}
 use Rattle.report_audit.proofs.FoundByCounting.{first_uncounted_of, proved_by_counting}

@@ -3,7 +3,7 @@ use Rattle.std.specs.List.{list_all, zip}
 use Rattle.lang_monitor.specs.Candidates.{candidates_of}
 use Rattle.logic_wp.specs.Expressible.{is_expressible}
 use Rattle.plan_candidates.proofs.SomeOf.{some_pass}
-use Rattle.plan_place.proofs.Backed.{Laws}
+use Rattle.plan_claims.proofs.Backed.{Laws}
 use Rattle.logic_wp.specs.PlainClaims.{MayAsk}
 use Rattle.report_recheck.specs.Verdicts.{IsFirstOpen}
 use Rattle.report_recheck.proofs.Accepted.{accepted, checked_of, unproved_at}

@@ -4,7 +4,7 @@ use Rattle.lang_monitor.specs.declared.candidate.Candidate.{Candidate}
 use Rattle.machine_events.specs.declared.plan.CondKind.{CondKind}
 use Rattle.machine_events.specs.declared.plan.Note.{Note}
 use Rattle.plan_candidates.specs.Claims.{keeps_claims}
-use Rattle.plan_place.specs.Backing.{kind_claims, unnoted_claims, untested_claims}
+use Rattle.plan_claims.specs.Backing.{kind_claims, unnoted_claims, untested_claims}
 use Rattle.report_recheck.proofs.Gathered.{in_four}
 use Rattle.report_recheck.proofs.claims.claims_of.Goals as goal
 

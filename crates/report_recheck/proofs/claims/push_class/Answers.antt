@@ -1,6 +1,6 @@
 use Rattle.std.proofs.Common.{arith}
 use Rattle.lang_monitor.specs.declared.claim.Claim.TheVariants as claims
-use Rattle.plan_place.specs.Backing.{waits_at}
+use Rattle.plan_claims.specs.Backing.{waits_at}
 use Rattle.report_recheck.proofs.Gathered.{filtered_more}
 use Rattle.report_recheck.proofs.claims.push_class.Goals as goal
 

@@ -1,6 +1,6 @@
 use Rattle.std.proofs.Common.{◌≡◌, ◌++◌, map}
 use Rattle.std.specs.List.{filter, range_with_len}
-use Rattle.plan_place.specs.Backing.{waits_at}
+use Rattle.plan_claims.specs.Backing.{waits_at}
 use Rattle.lang_monitor.specs.declared.claim.Claim.TheVariants.{One}
 use Rattle.report_recheck.proofs.claims.push_class.Given as goal
 

@@ -2,7 +2,7 @@ use Rattle.std.proofs.Common.{◌+◌, ◌++◌, List, ap, refl, ◌∙◌, arit
 use Rattle.std.specs.List.{flat_map, enumerate_from}
 use Rattle.std.proofs.lemmas.List.{take_all}
 use Rattle.machine_events.specs.declared.plan.CondKind.{CondKind}
-use Rattle.plan_place.specs.Backing.{kind_claims}
+use Rattle.plan_claims.specs.Backing.{kind_claims}
 use Rattle.report_recheck.proofs.Gathered.{listed_more}
 use Rattle.report_recheck.proofs.claims.push_enough.Goals as goal
 

@@ -1,5 +1,5 @@
 use Rattle.std.proofs.Common.{arith}
-use Rattle.plan_place.specs.Backing.{unnoted_claims}
+use Rattle.plan_claims.specs.Backing.{unnoted_claims}
 use Rattle.report_recheck.proofs.Gathered.{listed_more}
 use Rattle.report_recheck.proofs.claims.push_unnoted.Goals as goal
 

@@ -1,6 +1,6 @@
 use Rattle.std.proofs.Common.{◌≡◌, ◌++◌, take}
 use Rattle.std.specs.List.{enumerate_from, flat_map}
-use Rattle.plan_place.specs.Backing.{unnoted_claims}
+use Rattle.plan_claims.specs.Backing.{unnoted_claims}
 use Rattle.report_recheck.proofs.claims.push_unnoted.Given as goal
 
 abbrev pub invariant-loop-index : goal.invariant-loop-index

@@ -1,6 +1,6 @@
 use Rattle.std.proofs.Common.{◌≡◌, ◌++◌, map, not, ◌&&◌, take}
 use Rattle.std.specs.List.{filter}
-use Rattle.plan_place.specs.Backing.{reads_none}
+use Rattle.plan_claims.specs.Backing.{reads_none}
 use Rattle.lang_monitor.specs.declared.claim.Claim.TheVariants.{NoTest}
 use Rattle.report_recheck.proofs.claims.push_untested_of.Given as goal
 

@@ -1,6 +1,6 @@
 use Rattle.std.proofs.Common.{arith, subst}
 use Rattle.std.proofs.lemmas.List.Elements.{All-more}
-use Rattle.plan_place.specs.declared.placed.Proof.{Proof}
+use Rattle.plan_claims.specs.declared.placed.Proof.{Proof}
 use Rattle.logic_outline.specs.Outlines.{HasTypedNumbers}
 use Rattle.report_recheck.proofs.Pairs.{all_taken}
 use Rattle.report_recheck.proofs.ranges.of_proofs.Goals as goal

@@ -1,6 +1,6 @@
 use Rattle.std.proofs.Common.{List, subst}
 use Rattle.std.specs.Prelude.{All}
-use Rattle.plan_place.specs.declared.placed.Proof.{Proof}
+use Rattle.plan_claims.specs.declared.placed.Proof.{Proof}
 use Rattle.logic_outline.specs.Outlines.{HasTypedNumbers}
 use Rattle.report_recheck.proofs.ranges.read_numbers.Goals as goal
 

@@ -1,5 +1,5 @@
 use Rattle.std.proofs.Common.{refl}
-use Rattle.plan_place.specs.declared.placed.Proof.{Proof}
+use Rattle.plan_claims.specs.declared.placed.Proof.{Proof}
 use Rattle.base_io.proofs.Rows.{row_stopped, row_went}
 use Rattle.report_recheck.specs.Reports.{proof_text}
 use Rattle.report_recheck.proofs.writing.write_proofs.Goals as goal

@@ -1,7 +1,7 @@
 use Rattle.std.proofs.Common.{List, ◌++◌, ap}
 use Rattle.std.specs.List.{flat_map}
 use Rattle.machine_events.specs.PlanText.{plan_text}
-use Rattle.plan_place.specs.declared.placed.Proof.{Proof}
+use Rattle.plan_claims.specs.declared.placed.Proof.{Proof}
 use Rattle.base_io.proofs.Writing.{wrote_both, wrote_fails, wrote_longer, wrote_same}
 use Rattle.report_recheck.specs.Reports.{proof_text}
 use Rattle.report_recheck.proofs.writing.write_report.Goals as goal

@@ -4,7 +4,7 @@ use Rattle.std.specs.List.{list_all, zip}
 use Rattle.lang_monitor.specs.Candidates.{candidates_of}
 use Rattle.logic_wp.specs.Expressible.{is_expressible}
 use Rattle.plan_candidates.proofs.SomeOf.{some_pass}
-use Rattle.plan_place.proofs.Backed.{Laws}
+use Rattle.plan_claims.proofs.Backed.{Laws}
 use Rattle.plan_count.specs.Questions.{MayAskQuestion}
 use Rattle.report_tally.specs.CountedReports.{owed_questions}
 use Rattle.report_tally.specs.inner.Checks.{IsFirstUnanswered}

@@ -5,7 +5,7 @@ use Rattle.machine_events.specs.declared.plan.Note.{Note}
 use Rattle.machine_events.specs.Plans.{notes_at}
 use Rattle.plan_count.specs.declared.question.Question.{Question}
 use Rattle.plan_place.specs.Relayed.{note_on}
-use Rattle.plan_place.proofs.Lists.{range_more}
+use Rattle.plan_claims.proofs.Lists.{range_more}
 use Rattle.report_tally.specs.CountedReports.{note_questions}
 use Rattle.report_tally.proofs.owed.push_blocks.Goals as goal
 

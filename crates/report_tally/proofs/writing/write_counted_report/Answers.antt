@@ -3,7 +3,7 @@ use Rattle.std.specs.Prelude.{All}
 use Rattle.std.specs.List.{flat_map}
 use Rattle.machine_events.specs.PlanText.{plan_text}
 use Rattle.base_io.proofs.Writing.{wrote_both, wrote_fails, wrote_longer, wrote_same}
-use Rattle.plan_place.specs.declared.placed.Proof.{Proof}
+use Rattle.plan_claims.specs.declared.placed.Proof.{Proof}
 use Rattle.plan_counted.specs.declared.counted.Column.{Column}
 use Rattle.report_tally.specs.CountedTexts.{columns_text, still_owed_text}
 use Rattle.report_tally.specs.inner.Lines.{IsShortColumn}

@@ -26,10 +26,10 @@ use Rattle.machine_events.specs.Plans.{condition_kind, has_note}
 use Rattle.logic_wp.specs.NegatedQueries.{negated_query}
 use Rattle.logic_wp.specs.PlainClaims.{ReadsNone, WaitsAt}
 use Rattle.plan_candidates.specs.Claims.{keeps_claims}
-use Rattle.plan_place.specs.declared.placed.Proof.{Proof}
-use Rattle.plan_place.specs.Backing.{AreProofs, HasCertificate, IsBacked, backed_claims, block_numbers, kind_claims, reads_none, unnoted_claims, untested_claims, waits_at}
+use Rattle.plan_claims.specs.declared.placed.Proof.{Proof}
+use Rattle.plan_claims.specs.Backing.{AreProofs, HasCertificate, IsBacked, backed_claims, block_numbers, kind_claims, reads_none, unnoted_claims, untested_claims, waits_at}
 use Rattle.machine_events.proofs.Facing.{all_at}
-use Rattle.plan_place.proofs.Lists.{all_left, all_right, all_flat, all_mapped, all_filtered, in_range, in_numbered}
+use Rattle.plan_claims.proofs.Lists.{all_left, all_right, all_flat, all_mapped, all_filtered, in_range, in_numbered}
 
 -- ---- what the crates below promise
 

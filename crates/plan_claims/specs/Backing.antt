@@ -17,7 +17,7 @@ use Rattle.machine_events.specs.declared.plan.Plan.{Plan}
 use Rattle.machine_events.specs.Plans.{has_note}
 use Rattle.logic_wp.specs.NegatedQueries.{negated_query}
 use Rattle.plan_candidates.specs.Claims.{keeps_claims}
-use Rattle.plan_place.specs.declared.placed.Proof.{Proof}
+use Rattle.plan_claims.specs.declared.placed.Proof.{Proof}
 
 -- ---- claims, with blocks numbered from 0 and conditions from 1
 
