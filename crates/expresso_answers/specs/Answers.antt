@@ -49,7 +49,8 @@ use Rattle.report_tally.specs.declared.report.CountedReport.{CountedReport}
 use Rattle.report_tally.specs.CountedReports.{counted_report_text}
 use Rattle.report_tally.specs.CountedTexts.{counted_report_of}
 use Rattle.logic_outline.specs.Outlines.{HasTypedNumbers}
-use Rattle.report_recheck.specs.Reports.{report_of, report_text}
+use Rattle.report_proofs.specs.ReportTexts.{report_text}
+use Rattle.report_verdict.specs.Reports.{report_of}
 use Rattle.plan_needs.specs.declared.broadcasts.BroadcastReason.{BroadcastReason}
 use Rattle.plan_needs.specs.CountedReasons.{IsBroadcastReason, IsCountedReason}
 use Rattle.plan_needs.specs.Needs.{broadcasts_of}

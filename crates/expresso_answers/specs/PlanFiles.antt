@@ -4,7 +4,7 @@ use Rattle.std.specs.Prelude.{length}
 use Rattle.lang_tree.specs.declared.tree.MonitorTree.{MonitorTree}
 use Rattle.lang_monitor.specs.MonitorParts.{MonitorParts}
 use Rattle.machine_events.specs.declared.plan.Plan.{Plan}
-use Rattle.report_recheck.specs.Readings.{IsPlanRead}
+use Rattle.report_proofs.specs.Readings.{IsPlanRead}
 use Rattle.report_audit.specs.declared.finding.Finding.{Finding}
 use Rattle.report_audit.specs.declared.finding.Finding.TheVariants as findings
 use Rattle.report_audit.specs.CountedFindings.{IsFindingBy}

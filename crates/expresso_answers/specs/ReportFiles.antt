@@ -2,9 +2,10 @@
 -- which of them are accepted, and which line refuses the others.
 use Rattle.std.specs.Prelude.{◌≡◌, ◌<◌, ◌≤◌, ◌⊎◌, ℕ, ◌+◌, List, ◌++◌, All, Some, None, length}
 use Rattle.lang_monitor.specs.MonitorParts.{MonitorParts}
-use Rattle.report_recheck.specs.declared.report.Verdict.{Verdict}
-use Rattle.report_recheck.specs.declared.report.Verdict.TheVariants as verdicts
-use Rattle.report_recheck.specs.Verdicts.{plan_lines, verdict_text}
+use Rattle.report_verdict.specs.declared.report.Verdict.{Verdict}
+use Rattle.report_verdict.specs.declared.report.Verdict.TheVariants as verdicts
+use Rattle.report_proofs.specs.ReportTexts.{verdict_text}
+use Rattle.report_verdict.specs.Verdicts.{plan_lines}
 use Rattle.report_tally.specs.declared.report.CountedReport.{CountedReport}
 use Rattle.report_tally.specs.CountedReadings.{IsCountedRead}
 use Rattle.report_tally.specs.CountedVerdicts.{IsCountedAccepted, IsCountedVerdict}

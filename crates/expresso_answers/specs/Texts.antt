@@ -1,6 +1,6 @@
 -- What the program itself prints. Plans are texts of `machine_events`; runs, logs, summaries and
 -- faults of `report_text`; canonical forms of `lang_printer`; reports and verdicts of
--- `report_recheck`; findings of `report_audit`; reasons of `report_reasons`; modules of
+-- `report_proofs`; findings of `report_audit`; reasons of `report_reasons`; modules of
 -- `emit_module`.
 use Rattle.std.specs.Prelude.{ℕ, List, ◌++◌, codes}
 use Rattle.lang_tree.specs.declared.tree.MonitorTree.{MonitorTree}

@@ -10,7 +10,7 @@ use machine_events::Plan;
 use plan_claims::PlacedPlan;
 use plan_counted::{CountedPlan, count_plan, relay_uncounted};
 use plan_place::{place, relay, relayed_plans_are_lawful};
-use report_recheck::read_numbers;
+use report_proofs::read_numbers;
 use report_tally::read_column_numbers;
 use std::alloc::{AllocError, Global};
 

@@ -12,7 +12,7 @@ use Rattle.plan_claims.specs.Backing.{AreProofs, backed_claims}
 use Rattle.plan_counted.specs.declared.counted.CountedPlan.{CountedPlan}
 use Rattle.plan_needs.specs.declared.broadcasts.BroadcastReason.{BroadcastReason}
 use Rattle.plan_why.specs.declared.reason.Reason.{Reason}
-use Rattle.report_recheck.specs.Reports.{placed_text}
+use Rattle.report_proofs.specs.ReportTexts.{placed_text}
 use Rattle.report_tally.specs.CountedTexts.{counted_text}
 use Rattle.report_fits.specs.declared.reasons.FitReason.{FitReason}
 use Rattle.report_fits.specs.FitReasonTexts.{fit_reasons_text}

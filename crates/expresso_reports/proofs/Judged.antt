@@ -10,12 +10,13 @@ use Rattle.lang_monitor.specs.MonitorParts.{MonitorParts}
 use Rattle.plan_claims.specs.declared.placed.PlacedPlan.{PlacedPlan}
 use Rattle.plan_claims.specs.Backing.{AreProofs, backed_claims}
 use Rattle.report_text.specs.FaultText.{not_report_text, other_too_long_text}
-use Rattle.report_recheck.specs.declared.report.Verdict.{Verdict}
-use Rattle.report_recheck.specs.declared.report.Verdict.TheVariants as verdicts
+use Rattle.report_verdict.specs.declared.report.Verdict.{Verdict}
+use Rattle.report_verdict.specs.declared.report.Verdict.TheVariants as verdicts
 use Rattle.logic_outline.specs.Outlines.{HasTypedNumbers}
 use Rattle.plan_counted.specs.declared.counted.CountedPlan.{CountedPlan}
-use Rattle.report_recheck.specs.Reports.{placed_text, report_of, report_text}
-use Rattle.report_recheck.specs.Verdicts.{plan_lines, verdict_text}
+use Rattle.report_proofs.specs.ReportTexts.{placed_text, report_text, verdict_text}
+use Rattle.report_verdict.specs.Reports.{report_of}
+use Rattle.report_verdict.specs.Verdicts.{plan_lines}
 use Rattle.plan_counted.specs.Counted.{IsCountedFrom}
 use Rattle.report_tally.specs.declared.report.CountedReport.{CountedReport}
 use Rattle.report_tally.specs.CountedReadings.{IsCountedRead}

@@ -9,7 +9,7 @@ use Rattle.lang_monitor.specs.MonitorParts.{MonitorParts}
 use Rattle.machine_events.specs.declared.plan.Note.{Note}
 use Rattle.machine_events.specs.declared.plan.Plan.{Plan}
 use Rattle.machine_events.specs.Plans.{FitsNote, FitsNotes, FitsPlan, IsCondition, IsUntestedBroadcast, WakesAll}
-use Rattle.report_recheck.specs.Reports.{AreNotesOf, IsOnCondition, IsPlanOf}
+use Rattle.report_verdict.specs.Reports.{AreNotesOf, IsOnCondition, IsPlanOf}
 
 -- a note on the condition, if it is on this one, is an untested broadcast
 abbrev IsUntestedOn : ℕ → Note → Type 0

@@ -17,13 +17,14 @@ use Rattle.plan_claims.specs.declared.placed.PlacedPlan.{PlacedPlan}
 use Rattle.plan_claims.specs.declared.placed.Proof.{Proof}
 use Rattle.plan_claims.specs.Backing.{AreProofs, backed_claims}
 use Rattle.plan_counted.specs.declared.counted.CountedPlan.{CountedPlan}
-use Rattle.report_recheck.specs.declared.report.Report.{Report}
-use Rattle.report_recheck.specs.declared.report.Verdict.{Verdict}
-use Rattle.report_recheck.specs.declared.report.Verdict.TheVariants as verdicts
-use Rattle.report_recheck.specs.Readings.{IsReadable}
-use Rattle.report_recheck.specs.Reports.{IsReport, report_of, report_text}
-use Rattle.report_recheck.specs.Verdicts.{IsVerdict, verdict_text}
-use Rattle.report_recheck.proofs.PlacedTexts.{placed_report}
+use Rattle.report_verdict.specs.declared.report.Report.{Report}
+use Rattle.report_verdict.specs.declared.report.Verdict.{Verdict}
+use Rattle.report_verdict.specs.declared.report.Verdict.TheVariants as verdicts
+use Rattle.report_proofs.specs.Readings.{IsReadable}
+use Rattle.report_proofs.specs.ReportTexts.{report_text, verdict_text}
+use Rattle.report_verdict.specs.Reports.{IsReport, report_of}
+use Rattle.report_verdict.specs.Verdicts.{IsVerdict}
+use Rattle.report_proofs.proofs.PlacedTexts.{placed_report}
 use Rattle.report_tally.specs.declared.report.CountedReport.{CountedReport}
 use Rattle.report_tally.specs.CountedReadings.{IsCountedRead}
 use Rattle.report_tally.specs.CountedReports.{counted_report_text}

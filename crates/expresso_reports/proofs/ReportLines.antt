@@ -21,8 +21,8 @@ use Rattle.machine_events.specs.PlanText.{block_name, block_text, blocks_text, c
 use Rattle.plan_count.specs.declared.question.Question.{Question}
 use Rattle.plan_count.specs.declared.question.Question.TheVariants as questions
 use Rattle.report_text.proofs.PlanLines.{block_is_line, condition_is_line}
-use Rattle.report_recheck.specs.Reports.{proof_text, proofs_text}
-use Rattle.report_recheck.proofs.ProofLines.{block_in_line, cert_in_line, kept_is_line, proof_is_line}
+use Rattle.report_proofs.specs.ReportTexts.{proof_text, proofs_text}
+use Rattle.report_proofs.proofs.ProofLines.{block_in_line, cert_in_line, kept_is_line, proof_is_line}
 use Rattle.report_tally.specs.declared.report.CountedReport.{CountedReport}
 use Rattle.report_questions.specs.QuestionText.{asked_text, question_text, row_mark}
 use Rattle.report_tally.specs.CountedReports.{answer_text, answers_text, counted_report_text, owed_claims, owed_questions}

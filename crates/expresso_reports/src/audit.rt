@@ -3,7 +3,7 @@
 ghost use Rattle.std.specs.Prelude.{[], ◌∷◌, All, IfOk};
 ghost use Rattle.report_audit.specs.CountedFindings.{IsFindingBy};
 ghost use Rattle.front_command.specs.CommandLine.{audit};
-ghost use Rattle.report_recheck.specs.Reports.{IsPlanOf};
+ghost use Rattle.report_verdict.specs.Reports.{IsPlanOf};
 ghost use Rattle.expresso_answers.specs.Ending.{CommandEnds, IsWritten, KeepsFiles};
 ghost use Rattle.expresso_answers.specs.PlanFiles.{IsFailureBy, audit_text};
 ghost use Rattle.expresso_reports.specs.inner.Auditing.{IsAuditDone, IsFound, audit_status};
@@ -19,7 +19,7 @@ use machine_events::Plan;
 use plan_why::Failure;
 use report_audit::{Finding, audit, audit_by_counting};
 use report_failures::finding_failure;
-use report_recheck::read_plan;
+use report_proofs::read_plan;
 use report_text::Fault;
 use std::alloc::{AllocError, Global};
 

@@ -17,7 +17,7 @@ use lang_monitor::{Candidate, Monitor};
 use logic_cert::Cert;
 use plan_fits::fits_of;
 use report_fits::{FitReason, fit_reasons, read_fit_numbers};
-use report_recheck::{placed_text_is_report_text, read_numbers};
+use report_proofs::{placed_text_is_report_text, read_numbers};
 use report_tally::counted_text_is_report_text;
 use std::alloc::{AllocError, Global};
 

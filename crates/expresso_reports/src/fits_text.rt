@@ -7,8 +7,7 @@ ghost use Rattle.plan_counted.specs.Counted.{AreBacked};
 ghost use Rattle.report_fits.specs.FitReasonTexts.{fit_reasons_text};
 ghost use Rattle.report_fits.specs.FitTexts.{certified, fits_text};
 ghost use Rattle.report_fits.specs.FitVerdicts.{fitting_text};
-ghost use Rattle.report_recheck.specs.Reports.{placed_text};
-ghost use Rattle.report_recheck.specs.Verdicts.{verdict_text};
+ghost use Rattle.report_proofs.specs.ReportTexts.{placed_text, verdict_text};
 ghost use Rattle.report_tally.specs.CountedTexts.{counted_text};
 ghost use Rattle.expresso_answers.specs.Texts.{count_explained_text, explained_text};
 ghost use Rattle.expresso_answers.specs.Ending.{IsWritten};
@@ -22,8 +21,9 @@ use lang_tree::MonitorTree;
 use logic_cert::Cert;
 use plan_claims::PlacedPlan;
 use report_fits::{Fit, FitReason, write_fit_reasons, write_fits, write_fitting};
-use report_recheck::{Verdict, write_report, write_verdict};
+use report_proofs::{write_report, write_verdict};
 use report_tally::write_counted_report;
+use report_verdict::Verdict;
 
 // ---- reports
 

@@ -1,8 +1,8 @@
 //! What follows from the definitions alone, of reports and of what is accepted or lawful.
 
 ghost use Rattle.std.specs.Prelude.{◌≡◌, ◌++◌, ℕ, Bool, List, Option, Some, length};
-ghost use Rattle.report_recheck.specs.declared.report.Verdict.TheVariants.{Accepted};
-ghost use Rattle.report_recheck.specs.Verdicts.{verdict_text};
+ghost use Rattle.report_verdict.specs.declared.report.Verdict.TheVariants.{Accepted};
+ghost use Rattle.report_proofs.specs.ReportTexts.{verdict_text};
 ghost use Rattle.report_fits.specs.FitTexts.{certified};
 ghost use Rattle.report_fits.specs.FitVerdicts.{fitting_text};
 ghost use Rattle.front_command.specs.CommandLine.{audit, recheck};
@@ -17,7 +17,7 @@ use emit_code::counted_code_loses_none;
 use lang_syntax::derives_one_tree;
 use lang_tokens::one_spelling;
 use machine_events::counting_loses_no_wakeup;
-use report_recheck::easy_reports_are_accepted;
+use report_proofs::easy_reports_are_accepted;
 use report_tally::{
     counted_text_is_report_text, printed_counted_reports_are_accepted, reports_are_uncounted,
 };

@@ -4,7 +4,7 @@ ghost use Rattle.std.specs.Prelude.{◌≤◌, ◌<◌, ◌^◌, ◌≡◌, ◌+
 ghost use Rattle.front_command.specs.CommandLine.{recheck};
 ghost use Rattle.expresso_answers.specs.Ending.{CommandEnds, IsWritten, KeepsFiles};
 ghost use Rattle.report_fits.specs.FitTexts.{AreFits};
-ghost use Rattle.report_recheck.specs.Verdicts.{plan_lines};
+ghost use Rattle.report_verdict.specs.Verdicts.{plan_lines};
 ghost use Rattle.report_tally.specs.CountedReports.{IsCountedReport};
 ghost use Rattle.expresso_answers.specs.ReportFiles.{OTHER_BYTES, many_certs};
 ghost use Rattle.expresso_reports.specs.inner.Judging.{IsFitsCheck, IsJudged, IsJudgement};
@@ -20,9 +20,9 @@ use lang_monitor::Monitor;
 use lang_syntax::derives_one_tree;
 use lang_tokens::one_spelling;
 use report_fits::{Fit, first_open_fit, part, read_fits};
-use report_recheck::{Verdict, line_of};
 use report_tally::{CountedReport, read_counted_report, recheck_counted};
 use report_text::Fault;
+use report_verdict::{Verdict, line_of};
 use std::alloc::{AllocError, Global};
 
 /// What is found of the bytes of a report's file.

@@ -7,7 +7,7 @@ ghost use Rattle.expresso_answers.specs.Ending.{CommandEnds, KeepsFiles};
 use crate::text::{show_counted_report, show_report};
 use base_io::{Files, Sink};
 use expresso_answers::{Status, counting_of, monitor_of, placed_of};
-use report_recheck::{placed_text_is_report_text, read_numbers};
+use report_proofs::{placed_text_is_report_text, read_numbers};
 use report_tally::counted_text_is_report_text;
 use std::alloc::{AllocError, Global};
 

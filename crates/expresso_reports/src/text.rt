@@ -4,7 +4,7 @@
 ghost use Rattle.std.specs.Prelude.{◌≡◌};
 ghost use Rattle.base_io.specs.Writing.{Wrote};
 ghost use Rattle.plan_counted.specs.Counted.{AreBacked};
-ghost use Rattle.report_recheck.specs.Reports.{placed_text};
+ghost use Rattle.report_proofs.specs.ReportTexts.{placed_text};
 ghost use Rattle.report_tally.specs.CountedTexts.{counted_text};
 ghost use Rattle.report_audit.specs.FindingText.{finding_text};
 ghost use Rattle.report_failures.specs.FailureText.{failing_finding_text};
@@ -22,8 +22,8 @@ use plan_claims::PlacedPlan;
 use plan_why::Failure;
 use report_audit::{Finding, write_finding};
 use report_failures::write_failing_finding;
+use report_proofs::write_report;
 use report_reasons::{write_broadcast_reasons, write_reasons};
-use report_recheck::write_report;
 use report_tally::write_counted_report;
 use report_text::write_plan;
 

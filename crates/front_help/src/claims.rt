@@ -1,6 +1,6 @@
 //! Where the lines of claims of a report stop being those of its plan.
 
-ghost use Rattle.report_recheck.specs.Reports.{IsPlanOf};
+ghost use Rattle.report_verdict.specs.Reports.{IsPlanOf};
 
 use crate::certificates::certificate_slip;
 use crate::lines::{from, is_ended, line_from, next_line, same_front, same_until};
@@ -8,7 +8,8 @@ use crate::slip::{Slip, expecting, saying};
 use base_io::{GrowingSink, write_piece};
 use lang_monitor::{Claim, Monitor};
 use machine_events::Plan;
-use report_recheck::{claims_of, plan_front, write_claim};
+use report_proofs::{plan_front, write_claim};
+use report_verdict::claims_of;
 use std::alloc::{AllocError, Global};
 
 /// What is wrong of the lines of claims, which begin here, and of what follows them.

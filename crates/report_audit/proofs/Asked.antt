@@ -9,7 +9,7 @@ use Rattle.lang_monitor.specs.declared.candidate.Candidate.{Candidate}
 use Rattle.lang_monitor.specs.declared.claim.Claim.{Claim}
 use Rattle.lang_monitor.specs.MonitorParts.{MonitorParts}
 use Rattle.plan_claims.specs.Backing.{HasCertificate}
-use Rattle.report_recheck.proofs.Pairs.{all_taken, one_more_at}
+use Rattle.report_verdict.proofs.Pairs.{all_taken, one_more_at}
 use Rattle.report_audit.specs.inner.Asked.{IsAnswer, IsFirstOpen}
 
 -- ---- those that pass a test

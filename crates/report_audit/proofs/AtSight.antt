@@ -19,10 +19,10 @@ use Rattle.machine_events.specs.Plans.{EachNoteOn, IsCondition, IsUntestedBroadc
 use Rattle.logic_wp.specs.PlainClaims.{IsConditionNumber}
 use Rattle.plan_claims.specs.Backing.{reads_none}
 use Rattle.plan_place.specs.Relayed.{is_broadcast}
-use Rattle.report_recheck.specs.Reports.{AreNotesOf, IsOnCondition, IsPlanOf}
-use Rattle.report_recheck.specs.Verdicts.{IsLawfulAtSight}
-use Rattle.report_recheck.proofs.Pairs.{all_at, at_place, from_places, one_more_at}
-use Rattle.report_recheck.proofs.Seen.{note_at, of_block}
+use Rattle.report_verdict.specs.Reports.{AreNotesOf, IsOnCondition, IsPlanOf}
+use Rattle.report_verdict.specs.Verdicts.{IsLawfulAtSight}
+use Rattle.report_verdict.proofs.Pairs.{all_at, at_place, from_places, one_more_at}
+use Rattle.report_verdict.proofs.Seen.{note_at, of_block}
 use Rattle.report_audit.specs.Findings.{IsSuited}
 use Rattle.report_audit.specs.inner.Seen.{AreListsSuited, AreNotesSuited, IsFalseAt, IsUnsuitedAt, SuitsAs, is_wide, suits_on}
 

@@ -22,8 +22,8 @@ use Rattle.plan_claims.proofs.Lists.{range_more}
 use Rattle.plan_count.specs.declared.question.Question.{Question}
 use Rattle.plan_count.specs.declared.question.Question.TheVariants as questions
 use Rattle.plan_count.specs.Questions.{HasRowAt, MayAskQuestion, MayBeAsked, question_query}
-use Rattle.report_recheck.proofs.Askable.{flat_all, range_all}
-use Rattle.report_recheck.proofs.Pairs.{all_at, all_taken, one_more_at}
+use Rattle.report_verdict.proofs.Askable.{flat_all, range_all}
+use Rattle.report_verdict.proofs.Pairs.{all_at, all_taken, one_more_at}
 use Rattle.report_audit.specs.CountedFindings.{IsCertified, block_questions, counting_questions, note_questions}
 use Rattle.report_audit.specs.inner.Counted.{IsFirstUnanswered, IsReply}
 

@@ -19,9 +19,9 @@ use Rattle.machine_events.specs.Plans.{IsLawful, has_note, notes_at}
 use Rattle.plan_claims.specs.Backing.{HasCertificate, backed_claims}
 use Rattle.plan_claims.proofs.Backed.{Laws, held, of_kept, of_signal, of_unnoted}
 use Rattle.plan_claims.proofs.Lists.{all_filtered}
-use Rattle.report_recheck.specs.Reports.{IsPlanOf}
-use Rattle.report_recheck.specs.Verdicts.{IsLawfulAtSight}
-use Rattle.report_recheck.proofs.Pairs.{all_at, at_place, from_places}
+use Rattle.report_verdict.specs.Reports.{IsPlanOf}
+use Rattle.report_verdict.specs.Verdicts.{IsLawfulAtSight}
+use Rattle.report_verdict.proofs.Pairs.{all_at, at_place, from_places}
 use Rattle.report_audit.specs.Findings.{IsFirstUnproved, IsProved, asked_claims, is_asked}
 use Rattle.report_audit.specs.CountedFindings.{is_common}
 use Rattle.report_audit.specs.inner.Asked.{IsFirstOpen}

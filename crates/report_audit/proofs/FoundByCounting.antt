@@ -27,8 +27,8 @@ use Rattle.plan_claims.proofs.Lists.{all_filtered, all_flat, in_range}
 use Rattle.plan_count.specs.declared.question.Question.{Question}
 use Rattle.plan_count.specs.declared.question.Question.TheVariants as questions
 use Rattle.plan_count.specs.Questions.{AnswersCount, AreToldRight, IsSo, IsToldRight, question_query}
-use Rattle.report_recheck.specs.Reports.{IsPlanOf}
-use Rattle.report_recheck.specs.Verdicts.{IsLawfulAtSight}
+use Rattle.report_verdict.specs.Reports.{IsPlanOf}
+use Rattle.report_verdict.specs.Verdicts.{IsLawfulAtSight}
 use Rattle.report_audit.specs.declared.finding.Finding.{Finding}
 use Rattle.report_audit.specs.declared.finding.Finding.TheVariants as findings
 use Rattle.report_audit.specs.Findings.{IsFirstFalse, IsFirstUnsuited}

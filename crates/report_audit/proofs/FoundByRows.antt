@@ -25,11 +25,11 @@ use Rattle.plan_claims.specs.Backing.{backed_claims, block_numbers, kind_claims,
 use Rattle.plan_count.specs.declared.question.Question.{Question}
 use Rattle.plan_count.specs.Questions.{AreToldRight, CountsWithNone, CountsWithOne, HasRowAt, IsSo, IsToldRight, MayAskQuestion, MayBeAsked}
 use Rattle.plan_counted.specs.Exact.{HasNoOpenQuestion}
-use Rattle.report_recheck.specs.Reports.{IsPlanOf}
-use Rattle.report_recheck.specs.Verdicts.{IsLawfulAtSight}
-use Rattle.report_recheck.proofs.Askable.{numbered_all, range_all}
-use Rattle.report_recheck.proofs.Pairs.{all_at, at_place}
-use Rattle.report_recheck.proofs.SmallReports.{signal_reads_none, waits_of_test}
+use Rattle.report_verdict.specs.Reports.{IsPlanOf}
+use Rattle.report_verdict.specs.Verdicts.{IsLawfulAtSight}
+use Rattle.report_verdict.proofs.Askable.{numbered_all, range_all}
+use Rattle.report_verdict.proofs.Pairs.{all_at, at_place}
+use Rattle.report_proofs.proofs.SmallReports.{signal_reads_none, waits_of_test}
 use Rattle.report_audit.specs.declared.finding.Finding.{Finding}
 use Rattle.report_audit.specs.declared.finding.Finding.TheVariants as findings
 use Rattle.report_audit.specs.CountedFindings.{IsCountedByTried, IsCountedFinding, IsFirstUncounted, IsLawfulByRows, IsNotPassedOn}

@@ -23,11 +23,11 @@ use Rattle.logic_wp.specs.PlainClaims.{IsClaimOf}
 use Rattle.plan_prune.specs.Hardness.{HasNoOpenClaim, MayBeKept}
 use Rattle.plan_candidates.specs.Claims.{keeps_claims}
 use Rattle.plan_claims.specs.Backing.{backed_claims, block_numbers, condition_numbers, kind_claims, reads_none, unnoted_claims, untested_claims, waits_at}
-use Rattle.report_recheck.specs.Reports.{IsPlanOf}
-use Rattle.report_recheck.specs.Verdicts.{IsLawfulAtSight}
-use Rattle.report_recheck.proofs.Askable.{flat_all, numbered_all, range_all}
-use Rattle.report_recheck.proofs.Pairs.{all_at}
-use Rattle.report_recheck.proofs.SmallReports.{signal_reads_none, some_contained, waits_of_test}
+use Rattle.report_verdict.specs.Reports.{IsPlanOf}
+use Rattle.report_verdict.specs.Verdicts.{IsLawfulAtSight}
+use Rattle.report_verdict.proofs.Askable.{flat_all, numbered_all, range_all}
+use Rattle.report_verdict.proofs.Pairs.{all_at}
+use Rattle.report_proofs.proofs.SmallReports.{signal_reads_none, some_contained, waits_of_test}
 use Rattle.report_audit.specs.declared.finding.Finding.{Finding}
 use Rattle.report_audit.specs.declared.finding.Finding.TheVariants as findings
 use Rattle.report_audit.specs.Findings.{IsFinding, asked_claims, is_asked}

@@ -19,11 +19,11 @@ use Rattle.plan_count.specs.declared.question.Question.{Question}
 use Rattle.plan_count.specs.declared.question.Question.TheVariants as questions
 use Rattle.plan_count.specs.Questions.{HasRowAt}
 use Rattle.plan_counted.specs.Counted.{ROWS_TRIED}
-use Rattle.report_recheck.specs.Reports.{IsPlanOf}
-use Rattle.report_recheck.specs.Verdicts.{IsLawfulAtSight}
-use Rattle.report_recheck.proofs.Askable.{claims_askable}
-use Rattle.report_recheck.proofs.Pairs.{at_place}
-use Rattle.report_recheck.proofs.SmallReports.{signal_reads_none}
+use Rattle.report_verdict.specs.Reports.{IsPlanOf}
+use Rattle.report_verdict.specs.Verdicts.{IsLawfulAtSight}
+use Rattle.report_verdict.proofs.Askable.{claims_askable}
+use Rattle.report_verdict.proofs.Pairs.{at_place}
+use Rattle.report_proofs.proofs.SmallReports.{signal_reads_none}
 use Rattle.report_audit.specs.CountedFindings.{IsNotCountedBy, IsProvedCounted, IsSignalProved, block_of, counting_questions, is_passing, passing_claims}
 use Rattle.report_audit.specs.inner.Asked.{IsFirstOpen}
 use Rattle.report_audit.specs.inner.Counted.{AreSignalsProved, IsByOthers, IsByRow, IsByRows, IsFirstUnanswered, IsUncountedAt}

@@ -24,7 +24,7 @@ use Rattle.plan_count.specs.declared.question.Question.{Question}
 use Rattle.plan_count.specs.declared.question.Question.TheVariants as questions
 use Rattle.plan_count.specs.Questions.{AreToldRight, HasRowAt, IsSo}
 use Rattle.plan_counted.specs.Counted.{Certifies, IsOpen, IsTried}
-use Rattle.report_recheck.specs.Verdicts.{IsLawfulAtSight}
+use Rattle.report_verdict.specs.Verdicts.{IsLawfulAtSight}
 use Rattle.report_audit.specs.declared.finding.Finding.{Finding}
 use Rattle.report_audit.specs.declared.finding.Finding.TheVariants as findings
 use Rattle.report_audit.specs.Findings.{IsFinding, IsFirstFalse, IsFirstUnsuited}

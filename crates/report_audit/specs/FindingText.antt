@@ -5,7 +5,7 @@ use Rattle.lang_monitor.specs.MonitorParts.{MonitorParts}
 use Rattle.machine_events.specs.declared.plan.Plan.{Plan}
 use Rattle.machine_events.specs.PlanText.{candidate_text}
 use Rattle.report_questions.specs.QuestionText.{question_text}
-use Rattle.report_recheck.specs.Reports.{claim_text}
+use Rattle.report_proofs.specs.ReportTexts.{claim_text}
 use Rattle.report_audit.specs.declared.finding.Finding.{Finding}
 use Rattle.report_audit.specs.declared.finding.Finding.TheVariants as findings
 

@@ -16,7 +16,7 @@ use Rattle.machine_events.specs.Plans.{has_note, notes_at}
 use Rattle.logic_wp.specs.PlainClaims.{IsConditionNumber}
 use Rattle.plan_claims.specs.Backing.{HasCertificate, backed_claims}
 use Rattle.plan_place.specs.Exact.{IsOpenUnder}
-use Rattle.report_recheck.specs.Verdicts.{IsLawfulAtSight}
+use Rattle.report_verdict.specs.Verdicts.{IsLawfulAtSight}
 use Rattle.report_audit.specs.declared.finding.Finding.{Finding}
 use Rattle.report_audit.specs.declared.finding.Finding.TheVariants as findings
 

@@ -5,7 +5,7 @@ ghost use Rattle.std.specs.List.{filter, list_all};
 ghost use Rattle.machine_events.specs.Plans.{has_note, notes_at};
 ghost use Rattle.logic_wp.specs.Expressible.{is_expressible};
 ghost use Rattle.logic_wp.specs.PlainClaims.{MayAsk};
-ghost use Rattle.report_recheck.specs.Reports.{IsPlanOf};
+ghost use Rattle.report_verdict.specs.Reports.{IsPlanOf};
 ghost use Rattle.report_audit.specs.CountedFindings.{is_common, is_passing};
 ghost use Rattle.report_audit.specs.Findings.{asked_claims, is_asked};
 ghost use Rattle.report_audit.specs.inner.Asked.{IsAnswer, IsFirstOpen};
@@ -14,7 +14,7 @@ use lang_monitor::{Candidate, Claim, Monitor};
 use logic_wp::claim_query;
 use machine_events::Plan;
 use plan_prune::certificate_of;
-use report_recheck::{claims_of, has_note};
+use report_verdict::{claims_of, has_note};
 use std::alloc::{AllocError, Global};
 
 // ---- which claims are asked

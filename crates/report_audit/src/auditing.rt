@@ -7,8 +7,8 @@ ghost use Rattle.lang_monitor.specs.Candidates.{AllHold};
 ghost use Rattle.lang_monitor.specs.MonitorParts.{start_of};
 ghost use Rattle.plan_claims.specs.Backing.{HasCertificate, backed_claims};
 ghost use Rattle.plan_prune.specs.Hardness.{HasNoHardClaim, HasNoOpenClaim};
-ghost use Rattle.report_recheck.specs.Reports.{IsPlanOf};
-ghost use Rattle.report_recheck.specs.Verdicts.{IsLawfulAtSight};
+ghost use Rattle.report_verdict.specs.Reports.{IsPlanOf};
+ghost use Rattle.report_verdict.specs.Verdicts.{IsLawfulAtSight};
 ghost use Rattle.report_audit.specs.declared.finding.Finding.TheVariants.{Lawful};
 ghost use Rattle.report_audit.specs.CountedFindings.{IsCountedFinding, IsFindingBy};
 ghost use Rattle.report_audit.specs.CountedFindings.{IsLawfulByRows, common_claims};
@@ -25,7 +25,7 @@ use logic_wp::refuted_query_is_valid;
 use machine_events::{Plan, counting_applies};
 use plan_candidates::candidates_have_formulas;
 use plan_count::answers_count;
-use report_recheck::claims_of;
+use report_verdict::claims_of;
 use std::alloc::{AllocError, Global};
 
 /// Says whether a plan of the monitor is lawful, or what it lacks. It fails only for want of

@@ -6,7 +6,7 @@ ghost use Rattle.plan_counted.specs.Exact.{HasNoOpenQuestion};
 ghost use Rattle.machine_events.specs.Plans.{IsLawful};
 ghost use Rattle.lang_monitor.specs.MonitorParts.{MonitorParts, IsMonitor};
 ghost use Rattle.plan_prune.specs.Hardness.{HasNoHardClaim, HasNoOpenClaim};
-ghost use Rattle.report_recheck.specs.Reports.{IsPlanOf};
+ghost use Rattle.report_verdict.specs.Reports.{IsPlanOf};
 ghost use Rattle.report_audit.specs.declared.finding.Finding.{Finding};
 ghost use Rattle.report_audit.specs.declared.finding.Finding.TheVariants.{Lawful};
 ghost use Rattle.report_audit.specs.CountedFindings.{IsCountedFinding, IsLawfulByRows};

@@ -3,7 +3,7 @@
 ghost use Rattle.std.specs.Prelude.{◌≡◌, ◌↔◌, ◌<◌, ◌^◌, ◌||◌, IsTrue, length};
 ghost use Rattle.lang_monitor.specs.Candidates.{candidate_truth};
 ghost use Rattle.lang_monitor.specs.MonitorParts.{start_of};
-ghost use Rattle.report_recheck.specs.Reports.{IsPlanOf};
+ghost use Rattle.report_verdict.specs.Reports.{IsPlanOf};
 ghost use Rattle.report_audit.specs.inner.Seen.{AreListsSuited, AreNotesSuited, IsFalseAt};
 ghost use Rattle.report_audit.specs.inner.Seen.{IsUnsuitedAt};
 ghost use Rattle.report_audit.specs.inner.Seen.{SuitsAs, suits_on};

@@ -4,7 +4,7 @@ ghost use Rattle.std.specs.Prelude.{◌++◌, codes, decimal};
 ghost use Rattle.base_io.specs.Writing.{Wrote};
 ghost use Rattle.report_questions.specs.QuestionText.{question_text};
 ghost use Rattle.report_audit.specs.FindingText.{finding_text, kept_name};
-ghost use Rattle.report_recheck.specs.Reports.{claim_text};
+ghost use Rattle.report_proofs.specs.ReportTexts.{claim_text};
 
 use super::finding::Finding;
 use base_io::{Sink, SinkFailed, write_piece};
@@ -12,8 +12,8 @@ use itoa::Buffer;
 use lang_monitor::{Claim, Monitor};
 use machine_events::Plan;
 use plan_count::Question;
+use report_proofs::write_claim;
 use report_questions::write_question;
-use report_recheck::write_claim;
 use report_text::write_candidate;
 
 /// Writes the line of a finding: `lawful`, `unlawful: keep x <= 4 at the start`,

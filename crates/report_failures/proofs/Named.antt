@@ -15,9 +15,9 @@ use Rattle.plan_candidates.proofs.SomeOf.{some_pass}
 use Rattle.plan_count.specs.declared.question.Question.{Question}
 use Rattle.plan_why.specs.declared.failing.Failure.{Failure}
 use Rattle.plan_why.specs.Failures.{IsFailureOf}
-use Rattle.report_recheck.specs.Reports.{IsPlanOf}
-use Rattle.report_recheck.proofs.Askable.{claims_askable}
-use Rattle.report_recheck.proofs.Pairs.{all_at}
+use Rattle.report_verdict.specs.Reports.{IsPlanOf}
+use Rattle.report_verdict.proofs.Askable.{claims_askable}
+use Rattle.report_verdict.proofs.Pairs.{all_at}
 use Rattle.report_audit.specs.CountedFindings.{IsFirstCommon, IsFirstUncounted, IsNamed, block_of, common_claims, counting_questions, is_common, passing_claims}
 use Rattle.report_audit.proofs.Asked.{passing}
 use Rattle.report_audit.proofs.CountAsked.{each_block, each_question}

@@ -16,7 +16,7 @@ use Rattle.plan_why.specs.declared.reason.Answer.{Answer}
 use Rattle.plan_why.specs.declared.reason.Answer.TheVariants as answers
 use Rattle.plan_why.specs.declared.reason.Thing.{Thing}
 use Rattle.plan_why.specs.declared.reason.Thing.TheVariants as things
-use Rattle.report_recheck.specs.Reports.{claim_text}
+use Rattle.report_proofs.specs.ReportTexts.{claim_text}
 use Rattle.report_reasons.specs.BroadcastText.{broadcast_reason_text}
 use Rattle.report_reasons.specs.ReasonText.{change_text, reason_text, running_text}
 use Rattle.report_audit.specs.declared.finding.Finding.{Finding}

@@ -7,7 +7,7 @@ ghost use Rattle.logic_wp.specs.Expressible.{is_expressible};
 ghost use Rattle.logic_wp.specs.PlainClaims.{IsBlockNumber, MayAsk, ReadsNone};
 ghost use Rattle.plan_count.specs.Questions.{HasRowAt, MayAskQuestion, question_query};
 ghost use Rattle.plan_why.specs.Failures.{IsFailureOf};
-ghost use Rattle.report_recheck.specs.Reports.{IsPlanOf};
+ghost use Rattle.report_verdict.specs.Reports.{IsPlanOf};
 ghost use Rattle.report_audit.specs.CountedFindings.{IsCountedFinding};
 ghost use Rattle.report_failures.specs.FindingFailures.{IsFailureByRow, IsFindingFailure};
 ghost use Rattle.report_failures.specs.FindingFailures.{IsQuestionFailure};

@@ -5,7 +5,7 @@ ghost use Rattle.base_io.specs.Writing.{Wrote};
 ghost use Rattle.logic_solve.specs.Solutions.{valuation_of};
 ghost use Rattle.lang_monitor.specs.declared.claim.Claim.TheVariants.{Keeps};
 ghost use Rattle.report_reasons.specs.ReasonText.{after_text, change_text};
-ghost use Rattle.report_recheck.specs.Reports.{claim_text};
+ghost use Rattle.report_proofs.specs.ReportTexts.{claim_text};
 ghost use Rattle.report_failures.specs.FailureText.{broken_text, kept_text, leaving_text};
 
 use base_io::{Sink, SinkFailed, write_piece};
@@ -13,8 +13,8 @@ use lang_monitor::{Candidate, Claim, Monitor};
 use lang_tree::MonitorTree;
 use logic_solve::Solution;
 use plan_why::Failure;
+use report_proofs::write_claim;
 use report_reasons::{write_fields, write_running};
-use report_recheck::write_claim;
 use report_text::write_candidate;
 
 /// The line of a candidate that the block makes false, or of which that wasn't decided.

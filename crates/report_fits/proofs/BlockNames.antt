@@ -14,7 +14,7 @@ use Rattle.lang_monitor.specs.declared.monitor.Method.{Method}
 use Rattle.lang_monitor.specs.MonitorParts.{IsMonitor, MonitorParts, names_of}
 use Rattle.machine_events.specs.PlanText.{block_mark, block_name, method_name, name_in}
 use Rattle.report_text.proofs.Names.{method_words}
-use Rattle.report_recheck.proofs.Pairs.{at_place}
+use Rattle.report_verdict.proofs.Pairs.{at_place}
 
 -- ---- methods
 

@@ -15,8 +15,8 @@ use Rattle.plan_fits.specs.Answers.{AreFitAnswers}
 use Rattle.plan_fits.specs.Laws.{CertifiedBlocksFit}
 use Rattle.plan_fits.specs.Outside.{outside_question}
 use Rattle.plan_fits.specs.Within.{is_made_within}
-use Rattle.report_recheck.proofs.Answered.{within_none, within_some}
-use Rattle.report_recheck.proofs.Pairs.{all_at, all_taken, one_more_at}
+use Rattle.report_verdict.proofs.Answered.{within_none, within_some}
+use Rattle.report_verdict.proofs.Pairs.{all_at, all_taken, one_more_at}
 use Rattle.report_fits.specs.declared.fit.Fit.{Fit}
 use Rattle.report_fits.specs.declared.reasons.FitReason.{FitReason}
 use Rattle.report_fits.specs.FitReasons.{IsFitReason}

@@ -10,13 +10,13 @@ use Rattle.logic_cert.specs.declared.cert.Cert.{Cert}
 use Rattle.logic_cert.specs.CertText.{cert_text}
 use Rattle.lang_monitor.specs.MonitorParts.{IsMonitor, MonitorParts}
 use Rattle.machine_events.specs.PlanText.{block_name}
-use Rattle.report_recheck.specs.Fronts.{Anything, IsFront, IsNoFront}
-use Rattle.report_recheck.specs.Readings.{IsReadable}
+use Rattle.report_proofs.specs.Fronts.{Anything, IsFront, IsNoFront}
+use Rattle.report_proofs.specs.Readings.{IsReadable}
 use Rattle.report_fits.specs.declared.fit.Fit.{Fit}
 use Rattle.report_fits.specs.FitReadings.{AreFitsRead, AreReadableFits}
 use Rattle.report_fits.specs.FitTexts.{AreFrom, certified, certified_from, fit_if, fit_line, fit_text, fits_text}
 use Rattle.report_fits.specs.inner.Reading.{IsFitTurn, fit_of}
-use Rattle.report_recheck.proofs.Pairs.{all_at}
+use Rattle.report_verdict.proofs.Pairs.{all_at}
 use Rattle.report_fits.proofs.BlockNames.{same_block}
 
 abbrev pub IsTypedAnswer : Option Cert → Type 0

@@ -1,7 +1,7 @@
 -- What a reading of lines of blocks that keep 64 bits says.
 use Rattle.std.specs.Prelude.{◌≡◌, ℕ, List, All, Option, Some, None}
 use Rattle.lang_monitor.specs.MonitorParts.{MonitorParts}
-use Rattle.report_recheck.specs.Readings.{IsReadable}
+use Rattle.report_proofs.specs.Readings.{IsReadable}
 use Rattle.report_fits.specs.declared.fit.Fit.{Fit}
 use Rattle.report_fits.specs.FitTexts.{AreFits, fits_text}
 

@@ -5,7 +5,7 @@ ghost use Rattle.logic_outline.specs.Outlines.{HasTypedNumbers};
 
 use logic_cert::Cert;
 use logic_outline::Outline;
-use report_recheck::read_cert_numbers;
+use report_proofs::read_cert_numbers;
 
 /// A block that fits, by its number from 0, with its certificate.
 #[derive(Debug, Drop)]

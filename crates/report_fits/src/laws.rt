@@ -5,7 +5,7 @@ ghost use Rattle.logic_cert.specs.declared.cert.Cert.{Cert};
 ghost use Rattle.lang_monitor.specs.declared.candidate.Candidate.{Candidate};
 ghost use Rattle.lang_monitor.specs.MonitorParts.{IsMonitor, MonitorParts};
 ghost use Rattle.plan_fits.specs.Answers.{AreFitAnswers};
-ghost use Rattle.report_recheck.specs.Readings.{IsReadable};
+ghost use Rattle.report_proofs.specs.Readings.{IsReadable};
 ghost use Rattle.report_fits.specs.declared.fit.Fit.{Fit};
 ghost use Rattle.report_fits.specs.FitParts.{AreParts};
 ghost use Rattle.report_fits.specs.FitReadings.{AreFitsRead};

@@ -4,7 +4,7 @@ ghost use Rattle.std.specs.Prelude.{◌↔◌, ◌<◌, IsTrue, length};
 ghost use Rattle.report_fits.specs.FitParts.{AreParts, GoesOnWithFit, HasFitAt, IsLineStart};
 ghost use Rattle.std.specs.Prelude.{drop};
 
-use report_recheck::after_piece;
+use report_proofs::after_piece;
 
 /// The text of a report in two parts: up to the first line that begins with `proof fits `, and from
 /// there on. Where there is none the second is empty.

@@ -3,8 +3,8 @@
 ghost use Rattle.std.specs.Prelude.{◌≡◌, ◌++◌, [], IfOk, MatchOption, codes, option_map};
 ghost use Rattle.logic_cert.specs.declared.cert.Cert.{Cert};
 ghost use Rattle.machine_events.specs.PlanText.{block_name};
-ghost use Rattle.report_recheck.specs.Fronts.{Anything, IsAfter, IsFront, IsNoFront};
-ghost use Rattle.report_recheck.specs.Readings.{IsReadable};
+ghost use Rattle.report_proofs.specs.Fronts.{Anything, IsAfter, IsFront, IsNoFront};
+ghost use Rattle.report_proofs.specs.Readings.{IsReadable};
 ghost use Rattle.report_fits.specs.FitReadings.{AreFitsRead};
 ghost use Rattle.report_fits.specs.FitTexts.{fit_line};
 ghost use Rattle.report_fits.specs.inner.Reading.{IsFitTurn};
@@ -14,7 +14,7 @@ use super::writing::write_fit_head;
 use base_io::GrowingSink;
 use lang_monitor::Monitor;
 use logic_outline::Outline;
-use report_recheck::{after_piece, read_cert_line};
+use report_proofs::{after_piece, read_cert_line};
 use std::alloc::{AllocError, Global};
 
 /// The blocks whose lines the bytes are, with their certificates, or none where they are no such

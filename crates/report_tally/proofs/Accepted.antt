@@ -32,9 +32,9 @@ use Rattle.plan_count.specs.declared.question.Question.{Question}
 use Rattle.plan_count.specs.declared.question.Question.TheVariants as questions
 use Rattle.plan_count.specs.Questions.{AnswersCount, HasRowAt, IsSo, IsToldRight, question_query}
 use Rattle.plan_counted.proofs.Table.{broadcast_found, has_if}
-use Rattle.report_recheck.specs.Verdicts.{AreChecked, IsLawfulAtSight, IsProof}
-use Rattle.report_recheck.proofs.Pairs.{all_at, at_place, from_places, zip_at}
-use Rattle.report_recheck.proofs.PlansFit.{plan_fits}
+use Rattle.report_verdict.specs.Verdicts.{AreChecked, IsLawfulAtSight, IsProof}
+use Rattle.report_verdict.proofs.Pairs.{all_at, at_place, from_places, zip_at}
+use Rattle.report_verdict.proofs.PlansFit.{plan_fits}
 use Rattle.report_tally.specs.declared.report.CountedReport.{CountedReport}
 use Rattle.report_tally.specs.CountedReports.{IsCountedReport, answers_of, block_questions, condition_questions, given_questions, is_counted, is_owed, note_questions, owed_claims, owed_proofs, owed_questions}
 use Rattle.report_tally.specs.CountedVerdicts.{IsAnswer, IsAnswered, IsCountedAccepted}

@@ -16,8 +16,8 @@ use Rattle.logic_wp.specs.Limits.{is_query_within, query_within}
 use Rattle.logic_wp.specs.NegatedQueries.{negated_query}
 use Rattle.plan_count.specs.declared.question.Question.{Question}
 use Rattle.plan_count.specs.Questions.{question_query}
-use Rattle.report_recheck.proofs.Answered.{within_none, within_some}
-use Rattle.report_recheck.proofs.Pairs.{all_taken, one_more_at, zip_at}
+use Rattle.report_verdict.proofs.Answered.{within_none, within_some}
+use Rattle.report_verdict.proofs.Pairs.{all_taken, one_more_at, zip_at}
 use Rattle.report_tally.specs.CountedVerdicts.{IsAnswered, IsUnanswered}
 use Rattle.report_tally.specs.inner.Checks.{IsCheckOf, IsFirstUnanswered, with_cert}
 

@@ -11,8 +11,8 @@ use Rattle.plan_place.specs.Relayed.{note_on}
 use Rattle.logic_wp.specs.PlainClaims.{IsBlockNumber}
 use Rattle.plan_count.specs.declared.question.Question.TheVariants as questions
 use Rattle.plan_count.specs.Questions.{MayAskQuestion, MayBeAsked}
-use Rattle.report_recheck.proofs.Askable.{flat_all, numbered_all, range_all}
-use Rattle.report_recheck.proofs.Pairs.{all_at}
+use Rattle.report_verdict.proofs.Askable.{flat_all, numbered_all, range_all}
+use Rattle.report_verdict.proofs.Pairs.{all_at}
 use Rattle.report_tally.specs.CountedReports.{AreCounted, MayBeCounted, block_questions, condition_questions, given_questions, note_questions, owed_questions}
 
 given_askable : (monitor : MonitorParts) (condition row block : ℕ) (all : Bool) → MayBeAsked monitor condition row block

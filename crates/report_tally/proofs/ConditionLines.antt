@@ -18,9 +18,9 @@ use Rattle.logic_wp.specs.PlainClaims.{ReadsNone}
 use Rattle.plan_claims.specs.Backing.{reads_none}
 use Rattle.plan_count.specs.declared.question.Question.{Question}
 use Rattle.plan_count.specs.Questions.{HasRowAt}
-use Rattle.report_recheck.specs.Fronts.{Anything, AreFor, IsFront, IsNoFront}
-use Rattle.report_recheck.specs.Readings.{IsReadable}
-use Rattle.report_recheck.proofs.ReportParts.{cert_line}
+use Rattle.report_proofs.specs.Fronts.{Anything, AreFor, IsFront, IsNoFront}
+use Rattle.report_proofs.specs.Readings.{IsReadable}
+use Rattle.report_proofs.proofs.ReportParts.{cert_line}
 use Rattle.report_tally.specs.CountedReports.{answer_text, answers_text, block_questions}
 use Rattle.report_tally.specs.inner.Lines.{Answers, AreAllAnswers, AreAnswers, AreRead, AreSignals, IsConditionFront, IsNamedRow, IsNoConditionFront, IsNoRestFront, IsRestFront, IsShownRow, all_text, answer_certs, answer_rows, answers_with, by_row, condition_text, head_text}
 use Rattle.report_tally.proofs.NamedRows.{blocks_by}

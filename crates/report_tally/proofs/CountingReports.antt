@@ -29,9 +29,9 @@ use Rattle.plan_counted.proofs.Table.{length_numbered, note_is, numbered_at}
 use Rattle.plan_claims.proofs.Lists.{in_numbered}
 use Rattle.plan_count.specs.declared.question.Question.{Question}
 use Rattle.plan_count.specs.Questions.{HasRowAt}
-use Rattle.report_recheck.specs.Reports.{proof_text, proofs_text}
-use Rattle.report_recheck.proofs.Pairs.{at_place}
-use Rattle.report_recheck.proofs.PlacedTexts.{plan_of}
+use Rattle.report_proofs.specs.ReportTexts.{proof_text, proofs_text}
+use Rattle.report_verdict.proofs.Pairs.{at_place}
+use Rattle.report_proofs.proofs.PlacedTexts.{plan_of}
 use Rattle.report_tally.specs.CountedReports.{AreCounted, IsCountedReport, MayBeCounted, answers_text, block_questions, counted_report_text, note_questions, owed_claims, owed_questions}
 use Rattle.report_tally.specs.CountedTexts.{IsCountingOf, column_certs, column_row, columns_text, counted_report_of, counted_text, is_still_owed, still_owed_proofs, still_owed_text}
 use Rattle.report_tally.proofs.AnswerLines.{AreTold, asked_of, column_questions, columns_lines, columns_many}

@@ -15,7 +15,7 @@ use Rattle.machine_events.specs.declared.plan.Plan.{Plan}
 use Rattle.plan_claims.specs.Backing.{backed_claims}
 use Rattle.plan_claims.proofs.Backed.{of_signal}
 use Rattle.plan_counted.proofs.Table.{length_numbered, none_numbered, numbered_at}
-use Rattle.report_recheck.specs.Reports.{IsPlanOf}
+use Rattle.report_verdict.specs.Reports.{IsPlanOf}
 use Rattle.report_tally.specs.CountedReports.{AreCounted, is_counted, is_owed, owed_claims}
 use Rattle.report_tally.specs.inner.Lines.{AreSignals, first_row_if, is_left_out, is_one_at, is_signal, left_out}
 

@@ -16,9 +16,9 @@ use Rattle.lang_monitor.specs.declared.claim.Claim.TheVariants as claims
 use Rattle.lang_monitor.specs.MonitorParts.{MonitorParts, IsMonitor}
 use Rattle.machine_events.specs.PlanText.{block_name}
 use Rattle.logic_wp.specs.PlainClaims.{MayAsk}
-use Rattle.report_recheck.specs.Fronts.{AreFor}
-use Rattle.report_recheck.specs.Readings.{IsReadable}
-use Rattle.report_recheck.specs.Reports.{proof_text, proofs_text}
+use Rattle.report_proofs.specs.Fronts.{AreFor}
+use Rattle.report_proofs.specs.Readings.{IsReadable}
+use Rattle.report_proofs.specs.ReportTexts.{proof_text, proofs_text}
 use Rattle.report_tally.specs.CountedReports.{is_counted, is_owed}
 use Rattle.report_tally.specs.inner.Lines.{AreFound, IsAfterOnes, IsLineTurn}
 

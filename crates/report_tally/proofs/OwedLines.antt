@@ -19,10 +19,11 @@ use Rattle.plan_claims.specs.Backing.{backed_claims}
 use Rattle.plan_count.specs.declared.question.Question.{Question}
 use Rattle.plan_count.specs.declared.question.Question.TheVariants as questions
 use Rattle.report_questions.specs.QuestionText.{question_text}
-use Rattle.report_recheck.specs.Fronts.{Anything, AreFor, IsAfterKept, IsFront, IsNoFront}
-use Rattle.report_recheck.specs.Readings.{IsReadable}
-use Rattle.report_recheck.specs.Reports.{IsPlanOf, claim_text, proofs_text}
-use Rattle.report_recheck.proofs.Pairs.{all_at}
+use Rattle.report_proofs.specs.Fronts.{Anything, AreFor, IsAfterKept, IsFront, IsNoFront}
+use Rattle.report_proofs.specs.Readings.{IsReadable}
+use Rattle.report_proofs.specs.ReportTexts.{claim_text, proofs_text}
+use Rattle.report_verdict.specs.Reports.{IsPlanOf}
+use Rattle.report_verdict.proofs.Pairs.{all_at}
 use Rattle.report_tally.specs.declared.report.CountedReport.{CountedReport}
 use Rattle.report_tally.specs.CountedReadings.{IsCountedRead, IsReadableReport, IsTypedRow}
 use Rattle.report_tally.specs.CountedReports.{answers_text, condition_questions, is_counted, is_owed, owed_claims, owed_questions, owed_text}

@@ -29,12 +29,12 @@ use Rattle.plan_counted.specs.declared.counted.Told.{Told}
 use Rattle.plan_counted.specs.declared.counted.Told.TheVariants as telling
 use Rattle.plan_counted.specs.Counted.{IsBacked, IsColumnBacked}
 use Rattle.plan_counted.specs.Exact.{HasNoOpenQuestion}
-use Rattle.report_recheck.specs.declared.report.Verdict.{Verdict}
-use Rattle.report_recheck.specs.declared.report.Verdict.TheVariants as verdicts
-use Rattle.report_recheck.specs.Readings.{IsReadable}
-use Rattle.report_recheck.specs.Verdicts.{AreChecked, IsLawfulAtSight, IsOpen, IsProof}
-use Rattle.report_recheck.proofs.Pairs.{all_at}
-use Rattle.report_recheck.proofs.SmallReports.{claims_are}
+use Rattle.report_verdict.specs.declared.report.Verdict.{Verdict}
+use Rattle.report_verdict.specs.declared.report.Verdict.TheVariants as verdicts
+use Rattle.report_proofs.specs.Readings.{IsReadable}
+use Rattle.report_verdict.specs.Verdicts.{AreChecked, IsLawfulAtSight, IsOpen, IsProof}
+use Rattle.report_verdict.proofs.Pairs.{all_at}
+use Rattle.report_proofs.proofs.SmallReports.{claims_are}
 use Rattle.report_tally.specs.declared.report.CountedReport.{CountedReport}
 use Rattle.report_tally.specs.CountedReadings.{IsCountedRead, IsReadableReport, IsTypedRow}
 use Rattle.report_tally.specs.CountedReports.{answers_of, is_owed, owed_claims, owed_proofs, owed_questions}

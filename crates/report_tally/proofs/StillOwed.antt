@@ -25,11 +25,11 @@ use Rattle.plan_counted.specs.declared.counted.Told.{Told}
 use Rattle.plan_counted.specs.declared.counted.Told.TheVariants as telling
 use Rattle.plan_counted.proofs.Table.{made_on, note_made, on_theirs}
 use Rattle.plan_counted.specs.Counted.{column_at, counted_kind, counted_notes, counted_of, is_tested, told_by, told_on}
-use Rattle.report_recheck.specs.Reports.{AreNotesOf, IsPlanOf}
-use Rattle.report_recheck.specs.inner.Reading.{AreFrom}
-use Rattle.report_recheck.proofs.Askable.{flat_all, range_all}
-use Rattle.report_recheck.proofs.Pairs.{all_at}
-use Rattle.report_recheck.proofs.NoteLines.{from_notes}
+use Rattle.report_verdict.specs.Reports.{AreNotesOf, IsPlanOf}
+use Rattle.report_proofs.specs.inner.Reading.{AreFrom}
+use Rattle.report_verdict.proofs.Askable.{flat_all, range_all}
+use Rattle.report_verdict.proofs.Pairs.{all_at}
+use Rattle.report_proofs.proofs.NoteLines.{from_notes}
 use Rattle.report_tally.specs.CountedReports.{is_counted, is_owed}
 use Rattle.report_tally.specs.CountedTexts.{column_row, has_column, is_note, is_noted, is_still_owed}
 

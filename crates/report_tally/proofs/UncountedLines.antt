@@ -15,13 +15,14 @@ use Rattle.machine_events.specs.PlanText.{plan_text}
 use Rattle.machine_events.proofs.Counting.{lawful_by_counting}
 use Rattle.plan_claims.specs.Backing.{backed_claims}
 use Rattle.plan_count.specs.declared.question.Question.{Question}
-use Rattle.report_recheck.specs.declared.report.Report.{Report}
-use Rattle.report_recheck.specs.declared.report.Verdict.{Verdict}
-use Rattle.report_recheck.specs.declared.report.Verdict.TheVariants as verdicts
-use Rattle.report_recheck.specs.Readings.{IsReadable}
-use Rattle.report_recheck.specs.Reports.{IsReport, proofs_of, proofs_text, report_text}
-use Rattle.report_recheck.specs.Verdicts.{AreChecked, IsAccepted, IsOpen, IsUnproved as IsPlainlyUnproved, IsVerdict}
-use Rattle.report_recheck.proofs.PlansFit.{plan_fits}
+use Rattle.report_verdict.specs.declared.report.Report.{Report}
+use Rattle.report_verdict.specs.declared.report.Verdict.{Verdict}
+use Rattle.report_verdict.specs.declared.report.Verdict.TheVariants as verdicts
+use Rattle.report_proofs.specs.Readings.{IsReadable}
+use Rattle.report_proofs.specs.ReportTexts.{proofs_text, report_text}
+use Rattle.report_verdict.specs.Reports.{IsReport, proofs_of}
+use Rattle.report_verdict.specs.Verdicts.{AreChecked, IsAccepted, IsOpen, IsUnproved as IsPlainlyUnproved, IsVerdict}
+use Rattle.report_verdict.proofs.PlansFit.{plan_fits}
 use Rattle.report_tally.specs.declared.report.CountedReport.{CountedReport}
 use Rattle.report_tally.specs.CountedReadings.{IsCountedRead, IsReadableReport, IsTypedRow}
 use Rattle.report_tally.specs.CountedReports.{IsCountedReport, answers_of, answers_text, condition_questions, counted_report_text, is_owed, owed_claims, owed_proofs, owed_questions}

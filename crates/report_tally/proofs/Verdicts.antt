@@ -11,8 +11,8 @@ use Rattle.logic_wp.specs.Expressible.{is_expressible}
 use Rattle.logic_wp.specs.PlainClaims.{MayAsk}
 use Rattle.plan_claims.specs.Backing.{backed_claims}
 use Rattle.plan_count.specs.declared.question.Question.{Question}
-use Rattle.report_recheck.specs.Verdicts.{AreChecked, IsFirstOpen, IsLawfulAtSight, plan_lines}
-use Rattle.report_recheck.proofs.Askable.{claims_askable}
+use Rattle.report_verdict.specs.Verdicts.{AreChecked, IsFirstOpen, IsLawfulAtSight, plan_lines}
+use Rattle.report_verdict.proofs.Askable.{claims_askable}
 use Rattle.report_tally.specs.declared.report.CountedReport.{CountedReport}
 use Rattle.report_tally.specs.CountedReports.{IsCountedReport, answers_of, is_owed, owed_claims, owed_proofs, owed_questions}
 use Rattle.report_tally.specs.CountedVerdicts.{IsAnswered, IsUnproved}

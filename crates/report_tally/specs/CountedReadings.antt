@@ -1,7 +1,7 @@
 -- What a reading of a text of a counted report says.
 use Rattle.std.specs.Prelude.{◌≡◌, ◌<◌, ◌^◌, ℕ, List, All, Option, Some, None}
 use Rattle.lang_monitor.specs.MonitorParts.{MonitorParts}
-use Rattle.report_recheck.specs.Readings.{IsReadable}
+use Rattle.report_proofs.specs.Readings.{IsReadable}
 use Rattle.report_tally.specs.declared.report.CountedReport.{CountedReport}
 use Rattle.report_tally.specs.CountedReports.{IsCountedReport, counted_report_text}
 

@@ -20,7 +20,8 @@ use Rattle.plan_count.specs.declared.question.Question.TheVariants as questions
 use Rattle.plan_count.specs.Questions.{HasRowAt}
 use Rattle.logic_wp.specs.PlainClaims.{ReadsNone}
 use Rattle.report_questions.specs.QuestionText.{question_text}
-use Rattle.report_recheck.specs.Reports.{IsPlanOf, proofs_text}
+use Rattle.report_proofs.specs.ReportTexts.{proofs_text}
+use Rattle.report_verdict.specs.Reports.{IsPlanOf}
 use Rattle.report_tally.specs.declared.report.CountedReport.{CountedReport}
 
 -- ---- what a counted plan rests on

@@ -20,7 +20,7 @@ use Rattle.plan_counted.specs.declared.counted.Told.{Told}
 use Rattle.plan_counted.specs.declared.counted.Told.TheVariants as telling
 use Rattle.plan_counted.specs.Counted.{AreBacked, IsCountedFrom, column_at, counted_of}
 use Rattle.plan_counted.specs.CountedAndRelayed.{CountsBroadcasts}
-use Rattle.report_recheck.specs.Reports.{proof_text}
+use Rattle.report_proofs.specs.ReportTexts.{proof_text}
 use Rattle.report_tally.specs.declared.report.CountedReport.{CountedReport}
 use Rattle.report_tally.specs.CountedReports.{answer_text}
 

@@ -11,9 +11,9 @@ use Rattle.logic_wp.specs.Limits.{is_query_within}
 use Rattle.logic_wp.specs.NegatedQueries.{negated_query}
 use Rattle.plan_count.specs.declared.question.Question.{Question}
 use Rattle.plan_count.specs.Questions.{question_query}
-use Rattle.report_recheck.specs.declared.report.Verdict.{Verdict}
-use Rattle.report_recheck.specs.declared.report.Verdict.TheVariants as verdicts
-use Rattle.report_recheck.specs.Verdicts.{AreChecked, IsLawfulAtSight, IsOpen, plan_lines}
+use Rattle.report_verdict.specs.declared.report.Verdict.{Verdict}
+use Rattle.report_verdict.specs.declared.report.Verdict.TheVariants as verdicts
+use Rattle.report_verdict.specs.Verdicts.{AreChecked, IsLawfulAtSight, IsOpen, plan_lines}
 use Rattle.report_tally.specs.declared.report.CountedReport.{CountedReport}
 use Rattle.report_tally.specs.CountedReports.{answers_of, owed_proofs}
 

@@ -1,7 +1,7 @@
 -- Reports as counted ones, none of whose conditions is counted.
 use Rattle.std.specs.Prelude.{ℕ, Option, None, List, [], map}
 use Rattle.machine_events.specs.declared.plan.CondKind.{CondKind}
-use Rattle.report_recheck.specs.declared.report.Report.{Report}
+use Rattle.report_verdict.specs.declared.report.Report.{Report}
 use Rattle.report_tally.specs.declared.report.CountedReport.{CountedReport}
 
 -- of each condition, that it isn't counted

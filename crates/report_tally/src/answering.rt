@@ -8,8 +8,8 @@ ghost use Rattle.logic_wp.specs.PlainClaims.{ReadsNone};
 ghost use Rattle.plan_count.specs.Questions.{HasRowAt};
 ghost use Rattle.machine_events.specs.declared.plan.CondKind.TheVariants.{Signal};
 ghost use Rattle.report_questions.specs.QuestionText.{question_text};
-ghost use Rattle.report_recheck.specs.Fronts.{Anything, AreFor, IsAfter, IsFront, IsNoFront};
-ghost use Rattle.report_recheck.specs.Readings.{IsReadable};
+ghost use Rattle.report_proofs.specs.Fronts.{Anything, AreFor, IsAfter, IsFront, IsNoFront};
+ghost use Rattle.report_proofs.specs.Readings.{IsReadable};
 ghost use Rattle.report_tally.specs.CountedReports.{answer_text, answers_text};
 ghost use Rattle.report_tally.specs.inner.Lines.{AreRead, AreSignals, IsConditionFront, IsNamedRow};
 ghost use Rattle.report_tally.specs.inner.Lines.{IsNoConditionFront, IsNoRestFront, IsShownRow};
@@ -23,7 +23,7 @@ use logic_outline::Outline;
 use machine_events::Plan;
 use plan_claims::reads_none;
 use plan_count::{Question, has_row};
-use report_recheck::{after_piece, read_cert_line};
+use report_proofs::{after_piece, read_cert_line};
 use std::alloc::{AllocError, Global};
 
 /// By which row each condition is counted, if it is, and a certificate for each question.

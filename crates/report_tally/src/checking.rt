@@ -4,7 +4,7 @@ ghost use Rattle.std.specs.Prelude.{◌≡◌, ◌+◌, ◌^◌, ◌<◌, IfOk, 
 ghost use Rattle.std.specs.List.{list_all, zip};
 ghost use Rattle.logic_wp.specs.Expressible.{is_expressible};
 ghost use Rattle.plan_count.specs.Questions.{MayAskQuestion};
-ghost use Rattle.report_recheck.specs.Verdicts.{AreChecked, IsLawfulAtSight};
+ghost use Rattle.report_verdict.specs.Verdicts.{AreChecked, IsLawfulAtSight};
 ghost use Rattle.report_tally.specs.CountedReports.{IsCountedReport, owed_proofs};
 ghost use Rattle.report_tally.specs.CountedVerdicts.{IsCountedVerdict};
 ghost use Rattle.report_tally.specs.inner.Checks.{IsCheckOf, IsFirstUnanswered};
@@ -18,7 +18,7 @@ use logic_wp::{negated, refuted_query_is_valid};
 use machine_events::counting_applies;
 use plan_candidates::candidates_have_formulas;
 use plan_count::{Question, answers_count, question_query};
-use report_recheck::{Verdict, first_open, is_lawful_at_sight, line_of};
+use report_verdict::{Verdict, first_open, is_lawful_at_sight, line_of};
 use std::alloc::{AllocError, Global};
 
 /// Checks a counted report, which has one certificate for each claim and each question that its

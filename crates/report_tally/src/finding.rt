@@ -10,7 +10,7 @@ ghost use Rattle.report_tally.specs.inner.Lines.{first_row_if, is_signal, left_o
 
 use lang_monitor::{Claim, Monitor};
 use machine_events::CondKind;
-use report_recheck::read_proof;
+use report_proofs::read_proof;
 use std::alloc::{AllocError, Global};
 
 /// The claims whose lines stand at the front of the bytes, in this order, where those of some

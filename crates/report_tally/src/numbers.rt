@@ -4,7 +4,7 @@ ghost use Rattle.std.specs.Prelude.{◌<◌, ◌^◌, All};
 ghost use Rattle.report_tally.specs.CountedTexts.{HasTypedColumn, IsTypedColumn, IsTypedTold};
 
 use plan_counted::{Column, Told};
-use report_recheck::read_cert_numbers;
+use report_proofs::read_cert_numbers;
 
 /// The rows of columns, and the numbers of their certificates, are of their types. It reads each of
 /// them, since a contract knows the range of a number that was read, and does nothing else.

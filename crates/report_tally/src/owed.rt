@@ -9,14 +9,14 @@ ghost use Rattle.plan_place.specs.Relayed.{note_on};
 ghost use Rattle.plan_count.specs.declared.question.Question.TheVariants.{Counts, First, Gives};
 ghost use Rattle.report_tally.specs.CountedReports.{block_questions, condition_questions};
 ghost use Rattle.report_tally.specs.CountedReports.{is_counted, is_owed};
-ghost use Rattle.report_recheck.specs.Reports.{IsPlanOf};
+ghost use Rattle.report_verdict.specs.Reports.{IsPlanOf};
 ghost use Rattle.report_tally.specs.CountedReports.{given_questions, note_questions, owed_claims};
 ghost use Rattle.report_tally.specs.CountedReports.{owed_questions};
 
 use lang_monitor::{Claim, Monitor};
 use machine_events::{Note, Plan};
 use plan_count::Question;
-use report_recheck::claims_of;
+use report_verdict::claims_of;
 use std::alloc::{AllocError, Global};
 
 // ---- claims

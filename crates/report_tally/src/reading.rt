@@ -2,7 +2,7 @@
 
 ghost use Rattle.std.specs.Prelude.{◌≡◌, ◌≤◌, [], IfOk, MatchOption, is_some, length, map};
 ghost use Rattle.lang_base.specs.Limits.{CONDITIONS};
-ghost use Rattle.report_recheck.specs.Reports.{IsPlanOf};
+ghost use Rattle.report_verdict.specs.Reports.{IsPlanOf};
 ghost use Rattle.report_tally.specs.CountedReadings.{IsCountedRead};
 ghost use Rattle.report_tally.specs.inner.Lines.{AreMarked, AreSignals, IsWithAnswers, IsWithLines};
 
@@ -15,7 +15,8 @@ use lang_monitor::Monitor;
 use logic_outline::Outline;
 use machine_events::Plan;
 use plan_candidates::candidates_have_formulas;
-use report_recheck::{claims_of, plan_front, read_proofs};
+use report_proofs::{plan_front, read_proofs};
+use report_verdict::claims_of;
 use std::alloc::{AllocError, Global};
 
 /// The counted report whose text the bytes are, or none where they are no counted report's text. It

@@ -20,8 +20,8 @@ use logic_cert::{Cert, print_cert};
 use plan_claims::{PlacedPlan, Proof};
 use plan_count::Question;
 use plan_counted::{Column, CountedPlan, Told};
+use report_proofs::write_proof;
 use report_questions::write_question;
-use report_recheck::write_proof;
 use report_text::write_plan;
 
 /// Writes the report of a plan that was placed and then counted: the text of the counted plan, then

@@ -2,7 +2,8 @@
 
 use lang_monitor::Monitor;
 use plan_place::place;
-use report_recheck::{Verdict, placed_text_is_report_text, recheck, report_of};
+use report_proofs::placed_text_is_report_text;
+use report_verdict::{Verdict, recheck, report_of};
 use samples::checked;
 use samples::monitors::LOCK;
 use std::alloc::{AllocError, Global};

@@ -3,8 +3,8 @@ use Rattle.std.specs.Prelude.{◌≡◌, ◌⊎◌, ℕ, Bool, true, false, List
 use Rattle.logic_cert.specs.declared.cert.Cert.{Cert}
 use Rattle.lang_monitor.specs.declared.candidate.Candidate.{Candidate}
 use Rattle.lang_monitor.specs.MonitorParts.{MonitorParts}
-use Rattle.report_recheck.specs.Fronts.{Anything, IsFront, IsNoFront}
-use Rattle.report_recheck.specs.Readings.{IsReadable}
+use Rattle.report_proofs.specs.Fronts.{Anything, IsFront, IsNoFront}
+use Rattle.report_proofs.specs.Readings.{IsReadable}
 use Rattle.report_fits.specs.declared.fit.Fit.{Fit}
 use Rattle.report_fits.specs.FitTexts.{fit_line}
 use Rattle.report_fits.specs.FitVerdicts.{IsFit, IsOpenFit}

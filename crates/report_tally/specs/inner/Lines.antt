@@ -17,9 +17,9 @@ use Rattle.plan_count.specs.declared.question.Question.TheVariants as questions
 use Rattle.plan_count.specs.Questions.{HasRowAt}
 use Rattle.plan_counted.specs.declared.counted.Column.{Column}
 use Rattle.report_questions.specs.QuestionText.{question_text}
-use Rattle.report_recheck.specs.Fronts.{Anything, AreFor, IsFront, IsNoFront}
-use Rattle.report_recheck.specs.Readings.{IsReadable}
-use Rattle.report_recheck.specs.Reports.{proof_text, proofs_text}
+use Rattle.report_proofs.specs.Fronts.{Anything, AreFor, IsFront, IsNoFront}
+use Rattle.report_proofs.specs.Readings.{IsReadable}
+use Rattle.report_proofs.specs.ReportTexts.{proof_text, proofs_text}
 use Rattle.report_tally.specs.declared.report.CountedReport.{CountedReport}
 use Rattle.report_tally.specs.CountedReadings.{IsReadableReport}
 use Rattle.report_tally.specs.CountedReports.{MayBeCounted, answers_text, block_questions}

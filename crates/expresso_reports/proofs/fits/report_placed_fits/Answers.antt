@@ -3,7 +3,7 @@ use Rattle.lang_base.specs.Limits.{BLOCKS}
 use Rattle.lang_monitor.specs.declared.candidate.Candidate.{Candidate}
 use Rattle.lang_monitor.specs.Candidates.{AreSomeOf, candidates_of}
 use Rattle.logic_cert.specs.declared.cert.Cert.{Cert}
-use Rattle.report_recheck.specs.Reports.{placed_text}
+use Rattle.report_proofs.specs.ReportTexts.{placed_text}
 use Rattle.report_fits.specs.FitTexts.{certified, fits_text}
 use Rattle.expresso_answers.specs.declared.status.Status.TheVariants.{Done}
 use Rattle.expresso_reports.specs.inner.Fitting.{AreTypedAnswers}

@@ -1,7 +1,7 @@
 use Rattle.std.proofs.Common.{◌∙◌, List, None, Option, Some, ap, refl, subst, sym}
 use Rattle.lang_monitor.specs.declared.candidate.Candidate.{Candidate}
 use Rattle.lang_monitor.specs.Candidates.{AreSomeOf, candidates_of}
-use Rattle.report_recheck.specs.declared.report.Verdict.TheVariants as verdicts
+use Rattle.report_verdict.specs.declared.report.Verdict.TheVariants as verdicts
 use Rattle.report_fits.specs.declared.fit.Fit.{Fit}
 use Rattle.report_fits.specs.FitTexts.{AreFits}
 use Rattle.expresso_reports.proofs.Judged.{same_first}

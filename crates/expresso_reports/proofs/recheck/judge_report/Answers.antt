@@ -1,5 +1,5 @@
 use Rattle.std.proofs.Common.{inr, refl, subst}
-use Rattle.report_recheck.specs.declared.report.Verdict.TheVariants as verdicts
+use Rattle.report_verdict.specs.declared.report.Verdict.TheVariants as verdicts
 use Rattle.report_tally.specs.CountedVerdicts.{IsCountedVerdict}
 use Rattle.expresso_reports.proofs.Judged.{each_accepted}
 use Rattle.expresso_reports.proofs.recheck.judge_report.Goals as goal

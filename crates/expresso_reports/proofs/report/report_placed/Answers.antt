@@ -1,5 +1,5 @@
 use Rattle.std.proofs.Common.{false}
-use Rattle.report_recheck.specs.Reports.{placed_text}
+use Rattle.report_proofs.specs.ReportTexts.{placed_text}
 use Rattle.expresso_answers.specs.declared.status.Status.TheVariants.{Done}
 use Rattle.front_command.specs.CommandLine.{report}
 use Rattle.expresso_reports.proofs.Judged.{report_done, report_works}

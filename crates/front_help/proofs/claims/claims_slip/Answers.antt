@@ -1,4 +1,4 @@
-use Rattle.report_recheck.proofs.Fronts.{at_some}
+use Rattle.report_proofs.proofs.Fronts.{at_some}
 use Rattle.front_help.proofs.claims.claims_slip.Goals as goal
 
 pub slip_under-requires : goal.slip_under-requires

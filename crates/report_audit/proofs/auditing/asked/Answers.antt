@@ -7,7 +7,7 @@ use Rattle.logic_wp.specs.PlainClaims.{MayAsk}
 use Rattle.plan_claims.specs.Backing.{backed_claims}
 use Rattle.plan_claims.proofs.Backed.{Laws}
 use Rattle.plan_candidates.proofs.SomeOf.{some_pass}
-use Rattle.report_recheck.proofs.Askable.{claims_askable}
+use Rattle.report_verdict.proofs.Askable.{claims_askable}
 use Rattle.report_audit.specs.Findings.{is_asked}
 use Rattle.report_audit.specs.inner.Asked.{IsFirstOpen}
 use Rattle.report_audit.proofs.Asked.{passing}

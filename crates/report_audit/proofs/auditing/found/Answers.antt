@@ -1,6 +1,6 @@
 use Rattle.std.proofs.Common.{ℕ, List, length, ap, subst, arith}
 use Rattle.lang_monitor.specs.declared.candidate.Candidate.{Candidate}
-use Rattle.report_recheck.proofs.Counted.{kept_are_few}
+use Rattle.report_verdict.proofs.Counted.{kept_are_few}
 use Rattle.report_audit.specs.inner.Seen.{IsFalseAt}
 use Rattle.report_audit.proofs.FoundByCounting.{start_found}
 use Rattle.report_audit.proofs.auditing.found.Goals as goal

@@ -1,7 +1,7 @@
 use Rattle.std.proofs.Common.{◌≡◌, true, refl}
 use Rattle.lang_monitor.specs.Candidates.{candidate_truth}
 use Rattle.lang_monitor.specs.MonitorParts.{start_of}
-use Rattle.report_recheck.proofs.Pairs.{all_taken}
+use Rattle.report_verdict.proofs.Pairs.{all_taken}
 use Rattle.report_audit.proofs.AtSight.{false_here, true_more}
 use Rattle.report_audit.proofs.sight.first_false.Goals as goal
 

@@ -1,6 +1,6 @@
 use Rattle.std.proofs.Common.{codes}
 use Rattle.base_io.proofs.Writing.{wrote_both, wrote_fails, wrote_longer}
-use Rattle.report_recheck.specs.Reports.{claim_text}
+use Rattle.report_proofs.specs.ReportTexts.{claim_text}
 use Rattle.report_audit.proofs.writing.write_unproved.Goals as goal
 
 pub returns-in_err-write_piece : goal.returns-in_err-write_piece

@@ -1,7 +1,7 @@
 use Rattle.std.proofs.Common.{codes}
 use Rattle.base_io.proofs.Writing.{wrote_both, wrote_fails, wrote_longer}
 use Rattle.lang_monitor.specs.declared.claim.Claim.TheVariants.{Keeps}
-use Rattle.report_recheck.specs.Reports.{claim_text}
+use Rattle.report_proofs.specs.ReportTexts.{claim_text}
 use Rattle.report_failures.proofs.kept.write_undecided.Goals as goal
 
 pub returns-in_err-write_piece : goal.returns-in_err-write_piece

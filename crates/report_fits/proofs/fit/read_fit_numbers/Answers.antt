@@ -1,7 +1,7 @@
 use Rattle.std.proofs.Common.{Option, Some, ap, arith, sym, ◌∙◌}
 use Rattle.std.proofs.lemmas.Option.{slice_get-get_or}
 use Rattle.logic_cert.specs.declared.cert.Cert.{Cert}
-use Rattle.report_recheck.proofs.Pairs.{all_taken, one_more_at}
+use Rattle.report_verdict.proofs.Pairs.{all_taken, one_more_at}
 use Rattle.report_fits.proofs.FitLines.{IsTypedAnswer}
 use Rattle.report_fits.proofs.fit.read_fit_numbers.Goals as goal
 

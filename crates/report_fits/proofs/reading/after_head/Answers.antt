@@ -1,5 +1,5 @@
 use Rattle.std.proofs.Common.{List, subst, ◌∙◌, ℕ}
-use Rattle.report_recheck.specs.Fronts.{IsAfter}
+use Rattle.report_proofs.specs.Fronts.{IsAfter}
 use Rattle.report_fits.proofs.reading.after_head.Goals as goal
 
 pub returns : goal.returns

@@ -1,8 +1,8 @@
 use Rattle.std.proofs.Common.{◌++◌, codes, subst}
 use Rattle.machine_events.specs.PlanText.{block_name}
-use Rattle.report_recheck.specs.Fronts.{Anything, IsAfter}
-use Rattle.report_recheck.specs.Readings.{IsReadable}
-use Rattle.report_recheck.proofs.Fronts.{either_after, none_there}
+use Rattle.report_proofs.specs.Fronts.{Anything, IsAfter}
+use Rattle.report_proofs.specs.Readings.{IsReadable}
+use Rattle.report_proofs.proofs.Fronts.{either_after, none_there}
 use Rattle.report_fits.specs.FitTexts.{fit_line}
 use Rattle.report_fits.proofs.FitLines.{cert_line, head_line}
 use Rattle.report_fits.proofs.reading.read_fit.Goals as goal

@@ -1,6 +1,6 @@
 use Rattle.std.proofs.Common.{◌+◌, Some, subst, arith}
 use Rattle.plan_count.specs.declared.question.Question.{Question}
-use Rattle.report_recheck.specs.Fronts.{IsAfter}
+use Rattle.report_proofs.specs.Fronts.{IsAfter}
 use Rattle.report_tally.specs.inner.Lines.{by_row, head_text}
 use Rattle.report_tally.proofs.NamedRows.{named_here}
 use Rattle.report_tally.proofs.answering.named_row.Goals as goal

@@ -1,8 +1,8 @@
 use Rattle.std.proofs.Common.{◌++◌, codes, subst}
-use Rattle.report_recheck.specs.Fronts.{Anything, IsAfter}
-use Rattle.report_recheck.specs.Readings.{IsReadable}
-use Rattle.report_recheck.proofs.Fronts.{either_after, none_there}
-use Rattle.report_recheck.proofs.ReportParts.{cert_line}
+use Rattle.report_proofs.specs.Fronts.{Anything, IsAfter}
+use Rattle.report_proofs.specs.Readings.{IsReadable}
+use Rattle.report_proofs.proofs.Fronts.{either_after, none_there}
+use Rattle.report_proofs.proofs.ReportParts.{cert_line}
 use Rattle.report_questions.specs.QuestionText.{question_text}
 use Rattle.report_tally.specs.CountedReports.{answer_text}
 use Rattle.report_tally.proofs.ConditionLines.{answer_line}

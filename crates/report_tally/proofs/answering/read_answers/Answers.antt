@@ -1,9 +1,9 @@
 use Rattle.std.proofs.Common.{◌≡◌, ◌+◌, List, [], ◌∷◌, ◌++◌, rules, refl, sym, subst}
 use Rattle.logic_cert.specs.declared.cert.Cert.{Cert}
-use Rattle.report_recheck.specs.Fronts.{Anything}
-use Rattle.report_recheck.specs.Readings.{IsReadable}
-use Rattle.report_recheck.proofs.Fronts.{AreGoing, at_none, at_some}
-use Rattle.report_recheck.proofs.Fronts.{going_end, going_more, going_none}
+use Rattle.report_proofs.specs.Fronts.{Anything}
+use Rattle.report_proofs.specs.Readings.{IsReadable}
+use Rattle.report_proofs.proofs.Fronts.{AreGoing, at_none, at_some}
+use Rattle.report_proofs.proofs.Fronts.{going_end, going_more, going_none}
 use Rattle.report_tally.specs.CountedReports.{answer_text}
 use Rattle.report_tally.proofs.answering.read_answers.Goals as goal
 

@@ -1,5 +1,5 @@
-use Rattle.report_recheck.specs.Readings.{IsReadable}
-use Rattle.report_recheck.proofs.Fronts.{AreGoing}
+use Rattle.report_proofs.specs.Readings.{IsReadable}
+use Rattle.report_proofs.proofs.Fronts.{AreGoing}
 use Rattle.report_tally.specs.CountedReports.{answer_text}
 use Rattle.report_tally.proofs.answering.read_answers.Given as goal
 

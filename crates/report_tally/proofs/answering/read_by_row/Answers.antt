@@ -1,5 +1,5 @@
 use Rattle.std.proofs.Common.{◌≡◌, rules}
-use Rattle.report_recheck.proofs.Fronts.{at_none, at_some}
+use Rattle.report_proofs.proofs.Fronts.{at_none, at_some}
 use Rattle.report_tally.specs.CountedReports.{block_questions}
 use Rattle.report_tally.proofs.ConditionLines.{counted_front, none_answered}
 use Rattle.report_tally.proofs.answering.read_by_row.Goals as goal

@@ -1,5 +1,5 @@
 use Rattle.std.proofs.Common.{rules, refl}
-use Rattle.report_recheck.proofs.Fronts.{at_none, at_some}
+use Rattle.report_proofs.proofs.Fronts.{at_none, at_some}
 use Rattle.report_tally.proofs.ConditionLines.{marked_signal, reading_end, reading_more, reading_none}
 use Rattle.report_tally.proofs.answering.read_conditions.Goals as goal
 

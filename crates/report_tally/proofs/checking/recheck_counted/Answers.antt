@@ -3,7 +3,7 @@ use Rattle.std.specs.List.{list_all, zip}
 use Rattle.lang_monitor.specs.Candidates.{candidates_of}
 use Rattle.logic_wp.specs.Expressible.{is_expressible}
 use Rattle.plan_candidates.proofs.SomeOf.{some_pass}
-use Rattle.report_recheck.specs.Verdicts.{IsFirstOpen}
+use Rattle.report_verdict.specs.Verdicts.{IsFirstOpen}
 use Rattle.report_tally.specs.CountedReports.{owed_claims}
 use Rattle.report_tally.proofs.Verdicts.{claim_open, claims_checked, claims_may}
 use Rattle.report_tally.proofs.checking.recheck_counted.Goals as goal

@@ -1,7 +1,7 @@
 use Rattle.std.proofs.Common.{Option, Some, ap, arith, sym, ◌∙◌}
 use Rattle.std.proofs.lemmas.Option.{slice_get-get_or}
 use Rattle.plan_counted.specs.declared.counted.Told.{Told}
-use Rattle.report_recheck.proofs.Pairs.{all_taken, one_more_at}
+use Rattle.report_verdict.proofs.Pairs.{all_taken, one_more_at}
 use Rattle.report_tally.specs.CountedTexts.{IsTypedTold}
 use Rattle.report_tally.proofs.numbers.of_each.Goals as goal
 

@@ -1,6 +1,6 @@
 use Rattle.std.proofs.Common.{◌+◌, [], Option, ℕ, ap, refl, ◌∙◌, arith}
 use Rattle.std.proofs.lemmas.List.{take_all}
-use Rattle.report_recheck.proofs.Gathered.{listed_more}
+use Rattle.report_verdict.proofs.Gathered.{listed_more}
 use Rattle.report_tally.specs.CountedReports.{condition_questions, owed_questions}
 use Rattle.report_tally.proofs.owed.owed_questions.Goals as goal
 

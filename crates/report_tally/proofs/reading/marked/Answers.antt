@@ -5,7 +5,7 @@ use Rattle.lang_monitor.specs.Candidates.{candidates_of}
 use Rattle.logic_wp.specs.Expressible.{is_expressible}
 use Rattle.logic_wp.specs.PlainClaims.{MayAsk}
 use Rattle.plan_candidates.proofs.SomeOf.{some_pass}
-use Rattle.report_recheck.proofs.Askable.{claims_askable}
+use Rattle.report_verdict.proofs.Askable.{claims_askable}
 use Rattle.report_tally.specs.inner.Lines.{left_out}
 use Rattle.report_tally.proofs.OwedLines.{marked_are}
 use Rattle.report_tally.proofs.reading.marked.Goals as goal

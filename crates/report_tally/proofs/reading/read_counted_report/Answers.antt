@@ -1,4 +1,4 @@
-use Rattle.report_recheck.proofs.Fronts.{at_none, at_some}
+use Rattle.report_proofs.proofs.Fronts.{at_none, at_some}
 use Rattle.report_tally.proofs.OwedLines.{report_answer, report_none}
 use Rattle.report_tally.proofs.reading.read_counted_report.Goals as goal
 

@@ -1,6 +1,6 @@
 use Rattle.std.proofs.Common.{map}
 use Rattle.std.specs.Prelude.{is_some}
-use Rattle.report_recheck.proofs.Fronts.{at_none, at_some}
+use Rattle.report_proofs.proofs.Fronts.{at_none, at_some}
 use Rattle.report_tally.proofs.OwedLines.{with_answers, without_answers}
 use Rattle.report_tally.proofs.reading.with_answers.Goals as goal
 

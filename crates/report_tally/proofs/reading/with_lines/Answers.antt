@@ -2,7 +2,7 @@ use Rattle.std.proofs.Common.{List, Option, ℕ, length, map, ◌∙◌, ap, sub
 use Rattle.std.specs.Prelude.{IfOk, is_some}
 use Rattle.report_tally.specs.CountedReports.{owed_claims}
 use Rattle.report_tally.specs.inner.Lines.{AreSignals, IsWithAnswers}
-use Rattle.report_recheck.proofs.Fronts.{at_none, at_some}
+use Rattle.report_proofs.proofs.Fronts.{at_none, at_some}
 use Rattle.report_tally.proofs.OwedLines.{with_none, with_some}
 use Rattle.report_tally.proofs.reading.with_lines.Goals as goal
 

@@ -1,5 +1,0 @@
-use Rattle.report_recheck.proofs.NoteLines.{IsGoing}
-use Rattle.report_recheck.proofs.notes.read_each.Given as goal
-
-abbrev pub invariant-loop-index : goal.invariant-loop-index
-invariant-loop-index l = IsGoing l.monitor l.bytes l.index l.notes.items l.rest
