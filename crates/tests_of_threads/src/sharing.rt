@@ -1,6 +1,7 @@
 //! A monitor that two passes share.
 
 ghost use Rattle.std.specs.Prelude.{◌≡◌, ◌<◌, ◌↔◌, IsTrue, length};
+ghost use Rattle.threads_lock.specs.Loans.{lock_of};
 
 use super::opening::opened;
 use machine_events::{Entry, Outcome};
@@ -10,7 +11,7 @@ use samples::monitors::BUFFER;
 use std::alloc::Global;
 use std::sync::Wait;
 use std::test::Fail;
-use threads_lock::{Pass, Receipt, SharedMonitor};
+use threads_lock::{Berth, LoanEnd, Pass, Receipt, Rest, SharedMonitor};
 
 const PUT_GET: &[u8] = b"client A { put(); get(); }";
 
@@ -121,5 +122,40 @@ fn two_passes_make_sections_in_turn(rt: HostRuntime) -> Result<(), Fail> {
         free.spurious(0),
         Err(SpuriousFault::NotReady { entries: 2 })
     );
+    Ok(())
+}
+
+/// A monitor, and a berth of its own.
+#[derive(Drop)]
+struct Inn {
+    shared: SharedMonitor,
+    berth: Berth,
+    ghost own: { lock_of berth ≡ shared.lock },
+}
+
+impl Rest for Inn {
+    /// It makes the section for which a pass lies in the berth.
+    fn rest<R: Wait>(&self, rt: &R) {
+        let _made = self.shared.section_for(rt, &self.berth).is_ok();
+    }
+}
+
+#[test]
+fn a_pass_that_is_lent_comes_back_with_its_section(rt: HostRuntime) -> Result<(), Fail> {
+    let two = Two::of(rt.alloc(), opened(rt.alloc(), BUFFER, PUT_GET)?)?;
+    let Two {
+        shared,
+        mut first,
+        second: _,
+    } = two;
+    let berth = shared.berth(rt.alloc())?;
+    let inn = Inn { shared, berth };
+    let lent = inn.shared.lend(&rt, &mut first, 0, &inn.berth, &inn);
+    let LoanEnd::Made(receipt) = lent else {
+        return Err("a section".into());
+    };
+    assert_eq!(rt; Ok(receipt), replied(0, 1, 0));
+    let none = inn.shared.section_for(&rt, &inn.berth).is_err();
+    assert!(rt; none);
     Ok(())
 }
