@@ -1,7 +1,9 @@
 -- What a worker has of its passes.
-use Rattle.std.proofs.Common.{◌≡◌, List, [], ◌∷◌, ◌++◌, ap}
+use Rattle.std.proofs.Common.{◌≡◌, ℕ, List, [], ◌∷◌, ◌++◌, ap}
 use Rattle.std.specs.List.{All}
 use Rattle.std.proofs.lemmas.List.Elements.{All-nil, All-cons, All-head, All-tail}
+use Rattle.threads_lock.specs.declared.view.Knowledge.{Knowledge}
+use Rattle.threads_lock.specs.Passes.{observed}
 use Rattle.threads_queue.specs.Tickets.{QueuePassView, new_pass}
 use Rattle.threads_pool.specs.declared.shop.Shop.{Shop}
 use Rattle.threads_pool.specs.declared.worker.Worker.{Worker}
@@ -22,6 +24,10 @@ knew shop worker is = is.closed
 
 pub finished : (shop : Shop) (worker : Worker) → IsWorker shop worker → KnowsClosed worker.place → HasFinished shop worker
 finished shop worker own closed = record { own = own; closed = closed }
+
+-- a look at how long the log is leaves the clients that a pass knows
+pub observed_system : (before after : Knowledge) (count : ℕ) → after ≡ observed before count → after.front.system ≡ before.front.system
+observed_system before after count is = ap (λ (k : Knowledge). k.front.system) is
 
 -- all of a list, and the last
 pub all_parted : {X : Type 0} (P : X → Type 0) (xs : List X) (x : X) → All P (xs ++ x ∷ []) → All P xs × P x

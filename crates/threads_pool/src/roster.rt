@@ -1,33 +1,54 @@
-//! Who is awake. No clause rests on it.
+//! Who leads, and who watches. No clause rests on it.
 //!
 //! Sections are made one at a time, so one worker alone runs a monitor fastest; the others are
-//! there for when it is held at its gate. So a worker dozes between two turns where two others are
-//! awake. Whoever leaves nobody awake at the gate wakes one, and who ends wakes all: what is to be
-//! done is never left to those that doze.
+//! there for when it is held at its gate. So one worker leads, one watches, and the others sleep.
+//! The one that watches looks once in a moment how long the log is; and where it hasn't grown it
+//! takes over, and wakes one of those that sleep, to watch in its place. Whoever finds that another
+//! leads watches, or sleeps where one watches already.
 //!
-//! A worker is counted from when it begins, since one whose thread the system refused may begin
-//! after others have ended. One that is to stay awake and finds nothing to do, as where a gate
-//! holds the others, naps for a short time: it is still counted as awake, since it looks again by
-//! itself.
+//! Nothing is left to those that sleep: whoever leads and whoever watches look again by themselves.
+//! Where nobody watches, all others are held at their gates, and the first of them that comes back
+//! does. Nobody need have begun: one whose thread the system refused may begin after others have
+//! ended, and finds then that all is over.
 
 use std::sync::Wait;
 use std::sync::atomic::{AtomicU64, Ordering};
 use std::time::Duration;
 
-/// The fewest workers that stay awake, where there are so many: one at the monitor, and one that
-/// looks whether it is held.
-const FEWEST_AWAKE: u64 = 2;
+/// Nobody leads yet.
+const NOBODY: u64 = 0;
+
+/// The work is done.
+const OVER: u64 = u64::MAX;
+
+/// Nobody watches.
+const UNWATCHED: u64 = 0;
+
+/// Some worker watches.
+const WATCHED: u64 = 1;
 
 /// How long a nap is, in microseconds.
 const NAP: u64 = 1_000;
 
-/// How many workers are awake and not at their gates, how many doze or are about to, and their
-/// bell. Of one worker alone nothing is counted, since nobody waits for it.
+/// What is on a worker.
+#[derive(Clone, Copy, PartialEq, Eq)]
+pub enum Duty {
+    /// It makes sections.
+    Leads,
+    /// It watches, or sleeps.
+    StandsBy,
+    /// It ends.
+    Ends,
+}
+
+/// How many workers have begun, the number of the one that leads, whether one watches, and the bell
+/// of those that sleep.
 #[derive(Drop)]
 pub struct Roster {
     alone: bool,
-    awake: AtomicU64,
-    dozing: AtomicU64,
+    begun: AtomicU64,
+    leader: AtomicU64,
+    watch: AtomicU64,
     rung: AtomicU64,
 }
 
@@ -36,15 +57,20 @@ impl Roster {
     pub fn new(workers: u64) -> Roster {
         Roster {
             alone: workers == 1,
-            awake: AtomicU64::new(0),
-            dozing: AtomicU64::new(0),
+            begun: AtomicU64::new(0),
+            leader: AtomicU64::new(NOBODY),
+            watch: AtomicU64::new(UNWATCHED),
             rung: AtomicU64::new(0),
         }
     }
 
-    /// A worker begins, and is awake.
-    pub fn begin(&self) {
-        self.awake.fetch_add(1, Ordering::SeqCst);
+    /// A worker begins, and leads if it is the first. The result is its number, from 1.
+    pub fn begin(&self) -> u64 {
+        let number = self.begun.fetch_add(1, Ordering::SeqCst).wrapping_add(1);
+        if number == 1 {
+            self.follow(NOBODY, number);
+        }
+        number
     }
 
     /// Whether there is one worker alone.
@@ -52,46 +78,51 @@ impl Roster {
         self.alone
     }
 
-    /// An awake worker goes to its gate, where it may be held.
-    pub fn go_to_gate(&self) {
-        if self.alone {
-            return;
-        }
-        let others = self.awake.fetch_sub(1, Ordering::SeqCst) > 1;
-        if !others && self.dozing.load(Ordering::SeqCst) > 0 {
-            self.rung.fetch_add(1, Ordering::SeqCst);
-            self.rung.wake_one();
-        }
-    }
-
-    /// A worker is back from its gate.
-    pub fn come_back(&self) {
-        if !self.alone {
-            self.awake.fetch_add(1, Ordering::SeqCst);
+    /// What is on the worker of a number.
+    pub fn duty(&self, number: u64) -> Duty {
+        let leader = self.leader.load(Ordering::SeqCst);
+        if leader == number {
+            Duty::Leads
+        } else if leader == OVER {
+            Duty::Ends
+        } else {
+            Duty::StandsBy
         }
     }
 
-    /// An awake worker dozes until it is wanted, where enough others are awake. Whether it did; it
-    /// may wake for no reason.
+    /// Whether a worker that stands by watches now. Else it has slept until it was wanted; it may
+    /// wake for no reason.
     ///
-    /// It is counted among those that doze before it is no more among the awake: who leaves nobody
-    /// awake then sees it.
-    pub fn doze<R: Wait>(&self, rt: &R) -> bool {
-        if !self.is_crowded() {
-            return false;
-        }
+    /// It reads how often the bell was rung before it sees that one watches and that all isn't
+    /// over: who takes over rings after nobody watches any more, and who ends after all is over.
+    pub fn watches<R: Wait>(&self, rt: &R) -> bool {
         let rung = self.rung();
-        self.dozing.fetch_add(1, Ordering::SeqCst);
-        let dozes = self.lies_down();
-        if dozes {
-            self.rung.park(rt, rung);
-            self.awake.fetch_add(1, Ordering::SeqCst);
+        let found = self
+            .watch
+            .compare_exchange(UNWATCHED, WATCHED, Ordering::SeqCst, Ordering::SeqCst);
+        if found.is_ok() {
+            return true;
         }
-        self.dozing.fetch_sub(1, Ordering::SeqCst);
-        dozes
+        if !self.is_over() {
+            self.rung.park(rt, rung);
+        }
+        false
     }
 
-    /// An awake worker that has found nothing to do waits for a short time, or until one ends.
+    /// Whether the work is done.
+    pub fn is_over(&self) -> bool {
+        self.leader.load(Ordering::SeqCst) == OVER
+    }
+
+    /// A worker that watches leads now, and one of those that sleep is woken.
+    pub fn take_over(&self, number: u64) {
+        self.lead(number);
+        self.watch.store(UNWATCHED, Ordering::SeqCst);
+        self.rung.fetch_add(1, Ordering::SeqCst);
+        self.rung.wake_one();
+    }
+
+    /// Waits for a short time, or until all is over.
     pub fn nap<R: Wait>(&self, rt: &R) {
         self.rung
             .park_timeout(rt, self.rung(), Duration::from_micros(NAP));
@@ -102,24 +133,24 @@ impl Roster {
         (self.rung.load(Ordering::SeqCst) & u64::from(u32::MAX)) as u32
     }
 
-    /// Whether more workers are awake than have to be.
-    fn is_crowded(&self) -> bool {
-        self.awake.load(Ordering::SeqCst) > FEWEST_AWAKE
+    /// A worker leads, unless all is over.
+    fn lead(&self, number: u64) {
+        let leader = self.leader.load(Ordering::SeqCst);
+        if leader != OVER {
+            self.follow(leader, number);
+        }
     }
 
-    /// One less is awake, where enough others are, and no other worker changed how many just now.
-    fn lies_down(&self) -> bool {
-        let awake = self.awake.load(Ordering::SeqCst);
-        awake > FEWEST_AWAKE
-            && self
-                .awake
-                .compare_exchange(awake, awake - 1, Ordering::SeqCst, Ordering::SeqCst)
-                .is_ok()
+    /// A worker leads after this one, unless another does by now.
+    fn follow(&self, leader: u64, number: u64) {
+        let _found = self
+            .leader
+            .compare_exchange(leader, number, Ordering::SeqCst, Ordering::SeqCst);
     }
 
-    /// An awake worker ends, since the work is done: the others look for themselves.
+    /// The work is done: the others look for themselves.
     pub fn end(&self) {
-        self.awake.fetch_sub(1, Ordering::SeqCst);
+        self.leader.store(OVER, Ordering::SeqCst);
         self.rung.fetch_add(1, Ordering::SeqCst);
         self.rung.wake_all();
     }

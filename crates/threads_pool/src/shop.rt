@@ -7,7 +7,7 @@ use super::roster::Roster;
 use threads_lock::SharedMonitor;
 use threads_queue::ReadyQueue;
 
-/// The monitor, the tickets of its clients, the hints, and who is awake.
+/// The monitor, the tickets of its clients, the hints, and who leads.
 #[derive(Drop)]
 pub struct Shop {
     pub monitor: SharedMonitor,

@@ -5,6 +5,7 @@ ghost use Rattle.std.specs.Prelude.{◌≡◌, ◌<◌, IfSome, IsTrue};
 ghost use Rattle.threads_queue.specs.Tickets.{new_pass};
 ghost use Rattle.threads_pool.specs.inner.Workers.{HasFinished, IsPlace, IsWorker, KnowsClosed};
 
+use super::roster::Duty;
 use super::shop::Shop;
 use crossbeam_utils::Backoff;
 use std::sync::Wait;
@@ -57,55 +58,69 @@ impl Worker {
     }
 }
 
-/// What came of a worker's turn.
-#[derive(Clone, Copy, PartialEq, Eq)]
-enum Turn {
-    /// It made a section.
-    Made,
-    /// It had a ticket, and the client rests.
-    Rested,
-    /// There was no ticket.
-    Idle,
-}
-
-/// Makes sections until it is told that the monitor is closed. Nothing else ends it.
+/// Makes sections while it leads, and stands by while another does, until it is told that the
+/// monitor is closed. Nothing else ends it.
 #[tactic(auto, using(crate::proofs::Hiring::finished))]
 pub fn work<R: Threads + Wait + Sync, G: Gate>(rt: &R, shop: &Shop, gate: &G, worker: &mut Worker)
     requires own { IsWorker shop.now worker.old }
     ensures finished { HasFinished shop.now worker.new }
 {
-    shop.roster.begin();
-    let backoff = Backoff::new();
-    let mut idle = 0u32;
+    let number = shop.roster.begin();
     for _ in rt.forever() {
-        match next_turn(rt, shop, gate, worker) {
-            Turn::Made => {
-                backoff.reset();
-                idle = 0;
-                shop.roster.doze(rt);
-            }
-            Turn::Rested => idle = idle.saturating_add(1),
-            Turn::Idle => {
-                idle = idle.saturating_add(1);
-                backoff.snooze();
-            }
-        }
-        if idle >= shop.clients {
-            idle = 0;
-            if ends(rt, shop, &mut worker.place) {
-                shop.roster.end();
-                return;
-            }
-            if !shop.roster.doze(rt) {
-                pause(rt, shop, &backoff);
+        match shop.roster.duty(number) {
+            Duty::Leads => lead(rt, shop, gate, worker, number),
+            Duty::StandsBy => stand_by(rt, shop, &mut worker.place, number),
+            Duty::Ends => {
+                if ends(rt, shop, &mut worker.place) {
+                    return;
+                }
             }
         }
     }
     unreachable!()
 }
 
-/// A worker that went round all clients in vain, and has to stay awake, waits: for moments at
-/// first, and then it naps.
+/// Makes sections as long as the worker leads, until the monitor is closed.
+fn lead<R: Threads + Wait + Sync, G: Gate>(
+    rt: &R,
+    shop: &Shop,
+    gate: &G,
+    worker: &mut Worker,
+    number: u64,
+)
+    requires own { IsWorker shop.now worker.old }
+    ensures own { IsWorker shop.now worker.new }
+{
+    let backoff = Backoff::new();
+    let mut idle = 0u32;
+    for _ in rt.forever() {
+        if shop.roster.duty(number) != Duty::Leads {
+            return;
+        }
+        let made = next_turn(rt, shop, gate, worker);
+        idle = idle_after(made, idle, &backoff);
+        if idle >= shop.clients {
+            idle = 0;
+            if ends(rt, shop, &mut worker.place) {
+                shop.roster.end();
+                return;
+            }
+            pause(rt, shop, &backoff);
+        }
+    }
+    unreachable!()
+}
+
+/// How many turns in a row made no section, after one more that made one or not.
+fn idle_after(made: bool, before: u32, backoff: &Backoff) -> u32 {
+    if made {
+        backoff.reset();
+        return 0;
+    }
+    before.saturating_add(1)
+}
+
+/// A worker that went round all clients in vain waits: for moments at first, and then it naps.
 fn pause<R: Wait>(rt: &R, shop: &Shop, backoff: &Backoff) {
     if backoff.is_completed() {
         shop.roster.nap(rt);
@@ -114,15 +129,38 @@ fn pause<R: Wait>(rt: &R, shop: &Shop, backoff: &Backoff) {
     }
 }
 
-/// Tries a section of the next client: the one whose ticket is the queue's first. A worker that is
-/// alone goes round the clients without the queue, in the same order, since nobody else has a
-/// ticket.
+/// A worker that doesn't lead watches until the log stands still, and leads then; or it sleeps
+/// where another watches.
+#[tactic(auto, using(crate::proofs::Hiring::observed_system))]
+fn stand_by<R: Wait>(rt: &R, shop: &Shop, place: &mut Pass, number: u64)
+    requires own { IsPlace shop.now place.old }
+    ensures own { IsPlace shop.now place.new }
+{
+    if !shop.roster.watches(rt) {
+        return;
+    }
+    let mut seen = shop.monitor.observe(place);
+    for _ in rt.forever() {
+        shop.roster.nap(rt);
+        let now = shop.monitor.observe(place);
+        if now == seen || shop.roster.is_over() {
+            shop.roster.take_over(number);
+            return;
+        }
+        seen = now;
+    }
+    unreachable!()
+}
+
+/// Tries a section of the next client, the one whose ticket is the queue's first, and says whether
+/// it was made. A worker that is alone goes round the clients without the queue, in the same order,
+/// since nobody else has a ticket.
 fn next_turn<R: Threads + Wait + Sync, G: Gate>(
     rt: &R,
     shop: &Shop,
     gate: &G,
     worker: &mut Worker,
-) -> Turn
+) -> bool
     requires own { IsWorker shop.now worker.old }
     ensures own { IsWorker shop.now worker.new }
 {
@@ -130,14 +168,14 @@ fn next_turn<R: Threads + Wait + Sync, G: Gate>(
         return take_turn(rt, shop, gate, worker);
     }
     let Some(client) = next_of(&mut worker.next, shop.clients) else {
-        return Turn::Idle;
+        return false;
     };
     gate.before(rt, client, worker.sections);
-    let turn = try_client(rt, shop, &mut worker.place, client);
-    if turn == Turn::Made {
+    let made = try_client(rt, shop, &mut worker.place, client);
+    if made {
         worker.sections = worker.sections.saturating_add(1);
     }
-    turn
+    made
 }
 
 /// The client whose turn it is, of so many that go round; then it is the next one's.
@@ -159,39 +197,33 @@ fn take_turn<R: Threads + Wait + Sync, G: Gate>(
     shop: &Shop,
     gate: &G,
     worker: &mut Worker,
-) -> Turn
+) -> bool
     requires own { IsWorker shop.now worker.old }
     ensures own { IsWorker shop.now worker.new }
 {
     let Some(ticket) = shop.queue.take(rt, &mut worker.tickets) else {
-        return Turn::Idle;
+        return false;
     };
     let client = ticket.client();
-    shop.roster.go_to_gate();
     gate.before(rt, client, worker.sections);
-    shop.roster.come_back();
-    let turn = try_client(rt, shop, &mut worker.place, client);
+    let made = try_client(rt, shop, &mut worker.place, client);
     shop.queue.put(rt, &mut worker.tickets, ticket);
-    if turn == Turn::Made {
+    if made {
         worker.sections = worker.sections.saturating_add(1);
     }
-    turn
+    made
 }
 
 /// Tries a client whose ticket the worker has, unless the client rests.
-fn try_client<R: Wait>(rt: &R, shop: &Shop, place: &mut Pass, client: u32) -> Turn
+fn try_client<R: Wait>(rt: &R, shop: &Shop, place: &mut Pass, client: u32) -> bool
     requires own { IsPlace shop.now place.old }
     requires client { client < shop.now.clients }
     ensures own { IsPlace shop.now place.new }
 {
     if shop.hints.rests(client) {
-        return Turn::Rested;
+        return false;
     }
-    if try_section(rt, shop, place, client) {
-        Turn::Made
-    } else {
-        Turn::Rested
-    }
+    try_section(rt, shop, place, client)
 }
 
 /// Makes a section of a client whose ticket the worker has.
