@@ -31,7 +31,7 @@ const WATCHED: u64 = 1;
 const NAP: u64 = 1_000;
 
 /// What is on a worker.
-#[derive(Clone, Copy, PartialEq, Eq)]
+#[derive(Clone, Copy)]
 pub enum Duty {
     /// It makes sections.
     Leads,
@@ -76,6 +76,11 @@ impl Roster {
     /// Whether there is one worker alone.
     pub fn is_alone(&self) -> bool {
         self.alone
+    }
+
+    /// Whether the worker of a number leads.
+    pub fn leads(&self, number: u64) -> bool {
+        self.leader.load(Ordering::SeqCst) == number
     }
 
     /// What is on the worker of a number.

@@ -5,6 +5,7 @@ ghost use Rattle.std.specs.Prelude.{◌≡◌, ◌<◌, IfSome, IsTrue};
 ghost use Rattle.threads_queue.specs.Tickets.{new_pass};
 ghost use Rattle.threads_pool.specs.inner.Workers.{HasFinished, IsPlace, IsWorker, KnowsClosed};
 
+use super::pace::Pace;
 use super::roster::Duty;
 use super::shop::Shop;
 use crossbeam_utils::Backoff;
@@ -67,57 +68,65 @@ pub fn work<R: Threads + Wait + Sync, G: Gate>(rt: &R, shop: &Shop, gate: &G, wo
 {
     let number = shop.roster.begin();
     for _ in rt.forever() {
-        match shop.roster.duty(number) {
-            Duty::Leads => lead(rt, shop, gate, worker, number),
-            Duty::StandsBy => stand_by(rt, shop, &mut worker.place, number),
-            Duty::Ends => {
-                if ends(rt, shop, &mut worker.place) {
-                    return;
-                }
-            }
+        if serve(rt, shop, gate, worker, number) {
+            return;
         }
     }
     unreachable!()
 }
 
-/// Makes sections as long as the worker leads, until the monitor is closed.
+/// Does what is on the worker of a number, and says whether it was told that the monitor is closed.
+fn serve<R: Threads + Wait + Sync, G: Gate>(
+    rt: &R,
+    shop: &Shop,
+    gate: &G,
+    worker: &mut Worker,
+    number: u64,
+) -> bool
+    requires own { IsWorker shop.now worker.old }
+    ensures own { IsWorker shop.now worker.new }
+    ensures closed { IsTrue result → KnowsClosed worker.new.place }
+{
+    match shop.roster.duty(number) {
+        Duty::Leads => lead(rt, shop, gate, worker, number),
+        Duty::StandsBy => stand_by(rt, shop, &mut worker.place, number),
+        Duty::Ends => ends(rt, shop, &mut worker.place),
+    }
+}
+
+/// Makes sections as long as the worker leads, and says whether it was told that the monitor is
+/// closed.
 fn lead<R: Threads + Wait + Sync, G: Gate>(
     rt: &R,
     shop: &Shop,
     gate: &G,
     worker: &mut Worker,
     number: u64,
-)
+) -> bool
     requires own { IsWorker shop.now worker.old }
     ensures own { IsWorker shop.now worker.new }
+    ensures closed { IsTrue result → KnowsClosed worker.new.place }
 {
     let backoff = Backoff::new();
-    let mut idle = 0u32;
+    let mut pace = Pace::new();
     for _ in rt.forever() {
-        if shop.roster.duty(number) != Duty::Leads {
-            return;
+        if !shop.roster.leads(number) {
+            return false;
         }
-        let made = next_turn(rt, shop, gate, worker);
-        idle = idle_after(made, idle, &backoff);
-        if idle >= shop.clients {
-            idle = 0;
+        let made = next_turn(rt, shop, gate, worker, pace.most());
+        if made {
+            backoff.reset();
+        }
+        pace.note(made, shop.clients);
+        if pace.is_round(shop.clients) {
             if ends(rt, shop, &mut worker.place) {
                 shop.roster.end();
-                return;
+                return true;
             }
             pause(rt, shop, &backoff);
         }
     }
     unreachable!()
-}
-
-/// How many turns in a row made no section, after one more that made one or not.
-fn idle_after(made: bool, before: u32, backoff: &Backoff) -> u32 {
-    if made {
-        backoff.reset();
-        return 0;
-    }
-    before.saturating_add(1)
 }
 
 /// A worker that went round all clients in vain waits: for moments at first, and then it naps.
@@ -130,42 +139,52 @@ fn pause<R: Wait>(rt: &R, shop: &Shop, backoff: &Backoff) {
 }
 
 /// A worker that doesn't lead watches until the log stands still, and leads then; or it sleeps
-/// where another watches.
-#[tactic(auto, using(crate::proofs::Hiring::observed_system))]
-fn stand_by<R: Wait>(rt: &R, shop: &Shop, place: &mut Pass, number: u64)
+/// where another watches. It was not told that the monitor is closed.
+fn stand_by<R: Wait>(rt: &R, shop: &Shop, place: &mut Pass, number: u64) -> bool
     requires own { IsPlace shop.now place.old }
     ensures own { IsPlace shop.now place.new }
+    ensures open { result ≡ false }
 {
     if !shop.roster.watches(rt) {
-        return;
+        return false;
     }
-    let mut seen = shop.monitor.observe(place);
+    let mut before = entries(shop, place);
     for _ in rt.forever() {
         shop.roster.nap(rt);
-        let now = shop.monitor.observe(place);
-        if now == seen || shop.roster.is_over() {
+        let now = entries(shop, place);
+        if now == before || shop.roster.is_over() {
             shop.roster.take_over(number);
-            return;
+            return false;
         }
-        seen = now;
+        before = now;
     }
     unreachable!()
 }
 
-/// Tries a section of the next client, the one whose ticket is the queue's first, and says whether
-/// it was made. A worker that is alone goes round the clients without the queue, in the same order,
-/// since nobody else has a ticket.
+/// How long the log is.
+#[tactic(auto, using(crate::proofs::Hiring::observed_system))]
+fn entries(shop: &Shop, place: &mut Pass) -> u64
+    requires own { IsPlace shop.now place.old }
+    ensures own { IsPlace shop.now place.new }
+{
+    shop.monitor.observe(place)
+}
+
+/// Tries sections of the next client, the one whose ticket is the queue's first, and says whether
+/// one was made. A worker that is alone goes round the clients without the queue, one section at a
+/// time, since nobody else has a ticket.
 fn next_turn<R: Threads + Wait + Sync, G: Gate>(
     rt: &R,
     shop: &Shop,
     gate: &G,
     worker: &mut Worker,
+    most: u32,
 ) -> bool
     requires own { IsWorker shop.now worker.old }
     ensures own { IsWorker shop.now worker.new }
 {
     if !shop.roster.is_alone() {
-        return take_turn(rt, shop, gate, worker);
+        return take_turn(rt, shop, gate, worker, most);
     }
     let Some(client) = next_of(&mut worker.next, shop.clients) else {
         return false;
@@ -190,13 +209,14 @@ fn next_of(next: &mut u32, clients: u32) -> Option<u32>
     Some(client)
 }
 
-/// Takes a ticket, tries a section of its client, and puts it back.
+/// Takes a ticket, tries sections of its client, and puts it back.
 #[tactic(auto, using(threads_queue::proofs::Sums::contains_first, threads_queue::proofs::Sums::without_first))]
 fn take_turn<R: Threads + Wait + Sync, G: Gate>(
     rt: &R,
     shop: &Shop,
     gate: &G,
     worker: &mut Worker,
+    most: u32,
 ) -> bool
     requires own { IsWorker shop.now worker.old }
     ensures own { IsWorker shop.now worker.new }
@@ -205,13 +225,42 @@ fn take_turn<R: Threads + Wait + Sync, G: Gate>(
         return false;
     };
     let client = ticket.client();
-    gate.before(rt, client, worker.sections);
-    let made = try_client(rt, shop, &mut worker.place, client);
+    let before = worker.sections;
+    for_client(
+        rt,
+        shop,
+        gate,
+        &mut worker.place,
+        &mut worker.sections,
+        client,
+        most,
+    );
     shop.queue.put(rt, &mut worker.tickets, ticket);
-    if made {
-        worker.sections = worker.sections.saturating_add(1);
+    worker.sections > before
+}
+
+/// Makes at most so many sections of a client whose ticket the worker has, one after the other,
+/// until the client rests, and counts them.
+fn for_client<R: Threads + Wait + Sync, G: Gate>(
+    rt: &R,
+    shop: &Shop,
+    gate: &G,
+    place: &mut Pass,
+    sections: &mut u64,
+    client: u32,
+    most: u32,
+)
+    requires own { IsPlace shop.now place.old }
+    requires client { client < shop.now.clients }
+    ensures own { IsPlace shop.now place.new }
+{
+    for _ in 0..most {
+        gate.before(rt, client, *sections);
+        if !try_client(rt, shop, place, client) {
+            return;
+        }
+        *sections = sections.saturating_add(1);
     }
-    made
 }
 
 /// Tries a client whose ticket the worker has, unless the client rests.
