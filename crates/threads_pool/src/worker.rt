@@ -89,7 +89,10 @@ fn serve<R: Threads + Wait + Sync, G: Gate>(
 {
     match shop.roster.duty(number) {
         Duty::Leads => lead(rt, shop, gate, worker, number),
-        Duty::StandsBy => stand_by(rt, shop, &mut worker.place, number),
+        Duty::StandsBy => {
+            stand_by(rt, shop, &mut worker.place, number);
+            false
+        }
         Duty::Ends => ends(rt, shop, &mut worker.place),
     }
 }
@@ -139,14 +142,13 @@ fn pause<R: Wait>(rt: &R, shop: &Shop, backoff: &Backoff) {
 }
 
 /// A worker that doesn't lead watches until the log stands still, and leads then; or it sleeps
-/// where another watches. It was not told that the monitor is closed.
-fn stand_by<R: Wait>(rt: &R, shop: &Shop, place: &mut Pass, number: u64) -> bool
+/// where another watches.
+fn stand_by<R: Wait>(rt: &R, shop: &Shop, place: &mut Pass, number: u64)
     requires own { IsPlace shop.now place.old }
     ensures own { IsPlace shop.now place.new }
-    ensures open { result ≡ false }
 {
     if !shop.roster.watches(rt) {
-        return false;
+        return;
     }
     let mut before = entries(shop, place);
     for _ in rt.forever() {
@@ -154,7 +156,7 @@ fn stand_by<R: Wait>(rt: &R, shop: &Shop, place: &mut Pass, number: u64) -> bool
         let now = entries(shop, place);
         if now == before || shop.roster.is_over() {
             shop.roster.take_over(number);
-            return false;
+            return;
         }
         before = now;
     }
