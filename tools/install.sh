@@ -68,7 +68,7 @@ crates_below() {
 # files: what is read of the crates, each file with a zero byte behind it
 files() {
     find "${crates[@]/#/crates/}" \( -name out -o -name must-fail \) -prune \
-        -o -type f \( -name '*.rt' -o -name '*.antt' \) -print0 | LC_ALL=C sort -z
+        -o -type f -print0 | LC_ALL=C sort -z
 }
 
 # sum: a number that changes where anything does of which the installed files are made
