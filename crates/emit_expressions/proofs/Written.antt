@@ -15,7 +15,7 @@ use Rattle.lang_tree.specs.declared.tree.Expr.TheOpen as layers
 use Rattle.lang_tree.specs.declared.tree.Expr.TheFolds.{fold-roll-Expr, fold_out-Addend, fold_out-Factor}
 use Rattle.lang_printer.specs.Canonical.{addend_sign, minus_text, op_text}
 use Rattle.emit_expressions.specs.Scopes.{ScopeParts, is_read, name_text}
-use Rattle.emit_expressions.specs.Expressions.{Written, Later, addend_by, addends_after, begins, begun_level, closed, ending_in, is_pieced, joined, joined_by, joined_in, listed, multiplied, opened, product_by, product_in, sum_by, sum_in, times, written, written_step, addend_step, factor_step, wide_at, within, plain_name, plain_text, plain_texts, comparison, wide_comparison, wide_name, number_ending}
+use Rattle.emit_expressions.specs.Expressions.{Written, Later, addend_by, begins, begun_level, closed, ending_in, is_pieced, joined, joined_by, joined_in, listed, multiplied, opened, product_by, product_in, sum_by, sum_in, times, written, written_step, addend_step, factor_step, within, plain_name, plain_text, plain_texts, comparison, wide_comparison, wide_name, number_ending}
 use Rattle.emit_expressions.specs.inner.Parts.{addend_at, factor_at, part_at, parts_in, wide_part, plain_part, later_factor, later_addend, factors_text, addends_text, joined_parts, any_factor, any_addend, any_part}
 use Rattle.emit_names.proofs.Reading.{any_map}
 

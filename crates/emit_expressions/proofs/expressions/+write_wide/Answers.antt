@@ -1,6 +1,6 @@
 use Rattle.std.proofs.Common.{◌++◌, ◌∙◌, codes, ap, refl}
 use Rattle.emit_expressions.specs.Expressions.{written}
-use Rattle.emit_expressions.specs.inner.Parts.{wide_part, later_factor, later_addend}
+use Rattle.emit_expressions.specs.inner.Parts.{wide_part, later_addend}
 use Rattle.base_io.proofs.Rows.{row_went, row_stopped}
 use Rattle.base_io.proofs.Writing.{wrote_both, wrote_fails, wrote_longer, wrote_same}
 use Rattle.std.specs.List.{enumerate_from, flat_map}
