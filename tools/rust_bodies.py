@@ -6,6 +6,7 @@ from trees import If, Return, Set
 
 # so many parts stand in a row: rustc's stack ends at some thousand
 PIECE = 64
+LINE = "\n            "
 
 COMPARISONS = "==", "!=", "<", "<=", ">", ">="
 
@@ -94,7 +95,7 @@ def written(scope, expression):
         return Written(3, comparison(sign, *inner), None, is_named, False)
     level = 2 if sign == "&&" else 1
     texts = [within(level + 1, part, part.plain) for part in inner]
-    text = in_pieces(f" {sign} ", [f" {sign} ".join(piece) for piece in pieces(texts)])
+    text = in_pieces(sign, [f" {sign} ".join(piece) for piece in pieces(texts)])
     return Written(level, text, None, is_named, False)
 
 
@@ -103,7 +104,7 @@ def sum_written(scope, parts):
 
     def wide(end):
         ended = ending_in(inner, end)
-        return in_pieces(" + ", [sum_text(piece, ended) for piece in pieces(inner)])
+        return in_pieces("+", [sum_text(piece, ended) for piece in pieces(inner)])
 
     return Written(4, "", wide, any(part.is_named for _, part in inner), True)
 
@@ -118,7 +119,8 @@ def ending_in(parts, end):
 
 
 def in_pieces(sign, texts):
-    return sign.join(f"({text})" for text in texts) if len(texts) > 1 else texts[0]
+    """Each in a line of its own: at each sign rustc counts the letters of its line, for an overflow's message."""
+    return f"{LINE}{sign} ".join(f"({text})" for text in texts) if len(texts) > 1 else texts[0]
 
 
 def sum_text(parts, end):
@@ -130,11 +132,11 @@ def sum_text(parts, end):
 
 
 def wide_product(parts, end):
-    """Many factors are a list: in pieces they could leave 128 bits where 0 comes first."""
+    """Each piece of many factors is given the product of those before it, in a line of its own."""
     ended = ending_in(parts, end)
-    texts = [within(6, part, part.wide(ended)) for part in parts]
-    return (" * ".join(texts) if len(texts) <= PIECE
-            else f"[{', '.join(texts)}].iter().product::<i128>()")
+    first, *rest = [" * ".join(piece) for piece in pieces([within(6, part, part.wide(ended)) for part in parts])]
+    later = "".join(f"{LINE}.map(|result| result * {piece})" for piece in rest)
+    return f"Some({first}){later}{LINE}.unwrap()" if rest else first
 
 
 def comparison(sign, left, right):
