@@ -3,7 +3,7 @@ use Rattle.std.proofs.Common.{◌≡◌, ◌⊎◌, ⊎_elim, ℕ, suc, ◌+◌,
 use Rattle.std.specs.Prelude.{if◌then◌else◌}
 use Rattle.std.proofs.lemmas.Bool.{lt-ltb, le-ltb, false≢true}
 use Rattle.std.proofs.lemmas.List.{append-nil, take_all}
-use Rattle.std.proofs.lemmas.List.Folds.{flat_map-map, list_any_at, list_any_more}
+use Rattle.std.proofs.lemmas.List.Folds.{list_any_at, list_any_more}
 use Rattle.std.specs.List.{enumerate_from, flat_map, list_any}
 use Rattle.std.proofs.lemmas.List.{length-map}
 use Rattle.lang_tree.specs.declared.tree.Op.{Op}
@@ -15,7 +15,7 @@ use Rattle.lang_tree.specs.declared.tree.Expr.TheOpen as layers
 use Rattle.lang_tree.specs.declared.tree.Expr.TheFolds.{fold-roll-Expr, fold_out-Addend, fold_out-Factor}
 use Rattle.lang_printer.specs.Canonical.{addend_sign, minus_text, op_text}
 use Rattle.emit_expressions.specs.Scopes.{ScopeParts, is_read, name_text}
-use Rattle.emit_expressions.specs.Expressions.{Written, Later, addend_by, begins, begun_level, closed, ending_in, is_pieced, joined, joined_by, joined_in, listed, multiplied, opened, product_by, product_in, sum_by, sum_in, times, written, written_step, addend_step, factor_step, within, plain_name, plain_text, plain_texts, comparison, wide_comparison, wide_name, number_ending}
+use Rattle.emit_expressions.specs.Expressions.{Written, Later, addend_by, begins, begun_level, closed, ending_in, factor_by, is_pieced, joined, joined_by, joined_in, opened, product_by, product_closed, product_in, product_opened, sum_by, sum_in, times, written, written_step, addend_step, factor_step, within, plain_name, plain_text, plain_texts, comparison, wide_comparison, wide_name, number_ending}
 use Rattle.emit_expressions.specs.inner.Parts.{addend_at, factor_at, part_at, parts_in, wide_part, plain_part, later_factor, later_addend, factors_text, addends_text, joined_parts, any_factor, any_addend, any_part}
 use Rattle.emit_names.proofs.Reading.{any_map}
 
@@ -48,9 +48,9 @@ module _ (scope : ScopeParts) where
   addend_is : (addend : Addend) → later_addend scope addend ≡ addend_step (record { minus = (out-Addend addend).minus; of = written scope (out-Addend addend).of })
   addend_is addend = fold_out-Addend Written Later Later (written_step scope) addend_step factor_step addend
 
-  pub later_factor-of : (pieced : Bool) (ending : List ℕ) (factor : Factor) (sign : List ℕ) → sign ≡ times pieced → sign ++ wide_part scope 6 ending (out-Factor factor).of ≡ factor_at scope pieced ending factor
-  later_factor-of pieced ending factor sign says =
-      ap (λ s. s ++ wide_part scope 6 ending (out-Factor factor).of) says ∙ ap (λ l. times pieced ++ l) (sym (ap (λ (l : Later). l.wide ending) (factor_is factor)))
+  pub later_factor-of : (begun asked : Bool) (ending : List ℕ) (factor : Factor) (sign : List ℕ) → begun ≡ asked → sign ≡ times begun → sign ++ wide_part scope 6 ending (out-Factor factor).of ≡ factor_by asked ending (later_factor scope factor)
+  later_factor-of begun asked ending factor sign is says =
+      ap (λ s. s ++ wide_part scope 6 ending (out-Factor factor).of) (says ∙ ap times is) ∙ ap (λ l. times asked ++ l) (sym (ap (λ (l : Later). l.wide ending) (factor_is factor)))
 
   pub later_addend-of : (ending : List ℕ) (addend : Addend) → addend_sign (out-Addend addend).minus ++ wide_part scope 5 ending (out-Addend addend).of ≡ (later_addend scope addend).wide ending
   later_addend-of ending addend = sym (ap (λ (l : Later). l.wide ending) (addend_is addend))
@@ -104,13 +104,23 @@ module _ (scope : ScopeParts) where
   pub wide-Named : (ending : List ℕ) (expression : Expr) (at : ℕ) (name : List ℕ) → expression ≡ Named at name → wide_name (is_read scope name) (name_text scope name) ending ≡ (written scope expression).wide ending
   wide-Named ending expression at name is = sym (ap (λ (w : Written). w.wide ending) (ap (written scope) is ∙ named_is at name))
 
-  pub wide-Product : (ending : List ℕ) (expression first got : Expr) (rest items : List Factor) (pieced : Bool) (ended before : List ℕ) → expression ≡ Product first rest → got ≡ first → items ≡ rest → pieced ≡ is_pieced (length items) → ended ≡ ending_in pieced ending → before ≡ listed pieced
+  -- the factors after the first one, by their trees
+  factors_same : (pieced : Bool) (ending : List ℕ) (from : ℕ) (rest : List Factor)
+      → flat_map (λ one. factor_at scope pieced ending one.0 one.1) (enumerate_from from rest) ≡ flat_map (λ one. factor_by (pieced && begins one.0) ending one.1) (enumerate_from from (map (later_factor scope) rest))
+  factors_same pieced ending from [] = refl
+  factors_same pieced ending from (factor ∷ rest) = ap (λ l. factor_at scope pieced ending from factor ++ l) (factors_same pieced ending (from + 1) rest)
+
+  product_same : (pieced : Bool) (ending : List ℕ) (first : Expr) (rest : List Factor)
+      → product_opened pieced ++ wide_part scope 6 ending first ++ factors_text scope pieced ending rest ≡ product_by pieced ending (written scope first) (map (later_factor scope) rest)
+  product_same pieced ending first rest = ap (λ l. product_opened pieced ++ wide_part scope 6 ending first ++ (l ++ product_closed pieced)) (factors_same pieced ending 0 rest)
+
+  pub wide-Product : (ending : List ℕ) (expression first got : Expr) (rest items : List Factor) (pieced : Bool) (ended before : List ℕ) → expression ≡ Product first rest → got ≡ first → items ≡ rest → pieced ≡ is_pieced (length items) → ended ≡ ending_in pieced ending → before ≡ product_opened pieced
       → before ++ wide_part scope 6 ended got ++ factors_text scope pieced ended items ≡ (written scope expression).wide ending
   wide-Product ending expression first got rest items pieced ended before is one more counted ends lists =
       ap (λ b. b ++ wide_part scope 6 ended got ++ factors_text scope pieced ended items) lists
-      ∙ ap (λ e. listed pieced ++ wide_part scope 6 ended e ++ factors_text scope pieced ended items) one
-      ∙ ap (λ l. listed pieced ++ wide_part scope 6 ended first ++ factors_text scope pieced ended l) more
-      ∙ ap (λ l. listed pieced ++ wide_part scope 6 ended first ++ (l ++ multiplied pieced)) (sym (flat_map-map (λ (later : Later). times pieced ++ later.wide ended) (later_factor scope) rest))
+      ∙ ap (λ e. product_opened pieced ++ wide_part scope 6 ended e ++ factors_text scope pieced ended items) one
+      ∙ ap (λ l. product_opened pieced ++ wide_part scope 6 ended first ++ factors_text scope pieced ended l) more
+      ∙ product_same pieced ended first rest
       ∙ ap (λ e. product_by pieced e (written scope first) (map (later_factor scope) rest)) ends
       ∙ ap (λ p. product_in p ending (written scope first) (map (later_factor scope) rest)) (counted ∙ ap (λ n. is_pieced n) (ap length more ∙ sym (length-map rest (later_factor scope))))
       ∙ sym (ap (λ (w : Written). w.wide ending) (ap (written scope) is ∙ product_is first rest))
@@ -215,7 +225,7 @@ pub addend-follows : (begins : Bool) (ending : List ℕ) (later : Later) → beg
 addend-follows true ending later is = absurd (false≢true (sym is))
 addend-follows false ending later is = refl
 
-pub addend-begins : (begins : Bool) (ending : List ℕ) (later : Later) → begins ≡ true → codes ") + (" ++ later.begun ending ≡ addend_by begins ending later
+pub addend-begins : (begins : Bool) (ending : List ℕ) (later : Later) → begins ≡ true → codes ")\n            + (" ++ later.begun ending ≡ addend_by begins ending later
 addend-begins true ending later is = refl
 addend-begins false ending later is = absurd (false≢true is)
 
@@ -228,8 +238,8 @@ pub part-follows : (begins : Bool) (sign text : List ℕ) → begins ≡ false �
 part-follows true sign text is = absurd (false≢true (sym is))
 part-follows false sign text is = refl
 
-pub part-begins : (begins : Bool) (sign text : List ℕ) → begins ≡ true → codes ")" ++ (sign ++ (codes "(" ++ [])) ++ text ≡ joined_by begins sign text
-part-begins true sign text is = ap (λ l. l ++ text) (sym (append_assoc (codes ")") sign (codes "(")))
+pub part-begins : (begins : Bool) (sign text : List ℕ) → begins ≡ true → codes ")\n           " ++ (sign ++ (codes "(" ++ [])) ++ text ≡ joined_by begins sign text
+part-begins true sign text is = ap (λ l. l ++ text) (sym (append_assoc (codes ")\n           ") sign (codes "(")))
 part-begins false sign text is = absurd (false≢true is)
 
 -- ---- rows of parts

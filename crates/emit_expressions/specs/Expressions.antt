@@ -44,6 +44,9 @@ plain_at asked part = within asked part.level part.plain
 
 -- ---- pieces: rustc's stack ends at some thousand parts in a row
 
+-- Each piece has a line of its own: for each sign that may overflow rustc counts the letters of its
+-- line up to it, for what is said then.
+
 -- so many parts stand in a row
 abbrev pub PIECE : ℕ
 PIECE = 64
@@ -81,7 +84,7 @@ addend_step addend = record {
 
 -- an addend after the first one, by whether it begins a piece
 abbrev pub addend_by : Bool → List ℕ → Later → List ℕ
-addend_by true ending later = codes ") + (" ++ later.begun ending
+addend_by true ending later = codes ")\n            + (" ++ later.begun ending
 addend_by false ending later = later.wide ending
 
 -- the addends after the first one, each by its place
@@ -111,24 +114,33 @@ factor_step factor = record {
   begun = λ ending. wide_at 6 ending factor.of;
 }
 
--- Many factors stand in a list, of which the product is worked out from the first one on.
-abbrev pub listed : Bool → List ℕ
-listed true = codes "["
-listed false = []
+-- A piece of many factors is given the product of all before it, so that what is worked out is the
+-- product from the first factor on.
+abbrev pub product_opened : Bool → List ℕ
+product_opened true = codes "Some("
+product_opened false = []
 
--- what stands between them
+-- what stands before a factor after the first one, by whether it begins a piece
 abbrev pub times : Bool → List ℕ
-times true = codes ", "
+times true = codes ")\n            .map(|result| result * "
 times false = codes " * "
 
-abbrev pub multiplied : Bool → List ℕ
-multiplied true = codes "].iter().product::<i128>()"
-multiplied false = []
+abbrev pub product_closed : Bool → List ℕ
+product_closed true = codes ")\n            .unwrap()"
+product_closed false = []
+
+abbrev pub factor_by : Bool → List ℕ → Later → List ℕ
+factor_by begun ending later = times begun ++ later.wide ending
+
+-- the factors after the first one, each by its place
+abbrev pub factors_after : Bool → List ℕ → List Later → List ℕ
+factors_after pieced ending rest =
+    flat_map (λ one. factor_by (pieced && begins one.0) ending one.1) (enumerate_from 0 rest)
+    ++ product_closed pieced
 
 abbrev pub product_by : Bool → List ℕ → Written → List Later → List ℕ
 product_by pieced ending first rest =
-    listed pieced ++ wide_at 6 ending first
-    ++ (flat_map (λ later. times pieced ++ later.wide ending) rest ++ multiplied pieced)
+    product_opened pieced ++ wide_at 6 ending first ++ factors_after pieced ending rest
 
 abbrev pub product_in : Bool → List ℕ → Written → List Later → List ℕ
 product_in pieced ending = product_by pieced (ending_in pieced ending)
@@ -162,7 +174,7 @@ plain_texts asked (part ∷ parts) = plain_at asked part ∷ plain_texts asked p
 
 -- one after the first one of those between which this sign stands, by whether it begins a piece
 abbrev pub joined_by : Bool → List ℕ → List ℕ → List ℕ
-joined_by true sign text = codes ")" ++ sign ++ codes "(" ++ text
+joined_by true sign text = codes ")\n           " ++ sign ++ codes "(" ++ text
 joined_by false sign text = sign ++ text
 
 abbrev pub joined_in : Bool → List ℕ → List ℕ → List (List ℕ) → List ℕ

@@ -4,10 +4,10 @@ ghost use Rattle.std.specs.Prelude.{◌≡◌, ◌++◌, ◌&&◌, ◌||◌, cod
 ghost use Rattle.lang_printer.specs.Canonical.{addend_sign, minus_text, op_text};
 ghost use Rattle.emit_expressions.specs.Scopes.{ScopeParts, is_read, name_text, seen};
 ghost use Rattle.emit_expressions.specs.Expressions.{addend_by, begins, begun_level, closed};
-ghost use Rattle.emit_expressions.specs.Expressions.{is_pieced, ending_in, listed, multiplied};
-ghost use Rattle.emit_expressions.specs.Expressions.{times, joined_by, number_ending, opened};
-ghost use Rattle.emit_expressions.specs.Expressions.{plain_name, plain_text, wide_comparison};
-ghost use Rattle.emit_expressions.specs.Expressions.{wide_name, written};
+ghost use Rattle.emit_expressions.specs.Expressions.{ending_in, is_pieced, joined_by, number_ending};
+ghost use Rattle.emit_expressions.specs.Expressions.{opened, plain_name, plain_text};
+ghost use Rattle.emit_expressions.specs.Expressions.{product_closed, product_opened, times};
+ghost use Rattle.emit_expressions.specs.Expressions.{wide_comparison, wide_name, written};
 ghost use Rattle.emit_expressions.specs.inner.Parts.{addend_at, addends_text, any_addend};
 ghost use Rattle.emit_expressions.specs.inner.Parts.{any_factor, any_part, factors_text};
 ghost use Rattle.emit_expressions.specs.inner.Parts.{joined_parts, later_addend, part_at};
@@ -147,7 +147,14 @@ pub(crate) fn write_wide<S: Sink>(
             let rest = rest.items();
             let pieced = is_pieced(rest.len());
             let ended = ending_in(pieced, ending);
-            write_wide_after(scope, listed_bytes(pieced), 6, ended, first.get(), out)?;
+            write_wide_after(
+                scope,
+                product_opened_bytes(pieced),
+                6,
+                ended,
+                first.get(),
+                out,
+            )?;
             write_factors(scope, pieced, ended, rest, out)
         }
         Expr::Sum { first, rest } => {
@@ -210,10 +217,17 @@ fn write_factors<S: Sink>(
     ensures { Wrote (S.seen out.old) (S.seen out.new) result
         (factors_text (seen scope.now) pieced ending.now factors.now) }
 {
-    for factor in factors {
-        write_wide_after(scope, times_bytes(pieced), 6, ending, &factor.of, out)?;
+    for (place, factor) in factors.iter().enumerate() {
+        write_wide_after(
+            scope,
+            times_bytes(begins_at(pieced, place)),
+            6,
+            ending,
+            &factor.of,
+            out,
+        )?;
     }
-    write_piece(multiplied_bytes(pieced), out)
+    write_piece(product_closed_bytes(pieced), out)
 }
 
 #[cycle(write_wide)]
@@ -247,7 +261,7 @@ fn write_addend<S: Sink>(
     if !begins {
         return write_wide_after(scope, sign_bytes(addend.minus), 5, ending, &addend.of, out);
     }
-    write_piece(b") + (", out)?;
+    write_piece(b")\n            + (", out)?;
     write_wide_after(
         scope,
         minus_bytes(addend.minus),
@@ -394,7 +408,7 @@ fn write_plain_part<S: Sink>(
     if !begins {
         return write_plain_after(scope, sign, asked, part, out);
     }
-    write_pieces(&[b")", sign, b"("], out)?;
+    write_pieces(&[b")\n           ", sign, b"("], out)?;
     write_plain_at(scope, asked, part, out)
 }
 
@@ -495,24 +509,28 @@ fn closed_bytes(pieced: bool) -> &'static [u8]
     if pieced { b")" } else { b"" }
 }
 
-fn listed_bytes(pieced: bool) -> &'static [u8]
-    ensures { result.now ≡ listed pieced }
+fn product_opened_bytes(pieced: bool) -> &'static [u8]
+    ensures { result.now ≡ product_opened pieced }
 {
-    if pieced { b"[" } else { b"" }
+    if pieced { b"Some(" } else { b"" }
 }
 
-// What stands between factors.
-fn times_bytes(pieced: bool) -> &'static [u8]
-    ensures { result.now ≡ times pieced }
+// What stands before a factor after the first one: a piece is given the product of all before it.
+fn times_bytes(begins: bool) -> &'static [u8]
+    ensures { result.now ≡ times begins }
 {
-    if pieced { b", " } else { b" * " }
+    if begins {
+        b")\n            .map(|result| result * "
+    } else {
+        b" * "
+    }
 }
 
-fn multiplied_bytes(pieced: bool) -> &'static [u8]
-    ensures { result.now ≡ multiplied pieced }
+fn product_closed_bytes(pieced: bool) -> &'static [u8]
+    ensures { result.now ≡ product_closed pieced }
 {
     if pieced {
-        b"].iter().product::<i128>()"
+        b")\n            .unwrap()"
     } else {
         b""
     }

@@ -7,8 +7,9 @@ use Rattle.lang_tree.specs.declared.tree.Factor.{Factor}
 use Rattle.lang_tree.specs.declared.tree.Expr.TheFolds.{fold-Addend, fold-Factor}
 use Rattle.emit_expressions.specs.Scopes.{ScopeParts}
 use Rattle.emit_expressions.specs.Expressions.{Written, Later, written, written_step, addend_step}
-use Rattle.emit_expressions.specs.Expressions.{addend_by, begins, closed, factor_step, is_pieced}
-use Rattle.emit_expressions.specs.Expressions.{joined_by, multiplied, opened, plain_at, times, wide_at}
+use Rattle.emit_expressions.specs.Expressions.{addend_by, begins, closed, factor_by, factor_step}
+use Rattle.emit_expressions.specs.Expressions.{is_pieced, joined_by, opened, plain_at, product_closed}
+use Rattle.emit_expressions.specs.Expressions.{wide_at}
 
 -- a part in 128 bits, in parentheses where it holds together less than is asked
 abbrev pub wide_part : ScopeParts → ℕ → List ℕ → Expr → List ℕ
@@ -23,12 +24,15 @@ later_factor scope = fold-Factor Written Later Later (written_step scope) addend
 abbrev pub later_addend : ScopeParts → Addend → Later
 later_addend scope = fold-Addend Written Later Later (written_step scope) addend_step factor_step
 
-abbrev pub factor_at : ScopeParts → Bool → List ℕ → Factor → List ℕ
-factor_at scope pieced ending factor = times pieced ++ (later_factor scope factor).wide ending
+-- a factor at this place of those after the first one
+abbrev pub factor_at : ScopeParts → Bool → List ℕ → ℕ → Factor → List ℕ
+factor_at scope pieced ending place factor =
+    factor_by (pieced && begins place) ending (later_factor scope factor)
 
 abbrev pub factors_text : ScopeParts → Bool → List ℕ → List Factor → List ℕ
 factors_text scope pieced ending factors =
-    flat_map (factor_at scope pieced ending) factors ++ multiplied pieced
+    flat_map (λ one. factor_at scope pieced ending one.0 one.1) (enumerate_from 0 factors)
+    ++ product_closed pieced
 
 -- an addend at this place of those after the first one
 abbrev pub addend_at : ScopeParts → Bool → List ℕ → ℕ → Addend → List ℕ

@@ -1,11 +1,9 @@
 use Rattle.std.proofs.Common.{◌++◌, ◌∙◌, codes, ap, refl}
 use Rattle.emit_expressions.specs.Expressions.{written}
 use Rattle.emit_expressions.specs.inner.Parts.{wide_part, later_addend}
-use Rattle.base_io.proofs.Rows.{row_went, row_stopped}
 use Rattle.base_io.proofs.Writing.{wrote_both, wrote_fails, wrote_longer, wrote_same}
 use Rattle.std.specs.List.{enumerate_from, flat_map}
-use Rattle.emit_expressions.specs.Expressions.{addend_by, closed, multiplied}
-use Rattle.std.proofs.lemmas.List.{take_all}
+use Rattle.emit_expressions.specs.Expressions.{addend_by, closed, product_closed}
 use Rattle.emit_expressions.specs.inner.Parts.{addend_at, addends_text, factor_at, factors_text}
 use Rattle.emit_expressions.proofs.Numbered.{numbered, numbered_done, numbered_stopped, numbered_went}
 use Rattle.emit_expressions.proofs.Written.{addend-begins, addend-follows, begun-by, wide_part-open, wide_part-closed, wide-Number, wide-Named, later_factor-of, later_addend-of, wide-Product, wide-Sum}
@@ -25,24 +23,24 @@ write_wide_at-returns g t c =
 pub write_wide_after-returns : goal.write_wide_after-returns
 write_wide_after-returns g t c = wrote_both c.in_ok-write_piece.ensures c.write_wide_at.ensures
 
-pub write_factors-loop-factor-preserved : goal.write_factors-loop-factor-preserved
-write_factors-loop-factor-preserved g t c =
+pub write_factors-loop-place-preserved : goal.write_factors-loop-place-preserved
+write_factors-loop-place-preserved g t c =
     let scope = seen c.args.scope.now in
-    row_went (factor_at scope c.args.pieced c.args.ending.now) c.args.factors.now c.loop-factor.factor-index c.factor-item.result _ c.loop-factor-test.true c.factor-item.is
-    (later_factor-of scope c.args.pieced c.args.ending.now c.factor-item.result _ c.times_bytes.ensures) c.loop-factor.invariant c.in_ok-write_wide_after.ensures
+    numbered_went (factor_at scope c.args.pieced c.args.ending.now) c.args.factors.now c.loop-place.place c.index-factors-place.result _ c.loop-place-test.true c.index-factors-place.is
+    (later_factor-of scope c.begins_at.result _ c.args.ending.now c.index-factors-place.result _ c.begins_at.ensures c.times_bytes.ensures) c.loop-place.invariant c.in_ok-write_wide_after.ensures
 
 pub write_factors-returns-in_err-write_wide_after : goal.write_factors-returns-in_err-write_wide_after
 write_factors-returns-in_err-write_wide_after g t c =
     let scope = seen c.args.scope.now in
-    let stopped = row_stopped (factor_at scope c.args.pieced c.args.ending.now) c.args.factors.now c.loop-factor.factor-index c.factor-item.result _ _ c.loop-factor-test.true c.factor-item.is
-    (later_factor-of scope c.args.pieced c.args.ending.now c.factor-item.result _ c.times_bytes.ensures) refl c.loop-factor.invariant c.in_err-write_wide_after.ensures in
-    wrote_fails _ c.from_residual.ensures.0 (wrote_longer (multiplied c.args.pieced) stopped)
+    wrote_fails _ c.from_residual.ensures.0 (wrote_longer (product_closed c.args.pieced)
+    (numbered_stopped (factor_at scope c.args.pieced c.args.ending.now) c.args.factors.now c.loop-place.place c.index-factors-place.result _ _ c.loop-place-test.true c.index-factors-place.is
+    (later_factor-of scope c.begins_at.result _ c.args.ending.now c.index-factors-place.result _ c.begins_at.ensures c.times_bytes.ensures) refl c.loop-place.invariant c.in_err-write_wide_after.ensures))
 
 pub write_factors-returns : goal.write_factors-returns
 write_factors-returns g t c =
     let scope = seen c.args.scope.now in
-    wrote_same _ (ap (λ l. flat_map (factor_at scope c.args.pieced c.args.ending.now) l ++ c.multiplied_bytes.result.now) (take_all c.loop-factor.factor-index c.args.factors.now c.loop-factor-test.false) ∙ ap (λ l. flat_map (factor_at scope c.args.pieced c.args.ending.now) c.args.factors.now ++ l) c.multiplied_bytes.ensures)
-    (wrote_both c.loop-factor.invariant c.write_piece.ensures)
+    wrote_same _ (ap (λ l. l ++ c.product_closed_bytes.result.now) (numbered_done (factor_at scope c.args.pieced c.args.ending.now) c.args.factors.now c.loop-place.place c.loop-place-test.false) ∙ ap (λ l. flat_map (numbered (factor_at scope c.args.pieced c.args.ending.now)) (enumerate_from 0 c.args.factors.now) ++ l) c.product_closed_bytes.ensures)
+    (wrote_both c.loop-place.invariant c.write_piece.ensures)
 
 pub write_addend-returns-then-not-begins : goal.write_addend-returns-then-not-begins
 write_addend-returns-then-not-begins g t c =
@@ -53,7 +51,7 @@ write_addend-returns-then-not-begins g t c =
 pub write_addend-returns : goal.write_addend-returns
 write_addend-returns g t c =
     let scope = seen c.args.scope.now in
-    wrote_same _ (ap (λ l. codes ") + (" ++ l) (begun-by scope c.args.ending.now c.args.addend.now _ _ c.minus_bytes.ensures c.begun_level.ensures) ∙ addend-begins c.args.begins c.args.ending.now (later_addend scope c.args.addend.now) c.if-not-begins.false)
+    wrote_same _ (ap (λ l. codes ")\n            + (" ++ l) (begun-by scope c.args.ending.now c.args.addend.now _ _ c.minus_bytes.ensures c.begun_level.ensures) ∙ addend-begins c.args.begins c.args.ending.now (later_addend scope c.args.addend.now) c.if-not-begins.false)
     (wrote_both c.in_ok-write_piece.ensures c.write_wide_after-2.ensures)
 
 pub write_addend-returns-in_err-write_piece : goal.write_addend-returns-in_err-write_piece
@@ -83,13 +81,13 @@ write_addends-returns g t c =
 pub write_wide-returns-in_ok-write_wide_after-in-Product : goal.write_wide-returns-in_ok-write_wide_after-in-Product
 write_wide-returns-in_ok-write_wide_after-in-Product g t c =
     let scope = seen c.args.scope.now in
-    wrote_same _ (wide-Product scope c.args.ending.now _ _ _ _ _ _ _ _ c.in-Product.is c.get-in-Product.ensures c.items-rest.ensures c.is_pieced-pieced.ensures c.ending_in-ended.ensures c.listed_bytes.ensures)
+    wrote_same _ (wide-Product scope c.args.ending.now _ _ _ _ _ _ _ _ c.in-Product.is c.get-in-Product.ensures c.items-rest.ensures c.is_pieced-pieced.ensures c.ending_in-ended.ensures c.product_opened_bytes.ensures)
     (wrote_both c.in_ok-write_wide_after-in-Product.ensures c.write_factors.ensures)
 
 pub write_wide-returns-in_err-write_wide_after-in-Product : goal.write_wide-returns-in_err-write_wide_after-in-Product
 write_wide-returns-in_err-write_wide_after-in-Product g t c =
     let scope = seen c.args.scope.now in
-    wrote_same _ (wide-Product scope c.args.ending.now _ _ _ _ _ _ _ _ c.in-Product.is c.get-in-Product.ensures c.items-rest.ensures c.is_pieced-pieced.ensures c.ending_in-ended.ensures c.listed_bytes.ensures)
+    wrote_same _ (wide-Product scope c.args.ending.now _ _ _ _ _ _ _ _ c.in-Product.is c.get-in-Product.ensures c.items-rest.ensures c.is_pieced-pieced.ensures c.ending_in-ended.ensures c.product_opened_bytes.ensures)
     (wrote_fails _ c.from_residual.ensures.0 (wrote_longer (factors_text scope c.is_pieced-pieced.result c.ending_in-ended.result.now c.items-rest.result.now) c.in_err-write_wide_after-in-Product.ensures))
 
 pub write_wide-returns-in_ok-write_wide_after-in-Sum : goal.write_wide-returns-in_ok-write_wide_after-in-Sum

@@ -6,9 +6,9 @@ use Rattle.base_io.specs.Writing.{Wrote}
 use Rattle.emit_expressions.specs.Scopes.{seen}
 use Rattle.emit_expressions.proofs.expressions.+write_wide.Given as goal
 
-abbrev pub invariant-write_factors-loop-factor : goal.invariant-write_factors-loop-factor
-invariant-write_factors-loop-factor g l =
-    Wrote (g.S.Sink.seen l.initial.out) (g.S.Sink.seen l.out) (Ok tt) (flat_map (factor_at (seen l.scope) l.pieced l.ending) (take l.factor-index l.factors))
+abbrev pub invariant-write_factors-loop-place : goal.invariant-write_factors-loop-place
+invariant-write_factors-loop-place g l =
+    Wrote (g.S.Sink.seen l.initial.out) (g.S.Sink.seen l.out) (Ok tt) (flat_map (numbered (factor_at (seen l.scope) l.pieced l.ending)) (take l.place (enumerate_from 0 l.factors)))
 
 abbrev pub invariant-write_addends-loop-place : goal.invariant-write_addends-loop-place
 invariant-write_addends-loop-place g l =
