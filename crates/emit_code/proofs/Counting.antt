@@ -11,7 +11,7 @@ use Rattle.emit_code.specs.Code.{Op}
 use Rattle.emit_code.specs.Code.Op.{WaitUntil, Notify}
 use Rattle.emit_code.specs.Executions.{Program, program_with, Position, Frame, Thread, Moment, IsThread, woken_position, woken_thread, NoneSleeps, AreNotified, new_thread, start, IsMove, Executes}
 use Rattle.emit_code.specs.Executions.Position.{Outside, At, Asleep, Notified}
-use Rattle.emit_code.specs.Executions.IsMove.{calls, takes, passes, falls_asleep, wakes, retakes, refuses, runs_body, panics, notifies, unlocks, releases, returns}
+use Rattle.emit_code.specs.Executions.IsMove.{calls, takes, passes, falls_asleep, wakes, retakes, refuses, abandons, runs_body, panics, notifies, unlocks, releases, returns}
 use Rattle.emit_code.specs.Executions.Executes.{none_yet, one_more}
 use Rattle.emit_code.specs.Sleepers.{waits_on, waiting_on, SleepersAreCounted, UncountedSleepNot, LeftOutIsMade}
 use Rattle.emit_code.proofs.Running.{noter_stays}
@@ -70,42 +70,44 @@ count condition now = now.asleep condition
 abbrev number : ℕ → Moment → ℕ
 number condition now = waiting_on now.threads condition
 
-move_counts : (system : System) (told : ℕ → List Op) (before next : Moment) (move : IsMove (program_with system told) before next) → SleepersAreCounted before → SleepersAreCounted next
-move_counts system told before next (calls thread frame move) counted condition =
+move_counts : (system : System) (told : ℕ → List Op) (timed : ℕ → ℕ → Bool) (before next : Moment) (move : IsMove (program_with system told timed) before next) → SleepersAreCounted before → SleepersAreCounted next
+move_counts system told timed before next (calls thread frame move) counted condition =
     ap (count condition) move.becomes ∙ counted condition ∙ sym (ap (number condition) move.becomes ∙ goes_same before.threads thread _ _ condition move.outside refl)
-move_counts system told before next (takes thread frame move) counted condition =
+move_counts system told timed before next (takes thread frame move) counted condition =
     ap (count condition) move.becomes ∙ counted condition ∙ sym (ap (number condition) move.becomes ∙ goes_same before.threads thread _ _ condition move.at refl)
-move_counts system told before next (passes thread frame move) counted condition =
+move_counts system told timed before next (passes thread frame move) counted condition =
     ap (count condition) move.becomes ∙ counted condition ∙ sym (ap (number condition) move.becomes ∙ goes_same before.threads thread _ _ condition move.at refl)
-move_counts system told before next (falls_asleep thread frame move) counted condition =
+move_counts system told timed before next (falls_asleep thread frame move) counted condition =
     let sum = sum_set before.threads thread (record { frame = frame; position = At (WaitUntil move.block move.condition ∷ move.rest) })
     (record { frame = frame; position = Asleep move.block move.condition move.rest }) condition move.at in
     let was = counted condition in
     ap (count condition) move.becomes ∙ omega (arith, sum, was) ∙ sym (ap (number condition) move.becomes)
-move_counts system told before next (wakes thread frame move) counted condition =
+move_counts system told timed before next (wakes thread frame move) counted condition =
     ap (count condition) move.becomes ∙ counted condition ∙ sym (ap (number condition) move.becomes ∙ goes_same before.threads thread _ _ condition move.at refl)
-move_counts system told before next (retakes thread frame move) counted condition =
+move_counts system told timed before next (retakes thread frame move) counted condition =
     let sum = sum_set before.threads thread (record { frame = frame; position = Notified move.block move.condition move.rest })
     (record { frame = frame; position = At (WaitUntil move.block move.condition ∷ move.rest) }) condition move.at in
     let was = counted condition in
     ap (count condition) move.becomes ∙ omega (arith, sum, was) ∙ sym (ap (number condition) move.becomes)
-move_counts system told before next (refuses thread frame move) counted condition =
+move_counts system told timed before next (refuses thread frame move) counted condition =
     ap (count condition) move.becomes ∙ counted condition ∙ sym (ap (number condition) move.becomes ∙ goes_same before.threads thread _ _ condition move.at refl)
-move_counts system told before next (runs_body thread frame move) counted condition =
+move_counts system told timed before next (abandons thread frame move) counted condition =
     ap (count condition) move.becomes ∙ counted condition ∙ sym (ap (number condition) move.becomes ∙ goes_same before.threads thread _ _ condition move.at refl)
-move_counts system told before next (panics thread frame move) counted condition =
+move_counts system told timed before next (runs_body thread frame move) counted condition =
     ap (count condition) move.becomes ∙ counted condition ∙ sym (ap (number condition) move.becomes ∙ goes_same before.threads thread _ _ condition move.at refl)
-move_counts system told before next (notifies thread frame move) counted condition =
+move_counts system told timed before next (panics thread frame move) counted condition =
+    ap (count condition) move.becomes ∙ counted condition ∙ sym (ap (number condition) move.becomes ∙ goes_same before.threads thread _ _ condition move.at refl)
+move_counts system told timed before next (notifies thread frame move) counted condition =
     ap (count condition) move.becomes ∙ counted condition
     ∙ sym (ap (number condition) move.becomes
     ∙ goes_same move.woken thread (record { frame = frame; position = At (Notify move.note ∷ move.rest) }) (record { frame = frame; position = At move.rest }) condition
-    (noter_stays system told before move.note move.woken move.notified thread frame (Notify move.note ∷ move.rest) move.at) refl
-    ∙ notified_same (program_with system told) before move.note move.woken condition move.notified)
-move_counts system told before next (unlocks thread frame move) counted condition =
+    (noter_stays system told timed before move.note move.woken move.notified thread frame (Notify move.note ∷ move.rest) move.at) refl
+    ∙ notified_same (program_with system told timed) before move.note move.woken condition move.notified)
+move_counts system told timed before next (unlocks thread frame move) counted condition =
     ap (count condition) move.becomes ∙ counted condition ∙ sym (ap (number condition) move.becomes ∙ goes_same before.threads thread _ _ condition move.at refl)
-move_counts system told before next (releases thread frame move) counted condition =
+move_counts system told timed before next (releases thread frame move) counted condition =
     ap (count condition) move.becomes ∙ counted condition ∙ sym (ap (number condition) move.becomes ∙ goes_same before.threads thread _ _ condition move.at refl)
-move_counts system told before next (returns thread frame move) counted condition =
+move_counts system told timed before next (returns thread frame move) counted condition =
     ap (count condition) move.becomes ∙ counted condition ∙ sym (ap (number condition) move.becomes ∙ goes_same before.threads thread _ _ condition move.at refl)
 
 -- ---- executions
@@ -116,9 +118,9 @@ start_counts (first ∷ more) condition =
     let rest = start_counts more condition in
     omega (arith, rest)
 
-pub counted_late : (system : System) (told : ℕ → List Op) (last : Moment) → Executes (program_with system told) (start (program_with system told)) last → SleepersAreCounted last
-counted_late system told last none_yet = λ condition. sym (start_counts system.clients condition)
-counted_late system told last (one_more middle end so_far move) = move_counts system told middle end move (counted_late system told middle so_far)
+pub counted_late : (system : System) (told : ℕ → List Op) (timed : ℕ → ℕ → Bool) (last : Moment) → Executes (program_with system told timed) (start (program_with system told timed)) last → SleepersAreCounted last
+counted_late system told timed last none_yet = λ condition. sym (start_counts system.clients condition)
+counted_late system told timed last (one_more middle end so_far move) = move_counts system told timed middle end move (counted_late system told timed middle so_far)
 
 -- ---- nobody is counted
 

@@ -5,7 +5,7 @@ use Rattle.std.proofs.lemmas.Bool.{true≢false}
 use Rattle.machine_implicit.specs.declared.commit.Commit.{Commit}
 use Rattle.machine_implicit.specs.declared.commit.Reply.TheVariants as replies
 use Rattle.emit_code.specs.Executions.{Program, Moment, commit_of, start, IsMove}
-use Rattle.emit_code.specs.Executions.IsMove.{calls, takes, passes, falls_asleep, wakes, retakes, refuses, runs_body, panics, notifies, unlocks, releases, returns}
+use Rattle.emit_code.specs.Executions.IsMove.{calls, takes, passes, falls_asleep, wakes, retakes, refuses, abandons, runs_body, panics, notifies, unlocks, releases, returns}
 use Rattle.emit_code.specs.Executions.Executes.{none_yet, one_more}
 use Rattle.emit_code.specs.Functions.{Turn, completes, returned_by, turns_in, turns_of, returned, left_by, has_panic, FunctionsRanOnce, DataFollowTheRun}
 use Rattle.emit_code.specs.Functions.Turn.{Returned, Panicked}
@@ -53,6 +53,9 @@ move_adds program before next (falls_asleep thread frame move) = nothing_ran pro
 move_adds program before next (wakes thread frame move) = nothing_ran program before next (ap (λ (now : Moment). now.ran) move.becomes)
 move_adds program before next (retakes thread frame move) = nothing_ran program before next (ap (λ (now : Moment). now.ran) move.becomes)
 move_adds program before next (refuses thread frame move) =
+    let commit = commit_of program thread frame move.block replies.Refused in
+    ap (λ (now : Moment). filter (completes program) now.ran) move.becomes ∙ filter_both (completes program) before.ran (commit ∷ [])
+move_adds program before next (abandons thread frame move) =
     let commit = commit_of program thread frame move.block replies.Refused in
     ap (λ (now : Moment). filter (completes program) now.ran) move.becomes ∙ filter_both (completes program) before.ran (commit ∷ [])
 move_adds program before next (runs_body thread frame move) =

@@ -9,16 +9,16 @@ use Rattle.lang_monitor.specs.MonitorParts.{locals_in}
 use Rattle.machine_events.specs.declared.plan.Note.{Note}
 use Rattle.machine_events.specs.Configurations.{System, block_condition}
 use Rattle.machine_events.specs.Pending.{IsSystem}
-use Rattle.emit_code.specs.Code.{Op, is_waited_on, telling_code, code_with}
+use Rattle.emit_code.specs.Code.{Op, is_waited_on, telling_code}
 use Rattle.emit_code.specs.Code.Op.{Lock, WaitUntil, ElseRefuse, Run, Notify, Unlock, Release}
 use Rattle.emit_code.specs.Executions.{Position, Frame, Thread, Moment, IsThread, goes, program_with, continues, recovers, woken_position, woken_thread, AreNotified, called_for, start, IsMove, Executes}
 use Rattle.emit_code.specs.Executions.Position.{Outside, At, Asleep, Notified}
-use Rattle.emit_code.specs.Executions.IsMove.{calls, takes, passes, falls_asleep, wakes, retakes, refuses, runs_body, panics, notifies, unlocks, releases, returns}
+use Rattle.emit_code.specs.Executions.IsMove.{calls, takes, passes, falls_asleep, wakes, retakes, refuses, abandons, runs_body, panics, notifies, unlocks, releases, returns}
 use Rattle.emit_code.specs.Executions.Executes.{none_yet, one_more}
 use Rattle.emit_code.specs.Orders.{IsTold}
 use Rattle.emit_code.specs.Laws.{Leads, HoldersAct, BodiesAreReady}
 use Rattle.emit_code.proofs.Lists.{set_here, set_other}
-use Rattle.emit_code.proofs.Stages.{tries_in, passed_code, now_free, now_locked, never, locked_later, telling_locked, again_locked}
+use Rattle.emit_code.proofs.Stages.{refuses_in, call_code, passed_code, now_free, now_locked, never, locked_later, telling_locked, again_locked}
 use Rattle.emit_code.proofs.Placed.{ArePlaced, passed_at, after_unlock, after_release}
 use Rattle.emit_code.proofs.Running.{noter_stays, sound_late}
 
@@ -104,12 +104,12 @@ stays_holding condition (At rest) is = refl
 stays_holding condition (Asleep block other rest) is = never is
 stays_holding condition (Notified block other rest) is = refl
 
-woken_holding : (system : System) (told : ℕ → List Op) (now : Moment) (note : Note) (woken : List Thread) → HasHolder now.threads now.holder → AreNotified (program_with system told) now note woken
+woken_holding : (system : System) (told : ℕ → List Op) (timed : ℕ → ℕ → Bool) (now : Moment) (note : Note) (woken : List Thread) → HasHolder now.threads now.holder → AreNotified (program_with system told timed) now note woken
     → HasHolder woken now.holder
-woken_holding system told now note woken has (inl first) =
+woken_holding system told timed now note woken has (inl first) =
     subst (λ (threads : List Thread). HasHolder threads now.holder) (sym first.becomes)
     (goes_holding now.threads now.holder first.target first.target_frame first.target_frame (Asleep first.block note.condition first.rest) (Notified first.block note.condition first.rest) first.sleeps has (λ is. never is))
-woken_holding system told now note woken has (inr (inl each)) =
+woken_holding system told timed now note woken has (inr (inl each)) =
     subst (λ (threads : List Thread). HasHolder threads now.holder) (sym each.becomes) (λ other is.
     let found = has other is in (
       found.0,
@@ -118,84 +118,87 @@ woken_holding system told now note woken has (inr (inl each)) =
           ∙ ap Some (λ i. record { frame = found.0; position = stays_holding note.condition found.1 found.3 i }),
       found.3,
     ))
-woken_holding system told now note woken has (inr (inr nobody)) = subst (λ (threads : List Thread). HasHolder threads now.holder) (sym nobody.becomes) has
+woken_holding system told timed now note woken has (inr (inr nobody)) = subst (λ (threads : List Thread). HasHolder threads now.holder) (sym nobody.becomes) has
 
 abbrev KeepsHolder : Moment → Type 0
 KeepsHolder now = HasHolder now.threads now.holder
 
-move_holding : (system : System) (told : ℕ → List Op) → IsTold system told → (before next : Moment) → ArePlaced system told before → KeepsHolder before → IsMove (program_with system told) before next → KeepsHolder next
-move_holding system told order before next placed has (calls thread frame move) =
+move_holding : (system : System) (told : ℕ → List Op) (timed : ℕ → ℕ → Bool) → IsTold system told → (before next : Moment) → ArePlaced system told timed before → KeepsHolder before → IsMove (program_with system told timed) before next → KeepsHolder next
+move_holding system told timed order before next placed has (calls thread frame move) =
     subst KeepsHolder (sym move.becomes)
     (goes_holding before.threads before.holder thread frame (record { past = frame.past; locals = locals_in (slice_get system.monitor.methods move.call.method); answer = replies.Unit }) Outside
-    (At (code_with system.monitor told move.call.method move.call.tries)) move.outside has (λ is. never is))
-move_holding system told order before next placed has (takes thread frame move) =
+    (At (call_code system told timed thread frame.past move.call)) move.outside has (λ is. never is))
+move_holding system told timed order before next placed has (takes thread frame move) =
     let enters = placed thread frame (At (Lock ∷ move.rest)) move.at in
     subst KeepsHolder (sym move.becomes) (takes_holding before.threads thread frame (At (Lock ∷ move.rest)) (At move.rest) move.at
     (ap (λ (ops : List Op). is_holding (At ops)) enters.rest_is
-    ∙ holds_passed system told enters.block enters.left (tries_in system enters.call enters.block) (is_waited_on system.monitor (block_condition system.monitor enters.block))))
-move_holding system told order before next placed has (passes thread frame move) =
-    let passed = passed_at system told before placed thread frame move.op move.block move.rest move.at move.tests in
+    ∙ holds_passed system told enters.block enters.left (refuses_in system timed thread frame.past enters.call enters.block) (is_waited_on system.monitor (block_condition system.monitor enters.block))))
+move_holding system told timed order before next placed has (passes thread frame move) =
+    let passed = passed_at system told timed before placed thread frame move.op move.block move.rest move.at move.tests in
     subst KeepsHolder (sym move.becomes) (goes_holding before.threads before.holder thread frame frame (At (move.op ∷ move.rest)) (At move.rest) move.at has
     (λ is. ap (λ (ops : List Op). is_holding (At ops)) passed.rest_is))
-move_holding system told order before next placed has (falls_asleep thread frame move) =
+move_holding system told timed order before next placed has (falls_asleep thread frame move) =
     subst KeepsHolder (sym move.becomes) (nobody_holds (goes before.threads thread frame (Asleep move.block move.condition move.rest)))
-move_holding system told order before next placed has (wakes thread frame move) =
+move_holding system told timed order before next placed has (wakes thread frame move) =
     subst KeepsHolder (sym move.becomes)
     (goes_holding before.threads before.holder thread frame frame (Asleep move.block move.condition move.rest) (Notified move.block move.condition move.rest) move.at has (λ is. never is))
-move_holding system told order before next placed has (retakes thread frame move) =
+move_holding system told timed order before next placed has (retakes thread frame move) =
     subst KeepsHolder (sym move.becomes)
     (takes_holding before.threads thread frame (Notified move.block move.condition move.rest) (At (WaitUntil move.block move.condition ∷ move.rest)) move.at refl)
-move_holding system told order before next placed has (refuses thread frame move) =
+move_holding system told timed order before next placed has (refuses thread frame move) =
     subst KeepsHolder (sym move.becomes)
     (goes_holding before.threads before.holder thread frame (record { past = frame.past; locals = frame.locals; answer = replies.Refused }) (At (ElseRefuse move.block ∷ move.rest)) (At (Unlock ∷ [])) move.at has (λ is. refl))
-move_holding system told order before next placed has (runs_body thread frame move) =
+move_holding system told timed order before next placed has (abandons thread frame move) =
+    subst KeepsHolder (sym move.becomes)
+    (goes_holding before.threads before.holder thread frame (record { past = frame.past; locals = frame.locals; answer = replies.Refused }) (At (WaitUntil move.block move.condition ∷ move.rest)) (At (Unlock ∷ [])) move.at has (λ is. refl))
+move_holding system told timed order before next placed has (runs_body thread frame move) =
     let ready = placed thread frame (At (Run move.block move.otherwise ∷ move.rest)) move.at in
     let locked : now_locked move.rest ≡ true = ap now_locked ready.1.rest_is ∙ locked_later system told (move.block + 1) ready.1.left (told move.block) (order.shape move.block) in
     subst KeepsHolder (sym move.becomes)
     (goes_holding before.threads before.holder thread frame (record { past = frame.past; locals = move.locals; answer = move.reply }) (At (Run move.block move.otherwise ∷ move.rest))
     (At (continues move.reply move.otherwise move.rest)) move.at has (λ is. continues_holds move.reply move.otherwise move.rest locked))
-move_holding system told order before next placed has (panics thread frame move) =
-    let ops = recovers (program_with system told) thread frame move.block move.otherwise move.rest in
+move_holding system told timed order before next placed has (panics thread frame move) =
+    let ops = recovers (program_with system told timed) thread frame move.block move.otherwise move.rest in
     subst KeepsHolder (sym move.becomes)
     (goes_holding before.threads before.holder thread frame frame (At (Run move.block move.otherwise ∷ move.rest)) (At ops) move.at has
-    (λ is. locked_holds ops (again_locked (program_with system told) thread frame move.block move.otherwise move.rest)))
-move_holding system told order before next placed has (notifies thread frame move) =
+    (λ is. locked_holds ops (again_locked (program_with system told timed) thread frame move.block move.otherwise move.rest)))
+move_holding system told timed order before next placed has (notifies thread frame move) =
     subst KeepsHolder (sym move.becomes)
     (goes_holding move.woken before.holder thread frame frame (At (Notify move.note ∷ move.rest)) (At move.rest)
-    (noter_stays system told before move.note move.woken move.notified thread frame (Notify move.note ∷ move.rest) move.at)
-    (woken_holding system told before move.note move.woken has move.notified) (λ is. locked_holds move.rest is))
-move_holding system told order before next placed has (unlocks thread frame move) = subst KeepsHolder (sym move.becomes) (nobody_holds (goes before.threads thread frame (At move.rest)))
-move_holding system told order before next placed has (releases thread frame move) =
-    subst KeepsHolder (sym move.becomes) (nobody_holds (goes before.threads thread frame (At (called_for (program_with system told) before move.notes move.rest))))
-move_holding system told order before next placed has (returns thread frame move) =
+    (noter_stays system told timed before move.note move.woken move.notified thread frame (Notify move.note ∷ move.rest) move.at)
+    (woken_holding system told timed before move.note move.woken has move.notified) (λ is. locked_holds move.rest is))
+move_holding system told timed order before next placed has (unlocks thread frame move) = subst KeepsHolder (sym move.becomes) (nobody_holds (goes before.threads thread frame (At move.rest)))
+move_holding system told timed order before next placed has (releases thread frame move) =
+    subst KeepsHolder (sym move.becomes) (nobody_holds (goes before.threads thread frame (At (called_for (program_with system told timed) before move.notes move.rest))))
+move_holding system told timed order before next placed has (returns thread frame move) =
     subst KeepsHolder (sym move.becomes)
     (goes_holding before.threads before.holder thread frame (record { past = frame.past + 1; locals = frame.locals; answer = frame.answer }) (At []) Outside move.at has (λ is. never is))
 
-pub holder_late : (system : System) (told : ℕ → List Op) → IsSystem system → IsTold system told → (last : Moment) → Executes (program_with system told) (start (program_with system told)) last
+pub holder_late : (system : System) (told : ℕ → List Op) (timed : ℕ → ℕ → Bool) → IsSystem system → IsTold system told → (last : Moment) → Executes (program_with system told timed) (start (program_with system told timed)) last
     → HasHolder last.threads last.holder
-holder_late system told is order last none_yet = nobody_holds (start (program_with system told)).threads
-holder_late system told is order last (one_more middle end so_far move) =
-    move_holding system told order middle end (sound_late system told is order middle so_far).placed (holder_late system told is order middle so_far) move
+holder_late system told timed is order last none_yet = nobody_holds (start (program_with system told timed)).threads
+holder_late system told timed is order last (one_more middle end so_far move) =
+    move_holding system told timed order middle end (sound_late system told timed is order middle so_far).placed (holder_late system told timed is order middle so_far) move
 
 -- ---- who does what needs the mutex
 
-needs_holder : (system : System) (told : ℕ → List Op) (now : Moment) → ArePlaced system told now → HoldersAct (program_with system told) now
-needs_holder system told now placed thread frame Lock rest at needs = never needs
-needs_holder system told now placed thread frame (WaitUntil block condition) rest at needs = (placed thread frame (At (WaitUntil block condition ∷ rest)) at).0
-needs_holder system told now placed thread frame (ElseRefuse block) rest at needs = (placed thread frame (At (ElseRefuse block ∷ rest)) at).0
-needs_holder system told now placed thread frame (Run block otherwise) rest at needs = (placed thread frame (At (Run block otherwise ∷ rest)) at).0
-needs_holder system told now placed thread frame (Notify note) rest at needs = elim (placed thread frame (At (Notify note ∷ rest)) at).held [
+needs_holder : (system : System) (told : ℕ → List Op) (timed : ℕ → ℕ → Bool) (now : Moment) → ArePlaced system told timed now → HoldersAct (program_with system told timed) now
+needs_holder system told timed now placed thread frame Lock rest at needs = never needs
+needs_holder system told timed now placed thread frame (WaitUntil block condition) rest at needs = (placed thread frame (At (WaitUntil block condition ∷ rest)) at).0
+needs_holder system told timed now placed thread frame (ElseRefuse block) rest at needs = (placed thread frame (At (ElseRefuse block ∷ rest)) at).0
+needs_holder system told timed now placed thread frame (Run block otherwise) rest at needs = (placed thread frame (At (Run block otherwise ∷ rest)) at).0
+needs_holder system told timed now placed thread frame (Notify note) rest at needs = elim (placed thread frame (At (Notify note ∷ rest)) at).held [
   | inl held ↦ held.1
   | inr free ↦ absurd (true≢false (sym needs ∙ not-true note.tested (and_parts (not note.tested) (now_free rest) free).0))
 ]
-needs_holder system told now placed thread frame Unlock rest at needs = (after_unlock system told now.holder thread frame.past rest (placed thread frame (At (Unlock ∷ rest)) at)).0
-needs_holder system told now placed thread frame (Release notes) rest at needs =
-    (after_release system told now now.holder thread frame.past notes rest (placed thread frame (At (Release notes ∷ rest)) at)).0
+needs_holder system told timed now placed thread frame Unlock rest at needs = (after_unlock system told timed now.holder thread frame.past rest (placed thread frame (At (Unlock ∷ rest)) at)).0
+needs_holder system told timed now placed thread frame (Release notes) rest at needs =
+    (after_release system told timed now now.holder thread frame.past notes rest (placed thread frame (At (Release notes ∷ rest)) at)).0
 
-pub late_ready : (system : System) (told : ℕ → List Op) (last : Moment) → IsSystem system → IsTold system told → Leads (program_with system told) last → BodiesAreReady (program_with system told) last
-late_ready system told last is order run thread frame block otherwise rest at =
-    let ready = (sound_late system told is order last run).placed thread frame (At (Run block otherwise ∷ rest)) at in
+pub late_ready : (system : System) (told : ℕ → List Op) (timed : ℕ → ℕ → Bool) (last : Moment) → IsSystem system → IsTold system told → Leads (program_with system told timed) last → BodiesAreReady (program_with system told timed) last
+late_ready system told timed last is order run thread frame block otherwise rest at =
+    let ready = (sound_late system told timed is order last run).placed thread frame (At (Run block otherwise ∷ rest)) at in
     (ready.0, ready.1.open_is)
 
-pub late_holders_act : (system : System) (told : ℕ → List Op) (last : Moment) → IsSystem system → IsTold system told → Leads (program_with system told) last → HoldersAct (program_with system told) last
-late_holders_act system told last is order run = needs_holder system told last (sound_late system told is order last run).placed
+pub late_holders_act : (system : System) (told : ℕ → List Op) (timed : ℕ → ℕ → Bool) (last : Moment) → IsSystem system → IsTold system told → Leads (program_with system told timed) last → HoldersAct (program_with system told timed) last
+late_holders_act system told timed last is order run = needs_holder system told timed last (sound_late system told timed is order last run).placed

@@ -1,5 +1,5 @@
 -- The program that is printed.
-use Rattle.std.proofs.Common.{ℕ, List}
+use Rattle.std.proofs.Common.{ℕ, Bool, List}
 use Rattle.lang_monitor.specs.MonitorParts.{MonitorParts, IsMonitor}
 use Rattle.machine_implicit.specs.declared.script.Client.{Client}
 use Rattle.machine_implicit.specs.Scripted.{FitsScripts}
@@ -12,7 +12,7 @@ use Rattle.machine_events.specs.Pending.{IsSystem}
 use Rattle.machine_events.specs.Laws.{HasCountingPlan}
 use Rattle.emit_code.specs.Code.{Op, late_order}
 use Rattle.emit_code.specs.Executions.{Moment, program_with}
-use Rattle.emit_code.specs.LivePlans.{live_plan, printed_program}
+use Rattle.emit_code.specs.LivePlans.{live_plan, timed_program}
 use Rattle.emit_code.specs.Laws.{Leads, LosesNone}
 use Rattle.emit_code.proofs.Running.{late_runs}
 use Rattle.emit_code.proofs.Holding.{late_holders_act, late_ready}
@@ -24,9 +24,9 @@ use Rattle.emit_code.proofs.Stillness.{quiet_late, still_late, still_ends}
 use Rattle.emit_code.proofs.Order.{late_is_told}
 use Rattle.emit_code.proofs.Live.{live_fits, live_is_lawful_by_counting}
 
-pub counted_loses_none : (monitor : MonitorParts) (plan : Plan) (clients : List Client) (last : Moment) → IsMonitor monitor → FitsScripts monitor clients → FitsPlan monitor plan → IsLawfulByCounting monitor plan
-    → Leads (printed_program monitor plan clients) last → LosesNone (printed_program monitor plan clients) last
-counted_loses_none monitor plan clients last rule scripts fits lawful run =
+pub counted_loses_none : (monitor : MonitorParts) (plan : Plan) (clients : List Client) (timed : ℕ → ℕ → Bool) (last : Moment) → IsMonitor monitor → FitsScripts monitor clients → FitsPlan monitor plan → IsLawfulByCounting monitor plan
+    → Leads (timed_program monitor plan clients timed) last → LosesNone (timed_program monitor plan clients timed) last
+counted_loses_none monitor plan clients timed last rule scripts fits lawful run =
     let live = live_plan monitor plan in
     let system : System = system_under monitor clients live in
     let is : IsSystem system = record { rule = rule; scripts = scripts; plan = live_fits monitor plan fits } in
@@ -34,18 +34,18 @@ counted_loses_none monitor plan clients last rule scripts fits lawful run =
     let told : ℕ → List Op = late_order live in
     let order = late_is_told system is in
     record {
-      mutex = late_holders_act system told last is order run;
-      ready = late_ready system told last is order run;
-      run = late_runs system told last is order run;
-      functions = ran_once (program_with system told) last;
-      answers = late_answers system told last is order run;
-      counts = counted_late system told last run;
-      pending = late_seen_to system told last set order run;
-      rests = quiet_late system told last set order run;
-      ends = still_late system told last set order run;
-      ends_the_run = still_ends system told last set order run;
+      mutex = late_holders_act system told timed last is order run;
+      ready = late_ready system told timed last is order run;
+      run = late_runs system told timed last is order run;
+      functions = ran_once (program_with system told timed) last;
+      answers = late_answers system told timed last is order run;
+      counts = counted_late system told timed last run;
+      pending = late_seen_to system told timed last set order run;
+      rests = quiet_late system told timed last set order run;
+      ends = still_late system told timed last set order run;
+      ends_the_run = still_ends system told timed last set order run;
     }
 
-pub printed_loses_none : (monitor : MonitorParts) (plan : Plan) (clients : List Client) (last : Moment) → IsMonitor monitor → FitsScripts monitor clients → FitsPlan monitor plan → IsLawful monitor plan
-    → Leads (printed_program monitor plan clients) last → LosesNone (printed_program monitor plan clients) last
-printed_loses_none monitor plan clients last rule scripts fits lawful run = counted_loses_none monitor plan clients last rule scripts fits (lawful_by_counting monitor plan lawful) run
+pub printed_loses_none : (monitor : MonitorParts) (plan : Plan) (clients : List Client) (timed : ℕ → ℕ → Bool) (last : Moment) → IsMonitor monitor → FitsScripts monitor clients → FitsPlan monitor plan → IsLawful monitor plan
+    → Leads (timed_program monitor plan clients timed) last → LosesNone (timed_program monitor plan clients timed) last
+printed_loses_none monitor plan clients timed last rule scripts fits lawful run = counted_loses_none monitor plan clients timed last rule scripts fits (lawful_by_counting monitor plan lawful) run

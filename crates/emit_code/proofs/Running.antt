@@ -1,5 +1,5 @@
 -- What ran is a run of the implicit monitor, whatever the plan.
-use Rattle.std.proofs.Common.{◌≡◌, ◌==◌, ℕ, zero, suc, ◌+◌, ◌-◌, Bool, true, false, cond, ◌||◌, List, [], ◌∷◌, ◌++◌, map, Option, Some, None, IsSomeAnd, refl, sym, ap, subst, ◌∙◌, arith, inl, inr}
+use Rattle.std.proofs.Common.{◌≡◌, ◌==◌, ℕ, zero, suc, ◌+◌, ◌-◌, Bool, true, false, cond, not, ◌||◌, List, [], ◌∷◌, ◌++◌, map, Option, Some, None, IsSomeAnd, refl, sym, ap, subst, ◌∙◌, arith, inl, inr}
 use Rattle.std.specs.Prelude.{slice_get, option_map}
 use Rattle.std.specs.Option.{option_map_or}
 use Rattle.std.proofs.lemmas.Option.{same_Some, slice_get-map}
@@ -22,18 +22,18 @@ use Rattle.machine_implicit.specs.Runs.IsRunBy.{begun, stepped}
 use Rattle.machine_events.specs.declared.plan.Note.{Note}
 use Rattle.machine_events.specs.Configurations.{System, guard_of}
 use Rattle.machine_events.specs.Pending.{IsSystem}
-use Rattle.emit_code.specs.Code.{Op, overflow_notes, telling_code, code_with}
+use Rattle.emit_code.specs.Code.{Op, overflow_notes, telling_code}
 use Rattle.emit_code.specs.Code.Op.{Lock, WaitUntil, ElseRefuse, Run, Notify, Unlock, Release}
-use Rattle.emit_code.specs.Executions.{Position, Frame, Thread, Moment, IsThread, goes, program_with, commit_of, continues, recovers, woken_thread, AreNotified, called_for, start}
+use Rattle.emit_code.specs.Executions.{Position, Frame, Thread, Moment, IsThread, goes, program_with, is_open, commit_of, continues, tries_there, recovers, woken_thread, AreNotified, called_for, start}
 use Rattle.emit_code.specs.Executions.{RunsBody, IsMove, Executes}
 use Rattle.emit_code.specs.Executions.Position.{Outside, At, Asleep, Notified}
-use Rattle.emit_code.specs.Executions.IsMove.{calls, takes, passes, falls_asleep, wakes, retakes, refuses, runs_body, panics, notifies, unlocks, releases, returns}
+use Rattle.emit_code.specs.Executions.IsMove.{calls, takes, passes, falls_asleep, wakes, retakes, refuses, abandons, runs_body, panics, notifies, unlocks, releases, returns}
 use Rattle.emit_code.specs.Executions.Executes.{none_yet, one_more}
 use Rattle.emit_code.specs.Orders.{IsTold}
 use Rattle.emit_code.specs.Laws.{Leads, Ran}
 use Rattle.emit_code.proofs.Lists.{set_other}
 use Rattle.emit_code.proofs.Views.{next_block, number_at, place_by, place_at, place_of, place_there, places_go, same_places, standings, situation_at, all_woken_places, start_places}
-use Rattle.emit_code.proofs.Stages.{first_of, count_of, tries_in, IsAt, later_code, told_code, Faced, number_is, block_is, open_is_guard, some_block, next_locked, follows_locked, called_next, telling_next, again_next}
+use Rattle.emit_code.proofs.Stages.{first_of, count_of, tries_in, refuses_in, IsAt, call_code, later_code, told_code, Faced, number_is, block_is, tries_is, open_is_guard, some_block, next_locked, follows_locked, called_next, telling_next, again_next}
 use Rattle.emit_code.proofs.Placed.{IsSoundly, faced_there, moment, code_is, passed_at, move_placed, start_placed}
 
 -- ---- places that stay
@@ -50,10 +50,10 @@ goes_run system now holder thread frame new_frame position new_position at same 
     quiet_run system now holder (goes now.threads thread new_frame new_position) (same_places system now.threads thread frame new_frame position new_position at same) run
 
 -- a call begins at its first place
-pub begins_here : (system : System) (told : ℕ → List Op) (thread : ℕ) (frame : Frame) (call : Call) → IsSystem system → slice_get (calls_of system.clients thread) frame.past ≡ Some call
-    → (answer : Reply) → place_at system thread (record { past = frame.past; locals = locals_in (slice_get system.monitor.methods call.method); answer = answer }) (At (code_with system.monitor told call.method call.tries))
+pub begins_here : (system : System) (told : ℕ → List Op) (timed : ℕ → ℕ → Bool) (thread : ℕ) (frame : Frame) (call : Call) → IsSystem system → slice_get (calls_of system.clients thread) frame.past ≡ Some call
+    → (answer : Reply) → place_at system thread (record { past = frame.past; locals = locals_in (slice_get system.monitor.methods call.method); answer = answer }) (At (call_code system told timed thread frame.past call))
     ≡ place_at system thread frame Outside
-begins_here system told thread frame call is call_is answer =
+begins_here system told timed thread frame call is call_is answer =
     let some = some_block system thread frame.past call is call_is in
     let first = first_of system call in
     let begun_frame : Frame = record { past = frame.past; locals = locals_in (slice_get system.monitor.methods call.method); answer = answer } in
@@ -62,14 +62,14 @@ begins_here system told thread frame call is call_is answer =
     let number : number_at system thread frame.past first ≡ 0 = number_is system thread frame.past call first (suc some.0) at ∙ none in
     let locals : locals_in (slice_get system.monitor.methods call.method) ≡ (first_place system.monitor system.clients thread frame.past).locals =
     sym (ap (λ (one : Option Call). option_map_or (λ call. locals_in (slice_get system.monitor.methods call.method)) one []) call_is) in
-    let next : next_block (code_with system.monitor told call.method call.tries) ≡ Some first =
-    ap next_block (code_is system told call some.0 some.1) ∙ next_locked system told (tries_in system call first) first some.0 in
+    let next : next_block (call_code system told timed thread frame.past call) ≡ Some first =
+    ap next_block (code_is system told timed thread frame.past call some.0 some.1) ∙ next_locked system told (refuses_in system timed thread frame.past call first) first some.0 in
     ap (place_by system thread begun_frame) next ∙ (λ i. record { past = frame.past; block = number i; locals = locals i })
 
 -- who makes a note is where it was
-pub noter_stays : (system : System) (told : ℕ → List Op) (now : Moment) (note : Note) (woken : List Thread) → AreNotified (program_with system told) now note woken
+pub noter_stays : (system : System) (told : ℕ → List Op) (timed : ℕ → ℕ → Bool) (now : Moment) (note : Note) (woken : List Thread) → AreNotified (program_with system told timed) now note woken
     → (thread : ℕ) (frame : Frame) (ops : List Op) → IsThread now.threads thread frame (At ops) → IsThread woken thread frame (At ops)
-noter_stays system told now note woken (inl first) thread frame ops at =
+noter_stays system told timed now note woken (inl first) thread frame ops at =
     ap (λ (threads : List Thread). slice_get threads thread) first.becomes
     ∙ set_other now.threads first.target (record { frame = first.target_frame; position = Notified first.block note.condition first.rest }) thread differs ∙ at
   where
@@ -80,18 +80,18 @@ noter_stays system told now note woken (inl first) thread frame ops at =
         let two : Asleep first.block note.condition first.rest ≡ At ops =
         ap (λ (one : Thread). one.position) (same_Some (record { frame = first.target_frame; position = Asleep first.block note.condition first.rest }) (record { frame = frame; position = At ops }) (sym slept ∙ at)) in
         cc two
-noter_stays system told now note woken (inr (inl each)) thread frame ops at =
+noter_stays system told timed now note woken (inr (inl each)) thread frame ops at =
     ap (λ (threads : List Thread). slice_get threads thread) each.becomes ∙ slice_get-map (woken_thread note.condition) now.threads thread ∙ ap (option_map (woken_thread note.condition)) at
-noter_stays system told now note woken (inr (inr nobody)) thread frame ops at = ap (λ (threads : List Thread). slice_get threads thread) nobody.becomes ∙ at
+noter_stays system told timed now note woken (inr (inr nobody)) thread frame ops at = ap (λ (threads : List Thread). slice_get threads thread) nobody.becomes ∙ at
 
-notified_places : (system : System) (told : ℕ → List Op) (now : Moment) (note : Note) (woken : List Thread) → AreNotified (program_with system told) now note woken
+notified_places : (system : System) (told : ℕ → List Op) (timed : ℕ → ℕ → Bool) (now : Moment) (note : Note) (woken : List Thread) → AreNotified (program_with system told timed) now note woken
     → map place_of (standings system woken) ≡ map place_of (standings system now.threads)
-notified_places system told now note woken (inl first) =
+notified_places system told timed now note woken (inl first) =
     ap (λ (threads : List Thread). map place_of (standings system threads)) first.becomes
     ∙ same_places system now.threads first.target first.target_frame first.target_frame (Asleep first.block note.condition first.rest) (Notified first.block note.condition first.rest) first.sleeps refl
-notified_places system told now note woken (inr (inl each)) =
+notified_places system told timed now note woken (inr (inl each)) =
     ap (λ (threads : List Thread). map place_of (standings system threads)) each.becomes ∙ all_woken_places system note.condition now.threads
-notified_places system told now note woken (inr (inr nobody)) = ap (λ (threads : List Thread). map place_of (standings system threads)) nobody.becomes
+notified_places system told timed now note woken (inr (inr nobody)) = ap (λ (threads : List Thread). map place_of (standings system threads)) nobody.becomes
 
 -- ---- a body runs
 
@@ -106,11 +106,11 @@ continues_so (Some (values.Int number)) otherwise rest = refl
 continues_so (Some (values.Bool truth)) otherwise rest = refl
 
 -- the place after a whole body
-ran_goes : (system : System) (told : ℕ → List Op) → IsTold system told → (thread : ℕ) (frame : Frame) (call : Call) (block left : ℕ) → IsAt system thread frame.past call block (suc left)
+ran_goes : (system : System) (told : ℕ → List Op) (timed : ℕ → ℕ → Bool) → IsTold system told → (thread : ℕ) (frame : Frame) (call : Call) (block left : ℕ) → IsAt system thread frame.past call block (suc left)
     → (reply : Reply) (locals : List Value) → gives_up reply ≡ false
     → place_at system thread (record { past = frame.past; locals = locals; answer = reply }) (At (told_code system told block left))
     ≡ next_place system.monitor system.clients thread call (place_by system thread frame (Some block)) reply locals
-ran_goes system told order thread frame call block left at reply locals goes_so =
+ran_goes system told timed order thread frame call block left at reply locals goes_so =
     let follows = follows_locked system told (block + 1) left (told block) (order.shape block) in
     ap (place_by system thread (record { past = frame.past; locals = locals; answer = reply })) follows.next ∙ by left at
   where
@@ -137,7 +137,7 @@ ran_goes system told order thread frame call block left at reply locals goes_so 
         ∙ sym (chosen false (lt-leb (count_of system call) (number_at system thread frame.past block + 1) (omega (arith, own, at.begins, at.ends))))
 
 -- what is known where a body runs
-pub record BodyAt (system : System) (told : ℕ → List Op) (now : Moment) (thread : ℕ) (frame : Frame) (number : ℕ) (otherwise : List Note) (rest : List Op) (reply : Reply) (state locals : List Value) : Type 0 where
+pub record BodyAt (system : System) (told : ℕ → List Op) (timed : ℕ → ℕ → Bool) (now : Moment) (thread : ℕ) (frame : Frame) (number : ℕ) (otherwise : List Note) (rest : List Op) (reply : Reply) (state locals : List Value) : Type 0 where
   pub held_by : now.holder ≡ Some thread
   pub call : Call
   pub left : ℕ
@@ -150,16 +150,16 @@ pub record BodyAt (system : System) (told : ℕ → List Op) (now : Moment) (thr
   pub steps : BlockSteps here.block (given call.inputs frame.locals) now.state reply (held state locals)
   pub step : IsBlockStep system.monitor (block_at system.monitor call (place_by system thread frame (Some number))) (given call.inputs frame.locals) now.state reply (held state locals)
 
-pub body_at : (system : System) (told : ℕ → List Op) → IsSystem system → (thread : ℕ) (frame : Frame) (before next : Moment) → IsSoundly system told before
-    → (move : RunsBody (program_with system told) thread frame before next)
-    → BodyAt system told before thread frame move.block move.otherwise move.rest move.reply move.state move.locals
-body_at system told is thread frame before next sound move =
+pub body_at : (system : System) (told : ℕ → List Op) (timed : ℕ → ℕ → Bool) → IsSystem system → (thread : ℕ) (frame : Frame) (before next : Moment) → IsSoundly system told timed before
+    → (move : RunsBody (program_with system told timed) thread frame before next)
+    → BodyAt system told timed before thread frame move.block move.otherwise move.rest move.reply move.state move.locals
+body_at system told timed is thread frame before next sound move =
     let ready = sound.placed thread frame (At (Run move.block move.otherwise ∷ move.rest)) move.at in
     let call = ready.1.call in
     let at = ready.1.at in
     let place = place_by system thread frame (Some move.block) in
-    let here = faced_there system told before is sound thread frame (At (Run move.block move.otherwise ∷ move.rest)) move.at call move.block (suc ready.1.left) refl at in
-    let open_is : guard_of system before.state thread place ≡ true = sym (open_is_guard system told before.state thread frame call move.block (suc ready.1.left) at) ∙ ready.1.open_is in
+    let here = faced_there system told timed before is sound thread frame (At (Run move.block move.otherwise ∷ move.rest)) move.at call move.block (suc ready.1.left) refl at in
+    let open_is : guard_of system before.state thread place ≡ true = sym (open_is_guard system told timed before.state thread frame call move.block (suc ready.1.left) at) ∙ ready.1.open_is in
     let guard : guard_truth system.monitor before.state (block_at system.monitor call place) (given call.inputs frame.locals) ≡ true =
     sym (ap (λ (one : Option Call). option_map_or (λ call. guard_truth system.monitor before.state (block_at system.monitor call place) (inputs_at call place)) one false) at.call_is) ∙ open_is in
     let steps_in : IsSomeAnd (slice_get system.monitor.blocks move.block) (λ which. BlockSteps which (given call.inputs frame.locals) before.state move.reply (held move.state move.locals)) =
@@ -184,16 +184,16 @@ body_at system told is thread frame before next sound move =
     }
 
 -- where the thread goes is the next place
-pub body_goes : (system : System) (told : ℕ → List Op) → IsTold system told → (now : Moment) (thread : ℕ) (frame : Frame) (number : ℕ) (otherwise : List Note) (rest : List Op) (reply : Reply) (state locals : List Value)
-    → (body : BodyAt system told now thread frame number otherwise rest reply state locals)
+pub body_goes : (system : System) (told : ℕ → List Op) (timed : ℕ → ℕ → Bool) → IsTold system told → (now : Moment) (thread : ℕ) (frame : Frame) (number : ℕ) (otherwise : List Note) (rest : List Op) (reply : Reply) (state locals : List Value)
+    → (body : BodyAt system told timed now thread frame number otherwise rest reply state locals)
     → place_at system thread (record { past = frame.past; locals = locals; answer = reply }) (At (continues reply otherwise rest))
     ≡ next_place system.monitor system.clients thread body.call (place_by system thread frame (Some number)) reply locals
-body_goes system told order now thread frame number otherwise rest reply state locals body = elim body.steps [
+body_goes system told timed order now thread frame number otherwise rest reply state locals body = elim body.steps [
   | inl all ↦
       let answer = block_result (given body.call.inputs frame.locals) body.here.block now.state in
       let ops : continues reply otherwise rest ≡ told_code system told number body.left = ap (λ (one : Reply). continues one otherwise rest) all.1 ∙ continues_so answer otherwise rest ∙ body.rest_is in
       ap (λ (ops : List Op). place_at system thread (record { past = frame.past; locals = locals; answer = reply }) (At ops)) ops
-      ∙ ran_goes system told order thread frame body.call number body.left body.at reply locals (ap gives_up all.1 ∙ goes_on answer)
+      ∙ ran_goes system told timed order thread frame body.call number body.left body.at reply locals (ap gives_up all.1 ∙ goes_on answer)
   | inr over ↦
       let ops : continues reply otherwise rest ≡ telling_code otherwise = ap (λ (one : Reply). continues one otherwise rest) over.1 in
       ap (λ (ops : List Op). place_at system thread (record { past = frame.past; locals = locals; answer = reply }) (At ops)) ops
@@ -204,15 +204,15 @@ body_goes system told order now thread frame number otherwise rest reply state l
 -- ---- a step is noted
 
 -- a thread makes a step of its client from its place
-step_run : (system : System) (told : ℕ → List Op) (now : Moment) (thread : ℕ) (frame new_frame : Frame) (position new_position : Position) (number : ℕ) (reply : Reply) (state : List Value) (goes_to : Place)
+step_run : (system : System) (told : ℕ → List Op) (timed : ℕ → ℕ → Bool) (now : Moment) (thread : ℕ) (frame new_frame : Frame) (position new_position : Position) (number : ℕ) (reply : Reply) (state : List Value) (goes_to : Place)
     → IsThread now.threads thread frame position → place_at system thread frame position ≡ place_by system thread frame (Some number)
     → IsStep system.monitor system.clients thread (place_by system thread frame (Some number)) now.state reply state goes_to
     → place_at system thread new_frame new_position ≡ goes_to
     → IsRun system.monitor system.clients now.ran (situation_at system now)
-    → IsRun system.monitor system.clients (now.ran ++ commit_of (program_with system told) thread frame number reply ∷ [])
-    (situation_at system (moment state now.holder (now.ran ++ commit_of (program_with system told) thread frame number reply ∷ []) (goes now.threads thread new_frame new_position)))
-step_run system told now thread frame new_frame position new_position number reply state goes_to at place_is step goes_is run =
-    let commit = commit_of (program_with system told) thread frame number reply in
+    → IsRun system.monitor system.clients (now.ran ++ commit_of (program_with system told timed) thread frame number reply ∷ [])
+    (situation_at system (moment state now.holder (now.ran ++ commit_of (program_with system told timed) thread frame number reply ∷ []) (goes now.threads thread new_frame new_position)))
+step_run system told timed now thread frame new_frame position new_position number reply state goes_to at place_is step goes_is run =
+    let commit = commit_of (program_with system told timed) thread frame number reply in
     let follows : IsNextCommit system.monitor system.clients (situation_at system now) commit
     (situation_at system (moment state now.holder (now.ran ++ commit ∷ []) (goes now.threads thread new_frame new_position))) = record {
       place = place_by system thread frame (Some number);
@@ -226,47 +226,27 @@ step_run system told now thread frame new_frame position new_position number rep
     } in
     stepped now.ran (situation_at system now) commit _ run tt follows
 
--- ---- each move
-
-move_run : (system : System) (told : ℕ → List Op) → IsSystem system → IsTold system told → (before next : Moment) → IsSoundly system told before → IsMove (program_with system told) before next
-    → IsRun system.monitor system.clients next.ran (situation_at system next)
-move_run system told is order before next sound (calls thread frame move) =
-    subst (λ (one : Moment). IsRun system.monitor system.clients one.ran (situation_at system one)) (sym move.becomes)
-    (goes_run system before before.holder thread frame (record { past = frame.past; locals = locals_in (slice_get system.monitor.methods move.call.method); answer = replies.Unit }) Outside
-    (At (code_with system.monitor told move.call.method move.call.tries)) move.outside (begins_here system told thread frame move.call is move.call_is replies.Unit) sound.run)
-move_run system told is order before next sound (takes thread frame move) =
-    subst (λ (one : Moment). IsRun system.monitor system.clients one.ran (situation_at system one)) (sym move.becomes)
-    (goes_run system before (Some thread) thread frame frame (At (Lock ∷ move.rest)) (At move.rest) move.at refl sound.run)
-move_run system told is order before next sound (passes thread frame move) =
-    let passed = passed_at system told before sound.placed thread frame move.op move.block move.rest move.at move.tests in
-    subst (λ (one : Moment). IsRun system.monitor system.clients one.ran (situation_at system one)) (sym move.becomes)
-    (goes_run system before before.holder thread frame frame (At (move.op ∷ move.rest)) (At move.rest) move.at
-    (ap (λ (ops : List Op). place_by system thread frame (next_block ops)) passed.rest_is ∙ sym (ap (place_by system thread frame) passed.next_is)) sound.run)
-move_run system told is order before next sound (falls_asleep thread frame move) =
-    subst (λ (one : Moment). IsRun system.monitor system.clients one.ran (situation_at system one)) (sym move.becomes)
-    (goes_run system before None thread frame frame (At (WaitUntil move.block move.condition ∷ move.rest)) (Asleep move.block move.condition move.rest) move.at refl sound.run)
-move_run system told is order before next sound (wakes thread frame move) =
-    subst (λ (one : Moment). IsRun system.monitor system.clients one.ran (situation_at system one)) (sym move.becomes)
-    (goes_run system before before.holder thread frame frame (Asleep move.block move.condition move.rest) (Notified move.block move.condition move.rest) move.at refl sound.run)
-move_run system told is order before next sound (retakes thread frame move) =
-    subst (λ (one : Moment). IsRun system.monitor system.clients one.ran (situation_at system one)) (sym move.becomes)
-    (goes_run system before (Some thread) thread frame frame (Notified move.block move.condition move.rest) (At (WaitUntil move.block move.condition ∷ move.rest)) move.at refl sound.run)
-move_run system told is order before next sound (refuses thread frame move) =
-    let trying = sound.placed thread frame (At (ElseRefuse move.block ∷ move.rest)) move.at in
-    let call = trying.1.call in
-    let at = trying.1.at in
-    let place = place_by system thread frame (Some move.block) in
-    let both = and_parts call.tries ((move.block - first_of system call) == 0) trying.1.tries in
-    let closed : guard_truth system.monitor before.state (block_at system.monitor call place) (inputs_at call place) ≡ false =
-    sym (ap (λ (one : Option Call). option_map_or (λ call. guard_truth system.monitor before.state (block_at system.monitor call place) (inputs_at call place)) one false) at.call_is)
-    ∙ sym (open_is_guard system told before.state thread frame call move.block (suc trying.1.left) at) ∙ move.closed_is in
-    let step : IsStep system.monitor system.clients thread place before.state replies.Refused before.state (first_place system.monitor system.clients thread (frame.past + 1)) = record {
+-- a call that tries is refused
+refused_run : (system : System) (told : ℕ → List Op) (timed : ℕ → ℕ → Bool) (now : Moment) (thread : ℕ) (frame : Frame) (op : Op) (rest : List Op) (call : Call) (block left : ℕ)
+    → IsAt system thread frame.past call block left → tries_in system call block ≡ true → is_open (program_with system told timed) now.state thread frame block ≡ false
+    → IsThread now.threads thread frame (At (op ∷ rest)) → next_block (op ∷ rest) ≡ Some block
+    → IsRun system.monitor system.clients now.ran (situation_at system now)
+    → IsRun system.monitor system.clients (now.ran ++ commit_of (program_with system told timed) thread frame block replies.Refused ∷ [])
+    (situation_at system (moment now.state now.holder (now.ran ++ commit_of (program_with system told timed) thread frame block replies.Refused ∷ [])
+    (goes now.threads thread (record { past = frame.past; locals = frame.locals; answer = replies.Refused }) (At (Unlock ∷ [])))))
+refused_run system told timed now thread frame op rest call block left at tries closed_is there next_is run =
+    let place = place_by system thread frame (Some block) in
+    let both = and_parts call.tries ((block - first_of system call) == 0) tries in
+    let closed : guard_truth system.monitor now.state (block_at system.monitor call place) (inputs_at call place) ≡ false =
+    sym (ap (λ (one : Option Call). option_map_or (λ call. guard_truth system.monitor now.state (block_at system.monitor call place) (inputs_at call place)) one false) at.call_is)
+    ∙ sym (open_is_guard system told timed now.state thread frame call block left at) ∙ closed_is in
+    let step : IsStep system.monitor system.clients thread place now.state replies.Refused now.state (first_place system.monitor system.clients thread (frame.past + 1)) = record {
       call = call;
-      memory = memory_of before.state (inputs_at call place);
+      memory = memory_of now.state (inputs_at call place);
       at = at.call_is;
       step = inr (record {
         tries = both.0;
-        first = number_is system thread frame.past call move.block (suc trying.1.left) at ∙ eqb-true (move.block - first_of system call) 0 both.1;
+        first = number_is system thread frame.past call block left at ∙ eqb-true (block - first_of system call) 0 both.1;
         guard = closed;
         reply_is = refl;
         stays = refl;
@@ -274,11 +254,48 @@ move_run system told is order before next sound (refuses thread frame move) =
       state_is = refl;
       place_is = refl;
     } in
+    step_run system told timed now thread frame (record { past = frame.past; locals = frame.locals; answer = replies.Refused }) (At (op ∷ rest)) (At (Unlock ∷ [])) block replies.Refused now.state
+    (first_place system.monitor system.clients thread (frame.past + 1)) there (ap (place_by system thread frame) next_is) step refl run
+
+-- ---- each move
+
+move_run : (system : System) (told : ℕ → List Op) (timed : ℕ → ℕ → Bool) → IsSystem system → IsTold system told → (before next : Moment) → IsSoundly system told timed before → IsMove (program_with system told timed) before next
+    → IsRun system.monitor system.clients next.ran (situation_at system next)
+move_run system told timed is order before next sound (calls thread frame move) =
     subst (λ (one : Moment). IsRun system.monitor system.clients one.ran (situation_at system one)) (sym move.becomes)
-    (step_run system told before thread frame (record { past = frame.past; locals = frame.locals; answer = replies.Refused }) (At (ElseRefuse move.block ∷ move.rest)) (At (Unlock ∷ [])) move.block replies.Refused before.state
-    (first_place system.monitor system.clients thread (frame.past + 1)) move.at refl step refl sound.run)
-move_run system told is order before next sound (runs_body thread frame move) =
-    let body = body_at system told is thread frame before next sound move in
+    (goes_run system before before.holder thread frame (record { past = frame.past; locals = locals_in (slice_get system.monitor.methods move.call.method); answer = replies.Unit }) Outside
+    (At (call_code system told timed thread frame.past move.call)) move.outside (begins_here system told timed thread frame move.call is move.call_is replies.Unit) sound.run)
+move_run system told timed is order before next sound (takes thread frame move) =
+    subst (λ (one : Moment). IsRun system.monitor system.clients one.ran (situation_at system one)) (sym move.becomes)
+    (goes_run system before (Some thread) thread frame frame (At (Lock ∷ move.rest)) (At move.rest) move.at refl sound.run)
+move_run system told timed is order before next sound (passes thread frame move) =
+    let passed = passed_at system told timed before sound.placed thread frame move.op move.block move.rest move.at move.tests in
+    subst (λ (one : Moment). IsRun system.monitor system.clients one.ran (situation_at system one)) (sym move.becomes)
+    (goes_run system before before.holder thread frame frame (At (move.op ∷ move.rest)) (At move.rest) move.at
+    (ap (λ (ops : List Op). place_by system thread frame (next_block ops)) passed.rest_is ∙ sym (ap (place_by system thread frame) passed.next_is)) sound.run)
+move_run system told timed is order before next sound (falls_asleep thread frame move) =
+    subst (λ (one : Moment). IsRun system.monitor system.clients one.ran (situation_at system one)) (sym move.becomes)
+    (goes_run system before None thread frame frame (At (WaitUntil move.block move.condition ∷ move.rest)) (Asleep move.block move.condition move.rest) move.at refl sound.run)
+move_run system told timed is order before next sound (wakes thread frame move) =
+    subst (λ (one : Moment). IsRun system.monitor system.clients one.ran (situation_at system one)) (sym move.becomes)
+    (goes_run system before before.holder thread frame frame (Asleep move.block move.condition move.rest) (Notified move.block move.condition move.rest) move.at refl sound.run)
+move_run system told timed is order before next sound (retakes thread frame move) =
+    subst (λ (one : Moment). IsRun system.monitor system.clients one.ran (situation_at system one)) (sym move.becomes)
+    (goes_run system before (Some thread) thread frame frame (Notified move.block move.condition move.rest) (At (WaitUntil move.block move.condition ∷ move.rest)) move.at refl sound.run)
+move_run system told timed is order before next sound (refuses thread frame move) =
+    let trying = sound.placed thread frame (At (ElseRefuse move.block ∷ move.rest)) move.at in
+    subst (λ (one : Moment). IsRun system.monitor system.clients one.ran (situation_at system one)) (sym move.becomes)
+    (refused_run system told timed before thread frame (ElseRefuse move.block) move.rest trying.1.call move.block (suc trying.1.left) trying.1.at
+    (and_parts (not (timed thread frame.past)) (tries_in system trying.1.call move.block) trying.1.tries).1 move.closed_is move.at refl sound.run)
+move_run system told timed is order before next sound (abandons thread frame move) =
+    let loops = sound.placed thread frame (At (WaitUntil move.block move.condition ∷ move.rest)) move.at in
+    let tries : tries_in system loops.1.call move.block ≡ true =
+    sym (tries_is system thread frame loops.1.call move.block (suc loops.1.left) loops.1.at)
+    ∙ (and_parts (timed thread frame.past) (tries_there (program_with system told timed) thread frame move.block) move.timed).1 in
+    subst (λ (one : Moment). IsRun system.monitor system.clients one.ran (situation_at system one)) (sym move.becomes)
+    (refused_run system told timed before thread frame (WaitUntil move.block move.condition) move.rest loops.1.call move.block (suc loops.1.left) loops.1.at tries move.closed_is move.at refl sound.run)
+move_run system told timed is order before next sound (runs_body thread frame move) =
+    let body = body_at system told timed is thread frame before next sound move in
     let place = place_by system thread frame (Some move.block) in
     let goes_to = next_place system.monitor system.clients thread body.call place move.reply move.locals in
     let step : IsStep system.monitor system.clients thread place before.state move.reply move.state goes_to = record {
@@ -290,43 +307,43 @@ move_run system told is order before next sound (runs_body thread frame move) =
       place_is = refl;
     } in
     subst (λ (one : Moment). IsRun system.monitor system.clients one.ran (situation_at system one)) (sym move.becomes)
-    (step_run system told before thread frame (record { past = frame.past; locals = move.locals; answer = move.reply }) (At (Run move.block move.otherwise ∷ move.rest))
+    (step_run system told timed before thread frame (record { past = frame.past; locals = move.locals; answer = move.reply }) (At (Run move.block move.otherwise ∷ move.rest))
     (At (continues move.reply move.otherwise move.rest)) move.block move.reply move.state goes_to move.at refl step
-    (body_goes system told order before thread frame move.block move.otherwise move.rest move.reply move.state move.locals body) sound.run)
-move_run system told is order before next sound (panics thread frame move) =
-    let ops = recovers (program_with system told) thread frame move.block move.otherwise move.rest in
+    (body_goes system told timed order before thread frame move.block move.otherwise move.rest move.reply move.state move.locals body) sound.run)
+move_run system told timed is order before next sound (panics thread frame move) =
+    let ops = recovers (program_with system told timed) thread frame move.block move.otherwise move.rest in
     subst (λ (one : Moment). IsRun system.monitor system.clients one.ran (situation_at system one)) (sym move.becomes)
     (goes_run system before before.holder thread frame frame (At (Run move.block move.otherwise ∷ move.rest)) (At ops) move.at
-    (ap (place_by system thread frame) (again_next (program_with system told) thread frame move.block move.otherwise move.rest)) sound.run)
-move_run system told is order before next sound (notifies thread frame move) =
+    (ap (place_by system thread frame) (again_next (program_with system told timed) thread frame move.block move.otherwise move.rest)) sound.run)
+move_run system told timed is order before next sound (notifies thread frame move) =
     let middle = moment before.state before.holder before.ran move.woken in
-    let woken_run = quiet_run system before before.holder move.woken (notified_places system told before move.note move.woken move.notified) sound.run in
+    let woken_run = quiet_run system before before.holder move.woken (notified_places system told timed before move.note move.woken move.notified) sound.run in
     subst (λ (one : Moment). IsRun system.monitor system.clients one.ran (situation_at system one)) (sym move.becomes)
     (goes_run system middle before.holder thread frame frame (At (Notify move.note ∷ move.rest)) (At move.rest)
-    (noter_stays system told before move.note move.woken move.notified thread frame (Notify move.note ∷ move.rest) move.at) refl woken_run)
-move_run system told is order before next sound (unlocks thread frame move) =
+    (noter_stays system told timed before move.note move.woken move.notified thread frame (Notify move.note ∷ move.rest) move.at) refl woken_run)
+move_run system told timed is order before next sound (unlocks thread frame move) =
     subst (λ (one : Moment). IsRun system.monitor system.clients one.ran (situation_at system one)) (sym move.becomes)
     (goes_run system before None thread frame frame (At (Unlock ∷ move.rest)) (At move.rest) move.at refl sound.run)
-move_run system told is order before next sound (releases thread frame move) =
-    let ops = called_for (program_with system told) before move.notes move.rest in
+move_run system told timed is order before next sound (releases thread frame move) =
+    let ops = called_for (program_with system told timed) before move.notes move.rest in
     subst (λ (one : Moment). IsRun system.monitor system.clients one.ran (situation_at system one)) (sym move.becomes)
     (goes_run system before None thread frame frame (At (Release move.notes ∷ move.rest)) (At ops) move.at
-    (ap (place_by system thread frame) (called_next (program_with system told) before move.notes move.rest)) sound.run)
-move_run system told is order before next sound (returns thread frame move) =
+    (ap (place_by system thread frame) (called_next (program_with system told timed) before move.notes move.rest)) sound.run)
+move_run system told timed is order before next sound (returns thread frame move) =
     subst (λ (one : Moment). IsRun system.monitor system.clients one.ran (situation_at system one)) (sym move.becomes)
     (goes_run system before before.holder thread frame (record { past = frame.past + 1; locals = frame.locals; answer = frame.answer }) (At []) Outside move.at refl sound.run)
 
 -- ---- executions
 
-start_run : (system : System) (told : ℕ → List Op) → IsRun system.monitor system.clients [] (situation_at system (start (program_with system told)))
-start_run system told =
-    subst (λ (places : List Place). IsRun system.monitor system.clients [] (record { state = (start (program_with system told)).state; places = places })) (sym (start_places system 0 system.clients)) begun
+start_run : (system : System) (told : ℕ → List Op) (timed : ℕ → ℕ → Bool) → IsRun system.monitor system.clients [] (situation_at system (start (program_with system told timed)))
+start_run system told timed =
+    subst (λ (places : List Place). IsRun system.monitor system.clients [] (record { state = (start (program_with system told timed)).state; places = places })) (sym (start_places system 0 system.clients)) begun
 
-pub sound_late : (system : System) (told : ℕ → List Op) → IsSystem system → IsTold system told → (last : Moment) → Executes (program_with system told) (start (program_with system told)) last → IsSoundly system told last
-sound_late system told is order last none_yet = record { placed = start_placed system told; run = start_run system told }
-sound_late system told is order last (one_more middle end so_far move) =
-    let sound = sound_late system told is order middle so_far in
-    record { placed = move_placed system told is order middle end sound move; run = move_run system told is order middle end sound move }
+pub sound_late : (system : System) (told : ℕ → List Op) (timed : ℕ → ℕ → Bool) → IsSystem system → IsTold system told → (last : Moment) → Executes (program_with system told timed) (start (program_with system told timed)) last → IsSoundly system told timed last
+sound_late system told timed is order last none_yet = record { placed = start_placed system told timed; run = start_run system told timed }
+sound_late system told timed is order last (one_more middle end so_far move) =
+    let sound = sound_late system told timed is order middle so_far in
+    record { placed = move_placed system told timed is order middle end sound move; run = move_run system told timed is order middle end sound move }
 
-pub late_runs : (system : System) (told : ℕ → List Op) (last : Moment) → IsSystem system → IsTold system told → Leads (program_with system told) last → Ran (program_with system told) last
-late_runs system told last is order run = record { now = situation_at system last; run = (sound_late system told is order last run).run; state_is = refl }
+pub late_runs : (system : System) (told : ℕ → List Op) (timed : ℕ → ℕ → Bool) (last : Moment) → IsSystem system → IsTold system told → Leads (program_with system told timed) last → Ran (program_with system told timed) last
+late_runs system told timed last is order run = record { now = situation_at system last; run = (sound_late system told timed is order last run).run; state_is = refl }

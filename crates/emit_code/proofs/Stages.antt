@@ -26,9 +26,9 @@ use Rattle.machine_events.specs.Configurations.{System, guard_of, block_conditio
 use Rattle.machine_events.specs.Configurations.Phase.{Inside, Notifying}
 use Rattle.machine_events.specs.Pending.{IsSystem}
 use Rattle.machine_events.proofs.Facing.{Faces, faces, guard_is, own_condition}
-use Rattle.emit_code.specs.Code.{Op, is_always_step, is_always, is_waited_on, telling_code, test_code, running_code, blocks_code}
+use Rattle.emit_code.specs.Code.{Op, is_always_step, is_always, is_waited_on, telling_code, test_code, running_code, blocks_code, code_with}
 use Rattle.emit_code.specs.Code.Op.{Lock, WaitUntil, ElseRefuse, Run, Notify, Unlock, Release}
-use Rattle.emit_code.specs.Executions.{Program, Moment, Frame, is_open, program_with, telling_then, recovers, tries_there, is_called_for, untested, called_for}
+use Rattle.emit_code.specs.Executions.{Program, Moment, Frame, is_open, program_with, at_once, telling_then, recovers, tries_there, is_called_for, untested, called_for}
 use Rattle.emit_code.specs.Executions.Position.{At}
 use Rattle.emit_code.specs.Orders.{notes_to_come, is_free, is_locked}
 use Rattle.emit_code.proofs.Views.{next_block, number_at, place_by, phase_at}
@@ -44,6 +44,10 @@ count_of system call = count_in (slice_get system.monitor.methods call.method)
 -- it tries at this block
 abbrev pub tries_in : System → Call → ℕ → Bool
 tries_in system call block = call.tries && (block - first_of system call) == 0
+
+-- it is refused at once there where the guard is false: it tries, and has no time
+abbrev pub refuses_in : System → (ℕ → ℕ → Bool) → ℕ → ℕ → Call → ℕ → Bool
+refuses_in system timed thread past call block = not (timed thread past) && tries_in system call block
 
 -- the thread is at this call, and its blocks from this one on are left
 pub record IsAt (system : System) (thread past : ℕ) (call : Call) (block left : ℕ) : Type 0 where
@@ -68,6 +72,10 @@ passed_code system told block left = running_code system.monitor told block (lat
 abbrev pub told_code : System → (ℕ → List Op) → ℕ → ℕ → List Op
 told_code system told block left = told block ++ later_code system told (block + 1) left
 
+-- of a call
+abbrev pub call_code : System → (ℕ → List Op) → (ℕ → ℕ → Bool) → ℕ → ℕ → Call → List Op
+call_code system told timed thread past call = code_with system.monitor told call.method (not (timed thread past) && call.tries)
+
 pub number_is : (system : System) (thread past : ℕ) (call : Call) (block left : ℕ) → IsAt system thread past call block left → number_at system thread past block ≡ block - first_of system call
 number_is system thread past call block left at = ap (λ (one : Option Call). option_map_or (λ call. block - first_in (slice_get system.monitor.methods call.method)) one 0) at.call_is
 
@@ -91,9 +99,9 @@ tries_is system thread frame call block left at =
     ∙ ap (λ (one : ℕ). call.tries && one == 0) (number_is system thread frame.past call block left at)
 
 -- the test of the loop is that of the client's guard
-pub open_is_guard : (system : System) (told : ℕ → List Op) (state : List Value) (thread : ℕ) (frame : Frame) (call : Call) (block left : ℕ) → IsAt system thread frame.past call block left
-    → is_open (program_with system told) state thread frame block ≡ guard_of system state thread (place_by system thread frame (Some block))
-open_is_guard system told state thread frame call block left at =
+pub open_is_guard : (system : System) (told : ℕ → List Op) (timed : ℕ → ℕ → Bool) (state : List Value) (thread : ℕ) (frame : Frame) (call : Call) (block left : ℕ) → IsAt system thread frame.past call block left
+    → is_open (program_with system told timed) state thread frame block ≡ guard_of system state thread (place_by system thread frame (Some block))
+open_is_guard system told timed state thread frame call block left at =
     let place = place_by system thread frame (Some block) in
     ap (λ (one : Option Call). option_map_or (λ call. guard_truth system.monitor state block (given call.inputs frame.locals)) one false) at.call_is
     ∙ ap (λ (one : ℕ). guard_truth system.monitor state one (given call.inputs frame.locals)) (sym (block_is system thread frame call block left at))
@@ -142,9 +150,9 @@ not_false true is = refl
 not_false false is = absurd (true≢false is)
 
 -- the guard of a condition on which nobody waits is true
-pub open_unwaited : (system : System) (told : ℕ → List Op) (state : List Value) (thread : ℕ) (frame : Frame) (call : Call) (block left : ℕ) → IsAt system thread frame.past call block left
-    → Faced system thread frame call block → is_waited_on system.monitor (block_condition system.monitor block) ≡ false → is_open (program_with system told) state thread frame block ≡ true
-open_unwaited system told state thread frame call block left at here unwaited =
+pub open_unwaited : (system : System) (told : ℕ → List Op) (timed : ℕ → ℕ → Bool) (state : List Value) (thread : ℕ) (frame : Frame) (call : Call) (block left : ℕ) → IsAt system thread frame.past call block left
+    → Faced system thread frame call block → is_waited_on system.monitor (block_condition system.monitor block) ≡ false → is_open (program_with system told timed) state thread frame block ≡ true
+open_unwaited system told timed state thread frame call block left at here unwaited =
     let place = place_by system thread frame (Some block) in
     let which = here.which in
     let condition : block_condition system.monitor block ≡ here.block.condition =
@@ -152,7 +160,7 @@ open_unwaited system told state thread frame call block left at here unwaited =
     let there : is_waited_on system.monitor (block_condition system.monitor block) ≡ not (is_always which.guard) =
     ap (is_waited_on system.monitor) condition ∙ ap (λ (one : Option Condition). option_map_or (λ which. not (is_always which.guard)) one false) here.faced.which_is.there in
     let always = not_false (is_always which.guard) (sym there ∙ unwaited) in
-    open_is_guard system told state thread frame call block left at ∙ guard_is system state thread place call here.block which here.faced
+    open_is_guard system told timed state thread frame call block left at ∙ guard_is system state thread place call here.block which here.faced
     ∙ ap (truth_of (valuation state (inputs_at call place))) (sym here.faced.same_guard) ∙ holds_always which.guard always (valuation state (inputs_at call place))
 
 -- ---- where blocks begin and end
@@ -417,8 +425,8 @@ next_test monitor false false block otherwise rest = refl
 -- the thread is at the block again
 pub again_next : (program : Program) (thread : ℕ) (frame : Frame) (block : ℕ) (otherwise : List Note) (rest : List Op) → next_block (recovers program thread frame block otherwise rest) ≡ Some block
 again_next program thread frame block otherwise rest =
-    then_next otherwise (Lock ∷ test_code program.monitor (tries_there program thread frame block) block (Run block otherwise ∷ rest))
-    ∙ next_test program.monitor (tries_there program thread frame block) (is_waited_on program.monitor (block_condition program.monitor block)) block otherwise rest
+    then_next otherwise (Lock ∷ test_code program.monitor (at_once program thread frame (tries_there program thread frame block)) block (Run block otherwise ∷ rest))
+    ∙ next_test program.monitor (at_once program thread frame (tries_there program thread frame block)) (is_waited_on program.monitor (block_condition program.monitor block)) block otherwise rest
 
 pub again_locked : (program : Program) (thread : ℕ) (frame : Frame) (block : ℕ) (otherwise : List Note) (rest : List Op) → now_locked (recovers program thread frame block otherwise rest) ≡ true
 again_locked program thread frame block otherwise rest = then_locked otherwise _ refl

@@ -20,8 +20,9 @@ use Rattle.machine_events.specs.Configurations.{block_condition}
 -- condition's variable. Of the second block of a method they are `can2_m`, `run2_m` and
 -- `asleep2_m`, and so on. They are handed the parameters and locals that they take, as in
 -- `can_m(amount, seen)` and
--- `run_m(amount, &mut seen)`. `lock` and `wait` are functions of the module, which call
--- `Mutex::lock` and `Condvar::wait`.
+-- `run_m(amount, &mut seen)`. `lock`, `wait` and `wait_for` are functions of the module, which call
+-- `Mutex::lock`, `Condvar::wait` and `Condvar::wait_timeout`, and `time_left` is one which says how
+-- long it is until then by the clock, or `None`.
 --
 -- Of what else is printed, `State::START` and the counts of 0, with which the mutex begins, are the
 -- fields and the counts at the `start` of an execution (specs/Executions), and on a
@@ -29,7 +30,9 @@ use Rattle.machine_events.specs.Configurations.{block_condition}
 -- for each local, are the move `Calls`; its end is the move `Returns`. The last line of a method is
 -- what its last block answered: `answer`, or none where it has no result; `Ok(answer)` where a body
 -- of the method may overflow or its calls try, with `()` in place of `answer` where there is no
--- result. In a call with a function it is `result`.
+-- result. In a call with a function it is `result`. Calls of a method with a time are `m_until(end)`
+-- and `m_for(time)`, which is `m_until(end)` where `Instant::now().checked_add(time)` is
+-- `Some(end)`, and `m()` where it is `None`, as no clock gets there: such a call is one that waits.
 
 -- what a thread does in a call, by one statement
 pub data Op : Type 0 where
@@ -37,7 +40,9 @@ pub data Op : Type 0 where
   Lock : Op
   -- `while !inner.state.can_m() { inner.asleep_c += 1; inner = wait(&self.can_c, inner);
   -- inner.asleep_c -= 1; }`: the guard of a block, on a condition; where the condition reads no
-  -- inputs, the test is `can_c()`. The count is raised and lowered with the mutex
+  -- inputs, the test is `can_c()`. The count is raised and lowered with the mutex. Where a call has
+  -- a time the loop begins with `let Some(left) = time_left(end) else { return Err(Refused); };`,
+  -- whose `return` is the move `Abandons`, and waits by `wait_for(&self.can_c, inner, left)`
   WaitUntil : (block condition : ℕ) → Op
   -- `if !inner.state.can_m() { return Err(Refused); }`: the guard of a block, tested as above; the
   -- error is `Failed::Refused` where a body of the method may overflow. The `return` drops the

@@ -21,20 +21,27 @@ use Rattle.emit_code.specs.Code.Op.{Lock, WaitUntil, ElseRefuse, Run, Notify, Un
 
 -- ---- programs and threads
 
--- a monitor, the code of each method, by its number, for calls that try or wait, and what each
--- thread calls
+-- a monitor, the code of each method, by its number, for calls that are refused at once or wait,
+-- what each thread calls, and which of its calls, by their numbers from 0, have a time: of those
+-- that try, `put_for(time)` and `put_until(end)` have one, and `try_put()` has none
 pub record Program : Type 0 where
   pub monitor : MonitorParts
   pub code : ℕ → Bool → List Op
   pub clients : List Client
+  pub timed : (thread call : ℕ) → Bool
 
 -- a system as a program: a client is a thread, and after the body of a block comes what is told
-abbrev pub program_with : System → (ℕ → List Op) → Program
-program_with system told = record {
+abbrev pub program_with : System → (ℕ → List Op) → (ℕ → ℕ → Bool) → Program
+program_with system told timed = record {
   monitor = system.monitor;
   code = code_with system.monitor told;
   clients = system.clients;
+  timed = timed;
 }
+
+-- no call has a time
+abbrev pub no_times : ℕ → ℕ → Bool
+no_times thread call = false
 
 -- where a thread is
 pub data Position : Type 0 where
@@ -104,6 +111,10 @@ call_of program thread frame = slice_get (calls_of program.clients thread) frame
 
 -- ---- a call begins and ends
 
+-- whether a call, one that tries or not, is refused at once where the guard is false: it has no time
+abbrev pub at_once : Program → ℕ → Frame → Bool → Bool
+at_once program thread frame tries = not (program.timed thread frame.past) && tries
+
 -- the thread's next call begins, with the start values of the method's locals
 pub record Calls (program : Program) (thread : ℕ) (frame : Frame) (before next : Moment) : Type 0
   where
@@ -117,7 +128,7 @@ pub record Calls (program : Program) (thread : ℕ) (frame : Frame) (before next
             locals = locals_in (slice_get program.monitor.methods call.method);
             answer = replies.Unit;
           })
-          (At (program.code call.method call.tries));
+          (At (program.code call.method (at_once program thread frame call.tries)));
     }
 
 -- nothing is left to do: the call returns the answer
@@ -199,7 +210,7 @@ pub record FallsAsleep (program : Program) (thread : ℕ) (frame : Frame) (befor
     threads = goes before.threads thread frame (Asleep block condition rest);
   }
 
--- one that sleeps is woken by nothing
+-- one that sleeps is woken by nothing, or since its time is over, where it has one
 pub record WakesByNothing (thread : ℕ) (frame : Frame) (before next : Moment) : Type 0 where
   pub block : ℕ
   pub condition : ℕ
@@ -240,12 +251,39 @@ commit_of program thread frame block reply = record {
   reply = reply;
 }
 
--- the guard is false in a call that tries: it is refused
+-- the call that a thread is in tries at the block, the first of its method
+abbrev pub tries_there : Program → ℕ → Frame → ℕ → Bool
+tries_there program thread frame block =
+    option_map_or (λ call. call.tries && number_in program thread frame block == 0)
+    (call_of program thread frame) false
+
+-- it waits there, but no longer than its time
+abbrev pub has_time : Program → ℕ → Frame → ℕ → Bool
+has_time program thread frame block =
+    program.timed thread frame.past && tries_there program thread frame block
+
+-- the guard is false in a call that tries and has no time: it is refused
 pub record Refuses (program : Program) (thread : ℕ) (frame : Frame) (before next : Moment) : Type 0
   where
     pub block : ℕ
     pub rest : List Op
     pub at : IsThread before.threads thread frame (At (ElseRefuse block ∷ rest))
+    pub closed_is : is_open program before.state thread frame block ≡ false
+    pub becomes : next ≡ record before {
+      ran = before.ran ++ commit_of program thread frame block replies.Refused ∷ [];
+      threads = goes before.threads thread (record frame { answer = replies.Refused })
+          (At (Unlock ∷ []));
+    }
+
+-- The guard is false in a call whose time is over: it is refused, before it waited or after. The
+-- clock is not told of: a time may be over at any moment, or never. No note is made.
+pub record Abandons (program : Program) (thread : ℕ) (frame : Frame) (before next : Moment) : Type 0
+  where
+    pub block : ℕ
+    pub condition : ℕ
+    pub rest : List Op
+    pub at : IsThread before.threads thread frame (At (WaitUntil block condition ∷ rest))
+    pub timed : has_time program thread frame block ≡ true
     pub closed_is : is_open program before.state thread frame block ≡ false
     pub becomes : next ≡ record before {
       ran = before.ran ++ commit_of program thread frame block replies.Refused ∷ [];
@@ -282,12 +320,6 @@ pub record RunsBody (program : Program) (thread : ℕ) (frame : Frame) (before n
 
 -- ---- a function panics
 
--- the call that a thread is in tries at the block, the first of its method
-abbrev pub tries_there : Program → ℕ → Frame → ℕ → Bool
-tries_there program thread frame block =
-    option_map_or (λ call. call.tries && number_in program thread frame block == 0)
-    (call_of program thread frame) false
-
 -- these notes are made, the mutex is given back, and there is more to do
 abbrev pub telling_then : List Note → List Op → List Op
 telling_then [] rest = Unlock ∷ rest
@@ -298,7 +330,8 @@ telling_then (note ∷ notes) rest = Notify note ∷ telling_then notes rest
 abbrev pub recovers : Program → ℕ → Frame → ℕ → List Note → List Op → List Op
 recovers program thread frame block otherwise rest =
     telling_then otherwise (Lock ∷ test_code program.monitor
-    (tries_there program thread frame block) block (Run block otherwise ∷ rest))
+    (at_once program thread frame (tries_there program thread frame block)) block
+    (Run block otherwise ∷ rest))
 
 -- A function that the call was given panics. Nothing has changed but its data. Where
 -- the panic is caught the call may be made again, or another one, as by another thread; where it
@@ -432,6 +465,8 @@ pub data IsMove (program : Program) (before next : Moment) : Type 0 where
       → IsMove program before next
   refuses : (thread : ℕ) (frame : Frame) → Refuses program thread frame before next
       → IsMove program before next
+  abandons : (thread : ℕ) (frame : Frame) → Abandons program thread frame before next
+      → IsMove program before next
   runs_body : (thread : ℕ) (frame : Frame) → RunsBody program thread frame before next
       → IsMove program before next
   panics : (thread : ℕ) (frame : Frame) → Panics program thread frame before next
@@ -451,10 +486,12 @@ pub data Executes (program : Program) (before : Moment) : Moment → Type 0 wher
   one_more : (middle last : Moment) → Executes program before middle → IsMove program middle last
       → Executes program before last
 
--- a wake-up by nothing, or a panic, which nobody may count on
+-- A wake-up by nothing, or a panic, which nobody may count on. A time ends, so the wake-up of a call
+-- that has one is not by chance.
 abbrev pub is_by_chance : (program : Program) (before next : Moment)
     → IsMove program before next → Bool
-is_by_chance program before next (wakes thread frame move) = true
+is_by_chance program before next (wakes thread frame move) =
+    not (has_time program thread frame move.block)
 is_by_chance program before next (panics thread frame move) = true
 is_by_chance program before next move = false
 
@@ -464,11 +501,12 @@ IsStill program now =
     (next : Moment) (move : IsMove program now next) → is_by_chance program now next move ≡ true
 
 -- What a thread need not do, since it may stop between two calls, or before it locks the mutex, as
--- after a panic; and what is by chance.
+-- after a panic; that a time ends; and what is by chance.
 abbrev pub is_optional : (program : Program) (before next : Moment)
     → IsMove program before next → Bool
 is_optional program before next (calls thread frame move) = true
 is_optional program before next (takes thread frame move) = true
+is_optional program before next (wakes thread frame move) = true
 is_optional program before next move = is_by_chance program before next move
 
 -- no thread can move but so

@@ -8,9 +8,10 @@ use Rattle.machine_implicit.specs.declared.script.Client.{Client}
 use Rattle.machine_implicit.specs.Scripted.{FitsScripts}
 use Rattle.machine_implicit.specs.Places.{gives_up}
 use Rattle.machine_implicit.specs.Runs.{Situation, IsRun, Ends}
+use Rattle.machine_events.specs.declared.plan.CondKind.TheVariants as kinds
 use Rattle.machine_events.specs.declared.plan.Note.{Note}
 use Rattle.machine_events.specs.declared.plan.Plan.{Plan}
-use Rattle.machine_events.specs.Plans.{has_note, FitsPlan, IsLawful}
+use Rattle.machine_events.specs.Plans.{condition_kind, has_note, FitsPlan, IsLawful}
 use Rattle.machine_events.specs.Configurations.{System}
 use Rattle.machine_events.specs.Pending.{IsSystem}
 use Rattle.machine_events.specs.Counts.{IsLawfulByCounting}
@@ -18,12 +19,13 @@ use Rattle.machine_events.specs.Laws.{HasLawfulPlan, HasCountingPlan}
 use Rattle.emit_code.specs.Code.{Op, late_order}
 use Rattle.emit_code.specs.Code.Op.{Lock, WaitUntil, ElseRefuse, Run, Notify, Unlock, Release}
 use Rattle.emit_code.specs.Executions.{Program, program_with, Position, Frame, Moment, IsThread}
-use Rattle.emit_code.specs.Executions.{start, call_of, is_open, Executes, IsStill, IsQuiet}
+use Rattle.emit_code.specs.Executions.{start, call_of, is_open, Abandons, Executes, IsStill}
+use Rattle.emit_code.specs.Executions.{IsQuiet}
 use Rattle.emit_code.specs.Executions.Position.{Outside, At, Asleep, Notified}
 use Rattle.emit_code.specs.Functions.{FunctionsRanOnce}
 use Rattle.emit_code.specs.Sleepers.{SleepersAreCounted, UncountedSleepNot, LeftOutIsMade}
 use Rattle.emit_code.specs.Orders.{notes_to_come, IsTold}
-use Rattle.emit_code.specs.LivePlans.{live_plan, printed_program}
+use Rattle.emit_code.specs.LivePlans.{live_plan, printed_program, timed_program}
 
 -- an execution of the program from its start leads to the moment
 abbrev pub Leads : Program → Moment → Type 0
@@ -145,7 +147,8 @@ IsAtRest program now thread frame (Asleep block condition rest) =
     is_open program now.state thread frame block ≡ false
 IsAtRest program now thread frame (Notified block condition rest) = ⊥
 
--- whichever threads have stopped, after a panic or otherwise: none hangs whose guard is true
+-- whichever threads have stopped, after a panic or otherwise, and whichever times don't end: none
+-- hangs whose guard is true
 abbrev pub QuietIsAtRest : Program → Moment → Type 0
 QuietIsAtRest program last =
     IsQuiet program last → (thread : ℕ) (frame : Frame) (position : Position)
@@ -164,113 +167,134 @@ StillEndsTheRun program last =
 -- whatever the plan, who reads or changes the state holds the mutex
 abbrev pub LateHoldersAct : Type 0
 LateHoldersAct =
-    (system : System) (told : ℕ → List Op) (last : Moment) → IsSystem system → IsTold system told
-    → Leads (program_with system told) last → HoldersAct (program_with system told) last
+    (system : System) (told : ℕ → List Op) (timed : ℕ → ℕ → Bool) (last : Moment) → IsSystem system
+    → IsTold system told → Leads (program_with system told timed) last
+    → HoldersAct (program_with system told timed) last
 
 -- whatever the plan, bodies run by who holds the mutex, where their guards are true
 abbrev pub LateBodiesAreReady : Type 0
 LateBodiesAreReady =
-    (system : System) (told : ℕ → List Op) (last : Moment) → IsSystem system → IsTold system told
-    → Leads (program_with system told) last → BodiesAreReady (program_with system told) last
+    (system : System) (told : ℕ → List Op) (timed : ℕ → ℕ → Bool) (last : Moment) → IsSystem system
+    → IsTold system told → Leads (program_with system told timed) last
+    → BodiesAreReady (program_with system told timed) last
 
 -- whatever the plan and the order, functions run once for each block that replied last in its call
 abbrev pub LateFunctionsRanOnce : Type 0
 LateFunctionsRanOnce =
-    (system : System) (told : ℕ → List Op) (last : Moment)
-    → FunctionsRanOnce (program_with system told) last
+    (system : System) (told : ℕ → List Op) (timed : ℕ → ℕ → Bool) (last : Moment)
+    → FunctionsRanOnce (program_with system told timed) last
 
 -- whatever the plan, what ran is a run of the implicit monitor
 abbrev pub LateExecutionsRun : Type 0
 LateExecutionsRun =
-    (system : System) (told : ℕ → List Op) (last : Moment) → IsSystem system → IsTold system told
-    → Leads (program_with system told) last → Ran (program_with system told) last
+    (system : System) (told : ℕ → List Op) (timed : ℕ → ℕ → Bool) (last : Moment) → IsSystem system
+    → IsTold system told → Leads (program_with system told timed) last
+    → Ran (program_with system told timed) last
 
 -- whatever the plan, a call answers the reply of the last that its thread did
 abbrev pub LateAnswersAreReplies : Type 0
 LateAnswersAreReplies =
-    (system : System) (told : ℕ → List Op) (last : Moment) → IsSystem system → IsTold system told
-    → Leads (program_with system told) last → AnswersAreReplies (program_with system told) last
+    (system : System) (told : ℕ → List Op) (timed : ℕ → ℕ → Bool) (last : Moment) → IsSystem system
+    → IsTold system told → Leads (program_with system told timed) last
+    → AnswersAreReplies (program_with system told timed) last
 
 -- under a lawful plan no wake-up is lost
 abbrev pub LateSleepersAreSeenTo : Type 0
 LateSleepersAreSeenTo =
-    (system : System) (told : ℕ → List Op) (last : Moment) → HasLawfulPlan system
-    → IsTold system told → Leads (program_with system told) last
-    → SleepersAreSeenTo (program_with system told) last
+    (system : System) (told : ℕ → List Op) (timed : ℕ → ℕ → Bool) (last : Moment)
+    → HasLawfulPlan system → IsTold system told → Leads (program_with system told timed) last
+    → SleepersAreSeenTo (program_with system told timed) last
 
 -- under a lawful plan no thread hangs whose guard is true
 abbrev pub LateStillIsTheEnd : Type 0
 LateStillIsTheEnd =
-    (system : System) (told : ℕ → List Op) (last : Moment) → HasLawfulPlan system
-    → IsTold system told → Leads (program_with system told) last
-    → StillIsTheEnd (program_with system told) last
+    (system : System) (told : ℕ → List Op) (timed : ℕ → ℕ → Bool) (last : Moment)
+    → HasLawfulPlan system → IsTold system told → Leads (program_with system told timed) last
+    → StillIsTheEnd (program_with system told timed) last
 
 -- under a lawful plan no thread hangs whose guard is true, where others stopped
 abbrev pub LateQuietIsAtRest : Type 0
 LateQuietIsAtRest =
-    (system : System) (told : ℕ → List Op) (last : Moment) → HasLawfulPlan system
-    → IsTold system told → Leads (program_with system told) last
-    → QuietIsAtRest (program_with system told) last
+    (system : System) (told : ℕ → List Op) (timed : ℕ → ℕ → Bool) (last : Moment)
+    → HasLawfulPlan system → IsTold system told → Leads (program_with system told timed) last
+    → QuietIsAtRest (program_with system told timed) last
 
 -- under a lawful plan the run is at its end where no thread can move but by chance
 abbrev pub LateStillEndsTheRun : Type 0
 LateStillEndsTheRun =
-    (system : System) (told : ℕ → List Op) (last : Moment) → HasLawfulPlan system
-    → IsTold system told → Leads (program_with system told) last
-    → StillEndsTheRun (program_with system told) last
+    (system : System) (told : ℕ → List Op) (timed : ℕ → ℕ → Bool) (last : Moment)
+    → HasLawfulPlan system → IsTold system told → Leads (program_with system told timed) last
+    → StillEndsTheRun (program_with system told timed) last
 
 -- under a plan that is lawful by counting no wake-up is lost
 abbrev pub CountedSleepersAreSeenTo : Type 0
 CountedSleepersAreSeenTo =
-    (system : System) (told : ℕ → List Op) (last : Moment) → HasCountingPlan system
-    → IsTold system told → Leads (program_with system told) last
-    → SleepersAreSeenTo (program_with system told) last
+    (system : System) (told : ℕ → List Op) (timed : ℕ → ℕ → Bool) (last : Moment)
+    → HasCountingPlan system → IsTold system told → Leads (program_with system told timed) last
+    → SleepersAreSeenTo (program_with system told timed) last
 
 -- under a plan that is lawful by counting no thread hangs whose guard is true
 abbrev pub CountedStillIsTheEnd : Type 0
 CountedStillIsTheEnd =
-    (system : System) (told : ℕ → List Op) (last : Moment) → HasCountingPlan system
-    → IsTold system told → Leads (program_with system told) last
-    → StillIsTheEnd (program_with system told) last
+    (system : System) (told : ℕ → List Op) (timed : ℕ → ℕ → Bool) (last : Moment)
+    → HasCountingPlan system → IsTold system told → Leads (program_with system told timed) last
+    → StillIsTheEnd (program_with system told timed) last
 
 -- under a plan that is lawful by counting no thread hangs whose guard is true, where others stopped
 abbrev pub CountedQuietIsAtRest : Type 0
 CountedQuietIsAtRest =
-    (system : System) (told : ℕ → List Op) (last : Moment) → HasCountingPlan system
-    → IsTold system told → Leads (program_with system told) last
-    → QuietIsAtRest (program_with system told) last
+    (system : System) (told : ℕ → List Op) (timed : ℕ → ℕ → Bool) (last : Moment)
+    → HasCountingPlan system → IsTold system told → Leads (program_with system told timed) last
+    → QuietIsAtRest (program_with system told timed) last
 
 -- under a plan that is lawful by counting the run is at its end where no thread can move but by
 -- chance
 abbrev pub CountedStillEndsTheRun : Type 0
 CountedStillEndsTheRun =
-    (system : System) (told : ℕ → List Op) (last : Moment) → HasCountingPlan system
-    → IsTold system told → Leads (program_with system told) last
-    → StillEndsTheRun (program_with system told) last
+    (system : System) (told : ℕ → List Op) (timed : ℕ → ℕ → Bool) (last : Moment)
+    → HasCountingPlan system → IsTold system told → Leads (program_with system told timed) last
+    → StillEndsTheRun (program_with system told timed) last
 
 -- the order that is printed is such a one
 abbrev pub LateOrderIsTold : Type 0
 LateOrderIsTold = (system : System) → IsSystem system → IsTold system (late_order system.plan)
+
+-- ---- a call gives up after its time
+
+-- Where it does, the guard of each thread that sleeps on its condition is false, if the condition
+-- is one on which a note wakes one alone. So it passes none on: the one that may have woken it
+-- would wake nobody who can go on.
+abbrev pub LateNobodyIsAbandoned : Type 0
+LateNobodyIsAbandoned =
+    (system : System) (told : ℕ → List Op) (timed : ℕ → ℕ → Bool) (before next : Moment)
+    → HasCountingPlan system → IsTold system told
+    → Leads (program_with system told timed) before → (thread : ℕ) (frame : Frame)
+    (move : Abandons (program_with system told timed) thread frame before next)
+    → condition_kind system.plan move.condition ≡ Some kinds.Signal
+    → (other : ℕ) (others_frame : Frame) (block : ℕ) (rest : List Op)
+    → IsThread before.threads other others_frame (Asleep block move.condition rest)
+    → is_open (program_with system told timed) before.state other others_frame block ≡ false
 
 -- ---- the counts beside the fields, whatever the plan and the order
 
 -- the counts are right
 abbrev pub LateSleepersAreCounted : Type 0
 LateSleepersAreCounted =
-    (system : System) (told : ℕ → List Op) (last : Moment)
-    → Leads (program_with system told) last → SleepersAreCounted last
+    (system : System) (told : ℕ → List Op) (timed : ℕ → ℕ → Bool) (last : Moment)
+    → Leads (program_with system told timed) last → SleepersAreCounted last
 
 -- where a count is 0 nobody sleeps
 abbrev pub LateUncountedSleepNot : Type 0
 LateUncountedSleepNot =
-    (system : System) (told : ℕ → List Op) (last : Moment)
-    → Leads (program_with system told) last → UncountedSleepNot last
+    (system : System) (told : ℕ → List Op) (timed : ℕ → ℕ → Bool) (last : Moment)
+    → Leads (program_with system told timed) last → UncountedSleepNot last
 
 -- and a note that is left out there is made
 abbrev pub LateLeftOutIsMade : Type 0
 LateLeftOutIsMade =
-    (system : System) (told : ℕ → List Op) (last : Moment)
-    → Leads (program_with system told) last → LeftOutIsMade (program_with system told) last
+    (system : System) (told : ℕ → List Op) (timed : ℕ → ℕ → Bool) (last : Moment)
+    → Leads (program_with system told timed) last
+    → LeftOutIsMade (program_with system told timed) last
 
 -- ---- plans without the notes that nobody hears
 
@@ -325,3 +349,22 @@ CountedCodeLosesNone =
     → FitsPlan monitor plan → IsLawfulByCounting monitor plan
     → Leads (printed_program monitor plan clients) last
     → LosesNone (printed_program monitor plan clients) last
+
+-- The same of the programs whose calls may have times. Calls that try are the same to their caller
+-- where they have one: what ran is a run of the implicit monitor, in which they try.
+abbrev pub TimedCodeLosesNone : Type 0
+TimedCodeLosesNone =
+    (monitor : MonitorParts) (plan : Plan) (clients : List Client) (timed : ℕ → ℕ → Bool)
+    (last : Moment) → IsMonitor monitor → FitsScripts monitor clients
+    → FitsPlan monitor plan → IsLawful monitor plan
+    → Leads (timed_program monitor plan clients timed) last
+    → LosesNone (timed_program monitor plan clients timed) last
+
+-- and under plans that are lawful by counting
+abbrev pub CountedTimedCodeLosesNone : Type 0
+CountedTimedCodeLosesNone =
+    (monitor : MonitorParts) (plan : Plan) (clients : List Client) (timed : ℕ → ℕ → Bool)
+    (last : Moment) → IsMonitor monitor → FitsScripts monitor clients
+    → FitsPlan monitor plan → IsLawfulByCounting monitor plan
+    → Leads (timed_program monitor plan clients timed) last
+    → LosesNone (timed_program monitor plan clients timed) last

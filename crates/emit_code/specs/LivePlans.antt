@@ -1,5 +1,5 @@
 -- A plan without the notes that nobody hears: on conditions on which nobody ever waits.
-use Rattle.std.specs.Prelude.{ℕ, suc, List, [], ◌∷◌, map, if◌then◌else◌}
+use Rattle.std.specs.Prelude.{ℕ, suc, Bool, List, [], ◌∷◌, map, if◌then◌else◌}
 use Rattle.lang_monitor.specs.MonitorParts.{MonitorParts}
 use Rattle.machine_implicit.specs.declared.script.Client.{Client}
 use Rattle.machine_events.specs.declared.plan.CondKind.{CondKind}
@@ -7,7 +7,7 @@ use Rattle.machine_events.specs.declared.plan.CondKind.TheVariants as kinds
 use Rattle.machine_events.specs.declared.plan.Note.{Note}
 use Rattle.machine_events.specs.declared.plan.Plan.{Plan}
 use Rattle.emit_code.specs.Code.{is_waited_on, code_of}
-use Rattle.emit_code.specs.Executions.{Program}
+use Rattle.emit_code.specs.Executions.{Program, no_times}
 
 -- the notes on conditions on which someone may wait
 abbrev pub heard_notes : MonitorParts → List Note → List Note
@@ -31,10 +31,16 @@ live_plan monitor plan = record {
   notes = map (heard_notes monitor) plan.notes;
 }
 
--- the program that is printed of a monitor and its plan, with what threads call
-abbrev pub printed_program : MonitorParts → Plan → List Client → Program
-printed_program monitor plan clients = record {
+-- the program that is printed of a monitor and its plan, with what threads call, and which of these
+-- calls have a time
+abbrev pub timed_program : MonitorParts → Plan → List Client → (ℕ → ℕ → Bool) → Program
+timed_program monitor plan clients timed = record {
   monitor = monitor;
   code = code_of monitor (live_plan monitor plan);
   clients = clients;
+  timed = timed;
 }
+
+-- where none has
+abbrev pub printed_program : MonitorParts → Plan → List Client → Program
+printed_program monitor plan clients = timed_program monitor plan clients no_times

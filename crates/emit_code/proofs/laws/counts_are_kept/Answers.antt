@@ -6,7 +6,7 @@ pub returns-clause-kept : goal.returns-clause-kept
 returns-clause-kept c = counted_late
 
 pub returns-clause-nobody : goal.returns-clause-nobody
-returns-clause-nobody c system told last run = none_counted last (counted_late system told last run)
+returns-clause-nobody c system told timed last run = none_counted last (counted_late system told timed last run)
 
 pub returns-clause-left_out : goal.returns-clause-left_out
-returns-clause-left_out c system told last run = left_out (program_with system told) last (counted_late system told last run)
+returns-clause-left_out c system told timed last run = left_out (program_with system told timed) last (counted_late system told timed last run)
