@@ -1,5 +1,5 @@
 -- A move that runs the body of a block that fits does not overflow.
-use Rattle.std.proofs.Common.{◌≡◌, ℕ, List, Option, Some, None, sym, ◌∙◌, inl, inr}
+use Rattle.std.proofs.Common.{◌≡◌, ℕ, Bool, List, Option, Some, None, sym, ◌∙◌, inl, inr}
 use Rattle.lang_base.specs.declared.value.Value.{Value}
 use Rattle.lang_base.specs.declared.value.Value.TheVariants as values
 use Rattle.lang_monitor.specs.MonitorParts.{MonitorParts, IsMonitor}
@@ -16,7 +16,7 @@ use Rattle.machine_events.specs.Pending.{IsSystem}
 use Rattle.machine_events.specs.Plans.{FitsPlan}
 use Rattle.machine_events.proofs.Facing.{guard_is}
 use Rattle.emit_code.specs.Code.{Op, late_order}
-use Rattle.emit_code.specs.Executions.{Frame, Moment, RunsBody, program_with}
+use Rattle.emit_code.specs.Executions.{Frame, Moment, RunsBody, program_with, no_times}
 use Rattle.emit_code.specs.Laws.{Leads}
 use Rattle.emit_code.specs.LivePlans.{live_plan, printed_program}
 use Rattle.emit_code.specs.Orders.{IsTold}
@@ -35,14 +35,14 @@ no_overflow (Some (values.Int number)) is = cc
 no_overflow (Some (values.Bool truth)) is = cc
 
 -- under any order of the notes
-pub never_told : (system : System) (told : ℕ → List Op) → HasCountingPlan system → IsTold system told → StartsIn64 system.monitor → PassIn64 system.clients → (thread : ℕ) (frame : Frame) (before next : Moment)
-    → Leads (program_with system told) before → (move : RunsBody (program_with system told) thread frame before next)
+pub never_told : (system : System) (told : ℕ → List Op) (timed : ℕ → ℕ → Bool) → HasCountingPlan system → IsTold system told → StartsIn64 system.monitor → PassIn64 system.clients → (thread : ℕ) (frame : Frame) (before next : Moment)
+    → Leads (program_with system told timed) before → (move : RunsBody (program_with system told timed) thread frame before next)
     → Fits64 system.monitor system.plan.kept move.block → move.reply ≡ replies.Overflow → ⊥
-never_told system told set order starts pass thread frame before next run move fits overflows =
-    let sound = sound_late system told set.is order before run in
-    let covered = covered_late system told set order before run in
-    let body = body_at system told set.is thread frame before next sound move in
-    let short = moments_in_64 (program_with system told) starts pass before run in
+never_told system told timed set order starts pass thread frame before next run move fits overflows =
+    let sound = sound_late system told timed set.is order before run in
+    let covered = covered_late system told timed set order before run in
+    let body = body_at system told timed set.is thread frame before next sound move in
+    let short = moments_in_64 (program_with system told timed) starts pass before run in
     let place = place_by system thread frame (Some move.block) in
     let faced = body.here.faced in
     let runs : MayRunIn64 system.monitor system.plan.kept move.block body.here.block (given body.call.inputs frame.locals) before.state = record {
@@ -73,4 +73,4 @@ never_overflows monitor plan clients before next thread frame rule scripts fits 
     let system : System = system_under monitor clients live in
     let is : IsSystem system = record { rule = rule; scripts = scripts; plan = live_fits monitor plan fits } in
     let set : HasCountingPlan system = record { is = is; lawful = live_is_lawful_by_counting monitor plan lawful } in
-    never_told system (late_order live) set (late_is_told system is) starts pass thread frame before next run move
+    never_told system (late_order live) no_times set (late_is_told system is) starts pass thread frame before next run move

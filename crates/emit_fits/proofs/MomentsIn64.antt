@@ -14,7 +14,7 @@ use Rattle.machine_implicit.specs.Steps.{BlockSteps, given, held}
 use Rattle.machine_events.specs.declared.plan.Note.{Note}
 use Rattle.emit_code.specs.Executions.{AreNotified, Executes, Frame, IsMove, IsThread, Moment, Position, Program, RunsBody, Thread, call_of, goes, new_thread, start}
 use Rattle.emit_code.specs.Executions.Position.{Notified}
-use Rattle.emit_code.specs.Executions.IsMove.{calls, takes, passes, falls_asleep, wakes, retakes, refuses, runs_body, panics, notifies, unlocks, releases, returns}
+use Rattle.emit_code.specs.Executions.IsMove.{calls, takes, passes, falls_asleep, wakes, retakes, refuses, abandons, runs_body, panics, notifies, unlocks, releases, returns}
 use Rattle.emit_code.specs.Executions.Executes.{none_yet, one_more}
 use Rattle.emit_code.proofs.Lists.{came}
 use Rattle.emit_code.proofs.Views.{thread_before}
@@ -99,6 +99,8 @@ module _ (program : Program) (starts : StartsIn64 program.monitor) (pass : PassI
   move_short before next short (retakes thread frame move) =
       subst IsIn64 (sym move.becomes) (record { state = short.state; locals = keeps_short before.threads thread frame frame _ _ short.locals move.at refl })
   move_short before next short (refuses thread frame move) =
+      subst IsIn64 (sym move.becomes) (record { state = short.state; locals = keeps_short before.threads thread frame (record frame { answer = replies.Refused }) _ _ short.locals move.at refl })
+  move_short before next short (abandons thread frame move) =
       subst IsIn64 (sym move.becomes) (record { state = short.state; locals = keeps_short before.threads thread frame (record frame { answer = replies.Refused }) _ _ short.locals move.at refl })
   move_short before next short (runs_body thread frame move) =
       let both = body_short thread frame before next short move in
