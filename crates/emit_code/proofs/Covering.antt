@@ -483,11 +483,11 @@ own_truth system told timed set now sound thread frame position block condition 
     ∙ signal_guard system set now.state thread place loops.call here.block here.which here.faced (subst (λ (one : ℕ). condition_kind system.plan one ≡ Some kinds.Signal) same kind)
     ∙ sym (open_is_guard system told timed now.state thread frame loops.call block (suc loops.left) loops.at)
 
-pub nobody_abandoned : (system : System) (told : ℕ → List Op) (timed : ℕ → ℕ → Bool) (before next : Moment) → HasCountingPlan system → IsTold system told
+pub nobody_owed : (system : System) (told : ℕ → List Op) (timed : ℕ → ℕ → Bool) (before next : Moment) → HasCountingPlan system → IsTold system told
     → Leads (program_with system told timed) before → (thread : ℕ) (frame : Frame) (move : Abandons (program_with system told timed) thread frame before next)
     → condition_kind system.plan move.condition ≡ Some kinds.Signal → (other : ℕ) (others_frame : Frame) (block : ℕ) (rest : List Op)
     → IsThread before.threads other others_frame (Asleep block move.condition rest) → is_open (program_with system told timed) before.state other others_frame block ≡ false
-nobody_abandoned system told timed before next set order run thread frame move kind other others_frame block rest at =
+nobody_owed system told timed before next set order run thread frame move kind other others_frame block rest at =
     let sound = sound_late system told timed set.is order before run in
     let own = sound.placed thread frame (At (WaitUntil move.block move.condition ∷ move.rest)) move.at in
     let others = sound.placed other others_frame (Asleep block move.condition rest) at in

@@ -30,9 +30,9 @@ use Rattle.machine_events.specs.Configurations.{block_condition}
 -- for each local, are the move `Calls`; its end is the move `Returns`. The last line of a method is
 -- what its last block answered: `answer`, or none where it has no result; `Ok(answer)` where a body
 -- of the method may overflow or its calls try, with `()` in place of `answer` where there is no
--- result. In a call with a function it is `result`. Calls of a method with a time are `m_until(end)`
--- and `m_for(time)`, which is `m_until(end)` where `Instant::now().checked_add(time)` is
--- `Some(end)`, and `m()` where it is `None`, as no clock gets there: such a call is one that waits.
+-- result. In a call with a function it is `result`. Calls with a time are `m_until(end)`, and
+-- `m_for(time)`: where `Instant::now().checked_add(time)` is `Some(end)` that is `m_until(end)`,
+-- and where it is `None`, since the clock does not get there, it is `m()`, so a call that waits.
 
 -- what a thread does in a call, by one statement
 pub data Op : Type 0 where
@@ -40,9 +40,10 @@ pub data Op : Type 0 where
   Lock : Op
   -- `while !inner.state.can_m() { inner.asleep_c += 1; inner = wait(&self.can_c, inner);
   -- inner.asleep_c -= 1; }`: the guard of a block, on a condition; where the condition reads no
-  -- inputs, the test is `can_c()`. The count is raised and lowered with the mutex. Where a call has
-  -- a time the loop begins with `let Some(left) = time_left(end) else { return Err(Refused); };`,
-  -- whose `return` is the move `Abandons`, and waits by `wait_for(&self.can_c, inner, left)`
+  -- inputs, the test is `can_c()`. The count is raised and lowered with the mutex. In a call with a
+  -- time the loop begins with `let Some(left) = time_left(end) else { return Err(Refused); };`
+  -- (`Failed::Refused` as below), whose `return` is the move `Abandons`, and it waits by
+  -- `inner = wait_for(&self.can_c, inner, left);`
   WaitUntil : (block condition : ℕ) → Op
   -- `if !inner.state.can_m() { return Err(Refused); }`: the guard of a block, tested as above; the
   -- error is `Failed::Refused` where a body of the method may overflow. The `return` drops the

@@ -111,7 +111,7 @@ call_of program thread frame = slice_get (calls_of program.clients thread) frame
 
 -- ---- a call begins and ends
 
--- whether a call, one that tries or not, is refused at once where the guard is false: it has no time
+-- a call that tries is refused at once where its guard is false, unless it has a time
 abbrev pub at_once : Program → ℕ → Frame → Bool → Bool
 at_once program thread frame tries = not (program.timed thread frame.past) && tries
 
@@ -210,7 +210,7 @@ pub record FallsAsleep (program : Program) (thread : ℕ) (frame : Frame) (befor
     threads = goes before.threads thread frame (Asleep block condition rest);
   }
 
--- one that sleeps is woken by nothing, or since its time is over, where it has one
+-- one that sleeps is woken by nothing, or by the clock, where its call has a time
 pub record WakesByNothing (thread : ℕ) (frame : Frame) (before next : Moment) : Type 0 where
   pub block : ℕ
   pub condition : ℕ
@@ -257,7 +257,7 @@ tries_there program thread frame block =
     option_map_or (λ call. call.tries && number_in program thread frame block == 0)
     (call_of program thread frame) false
 
--- it waits there, but no longer than its time
+-- it waits there, and no longer than its time
 abbrev pub has_time : Program → ℕ → Frame → ℕ → Bool
 has_time program thread frame block =
     program.timed thread frame.past && tries_there program thread frame block
@@ -275,8 +275,8 @@ pub record Refuses (program : Program) (thread : ℕ) (frame : Frame) (before ne
           (At (Unlock ∷ []));
     }
 
--- The guard is false in a call whose time is over: it is refused, before it waited or after. The
--- clock is not told of: a time may be over at any moment, or never. No note is made.
+-- The guard is false in a call whose time is over: it is refused, before it waited or after, and
+-- makes no note. Of the clock nothing is said: a time may be over at any moment, or never.
 pub record Abandons (program : Program) (thread : ℕ) (frame : Frame) (before next : Moment) : Type 0
   where
     pub block : ℕ
@@ -486,8 +486,8 @@ pub data Executes (program : Program) (before : Moment) : Moment → Type 0 wher
   one_more : (middle last : Moment) → Executes program before middle → IsMove program middle last
       → Executes program before last
 
--- A wake-up by nothing, or a panic, which nobody may count on. A time ends, so the wake-up of a call
--- that has one is not by chance.
+-- A wake-up by nothing, or a panic, which nobody may count on. By the clock a call that has a time
+-- is woken at last, so that is not by chance.
 abbrev pub is_by_chance : (program : Program) (before next : Moment)
     → IsMove program before next → Bool
 is_by_chance program before next (wakes thread frame move) =
@@ -501,7 +501,7 @@ IsStill program now =
     (next : Moment) (move : IsMove program now next) → is_by_chance program now next move ≡ true
 
 -- What a thread need not do, since it may stop between two calls, or before it locks the mutex, as
--- after a panic; that a time ends; and what is by chance.
+-- after a panic; what the clock need not do, as times may never end; and what is by chance.
 abbrev pub is_optional : (program : Program) (before next : Moment)
     → IsMove program before next → Bool
 is_optional program before next (calls thread frame move) = true

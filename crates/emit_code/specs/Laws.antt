@@ -261,11 +261,11 @@ LateOrderIsTold = (system : System) → IsSystem system → IsTold system (late_
 
 -- ---- a call gives up after its time
 
--- Where it does, the guard of each thread that sleeps on its condition is false, if the condition
--- is one on which a note wakes one alone. So it passes none on: the one that may have woken it
--- would wake nobody who can go on.
-abbrev pub LateNobodyIsAbandoned : Type 0
-LateNobodyIsAbandoned =
+-- Where it does, and its condition is one on which a note wakes one alone, the guard of each thread
+-- that sleeps on the condition is false. So it owes nobody the note that may have woken it: whoever
+-- that woke in its place would sleep again.
+abbrev pub LateNobodyIsOwed : Type 0
+LateNobodyIsOwed =
     (system : System) (told : ℕ → List Op) (timed : ℕ → ℕ → Bool) (before next : Moment)
     → HasCountingPlan system → IsTold system told
     → Leads (program_with system told timed) before → (thread : ℕ) (frame : Frame)

@@ -12,25 +12,25 @@ ghost use Rattle.emit_code.specs.Laws.{CountedSleepersAreSeenTo, CountedStillIsT
 ghost use Rattle.emit_code.specs.Laws.{CountedStillEndsTheRun, LivePlansCount};
 ghost use Rattle.emit_code.specs.Laws.{CountedCodeLosesNone};
 ghost use Rattle.emit_code.specs.Laws.{LivePlansFit, LivePlansAreLawful, PrintedCodeLosesNone};
-ghost use Rattle.emit_code.specs.Laws.{LateNobodyIsAbandoned, TimedCodeLosesNone};
+ghost use Rattle.emit_code.specs.Laws.{LateNobodyIsOwed, TimedCodeLosesNone};
 ghost use Rattle.emit_code.specs.Laws.{CountedTimedCodeLosesNone};
 
 /// Whatever the interleaving of any threads that call the methods of a monitor, any number of
 /// times, by code that makes the notes of each block before or after it gives the mutex back, or
 /// leaves out those on conditions on which nobody sleeps by its count, with functions that are run
-/// with bodies, any of which may panic, and with calls that try but wait first, until their time is
-/// over: who reads or changes the state holds the mutex, a body
-/// and its function are run where the guard is true, what ran is a run of the implicit monitor, in
-/// which a call whose function panicked has changed nothing, and what a call answers is the reply of
-/// the last that its thread did. Under a lawful plan no wake-up is lost: where nobody holds the
-/// mutex and a thread sleeps whose guard is true, a thread is notified on its condition, or has a
-/// note on it to make; and where no thread can move but by chance, each has no call left, or sleeps
-/// and its guard is false, and the run is at its end. Threads may also stop between two calls or
-/// before they lock the mutex, as after a panic, and times may not end: where the others can't move,
-/// none of them hangs whose guard is true. A call that gives up after its time passes no note on:
-/// where its condition is one on which notes wake one alone, each that sleeps on it has a false
-/// guard. The order that is printed is such an order: the mutex is given back, and the notes come
-/// next that the counts and tests called for then.
+/// with bodies, any of which may panic, and with calls that try but wait first, for a time: who
+/// reads or changes the state holds the mutex, a body and its function are run where the guard is
+/// true, what ran is a run of the implicit monitor, in which a call whose function panicked has
+/// changed nothing, and what a call answers is the reply of the last that its thread did. Under a
+/// lawful plan no wake-up is lost: where nobody holds the mutex and a thread sleeps whose guard is
+/// true, a thread is notified on its condition, or has a note on it to make; and where no thread
+/// can move but by chance, each has no call left, or sleeps and its guard is false, and the run is
+/// at its end. Threads may also stop between two calls or before they lock the mutex, as after a
+/// panic, and times may never end: where the others can't move, none of them hangs whose guard is
+/// true. A call that gives up after its time has no note to pass on: where notes on its condition
+/// wake one alone, each that sleeps there has a false guard. The order that is printed is such an
+/// order: the mutex is given back, and the notes come next that the counts and tests called for
+/// then.
 pub fn late_notes_lose_none()
     ensures mutex { LateHoldersAct }
     ensures ready { LateBodiesAreReady }
@@ -40,7 +40,7 @@ pub fn late_notes_lose_none()
     ensures rests { LateQuietIsAtRest }
     ensures ends { LateStillIsTheEnd }
     ensures ends_the_run { LateStillEndsTheRun }
-    ensures abandoned { LateNobodyIsAbandoned }
+    ensures owed { LateNobodyIsOwed }
     ensures order { LateOrderIsTold }
 {}
 
@@ -73,7 +73,7 @@ pub fn live_plans_are_lawful()
 {}
 
 /// So all this is true of the program that is printed of a monitor and a lawful plan, at each
-/// moment of each execution, and where some of its calls have times.
+/// moment of each execution, also where some of its calls have times.
 pub fn printed_code_loses_none()
     ensures printed { PrintedCodeLosesNone }
     ensures timed { TimedCodeLosesNone }

@@ -2,7 +2,7 @@ use Rattle.machine_events.proofs.Counting.{counting_plan}
 use Rattle.emit_code.proofs.Running.{late_runs}
 use Rattle.emit_code.proofs.Holding.{late_holders_act, late_ready}
 use Rattle.emit_code.proofs.Answering.{late_answers}
-use Rattle.emit_code.proofs.Covering.{late_seen_to, nobody_abandoned}
+use Rattle.emit_code.proofs.Covering.{late_seen_to, nobody_owed}
 use Rattle.emit_code.proofs.Stillness.{quiet_late, still_late, still_ends}
 use Rattle.emit_code.proofs.Order.{late_is_told}
 use Rattle.emit_code.proofs.laws.late_notes_lose_none.Goals as goal
@@ -31,8 +31,8 @@ returns-clause-ends c system told timed last set order run = still_late system t
 pub returns-clause-ends_the_run : goal.returns-clause-ends_the_run
 returns-clause-ends_the_run c system told timed last set order run = still_ends system told timed last (counting_plan system set) order run
 
-pub returns-clause-abandoned : goal.returns-clause-abandoned
-returns-clause-abandoned c = nobody_abandoned
+pub returns-clause-owed : goal.returns-clause-owed
+returns-clause-owed c = nobody_owed
 
 pub returns-clause-order : goal.returns-clause-order
 returns-clause-order c = late_is_told
