@@ -4,8 +4,9 @@
   emitted_random.py MONITORS [SEED]     so many monitors; SEED is 1 where it is left out
 
 Each module is compiled by rustc in both editions without a warning, and called on one thread: what
-the calls answer must be what plain arithmetic over the monitor's text says. Some calls are given a
-function, which counts in the data how many ran, or panics. EXPRESSO=PROGRAM takes the modules of
+the calls answer must be what plain arithmetic over the monitor's text says. Some calls have a time
+that is over at once or soon, and some are given a function, which counts in the data how many ran,
+or panics. EXPRESSO=PROGRAM takes the modules of
 that program, which must be those of the second printer, tools/emitted.py; without it those of the
 second printer alone are taken, under a plan that wakes everyone. Which blocks keep 64 bits is what
 tools/fits.py finds. It ends with status 1 where one differs.
@@ -24,14 +25,16 @@ sys.dont_write_bytecode = True
 ROOT = pathlib.Path(__file__).resolve().parent.parent
 sys.path.insert(0, str(ROOT / "tools"))
 
-from emitted import Source, has_try, has_with, module_text  # noqa: E402
+from emitted import Source, has_times, has_try, has_with, module_text  # noqa: E402
 from fits import whole_blocks  # noqa: E402
+from rust_bodies import way_name  # noqa: E402
 from trees import If, Return, read_tree  # noqa: E402
 
 WORDS = ("self Self _ __ Ok Err Some None state State next answer match match_ try startRead start_read x X y new lock "
          "wait drop narrow inner Inner copy asleep_x Overflow Mutex Option Refused Failed From i64 i128 std async dyn a__b can_x run_x x_ "
          "_x await clone Result try_x try_new_ box gen readX read_x f hand result data Data D R HandOn FnOnce Drop "
-         "with_data get_mut into_inner is_poisoned x_with try_x_with readX_with try_start_read_with Default").split()
+         "with_data get_mut into_inner is_poisoned x_with try_x_with readX_with try_start_read_with Default "
+         "end time left wait_for time_left Duration Instant x_for try_x_until x_until_with readX_for start_read_until").split()
 LEAST, MOST = -2 ** 63, 2 ** 63 - 1
 CALLS, BATCH, LONG = 40, 20, 0.01
 SIGNS = "==", "!=", "<", "<=", ">", ">="
@@ -223,6 +226,9 @@ FUNCTIONS = {
     ("panics", False): ["|_| -> i32 { panic!() }"], ("panics", True): ["|_, _| -> i32 { panic!() }"],
 }
 
+# of calls that have a time, the last that they are handed but for the function
+TIMES = {"until": ["std::time::Instant::now()"], "for": ["std::time::Duration::from_nanos(1)"]}
+
 
 class Caller:
     """Makes statements that call and print, and the lines that they should print."""
@@ -240,25 +246,27 @@ class Caller:
         self.wanted.append(wanted)
 
     def call(self):
-        """Any method with any arguments, in one of three ways, where it wouldn't wait."""
+        """Any method with any arguments, in any way in which it wouldn't wait for long."""
         method, first = self.dice.choice(self.methods)
-        names, tries = self.source.names, has_try(self.source, method, first)
+        ways = ["tries"] if has_try(self.source, method, first) else ["waits"]
+        ways += ["until", "for"] * has_times(self.source, method, first)
+        way, tries = self.dice.choice(ways), ways != ["waits"]
         arguments = [self.dice.random() < 0.5 if one.kind == "bool" else self.dice.choice([0, 1, -1, 5, MOST, LEAST])
                      for one in method.inputs]
         outcome = called(method, arguments, self.state, tries)
         if outcome is None:
             return
         fails = any(map(self.source.fails, range(first, first + len(method.blocks))))
-        way = self.dice.choice(["plain", "counts", "counts", "panics"])
-        way = way if has_with(self.source, method, tries) else "plain"
+        does = self.dice.choice(["plain", "counts", "counts", "panics"])
+        does = does if has_with(self.source, method, way) else "plain"
         answers = bool(self.source.answer(first + len(method.blocks) - 1))
-        given = [*map(shown, arguments), *FUNCTIONS.get((way, answers), [])]
-        name = ("try_" if tries else "") + (names.member if way == "plain" else names.working)(method.name)
+        given = [*map(shown, arguments), *TIMES.get(way, []), *FUNCTIONS.get((does, answers), [])]
+        name = way_name(self.source.names.member(method.name), way, does != "plain")
         text = f"monitor.{name}({', '.join(given)})"
-        if way == "panics":
+        if does == "panics":
             self.panics(outcome, text)
         else:
-            self.returns(outcome, text, fails or tries, way == "counts", answers)
+            self.returns(outcome, text, fails or tries, does == "counts", answers)
 
     def panics(self, outcome, text):
         """Only the blocks before the last one have changed something."""

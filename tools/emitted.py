@@ -14,12 +14,12 @@ sys.dont_write_bytecode = True
 from formulas import joined  # noqa: E402
 from monitors import read_monitor  # noqa: E402
 from rust_bodies import (Scope, answer, argument_texts, can_name, doc_text,  # noqa: E402
-                         function_texts, kind_text, run_name, shortens, trace)
+                         function_texts, kind_text, run_name, shortens, trace, way_name)
 from rust_comments import Comments  # noqa: E402
 from rust_names import Names, lints  # noqa: E402
 from rust_texts import COPY, DATA, DEBUG, DEFAULT, FAILED, FIELDS, HEAD, INNER, LOCK, METHODS  # noqa: E402
 from rust_texts import NEW, OVERFLOW, REFUSED, SKIP, STATE, STATE_HEAD, USED, VERSION, WAIT  # noqa: E402
-from rust_texts import WHOLE, WITH_DATA  # noqa: E402
+from rust_texts import TIMES, WHOLE, WITH_DATA  # noqa: E402
 from trees import read_tree  # noqa: E402
 
 ALWAYS = joined("all", [])
@@ -115,7 +115,7 @@ def note_lines(source, note):
     return [f"if {test} {{", f"    self.{name}.notify_{'all' if everyone else 'one'}();", "}"]
 
 
-def run_lines(source, block, tries):
+def run_lines(source, block, way):
     """The body of a block, and what is told where it overflows."""
     call, answer = call_text(source, block), source.answer(block)
     before = "let answer = " if answer else ""
@@ -126,19 +126,23 @@ def run_lines(source, block, tries):
         return [f"{before}{call}?;"]
     return [f"let Ok({'answer' if answer else '()'}) = {call} else {{",
             f"    self.{source.condition_name(condition)}.notify_one();",
-            f"    return Err({'Failed::' if tries else ''}Overflow);", "};"]
+            f"    return Err({'' if way == 'waits' else 'Failed::'}Overflow);", "};"]
 
 
-def test_lines(source, block, refusal):
-    """The block's guard is waited for, or, where there is a refusal, the call is refused."""
+def test_lines(source, block, way, refusal):
+    """The block's guard is waited for, or the call is refused, at once or when its time is over."""
     condition = source.condition_of(block)
     if not source.is_waited_on(condition):
         return []
-    if refusal:
+    if way == "tries":
         return [f"if !inner.state.{test_text(source, block)} {{", f"    return Err({refusal});", "}"]
-    count = f"    inner.{source.count_name(condition)}"
-    return [f"while !inner.state.{test_text(source, block)} {{", f"{count} += 1;",
-            f"    inner = wait(&self.{source.condition_name(condition)}, inner);", f"{count} -= 1;", "}"]
+    count, name = f"    inner.{source.count_name(condition)}", source.condition_name(condition)
+    over, waits = [], f"wait(&self.{name}, inner)"
+    if way == "until":
+        over = ["    let Some(left) = time_left(end) else {", f"        return Err({refusal});", "    };"]
+        waits = f"wait_for(&self.{name}, inner, left)"
+    return [f"while !inner.state.{test_text(source, block)} {{", *over, f"{count} += 1;", f"    inner = {waits};",
+            f"{count} -= 1;", "}"]
 
 
 def work_lines(source, block):
@@ -153,47 +157,61 @@ def work_lines(source, block):
         "std::mem::forget(hand);"] * waits + ["inner.state = next;"]
 
 
-def block_lines(source, block, refusal, tries, works):
+def block_lines(source, block, way, tested, refusal, works):
     """From the lock to the notes, which come when the lock is given back."""
     lines, notes = ["let mut inner = lock(&self.inner);"], source.notes[block]
-    lines += test_lines(source, block, refusal)
-    lines += work_lines(source, block) if works else run_lines(source, block, tries)
+    lines += test_lines(source, block, tested, refusal)
+    lines += work_lines(source, block) if works else run_lines(source, block, way)
     lines += ["let copy = inner.copy();"] * bool(notes) + ["drop(inner);"]
     for note in notes:
         lines += note_lines(source, note)
     return lines
 
 
-def end_lines(name, fails, tries):
+def end_lines(name, fails, way):
     """What a method answers, after its last block."""
-    if not fails and not tries:
+    if not fails and way == "waits":
         return [name] if name else []
     return [f"Ok({name or '()'})"]
 
 
-def method_text(source, method, first, tries, works):
+def for_lines(source, method, works, fails, answer):
+    """A call that waits for a time is one until then, or, where the clock does not get there, one that waits."""
+    def call(way, *given):
+        name = way_name(source.names.member(method.name), way, works)
+        inputs = [source.names.own(method, one.name) for one in method.inputs]
+        return f"self.{name}({', '.join([*inputs, *given, *['f'] * works])})"
+
+    waits = call("waits") + "?" * fails
+    else_lines = [f"    return Ok({waits});"] if works or answer else [f"    {waits};", "    return Ok(());"]
+    return ["let Some(end) = Instant::now().checked_add(time) else {", *else_lines, "};", call("until", "end")]
+
+
+def method_text(source, method, first, way, works):
     """A method.
 
-    Of one that tries, a call is refused where it would wait at the first block; of one that works, a call is given
-    a function, which the last block calls with the data.
+    Of one that tries, a call is refused where it would wait at the first block; until a time, or for one, it waits
+    before that. Of one that works, a call is given a function, which the last block calls with the data.
     """
     blocks = range(first, first + len(method.blocks))
     fails, answer = any(source.fails(block) for block in blocks), source.answer(blocks[-1])
-    error = ("Failed" if fails else "Refused") if tries else "Overflow" if fails else None
-    refusal = ("Failed::Refused" if fails else "Refused") if tries else None
+    error, refusal = ("Failed", "Failed::Refused") if fails else ("Refused", "Refused")
+    if way == "waits":
+        error = "Overflow" if fails else None
     lines = [f"let mut {source.names.own(method, one.name)}: {kind_text(one.kind)} = {one.start};"
              for one in method.own_locals]
     for block in blocks:
-        lines += block_lines(source, block, refusal if block == first else None, tries,
+        lines += block_lines(source, block, way, way if block == first else "waits", refusal,
                              works and block == blocks[-1])
-    lines += end_lines("result" if works else answer and "answer", fails, tries)
+    lines += end_lines("result" if works else answer and "answer", fails, way)
+    lines = for_lines(source, method, works, fails, answer) if way == "for" else lines
     inputs = "".join(f", {source.names.own(method, one.name)}: {kind_text(one.kind)}"
-                     for one in method.inputs)
+                     for one in method.inputs) + {"until": ", end: Instant", "for": ", time: Duration"}.get(way, "")
     inputs += f", f: impl FnOnce(&mut D{', ' + answer if answer else ''}) -> R" if works else ""
-    name = ("try_" if tries else "") + source.names.member(method.name) + ("_with<R>" if works else "")
+    name = way_name(source.names.member(method.name), way, works) + "<R>" * works
     arrow = arrow_text("R" if works else answer, error)
     body = "".join(f"        {line}\n" for line in lines)
-    docs = doc_text(source, method, first, fails, tries, works, answer)
+    docs = doc_text(source, method, first, fails, way, works, answer)
     return f"\n{docs}    pub fn {name}(&self{inputs}){arrow} {{\n{body}    }}\n"
 
 
@@ -203,17 +221,25 @@ def has_try(source, method, first):
     return waits and source.names.is_free(source.names.tried(method.name))
 
 
-def has_with(source, method, tries):
+def has_with(source, method, way):
     """No other name is theirs."""
+    if way in ("until", "for"):
+        return source.names.are_lasting_with_free(method.name)
     free = source.names.is_with_free(method.name)
-    return free and (not tries or source.names.is_free("try_" + source.names.working(method.name)))
+    return free and (way == "waits" or source.names.is_free("try_" + source.names.working(method.name)))
+
+
+def has_times(source, method, first):
+    """Calls may try, and no other names are theirs."""
+    return has_try(source, method, first) and source.names.are_lasting_free(method.name)
 
 
 def methods_text(source, method, first):
-    """With the calls that try, and those that are given a function, where it has them."""
-    ways = [False, True] if has_try(source, method, first) else [False]
-    return "".join(method_text(source, method, first, tries, works) for tries in ways
-                   for works in [False] + [True] * has_with(source, method, tries))
+    """With the calls that try, that have a time, and that are given a function, where it has them."""
+    ways = ["waits"] + ["tries"] * has_try(source, method, first)
+    ways += ["until", "for"] * has_times(source, method, first)
+    return "".join(method_text(source, method, first, way, works) for way in ways
+                   for works in [False] + [True] * has_with(source, method, way))
 
 
 def arrow_text(answer, error):
@@ -229,12 +255,14 @@ def module_text(source):
     refused = refusals(source)
     used = "{Mutex, MutexGuard, PoisonError}" if source.blocks else "{Mutex, PoisonError}"
     used = used.replace("{", "{Condvar, ") if waited else used
-    parts = [HEAD % (source.tree.name, VERSION), f"use std::sync::{used};\n\n",
+    times = any(has_times(source, method, first) for method, first in methods_of(source))
+    used = f"use std::sync::{used};\n" + "use std::time::{Duration, Instant};\n" * times
+    parts = [HEAD % (source.tree.name, VERSION), f"{used}\n",
              struct_text(source, kind, lint, waited), impl_text(source, kind, lint, waited),
              f"impl Default for {kind}{DEFAULT}", f"impl<D> std::fmt::Debug for {kind}<D>{DEBUG % kind}",
              inner_text(source, lint, waited), f"{FIELDS}{lint}struct State {{{state_fields(source)}}}\n\n", STATE,
              f"{lint}{STATE_HEAD}{starts(source)}}};\n", functions(source), "}\n"]
-    own = [LOCK] * bool(source.blocks) + [WAIT] * bool(waited) + [OVERFLOW] * fails
+    own = [LOCK] * bool(source.blocks) + [WAIT] * bool(waited) + [TIMES] * times + [OVERFLOW] * fails
     own += [REFUSED] * (False in refused) + [FAILED] * (True in refused)
     own += [WHOLE] * any(map(source.shortens, range(len(source.blocks))))
     return "".join(parts + own)
@@ -242,12 +270,16 @@ def module_text(source):
 
 def refusals(source):
     """Of each method whose calls may be refused, whether it may fail too."""
-    found, first = [], 0
+    return [any(map(source.fails, range(first, first + len(method.blocks))))
+            for method, first in methods_of(source) if has_try(source, method, first)]
+
+
+def methods_of(source):
+    """Each method, with the number of its first block."""
+    first = 0
     for method in source.tree.methods:
-        blocks = range(first, first + len(method.blocks))
-        found += [any(map(source.fails, blocks))] * has_try(source, method, first)
+        yield method, first
         first += len(method.blocks)
-    return found
 
 
 def struct_text(source, kind, lint, waited):
@@ -274,10 +306,7 @@ def impl_text(source, kind, lint, waited):
     counts = "".join(f"                {source.count_name(q)}: 0,\n" for q in waited)
     conditions = "".join(f"            {source.condition_name(q)}: Condvar::new(),\n" for q in waited)
     conditions = f"{counts}                data,\n            }}),\n{conditions}"
-    methods, first = "", 0
-    for method in source.tree.methods:
-        methods += methods_text(source, method, first)
-        first += len(method.blocks)
+    methods = "".join(methods_text(source, method, first) for method, first in methods_of(source))
     gap = "\n" if constants else ""
     return (f"{SKIP}{lint}impl {kind} {{\n{constants}{gap}{NEW}"
             f"{METHODS}impl<D> {kind}<D> {{\n{WITH_DATA}{conditions}        }}\n    }}\n\n{DATA}"

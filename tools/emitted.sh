@@ -3,7 +3,8 @@
 # that is kept in bench/emitted/, or not what the second reader, tools/emitted.py, prints.
 #
 # Where rustc is installed each module is compiled, without a warning, and called from threads by the program of
-# bench/threads/ that has its name: that program checks the last state, and fails where it hasn't ended in a minute.
+# bench/threads/ that has its name: that program checks the last state, and fails where it hasn't ended in a minute. So
+# does times.rs there, whose calls have times.
 cd "$(dirname "$0")/.." || exit 1
 program=$PWD/crates/expresso_cli/out/expresso_cli
 made=$(mktemp -d) || exit 1
@@ -47,6 +48,11 @@ build() {
     if has rustfmt; then
         rustfmt --edition 2021 --check "$module" || fail "$1: rustfmt"
     fi
+    threads "$1"
+}
+
+# threads NAME: a program of bench/threads/ comes to its end
+threads() {
     rustc -O -D warnings --edition 2021 -o "$made/threads" "bench/threads/$1.rs" || fail "$1: its program"
     timeout 60 "$made/threads" || fail "$1: its threads"
 }
@@ -64,6 +70,7 @@ if has rustc; then
     for name in "${names[@]}"; do
         build "$name"
     done
+    threads times
     echo "they compile, and threads that call them come to their end"
 else
     echo "rustc is not installed here, so they were not compiled"

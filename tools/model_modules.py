@@ -3,8 +3,11 @@
 
 It reads a module as it is printed, statement by statement, and shares no code with the product. Each of two or three
 threads makes any few calls, of any methods with any of a few arguments, or stops. A sleeper may wake by nothing at any
-time, and a function that a call is given may panic. So that numbers leave their width soon, the test `narrow` takes
-WIDTH as the most.
+time, a function that a call is given may panic, and a time may be over whenever a call asks. So that numbers leave
+their width soon, the test `narrow` takes WIDTH as the most.
+
+A call that waits for a time, as `put_for`, is one until then, or, where the clock does not get there, one that waits:
+of these it is read whether they say so.
 
 The data of a module are the fields once more: what a body does to the fields, the function that the call is given does
 to the data, and where none is given they change with the fields.
@@ -109,7 +112,13 @@ FORMS = [  # a line, its kind, and which of its groups are kept
     (r"(?:let answer = )?next\.(\w+)\((.*)\)(\?)?;", "work"),
     (r"let result = f\(&mut inner\.data(?:, answer)?\);", "give"), (r"std::mem::forget\(hand\);", "forget"),
     (r"inner\.state = next;", "keep"),
+    # of a call that has a time
+    (r"let Some\(left\) = time_left\(end\) else {", "left"),
+    (r"inner = wait_for\(&self\.(\w+), inner, left\);", "wait"),
 ]
+# of a call that waits for a time, with the two calls that it may be
+LASTING = (r"let Some\(end\) = Instant::now\(\)\.checked_add\(time\) else { "
+           r"(?:return Ok\(%s\??\);|%s\??; return Ok\(\(\)\);) }; %s")
 
 
 def step_of(line):
@@ -132,16 +141,26 @@ def steps_of(lines):
                 steps.append(Step("goto", jump=start))
             steps[start] = steps[start]._replace(jump=len(steps))
         else:
-            if kind in ("while", "unless", "if", "else"):
+            if kind in ("while", "unless", "if", "else", "left"):
                 opened.append(len(steps))
             steps.append(Step(kind, found[0] if found else None, found[1:]))
     return steps + [Step("answer")], tuple(locals_.items())
 
 
+def check_lasting(name, inputs, body):
+    """A call for a time is one of the two that it should be."""
+    stem, works = re.fullmatch("(.*)_for((?:_with)?)", name).groups()
+    given = ["f"] * bool(works)
+    waits = re.escape(f"self.{stem}{works}({', '.join(inputs + given)})")
+    until = re.escape(f"self.{stem}_until{works}({', '.join(inputs + ['end'] + given)})")
+    if not re.fullmatch(LASTING % (waits, waits, until), " ".join(body.split())):
+        raise Broken(f"times: {name}")
+
+
 class Module:
     """What threads do by the text of a module."""
 
-    def __init__(self, text):
+    def __init__(self, text, names=r"\w+"):
         constants = {name: int(value) for name, value in re.findall(r"pub const (\w+): i64 = (-?\d+);", text)}
         start = re.search(r"const START: Self = Self \{(.*?)\};", text, re.S)[1]
         fields = re.findall(r"(\w+): (-?\w+),", start)
@@ -156,10 +175,17 @@ class Module:
         self.methods = {}
         method = r"^    pub fn (?!is_poisoned\b)(\w+)(?:<R>)?\(&self(.*?)\).* \{\n((?:        .*\n)*)    \}"
         for name, taken, body in re.findall(method, text, re.M):
+            if not re.fullmatch(names, name):
+                continue
+            inputs = re.findall(r", (\w+): (i64|bool)", taken)
+            if ", time: Duration" in taken:
+                check_lasting(name, [one for one, _ in inputs], body)
+                continue
             steps, locals_ = steps_of(body.splitlines())
-            self.methods[name] = Method(re.findall(r", (\w+): (i64|bool)", taken), locals_, steps)
+            self.methods[name] = Method(inputs, locals_, steps)
         self.hands_on = bool(re.search(r"^impl Drop for HandOn<'_> \{\n.*\n +self\.0\.notify_one\(\);", text, re.M))
-        self.heeds_poison = bool(re.search(r"\.(lock\(\)|wait\(inner\))\s*\.unwrap\(\)", text))
+        taken = r"\.(lock\(\)|wait\(inner\)|wait_timeout\(inner, left\))\s*\.unwrap\(\)"
+        self.heeds_poison = bool(re.search(taken, text))
         self.call = functools.lru_cache(None)(self.call)
 
     def calls(self):
@@ -263,6 +289,9 @@ class Explorer:
             yield from self.body(held, step, after)
         elif step.kind == "give":
             yield from self.function(held, after)
+        elif step.kind == "left":
+            for at in (after.at, step.jump):
+                yield from self.section(held._replace(thread=thread._replace(at=at)))
         elif step.kind == "notify":
             for woken in self.woken(held.others, step.what, step.more == ("all",)):
                 yield from self.section(held._replace(thread=after, others=woken))
@@ -397,11 +426,14 @@ CASES = {
     "account": [(2, 2)], "names": [(1, 1)], "derived_weights": [(2, 1, 1)], "job_gate": [(2, 2)],
     "map_gate": [(2, 2)], "tally": [(2, 2), (1, 1, 1)],
 }
-# a fault, the module, the calls of each thread, what it breaks, and what stands for the first such text of the module
-Fault = namedtuple("Fault", "name module calls breaks text instead")
+# A fault, the module, the calls of each thread, what it breaks, what stands for the first such text of the module, and
+# of which methods the calls are.
+Fault = namedtuple("Fault", "name module calls breaks text instead names", defaults=[r"\w+"])
+PLAIN = r"(?!try_)\w+(?<!_with)(?<!_until)"
 LOOP = r"( +inner = wait\(.*\n)( +inner\.\w+ -= 1;\n)"
 NOTE = r"        if copy\.asleep_get > 0 \{\n    (.*\n)        \}\n"
 GIVEN = r"(.*f\(&mut inner.*\n)(.*forget.*\n)?(        inner\.state = next;\n)"
+TIMED = r"( +let Some\(left\).*\n.*\n.*\n)(.*asleep_get.*\n.*\n.*\n)"
 AFTER = r"(.*f\(&mut inner.*\n)((?:.*\n)*?        drop\(inner\);\n)"
 FAULTS = [
     Fault("who waits is not counted", "buffer", (2, 1), "counts", r" +inner\.\w+ \+= 1;\n", ""),
@@ -415,7 +447,7 @@ FAULTS = [
     Fault("a wait on another condition", "buffer", (2, 1), "counts", r"wait\(&self\.can_put", "wait(&self.can_get"),
     Fault("a note on another condition", "buffer", (2, 1), "pending", r"can_get\.notify", "can_put.notify"),
     Fault("no note", "buffer", (2, 1), "pending", NOTE, ""),
-    Fault("one is woken in place of all", "readers_writers", (3, 1, 1), "pending", "notify_all", "notify_one"),
+    Fault("one is woken in place of all", "readers_writers", (3, 1, 1), "pending", "notify_all", "notify_one", PLAIN),
     Fault("the test of another condition", "readers_writers", (2, 2), "pending", r"copy\.state\.can_start_write",
           "copy.state.can_end_write"),
     Fault("no note after an overflow", "tally", (1, 1, 1), "pending", r" +self\.can_take.*\n(?= +return)", ""),
@@ -435,14 +467,25 @@ FAULTS = [
     Fault("no function", "buffer", (2, 1), "data", r".*f\(&mut inner.*\n", ""),
     Fault("a function that runs twice", "buffer", (2, 1), "data", r"(.*f\(&mut inner.*\n)", r"\1\1"),
     Fault("a lock that heeds poison", "buffer", (1, 1), "poison", r"(\.lock\(\)\.unwrap)_or_else\(.*\)", r"\1()"),
+    Fault("who gives up has not tested again", "buffer", (1, 1, 1), "pending", TIMED, r"\2\1"),
+    Fault("who gives up is counted still", "buffer", (1, 1), "counts", r"(\n +let Some\(left\).*\n.*\n.*)(\n.*\+= 1;)",
+          r"\2\1"),
+    Fault("an `if` for a `while` with a time", "buffer", (1, 1), "guards", r"while !(.*\n +let Some\(left\))",
+          r"if !\1"),
+    Fault("a wait for a time on another condition", "buffer", (2, 1), "counts", r"wait_for\(&self\.can_put",
+          "wait_for(&self.can_get"),
+    Fault("who gives up has changed something", "buffer", (1, 1), "changes",
+          r"( +while !.*\n +let Some(?:.*\n){7})( +inner\.state\.run_put\(\);\n)", r"\2\1"),
+    Fault("a call for a time that is another", "buffer", (1,), "times: put_for", r"self\.put_until\(end\)",
+          "self.get_until(end)"),
     Fault("a note whatever the count: no fault", "buffer", (3, 2), None, NOTE, r"\1"),
 ]
 
 
-def explore(text, calls):
+def explore(text, calls, names=r"\w+"):
     """What breaks, or None, and how many states were reached."""
     try:
-        return None, Explorer(Module(text), calls).run()
+        return None, Explorer(Module(text, names), calls).run()
     except Broken as broken:
         return str(broken), 0
 
@@ -456,7 +499,7 @@ def judge(name, calls):
 
 def plant(fault):
     text, count = re.subn(fault.text, fault.instead, TEXTS[fault.module], count=1)
-    broken, _ = explore(text, fault.calls)
+    broken, _ = explore(text, fault.calls, fault.names)
     if not count or broken != fault.breaks:
         sys.exit(f"{fault.module}, {fault.name}: {broken} and not {fault.breaks} is found, in {count} place")
 

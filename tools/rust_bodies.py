@@ -40,6 +40,12 @@ def run_name(names, method, number):
     return f"run{mark(number)}_{names.member(method.name)}"
 
 
+def way_name(name, way, works):
+    """Of the calls of a method that wait, try, or wait until a time or for one, and may be given a function."""
+    names = {"waits": name, "tries": f"try_{name}", "until": f"{name}_until", "for": f"{name}_for"}
+    return names[way] + "_with" * works
+
+
 def argument_texts(names, method, lending):
     return [names.own(method, one.name) for one in method.inputs] + [
         lending + names.own(method, one.name) for one in method.own_locals]
@@ -291,34 +297,39 @@ def waiting_docs(source, method, first):
     return lines
 
 
-def trying_docs(source, method):
-    """What calls that try don't wait for."""
+def trying_docs(source, method, way):
+    """What calls don't wait for that try, or not any longer."""
     name, shown = source.names.member(method.name), method.blocks[0].shown
-    return [f"As [`{name}`](Self::{name}), but does not wait until `{shown}`."]
+    if way == "tries":
+        return [f"As [`{name}`](Self::{name}), but does not wait until `{shown}`."]
+    time = "until `end`" if way == "until" else "`time`"
+    return [f"As [`{name}`](Self::{name}), but waits for `{shown}` no longer than {time}."]
 
 
-def working_docs(source, method, tries, answer):
+def working_docs(source, method, way, answer):
     """What calls do that are given a function."""
-    name = ("try_" if tries else "") + source.names.member(method.name)
+    name = way_name(source.names.member(method.name), way, False)
     given = "the data and the answer" if answer else "the data"
     several = len(method.blocks) > 1
     return [f"As [`{name}`](Self::{name}), and calls `f` with {given} under the same lock{', in its last block' if several else ''}.", "",
             f"Where `f` panics {'that block changes no field' if several else 'no field changes'}. `f` must not call this monitor."]
 
 
-def error_docs(method, fails, tries):
+def error_docs(method, fails, way):
     """When calls fail."""
     shown, lines = method.blocks[0].shown, []
-    if tries:
-        lines += ["", f"[`{'Failed::' if fails else ''}Refused`] where `{shown}` is false. Then nothing changes."]
+    if way != "waits":
+        when = "" if way == "tries" else "its time is over and "
+        lines += ["", f"[`{'Failed::' if fails else ''}Refused`] where {when}`{shown}` is false. Then nothing changes."]
     if fails:
-        lines += ["", f"[`{'Failed::' if tries else ''}Overflow`] where a number would leave 64 bits. {stays_text(method)}"]
+        of = "" if way == "waits" else "Failed::"
+        lines += ["", f"[`{of}Overflow`] where a number would leave 64 bits. {stays_text(method)}"]
     return ["", "# Errors"] + lines if lines else []
 
 
-def doc_text(source, method, first, fails, tries, works, answer):
-    lines = (working_docs(source, method, tries, answer) if works
-             else trying_docs(source, method) if tries
-             else waiting_docs(source, method, first)) + error_docs(method, fails, tries)
-    comments = "" if tries or works else source.comments.of_method(method.name)
+def doc_text(source, method, first, fails, way, works, answer):
+    lines = (working_docs(source, method, way, answer) if works
+             else waiting_docs(source, method, first) if way == "waits"
+             else trying_docs(source, method, way)) + error_docs(method, fails, way)
+    comments = source.comments.of_method(method.name) if way == "waits" and not works else ""
     return comments + "".join(f"    /// {line}".rstrip() + "\n" for line in lines)

@@ -7,9 +7,9 @@ KEYWORDS = set(
     "pub ref return self Self static struct super trait true type unsafe use where while async await dyn "
     "abstract become box do final gen macro override priv try typeof unsized virtual yield".split())
 TYPE_WORDS = set("Inner State Overflow Refused Failed Mutex MutexGuard Condvar PoisonError Default From Result "
-                 "Drop FnOnce HandOn D R".split())
+                 "Drop FnOnce HandOn D R Duration Instant".split())
 MEMBER_WORDS = set("new with_data get_mut into_inner is_poisoned".split())
-OWN_WORDS = set("inner copy next answer f hand result lock wait narrow whole drop "
+OWN_WORDS = set("inner copy next answer f hand result end time left lock wait wait_for time_left narrow whole drop "
                 "Ok Err Some None Overflow Refused HandOn".split())
 
 
@@ -79,10 +79,26 @@ class Names:
         """Of the calls of a method that are given a function."""
         return self.member(name) + "_with"
 
+    def lasting(self, name):
+        """Of the calls of a method that wait until a time, and for one."""
+        return [self.member(name) + end for end in ("_until", "_for")]
+
     def is_with_free(self, name):
         """No member is written so, and no method that tries."""
+        return self.are_unused([self.working(name)])
+
+    def are_lasting_free(self, name):
+        """The same of both."""
+        return self.are_unused(self.lasting(name))
+
+    def are_lasting_with_free(self, name):
+        """The same of those that are given a function, of which one may call the one without a time."""
+        return self.is_with_free(name) and self.are_unused([one + "_with" for one in self.lasting(name)])
+
+    def are_unused(self, names):
+        """No member is written so, and no method that tries."""
         tried = [self.tried(one.name) for one in self.tree.methods]
-        return self.is_free(self.working(name)) and self.working(name) not in tried
+        return all(self.is_free(one) and one not in tried for one in names)
 
     def is_free(self, name):
         """No constant, field or method is written so."""

@@ -140,6 +140,26 @@ impl Drop for HandOn<'_> {
 }
 """
 
+TIMES = """
+/// As `wait`, but no longer than this.
+fn wait_for<'a, D>(
+    condition: &Condvar,
+    inner: MutexGuard<'a, Inner<D>>,
+    left: Duration,
+) -> MutexGuard<'a, Inner<D>> {
+    condition
+        .wait_timeout(inner, left)
+        .unwrap_or_else(PoisonError::into_inner)
+        .0
+}
+
+/// How long it is until then, or `None` where it has come.
+fn time_left(end: Instant) -> Option<Duration> {
+    end.checked_duration_since(Instant::now())
+        .filter(|left| !left.is_zero())
+}
+"""
+
 OVERFLOW = """
 /// A number would have left 64 bits.
 #[derive(Clone, Copy, Debug, PartialEq, Eq)]
@@ -160,7 +180,7 @@ fn narrow(number: i128) -> Result<i64, Overflow> {
 """
 
 REFUSED = """
-/// The guard was false, and the call did not wait. Nothing changed.
+/// The guard was false, and the call did not wait, or not any longer. Nothing changed.
 #[derive(Clone, Copy, Debug, PartialEq, Eq)]
 pub struct Refused;
 
@@ -174,10 +194,10 @@ impl std::error::Error for Refused {}
 """
 
 FAILED = """
-/// Why a call that tries has no answer.
+/// Why a call that tries, or has a time, has no answer.
 #[derive(Clone, Copy, Debug, PartialEq, Eq)]
 pub enum Failed {
-    /// The guard was false, and the call did not wait. Nothing changed.
+    /// The guard was false, and the call did not wait, or not any longer. Nothing changed.
     Refused,
     /// A number would have left 64 bits.
     Overflow,

@@ -2,6 +2,7 @@
 // Change the monitor, and not this file. It wants Rust 1.65 and the edition 2021, or later ones.
 
 use std::sync::{Condvar, Mutex, MutexGuard, PoisonError};
+use std::time::{Duration, Instant};
 
 /// The monitor `Account`. Threads share it by reference. A call waits for its guard, unless it tries.
 ///
@@ -188,6 +189,98 @@ impl<D> Account<D> {
         Ok(result)
     }
 
+    /// As [`deposit`](Self::deposit), but waits for `!frozen` no longer than until `end`.
+    ///
+    /// # Errors
+    ///
+    /// [`Failed::Refused`] where its time is over and `!frozen` is false. Then nothing changes.
+    ///
+    /// [`Failed::Overflow`] where a number would leave 64 bits. Then nothing changes.
+    pub fn deposit_until(&self, amount: i64, end: Instant) -> Result<i64, Failed> {
+        let mut inner = lock(&self.inner);
+        while !inner.state.can_deposit() {
+            let Some(left) = time_left(end) else {
+                return Err(Failed::Refused);
+            };
+            inner.asleep_deposit += 1;
+            inner = wait_for(&self.can_deposit, inner, left);
+            inner.asleep_deposit -= 1;
+        }
+        let Ok(answer) = inner.state.run_deposit(amount) else {
+            self.can_deposit.notify_one();
+            return Err(Failed::Overflow);
+        };
+        let copy = inner.copy();
+        drop(inner);
+        if copy.asleep_withdraw > 0 {
+            self.can_withdraw.notify_all();
+        }
+        Ok(answer)
+    }
+
+    /// As [`deposit_until`](Self::deposit_until), and calls `f` with the data and the answer under the same lock.
+    ///
+    /// Where `f` panics no field changes. `f` must not call this monitor.
+    ///
+    /// # Errors
+    ///
+    /// [`Failed::Refused`] where its time is over and `!frozen` is false. Then nothing changes.
+    ///
+    /// [`Failed::Overflow`] where a number would leave 64 bits. Then nothing changes.
+    pub fn deposit_until_with<R>(&self, amount: i64, end: Instant, f: impl FnOnce(&mut D, i64) -> R) -> Result<R, Failed> {
+        let mut inner = lock(&self.inner);
+        while !inner.state.can_deposit() {
+            let Some(left) = time_left(end) else {
+                return Err(Failed::Refused);
+            };
+            inner.asleep_deposit += 1;
+            inner = wait_for(&self.can_deposit, inner, left);
+            inner.asleep_deposit -= 1;
+        }
+        let hand = HandOn(&self.can_deposit);
+        let mut next = inner.state;
+        let answer = next.run_deposit(amount)?;
+        let result = f(&mut inner.data, answer);
+        std::mem::forget(hand);
+        inner.state = next;
+        let copy = inner.copy();
+        drop(inner);
+        if copy.asleep_withdraw > 0 {
+            self.can_withdraw.notify_all();
+        }
+        Ok(result)
+    }
+
+    /// As [`deposit`](Self::deposit), but waits for `!frozen` no longer than `time`.
+    ///
+    /// # Errors
+    ///
+    /// [`Failed::Refused`] where its time is over and `!frozen` is false. Then nothing changes.
+    ///
+    /// [`Failed::Overflow`] where a number would leave 64 bits. Then nothing changes.
+    pub fn deposit_for(&self, amount: i64, time: Duration) -> Result<i64, Failed> {
+        let Some(end) = Instant::now().checked_add(time) else {
+            return Ok(self.deposit(amount)?);
+        };
+        self.deposit_until(amount, end)
+    }
+
+    /// As [`deposit_for`](Self::deposit_for), and calls `f` with the data and the answer under the same lock.
+    ///
+    /// Where `f` panics no field changes. `f` must not call this monitor.
+    ///
+    /// # Errors
+    ///
+    /// [`Failed::Refused`] where its time is over and `!frozen` is false. Then nothing changes.
+    ///
+    /// [`Failed::Overflow`] where a number would leave 64 bits. Then nothing changes.
+    pub fn deposit_for_with<R>(&self, amount: i64, time: Duration, f: impl FnOnce(&mut D, i64) -> R) -> Result<R, Failed> {
+        let Some(end) = Instant::now().checked_add(time) else {
+            return Ok(self.deposit_with(amount, f)?);
+        };
+        self.deposit_until_with(amount, end, f)
+    }
+
     /// Waits until `amount <= balance && !frozen`.
     ///
     /// # Errors
@@ -304,6 +397,104 @@ impl<D> Account<D> {
         Ok(result)
     }
 
+    /// As [`withdraw`](Self::withdraw), but waits for `amount <= balance && !frozen` no longer than until `end`.
+    ///
+    /// # Errors
+    ///
+    /// [`Failed::Refused`] where its time is over and `amount <= balance && !frozen` is false. Then nothing changes.
+    ///
+    /// [`Failed::Overflow`] where a number would leave 64 bits. Then nothing changes.
+    pub fn withdraw_until(&self, amount: i64, end: Instant) -> Result<i64, Failed> {
+        let mut inner = lock(&self.inner);
+        while !inner.state.can_withdraw(amount) {
+            let Some(left) = time_left(end) else {
+                return Err(Failed::Refused);
+            };
+            inner.asleep_withdraw += 1;
+            inner = wait_for(&self.can_withdraw, inner, left);
+            inner.asleep_withdraw -= 1;
+        }
+        let Ok(answer) = inner.state.run_withdraw(amount) else {
+            self.can_withdraw.notify_one();
+            return Err(Failed::Overflow);
+        };
+        let copy = inner.copy();
+        drop(inner);
+        if copy.asleep_withdraw > 0 {
+            self.can_withdraw.notify_all();
+        }
+        if copy.asleep_thaw > 0 && copy.state.can_thaw() {
+            self.can_thaw.notify_one();
+        }
+        Ok(answer)
+    }
+
+    /// As [`withdraw_until`](Self::withdraw_until), and calls `f` with the data and the answer under the same lock.
+    ///
+    /// Where `f` panics no field changes. `f` must not call this monitor.
+    ///
+    /// # Errors
+    ///
+    /// [`Failed::Refused`] where its time is over and `amount <= balance && !frozen` is false. Then nothing changes.
+    ///
+    /// [`Failed::Overflow`] where a number would leave 64 bits. Then nothing changes.
+    pub fn withdraw_until_with<R>(&self, amount: i64, end: Instant, f: impl FnOnce(&mut D, i64) -> R) -> Result<R, Failed> {
+        let mut inner = lock(&self.inner);
+        while !inner.state.can_withdraw(amount) {
+            let Some(left) = time_left(end) else {
+                return Err(Failed::Refused);
+            };
+            inner.asleep_withdraw += 1;
+            inner = wait_for(&self.can_withdraw, inner, left);
+            inner.asleep_withdraw -= 1;
+        }
+        let hand = HandOn(&self.can_withdraw);
+        let mut next = inner.state;
+        let answer = next.run_withdraw(amount)?;
+        let result = f(&mut inner.data, answer);
+        std::mem::forget(hand);
+        inner.state = next;
+        let copy = inner.copy();
+        drop(inner);
+        if copy.asleep_withdraw > 0 {
+            self.can_withdraw.notify_all();
+        }
+        if copy.asleep_thaw > 0 && copy.state.can_thaw() {
+            self.can_thaw.notify_one();
+        }
+        Ok(result)
+    }
+
+    /// As [`withdraw`](Self::withdraw), but waits for `amount <= balance && !frozen` no longer than `time`.
+    ///
+    /// # Errors
+    ///
+    /// [`Failed::Refused`] where its time is over and `amount <= balance && !frozen` is false. Then nothing changes.
+    ///
+    /// [`Failed::Overflow`] where a number would leave 64 bits. Then nothing changes.
+    pub fn withdraw_for(&self, amount: i64, time: Duration) -> Result<i64, Failed> {
+        let Some(end) = Instant::now().checked_add(time) else {
+            return Ok(self.withdraw(amount)?);
+        };
+        self.withdraw_until(amount, end)
+    }
+
+    /// As [`withdraw_for`](Self::withdraw_for), and calls `f` with the data and the answer under the same lock.
+    ///
+    /// Where `f` panics no field changes. `f` must not call this monitor.
+    ///
+    /// # Errors
+    ///
+    /// [`Failed::Refused`] where its time is over and `amount <= balance && !frozen` is false. Then nothing changes.
+    ///
+    /// [`Failed::Overflow`] where a number would leave 64 bits. Then nothing changes.
+    pub fn withdraw_for_with<R>(&self, amount: i64, time: Duration, f: impl FnOnce(&mut D, i64) -> R) -> Result<R, Failed> {
+        let Some(end) = Instant::now().checked_add(time) else {
+            return Ok(self.withdraw_with(amount, f)?);
+        };
+        self.withdraw_until_with(amount, end, f)
+    }
+
     /// Waits until `frozen`.
     pub fn thaw(&self) {
         let mut inner = lock(&self.inner);
@@ -399,6 +590,94 @@ impl<D> Account<D> {
             self.can_withdraw.notify_all();
         }
         Ok(result)
+    }
+
+    /// As [`thaw`](Self::thaw), but waits for `frozen` no longer than until `end`.
+    ///
+    /// # Errors
+    ///
+    /// [`Refused`] where its time is over and `frozen` is false. Then nothing changes.
+    pub fn thaw_until(&self, end: Instant) -> Result<(), Refused> {
+        let mut inner = lock(&self.inner);
+        while !inner.state.can_thaw() {
+            let Some(left) = time_left(end) else {
+                return Err(Refused);
+            };
+            inner.asleep_thaw += 1;
+            inner = wait_for(&self.can_thaw, inner, left);
+            inner.asleep_thaw -= 1;
+        }
+        inner.state.run_thaw();
+        let copy = inner.copy();
+        drop(inner);
+        if copy.asleep_deposit > 0 {
+            self.can_deposit.notify_all();
+        }
+        if copy.asleep_withdraw > 0 {
+            self.can_withdraw.notify_all();
+        }
+        Ok(())
+    }
+
+    /// As [`thaw_until`](Self::thaw_until), and calls `f` with the data under the same lock.
+    ///
+    /// Where `f` panics no field changes. `f` must not call this monitor.
+    ///
+    /// # Errors
+    ///
+    /// [`Refused`] where its time is over and `frozen` is false. Then nothing changes.
+    pub fn thaw_until_with<R>(&self, end: Instant, f: impl FnOnce(&mut D) -> R) -> Result<R, Refused> {
+        let mut inner = lock(&self.inner);
+        while !inner.state.can_thaw() {
+            let Some(left) = time_left(end) else {
+                return Err(Refused);
+            };
+            inner.asleep_thaw += 1;
+            inner = wait_for(&self.can_thaw, inner, left);
+            inner.asleep_thaw -= 1;
+        }
+        let hand = HandOn(&self.can_thaw);
+        let mut next = inner.state;
+        next.run_thaw();
+        let result = f(&mut inner.data);
+        std::mem::forget(hand);
+        inner.state = next;
+        let copy = inner.copy();
+        drop(inner);
+        if copy.asleep_deposit > 0 {
+            self.can_deposit.notify_all();
+        }
+        if copy.asleep_withdraw > 0 {
+            self.can_withdraw.notify_all();
+        }
+        Ok(result)
+    }
+
+    /// As [`thaw`](Self::thaw), but waits for `frozen` no longer than `time`.
+    ///
+    /// # Errors
+    ///
+    /// [`Refused`] where its time is over and `frozen` is false. Then nothing changes.
+    pub fn thaw_for(&self, time: Duration) -> Result<(), Refused> {
+        let Some(end) = Instant::now().checked_add(time) else {
+            self.thaw();
+            return Ok(());
+        };
+        self.thaw_until(end)
+    }
+
+    /// As [`thaw_for`](Self::thaw_for), and calls `f` with the data under the same lock.
+    ///
+    /// Where `f` panics no field changes. `f` must not call this monitor.
+    ///
+    /// # Errors
+    ///
+    /// [`Refused`] where its time is over and `frozen` is false. Then nothing changes.
+    pub fn thaw_for_with<R>(&self, time: Duration, f: impl FnOnce(&mut D) -> R) -> Result<R, Refused> {
+        let Some(end) = Instant::now().checked_add(time) else {
+            return Ok(self.thaw_with(f));
+        };
+        self.thaw_until_with(end, f)
     }
 }
 
@@ -526,6 +805,24 @@ impl Drop for HandOn<'_> {
     }
 }
 
+/// As `wait`, but no longer than this.
+fn wait_for<'a, D>(
+    condition: &Condvar,
+    inner: MutexGuard<'a, Inner<D>>,
+    left: Duration,
+) -> MutexGuard<'a, Inner<D>> {
+    condition
+        .wait_timeout(inner, left)
+        .unwrap_or_else(PoisonError::into_inner)
+        .0
+}
+
+/// How long it is until then, or `None` where it has come.
+fn time_left(end: Instant) -> Option<Duration> {
+    end.checked_duration_since(Instant::now())
+        .filter(|left| !left.is_zero())
+}
+
 /// A number would have left 64 bits.
 #[derive(Clone, Copy, Debug, PartialEq, Eq)]
 pub struct Overflow;
@@ -543,7 +840,7 @@ fn narrow(number: i128) -> Result<i64, Overflow> {
     i64::try_from(number).map_err(|_| Overflow)
 }
 
-/// The guard was false, and the call did not wait. Nothing changed.
+/// The guard was false, and the call did not wait, or not any longer. Nothing changed.
 #[derive(Clone, Copy, Debug, PartialEq, Eq)]
 pub struct Refused;
 
@@ -555,10 +852,10 @@ impl std::fmt::Display for Refused {
 
 impl std::error::Error for Refused {}
 
-/// Why a call that tries has no answer.
+/// Why a call that tries, or has a time, has no answer.
 #[derive(Clone, Copy, Debug, PartialEq, Eq)]
 pub enum Failed {
-    /// The guard was false, and the call did not wait. Nothing changed.
+    /// The guard was false, and the call did not wait, or not any longer. Nothing changed.
     Refused,
     /// A number would have left 64 bits.
     Overflow,

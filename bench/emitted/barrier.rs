@@ -2,6 +2,7 @@
 // Change the monitor, and not this file. It wants Rust 1.65 and the edition 2021, or later ones.
 
 use std::sync::{Condvar, Mutex, MutexGuard, PoisonError};
+use std::time::{Duration, Instant};
 
 /// The monitor `Barrier`. Threads share it by reference. A call waits for its guard, unless it tries.
 ///
@@ -180,6 +181,99 @@ impl<D> Barrier<D> {
         Ok(result)
     }
 
+    /// As [`arrive`](Self::arrive), but waits for `!open` no longer than until `end`.
+    ///
+    /// # Errors
+    ///
+    /// [`Failed::Refused`] where its time is over and `!open` is false. Then nothing changes.
+    ///
+    /// [`Failed::Overflow`] where a number would leave 64 bits. Then nothing changes.
+    pub fn arrive_until(&self, end: Instant) -> Result<(), Failed> {
+        let mut inner = lock(&self.inner);
+        while !inner.state.can_arrive() {
+            let Some(left) = time_left(end) else {
+                return Err(Failed::Refused);
+            };
+            inner.asleep_arrive += 1;
+            inner = wait_for(&self.can_arrive, inner, left);
+            inner.asleep_arrive -= 1;
+        }
+        let Ok(()) = inner.state.run_arrive() else {
+            self.can_arrive.notify_one();
+            return Err(Failed::Overflow);
+        };
+        let copy = inner.copy();
+        drop(inner);
+        if copy.asleep_leave > 0 && copy.state.can_leave() {
+            self.can_leave.notify_all();
+        }
+        Ok(())
+    }
+
+    /// As [`arrive_until`](Self::arrive_until), and calls `f` with the data under the same lock.
+    ///
+    /// Where `f` panics no field changes. `f` must not call this monitor.
+    ///
+    /// # Errors
+    ///
+    /// [`Failed::Refused`] where its time is over and `!open` is false. Then nothing changes.
+    ///
+    /// [`Failed::Overflow`] where a number would leave 64 bits. Then nothing changes.
+    pub fn arrive_until_with<R>(&self, end: Instant, f: impl FnOnce(&mut D) -> R) -> Result<R, Failed> {
+        let mut inner = lock(&self.inner);
+        while !inner.state.can_arrive() {
+            let Some(left) = time_left(end) else {
+                return Err(Failed::Refused);
+            };
+            inner.asleep_arrive += 1;
+            inner = wait_for(&self.can_arrive, inner, left);
+            inner.asleep_arrive -= 1;
+        }
+        let hand = HandOn(&self.can_arrive);
+        let mut next = inner.state;
+        next.run_arrive()?;
+        let result = f(&mut inner.data);
+        std::mem::forget(hand);
+        inner.state = next;
+        let copy = inner.copy();
+        drop(inner);
+        if copy.asleep_leave > 0 && copy.state.can_leave() {
+            self.can_leave.notify_all();
+        }
+        Ok(result)
+    }
+
+    /// As [`arrive`](Self::arrive), but waits for `!open` no longer than `time`.
+    ///
+    /// # Errors
+    ///
+    /// [`Failed::Refused`] where its time is over and `!open` is false. Then nothing changes.
+    ///
+    /// [`Failed::Overflow`] where a number would leave 64 bits. Then nothing changes.
+    pub fn arrive_for(&self, time: Duration) -> Result<(), Failed> {
+        let Some(end) = Instant::now().checked_add(time) else {
+            self.arrive()?;
+            return Ok(());
+        };
+        self.arrive_until(end)
+    }
+
+    /// As [`arrive_for`](Self::arrive_for), and calls `f` with the data under the same lock.
+    ///
+    /// Where `f` panics no field changes. `f` must not call this monitor.
+    ///
+    /// # Errors
+    ///
+    /// [`Failed::Refused`] where its time is over and `!open` is false. Then nothing changes.
+    ///
+    /// [`Failed::Overflow`] where a number would leave 64 bits. Then nothing changes.
+    pub fn arrive_for_with<R>(&self, time: Duration, f: impl FnOnce(&mut D) -> R) -> Result<R, Failed> {
+        let Some(end) = Instant::now().checked_add(time) else {
+            return Ok(self.arrive_with(f)?);
+        };
+        self.arrive_until_with(end, f)
+    }
+
     /// Waits until `open`.
     ///
     /// # Errors
@@ -282,6 +376,98 @@ impl<D> Barrier<D> {
             self.can_arrive.notify_all();
         }
         Ok(result)
+    }
+
+    /// As [`leave`](Self::leave), but waits for `open` no longer than until `end`.
+    ///
+    /// # Errors
+    ///
+    /// [`Failed::Refused`] where its time is over and `open` is false. Then nothing changes.
+    ///
+    /// [`Failed::Overflow`] where a number would leave 64 bits. Then nothing changes.
+    pub fn leave_until(&self, end: Instant) -> Result<i64, Failed> {
+        let mut inner = lock(&self.inner);
+        while !inner.state.can_leave() {
+            let Some(left) = time_left(end) else {
+                return Err(Failed::Refused);
+            };
+            inner.asleep_leave += 1;
+            inner = wait_for(&self.can_leave, inner, left);
+            inner.asleep_leave -= 1;
+        }
+        let Ok(answer) = inner.state.run_leave() else {
+            self.can_leave.notify_one();
+            return Err(Failed::Overflow);
+        };
+        let copy = inner.copy();
+        drop(inner);
+        if copy.asleep_arrive > 0 && copy.state.can_arrive() {
+            self.can_arrive.notify_all();
+        }
+        Ok(answer)
+    }
+
+    /// As [`leave_until`](Self::leave_until), and calls `f` with the data and the answer under the same lock.
+    ///
+    /// Where `f` panics no field changes. `f` must not call this monitor.
+    ///
+    /// # Errors
+    ///
+    /// [`Failed::Refused`] where its time is over and `open` is false. Then nothing changes.
+    ///
+    /// [`Failed::Overflow`] where a number would leave 64 bits. Then nothing changes.
+    pub fn leave_until_with<R>(&self, end: Instant, f: impl FnOnce(&mut D, i64) -> R) -> Result<R, Failed> {
+        let mut inner = lock(&self.inner);
+        while !inner.state.can_leave() {
+            let Some(left) = time_left(end) else {
+                return Err(Failed::Refused);
+            };
+            inner.asleep_leave += 1;
+            inner = wait_for(&self.can_leave, inner, left);
+            inner.asleep_leave -= 1;
+        }
+        let hand = HandOn(&self.can_leave);
+        let mut next = inner.state;
+        let answer = next.run_leave()?;
+        let result = f(&mut inner.data, answer);
+        std::mem::forget(hand);
+        inner.state = next;
+        let copy = inner.copy();
+        drop(inner);
+        if copy.asleep_arrive > 0 && copy.state.can_arrive() {
+            self.can_arrive.notify_all();
+        }
+        Ok(result)
+    }
+
+    /// As [`leave`](Self::leave), but waits for `open` no longer than `time`.
+    ///
+    /// # Errors
+    ///
+    /// [`Failed::Refused`] where its time is over and `open` is false. Then nothing changes.
+    ///
+    /// [`Failed::Overflow`] where a number would leave 64 bits. Then nothing changes.
+    pub fn leave_for(&self, time: Duration) -> Result<i64, Failed> {
+        let Some(end) = Instant::now().checked_add(time) else {
+            return Ok(self.leave()?);
+        };
+        self.leave_until(end)
+    }
+
+    /// As [`leave_for`](Self::leave_for), and calls `f` with the data and the answer under the same lock.
+    ///
+    /// Where `f` panics no field changes. `f` must not call this monitor.
+    ///
+    /// # Errors
+    ///
+    /// [`Failed::Refused`] where its time is over and `open` is false. Then nothing changes.
+    ///
+    /// [`Failed::Overflow`] where a number would leave 64 bits. Then nothing changes.
+    pub fn leave_for_with<R>(&self, time: Duration, f: impl FnOnce(&mut D, i64) -> R) -> Result<R, Failed> {
+        let Some(end) = Instant::now().checked_add(time) else {
+            return Ok(self.leave_with(f)?);
+        };
+        self.leave_until_with(end, f)
     }
 }
 
@@ -393,6 +579,24 @@ impl Drop for HandOn<'_> {
     }
 }
 
+/// As `wait`, but no longer than this.
+fn wait_for<'a, D>(
+    condition: &Condvar,
+    inner: MutexGuard<'a, Inner<D>>,
+    left: Duration,
+) -> MutexGuard<'a, Inner<D>> {
+    condition
+        .wait_timeout(inner, left)
+        .unwrap_or_else(PoisonError::into_inner)
+        .0
+}
+
+/// How long it is until then, or `None` where it has come.
+fn time_left(end: Instant) -> Option<Duration> {
+    end.checked_duration_since(Instant::now())
+        .filter(|left| !left.is_zero())
+}
+
 /// A number would have left 64 bits.
 #[derive(Clone, Copy, Debug, PartialEq, Eq)]
 pub struct Overflow;
@@ -410,10 +614,10 @@ fn narrow(number: i128) -> Result<i64, Overflow> {
     i64::try_from(number).map_err(|_| Overflow)
 }
 
-/// Why a call that tries has no answer.
+/// Why a call that tries, or has a time, has no answer.
 #[derive(Clone, Copy, Debug, PartialEq, Eq)]
 pub enum Failed {
-    /// The guard was false, and the call did not wait. Nothing changed.
+    /// The guard was false, and the call did not wait, or not any longer. Nothing changed.
     Refused,
     /// A number would have left 64 bits.
     Overflow,

@@ -2,6 +2,7 @@
 // Change the monitor, and not this file. It wants Rust 1.65 and the edition 2021, or later ones.
 
 use std::sync::{Condvar, Mutex, MutexGuard, PoisonError};
+use std::time::{Duration, Instant};
 
 /// The monitor `Barrier`. Threads share it by reference. A call waits for its guard, unless it tries.
 ///
@@ -190,6 +191,93 @@ impl<D> Barrier<D> {
         Ok(result)
     }
 
+    /// As [`arrive`](Self::arrive), but waits for `!open && waiting < PARTIES` no longer than until `end`.
+    ///
+    /// # Errors
+    ///
+    /// [`Refused`] where its time is over and `!open && waiting < PARTIES` is false. Then nothing changes.
+    pub fn arrive_until(&self, end: Instant) -> Result<i64, Refused> {
+        let mut inner = lock(&self.inner);
+        while !inner.state.can_arrive() {
+            let Some(left) = time_left(end) else {
+                return Err(Refused);
+            };
+            inner.asleep_arrive += 1;
+            inner = wait_for(&self.can_arrive, inner, left);
+            inner.asleep_arrive -= 1;
+        }
+        let answer = inner.state.run_arrive();
+        let copy = inner.copy();
+        drop(inner);
+        if copy.asleep_leave > 0 && copy.state.can_leave() {
+            self.can_leave.notify_all();
+        }
+        if copy.asleep_dismiss > 0 && copy.state.can_dismiss() {
+            self.can_dismiss.notify_one();
+        }
+        Ok(answer)
+    }
+
+    /// As [`arrive_until`](Self::arrive_until), and calls `f` with the data and the answer under the same lock.
+    ///
+    /// Where `f` panics no field changes. `f` must not call this monitor.
+    ///
+    /// # Errors
+    ///
+    /// [`Refused`] where its time is over and `!open && waiting < PARTIES` is false. Then nothing changes.
+    pub fn arrive_until_with<R>(&self, end: Instant, f: impl FnOnce(&mut D, i64) -> R) -> Result<R, Refused> {
+        let mut inner = lock(&self.inner);
+        while !inner.state.can_arrive() {
+            let Some(left) = time_left(end) else {
+                return Err(Refused);
+            };
+            inner.asleep_arrive += 1;
+            inner = wait_for(&self.can_arrive, inner, left);
+            inner.asleep_arrive -= 1;
+        }
+        let hand = HandOn(&self.can_arrive);
+        let mut next = inner.state;
+        let answer = next.run_arrive();
+        let result = f(&mut inner.data, answer);
+        std::mem::forget(hand);
+        inner.state = next;
+        let copy = inner.copy();
+        drop(inner);
+        if copy.asleep_leave > 0 && copy.state.can_leave() {
+            self.can_leave.notify_all();
+        }
+        if copy.asleep_dismiss > 0 && copy.state.can_dismiss() {
+            self.can_dismiss.notify_one();
+        }
+        Ok(result)
+    }
+
+    /// As [`arrive`](Self::arrive), but waits for `!open && waiting < PARTIES` no longer than `time`.
+    ///
+    /// # Errors
+    ///
+    /// [`Refused`] where its time is over and `!open && waiting < PARTIES` is false. Then nothing changes.
+    pub fn arrive_for(&self, time: Duration) -> Result<i64, Refused> {
+        let Some(end) = Instant::now().checked_add(time) else {
+            return Ok(self.arrive());
+        };
+        self.arrive_until(end)
+    }
+
+    /// As [`arrive_for`](Self::arrive_for), and calls `f` with the data and the answer under the same lock.
+    ///
+    /// Where `f` panics no field changes. `f` must not call this monitor.
+    ///
+    /// # Errors
+    ///
+    /// [`Refused`] where its time is over and `!open && waiting < PARTIES` is false. Then nothing changes.
+    pub fn arrive_for_with<R>(&self, time: Duration, f: impl FnOnce(&mut D, i64) -> R) -> Result<R, Refused> {
+        let Some(end) = Instant::now().checked_add(time) else {
+            return Ok(self.arrive_with(f));
+        };
+        self.arrive_until_with(end, f)
+    }
+
     /// Waits until `open && waiting > 0`.
     pub fn leave(&self) -> i64 {
         let mut inner = lock(&self.inner);
@@ -286,6 +374,93 @@ impl<D> Barrier<D> {
             self.can_watch.notify_all();
         }
         Ok(result)
+    }
+
+    /// As [`leave`](Self::leave), but waits for `open && waiting > 0` no longer than until `end`.
+    ///
+    /// # Errors
+    ///
+    /// [`Refused`] where its time is over and `open && waiting > 0` is false. Then nothing changes.
+    pub fn leave_until(&self, end: Instant) -> Result<i64, Refused> {
+        let mut inner = lock(&self.inner);
+        while !inner.state.can_leave() {
+            let Some(left) = time_left(end) else {
+                return Err(Refused);
+            };
+            inner.asleep_leave += 1;
+            inner = wait_for(&self.can_leave, inner, left);
+            inner.asleep_leave -= 1;
+        }
+        let answer = inner.state.run_leave();
+        let copy = inner.copy();
+        drop(inner);
+        if copy.asleep_arrive > 0 && copy.state.can_arrive() {
+            self.can_arrive.notify_all();
+        }
+        if copy.asleep_watch > 0 && copy.state.can_watch() {
+            self.can_watch.notify_all();
+        }
+        Ok(answer)
+    }
+
+    /// As [`leave_until`](Self::leave_until), and calls `f` with the data and the answer under the same lock.
+    ///
+    /// Where `f` panics no field changes. `f` must not call this monitor.
+    ///
+    /// # Errors
+    ///
+    /// [`Refused`] where its time is over and `open && waiting > 0` is false. Then nothing changes.
+    pub fn leave_until_with<R>(&self, end: Instant, f: impl FnOnce(&mut D, i64) -> R) -> Result<R, Refused> {
+        let mut inner = lock(&self.inner);
+        while !inner.state.can_leave() {
+            let Some(left) = time_left(end) else {
+                return Err(Refused);
+            };
+            inner.asleep_leave += 1;
+            inner = wait_for(&self.can_leave, inner, left);
+            inner.asleep_leave -= 1;
+        }
+        let hand = HandOn(&self.can_leave);
+        let mut next = inner.state;
+        let answer = next.run_leave();
+        let result = f(&mut inner.data, answer);
+        std::mem::forget(hand);
+        inner.state = next;
+        let copy = inner.copy();
+        drop(inner);
+        if copy.asleep_arrive > 0 && copy.state.can_arrive() {
+            self.can_arrive.notify_all();
+        }
+        if copy.asleep_watch > 0 && copy.state.can_watch() {
+            self.can_watch.notify_all();
+        }
+        Ok(result)
+    }
+
+    /// As [`leave`](Self::leave), but waits for `open && waiting > 0` no longer than `time`.
+    ///
+    /// # Errors
+    ///
+    /// [`Refused`] where its time is over and `open && waiting > 0` is false. Then nothing changes.
+    pub fn leave_for(&self, time: Duration) -> Result<i64, Refused> {
+        let Some(end) = Instant::now().checked_add(time) else {
+            return Ok(self.leave());
+        };
+        self.leave_until(end)
+    }
+
+    /// As [`leave_for`](Self::leave_for), and calls `f` with the data and the answer under the same lock.
+    ///
+    /// Where `f` panics no field changes. `f` must not call this monitor.
+    ///
+    /// # Errors
+    ///
+    /// [`Refused`] where its time is over and `open && waiting > 0` is false. Then nothing changes.
+    pub fn leave_for_with<R>(&self, time: Duration, f: impl FnOnce(&mut D, i64) -> R) -> Result<R, Refused> {
+        let Some(end) = Instant::now().checked_add(time) else {
+            return Ok(self.leave_with(f));
+        };
+        self.leave_until_with(end, f)
     }
 
     /// Waits until `waiting == PARTIES && open`.
@@ -385,6 +560,94 @@ impl<D> Barrier<D> {
         Ok(result)
     }
 
+    /// As [`dismiss`](Self::dismiss), but waits for `waiting == PARTIES && open` no longer than until `end`.
+    ///
+    /// # Errors
+    ///
+    /// [`Refused`] where its time is over and `waiting == PARTIES && open` is false. Then nothing changes.
+    pub fn dismiss_until(&self, end: Instant) -> Result<(), Refused> {
+        let mut inner = lock(&self.inner);
+        while !inner.state.can_dismiss() {
+            let Some(left) = time_left(end) else {
+                return Err(Refused);
+            };
+            inner.asleep_dismiss += 1;
+            inner = wait_for(&self.can_dismiss, inner, left);
+            inner.asleep_dismiss -= 1;
+        }
+        inner.state.run_dismiss();
+        let copy = inner.copy();
+        drop(inner);
+        if copy.asleep_arrive > 0 {
+            self.can_arrive.notify_all();
+        }
+        if copy.asleep_watch > 0 {
+            self.can_watch.notify_all();
+        }
+        Ok(())
+    }
+
+    /// As [`dismiss_until`](Self::dismiss_until), and calls `f` with the data under the same lock.
+    ///
+    /// Where `f` panics no field changes. `f` must not call this monitor.
+    ///
+    /// # Errors
+    ///
+    /// [`Refused`] where its time is over and `waiting == PARTIES && open` is false. Then nothing changes.
+    pub fn dismiss_until_with<R>(&self, end: Instant, f: impl FnOnce(&mut D) -> R) -> Result<R, Refused> {
+        let mut inner = lock(&self.inner);
+        while !inner.state.can_dismiss() {
+            let Some(left) = time_left(end) else {
+                return Err(Refused);
+            };
+            inner.asleep_dismiss += 1;
+            inner = wait_for(&self.can_dismiss, inner, left);
+            inner.asleep_dismiss -= 1;
+        }
+        let hand = HandOn(&self.can_dismiss);
+        let mut next = inner.state;
+        next.run_dismiss();
+        let result = f(&mut inner.data);
+        std::mem::forget(hand);
+        inner.state = next;
+        let copy = inner.copy();
+        drop(inner);
+        if copy.asleep_arrive > 0 {
+            self.can_arrive.notify_all();
+        }
+        if copy.asleep_watch > 0 {
+            self.can_watch.notify_all();
+        }
+        Ok(result)
+    }
+
+    /// As [`dismiss`](Self::dismiss), but waits for `waiting == PARTIES && open` no longer than `time`.
+    ///
+    /// # Errors
+    ///
+    /// [`Refused`] where its time is over and `waiting == PARTIES && open` is false. Then nothing changes.
+    pub fn dismiss_for(&self, time: Duration) -> Result<(), Refused> {
+        let Some(end) = Instant::now().checked_add(time) else {
+            self.dismiss();
+            return Ok(());
+        };
+        self.dismiss_until(end)
+    }
+
+    /// As [`dismiss_for`](Self::dismiss_for), and calls `f` with the data under the same lock.
+    ///
+    /// Where `f` panics no field changes. `f` must not call this monitor.
+    ///
+    /// # Errors
+    ///
+    /// [`Refused`] where its time is over and `waiting == PARTIES && open` is false. Then nothing changes.
+    pub fn dismiss_for_with<R>(&self, time: Duration, f: impl FnOnce(&mut D) -> R) -> Result<R, Refused> {
+        let Some(end) = Instant::now().checked_add(time) else {
+            return Ok(self.dismiss_with(f));
+        };
+        self.dismiss_until_with(end, f)
+    }
+
     /// Waits until `waiting == 0 && !open`.
     pub fn watch(&self) {
         let mut inner = lock(&self.inner);
@@ -452,6 +715,80 @@ impl<D> Barrier<D> {
         inner.state = next;
         drop(inner);
         Ok(result)
+    }
+
+    /// As [`watch`](Self::watch), but waits for `waiting == 0 && !open` no longer than until `end`.
+    ///
+    /// # Errors
+    ///
+    /// [`Refused`] where its time is over and `waiting == 0 && !open` is false. Then nothing changes.
+    pub fn watch_until(&self, end: Instant) -> Result<(), Refused> {
+        let mut inner = lock(&self.inner);
+        while !inner.state.can_watch() {
+            let Some(left) = time_left(end) else {
+                return Err(Refused);
+            };
+            inner.asleep_watch += 1;
+            inner = wait_for(&self.can_watch, inner, left);
+            inner.asleep_watch -= 1;
+        }
+        inner.state.run_watch();
+        drop(inner);
+        Ok(())
+    }
+
+    /// As [`watch_until`](Self::watch_until), and calls `f` with the data under the same lock.
+    ///
+    /// Where `f` panics no field changes. `f` must not call this monitor.
+    ///
+    /// # Errors
+    ///
+    /// [`Refused`] where its time is over and `waiting == 0 && !open` is false. Then nothing changes.
+    pub fn watch_until_with<R>(&self, end: Instant, f: impl FnOnce(&mut D) -> R) -> Result<R, Refused> {
+        let mut inner = lock(&self.inner);
+        while !inner.state.can_watch() {
+            let Some(left) = time_left(end) else {
+                return Err(Refused);
+            };
+            inner.asleep_watch += 1;
+            inner = wait_for(&self.can_watch, inner, left);
+            inner.asleep_watch -= 1;
+        }
+        let hand = HandOn(&self.can_watch);
+        let mut next = inner.state;
+        next.run_watch();
+        let result = f(&mut inner.data);
+        std::mem::forget(hand);
+        inner.state = next;
+        drop(inner);
+        Ok(result)
+    }
+
+    /// As [`watch`](Self::watch), but waits for `waiting == 0 && !open` no longer than `time`.
+    ///
+    /// # Errors
+    ///
+    /// [`Refused`] where its time is over and `waiting == 0 && !open` is false. Then nothing changes.
+    pub fn watch_for(&self, time: Duration) -> Result<(), Refused> {
+        let Some(end) = Instant::now().checked_add(time) else {
+            self.watch();
+            return Ok(());
+        };
+        self.watch_until(end)
+    }
+
+    /// As [`watch_for`](Self::watch_for), and calls `f` with the data under the same lock.
+    ///
+    /// Where `f` panics no field changes. `f` must not call this monitor.
+    ///
+    /// # Errors
+    ///
+    /// [`Refused`] where its time is over and `waiting == 0 && !open` is false. Then nothing changes.
+    pub fn watch_for_with<R>(&self, time: Duration, f: impl FnOnce(&mut D) -> R) -> Result<R, Refused> {
+        let Some(end) = Instant::now().checked_add(time) else {
+            return Ok(self.watch_with(f));
+        };
+        self.watch_until_with(end, f)
     }
 }
 
@@ -580,7 +917,25 @@ impl Drop for HandOn<'_> {
     }
 }
 
-/// The guard was false, and the call did not wait. Nothing changed.
+/// As `wait`, but no longer than this.
+fn wait_for<'a, D>(
+    condition: &Condvar,
+    inner: MutexGuard<'a, Inner<D>>,
+    left: Duration,
+) -> MutexGuard<'a, Inner<D>> {
+    condition
+        .wait_timeout(inner, left)
+        .unwrap_or_else(PoisonError::into_inner)
+        .0
+}
+
+/// How long it is until then, or `None` where it has come.
+fn time_left(end: Instant) -> Option<Duration> {
+    end.checked_duration_since(Instant::now())
+        .filter(|left| !left.is_zero())
+}
+
+/// The guard was false, and the call did not wait, or not any longer. Nothing changed.
 #[derive(Clone, Copy, Debug, PartialEq, Eq)]
 pub struct Refused;
 

@@ -2,6 +2,7 @@
 // Change the monitor, and not this file. It wants Rust 1.65 and the edition 2021, or later ones.
 
 use std::sync::{Condvar, Mutex, MutexGuard, PoisonError};
+use std::time::{Duration, Instant};
 
 /// The monitor `ReadersWriters`. Threads share it by reference. A call waits for its guard, unless it tries.
 ///
@@ -187,6 +188,88 @@ impl<D> ReadersWriters<D> {
         Ok(result)
     }
 
+    /// As [`start_read`](Self::start_read), but waits for `!writing && queued == 0 && readers < MOST` no longer than until `end`.
+    ///
+    /// # Errors
+    ///
+    /// [`Refused`] where its time is over and `!writing && queued == 0 && readers < MOST` is false. Then nothing changes.
+    pub fn start_read_until(&self, end: Instant) -> Result<(), Refused> {
+        let mut inner = lock(&self.inner);
+        while !inner.state.can_start_read() {
+            let Some(left) = time_left(end) else {
+                return Err(Refused);
+            };
+            inner.asleep_start_read += 1;
+            inner = wait_for(&self.can_start_read, inner, left);
+            inner.asleep_start_read -= 1;
+        }
+        inner.state.run_start_read();
+        let copy = inner.copy();
+        drop(inner);
+        if copy.asleep_end_read > 0 {
+            self.can_end_read.notify_one();
+        }
+        Ok(())
+    }
+
+    /// As [`start_read_until`](Self::start_read_until), and calls `f` with the data under the same lock.
+    ///
+    /// Where `f` panics no field changes. `f` must not call this monitor.
+    ///
+    /// # Errors
+    ///
+    /// [`Refused`] where its time is over and `!writing && queued == 0 && readers < MOST` is false. Then nothing changes.
+    pub fn start_read_until_with<R>(&self, end: Instant, f: impl FnOnce(&mut D) -> R) -> Result<R, Refused> {
+        let mut inner = lock(&self.inner);
+        while !inner.state.can_start_read() {
+            let Some(left) = time_left(end) else {
+                return Err(Refused);
+            };
+            inner.asleep_start_read += 1;
+            inner = wait_for(&self.can_start_read, inner, left);
+            inner.asleep_start_read -= 1;
+        }
+        let hand = HandOn(&self.can_start_read);
+        let mut next = inner.state;
+        next.run_start_read();
+        let result = f(&mut inner.data);
+        std::mem::forget(hand);
+        inner.state = next;
+        let copy = inner.copy();
+        drop(inner);
+        if copy.asleep_end_read > 0 {
+            self.can_end_read.notify_one();
+        }
+        Ok(result)
+    }
+
+    /// As [`start_read`](Self::start_read), but waits for `!writing && queued == 0 && readers < MOST` no longer than `time`.
+    ///
+    /// # Errors
+    ///
+    /// [`Refused`] where its time is over and `!writing && queued == 0 && readers < MOST` is false. Then nothing changes.
+    pub fn start_read_for(&self, time: Duration) -> Result<(), Refused> {
+        let Some(end) = Instant::now().checked_add(time) else {
+            self.start_read();
+            return Ok(());
+        };
+        self.start_read_until(end)
+    }
+
+    /// As [`start_read_for`](Self::start_read_for), and calls `f` with the data under the same lock.
+    ///
+    /// Where `f` panics no field changes. `f` must not call this monitor.
+    ///
+    /// # Errors
+    ///
+    /// [`Refused`] where its time is over and `!writing && queued == 0 && readers < MOST` is false. Then nothing changes.
+    pub fn start_read_for_with<R>(&self, time: Duration, f: impl FnOnce(&mut D) -> R) -> Result<R, Refused> {
+        let Some(end) = Instant::now().checked_add(time) else {
+            return Ok(self.start_read_with(f));
+        };
+        self.start_read_until_with(end, f)
+    }
+
     /// Waits until `readers > 0`.
     pub fn end_read(&self) {
         let mut inner = lock(&self.inner);
@@ -282,6 +365,94 @@ impl<D> ReadersWriters<D> {
             self.can_start_write.notify_one();
         }
         Ok(result)
+    }
+
+    /// As [`end_read`](Self::end_read), but waits for `readers > 0` no longer than until `end`.
+    ///
+    /// # Errors
+    ///
+    /// [`Refused`] where its time is over and `readers > 0` is false. Then nothing changes.
+    pub fn end_read_until(&self, end: Instant) -> Result<(), Refused> {
+        let mut inner = lock(&self.inner);
+        while !inner.state.can_end_read() {
+            let Some(left) = time_left(end) else {
+                return Err(Refused);
+            };
+            inner.asleep_end_read += 1;
+            inner = wait_for(&self.can_end_read, inner, left);
+            inner.asleep_end_read -= 1;
+        }
+        inner.state.run_end_read();
+        let copy = inner.copy();
+        drop(inner);
+        if copy.asleep_start_read > 0 && copy.state.can_start_read() {
+            self.can_start_read.notify_one();
+        }
+        if copy.asleep_start_write > 0 && copy.state.can_start_write() {
+            self.can_start_write.notify_one();
+        }
+        Ok(())
+    }
+
+    /// As [`end_read_until`](Self::end_read_until), and calls `f` with the data under the same lock.
+    ///
+    /// Where `f` panics no field changes. `f` must not call this monitor.
+    ///
+    /// # Errors
+    ///
+    /// [`Refused`] where its time is over and `readers > 0` is false. Then nothing changes.
+    pub fn end_read_until_with<R>(&self, end: Instant, f: impl FnOnce(&mut D) -> R) -> Result<R, Refused> {
+        let mut inner = lock(&self.inner);
+        while !inner.state.can_end_read() {
+            let Some(left) = time_left(end) else {
+                return Err(Refused);
+            };
+            inner.asleep_end_read += 1;
+            inner = wait_for(&self.can_end_read, inner, left);
+            inner.asleep_end_read -= 1;
+        }
+        let hand = HandOn(&self.can_end_read);
+        let mut next = inner.state;
+        next.run_end_read();
+        let result = f(&mut inner.data);
+        std::mem::forget(hand);
+        inner.state = next;
+        let copy = inner.copy();
+        drop(inner);
+        if copy.asleep_start_read > 0 && copy.state.can_start_read() {
+            self.can_start_read.notify_one();
+        }
+        if copy.asleep_start_write > 0 && copy.state.can_start_write() {
+            self.can_start_write.notify_one();
+        }
+        Ok(result)
+    }
+
+    /// As [`end_read`](Self::end_read), but waits for `readers > 0` no longer than `time`.
+    ///
+    /// # Errors
+    ///
+    /// [`Refused`] where its time is over and `readers > 0` is false. Then nothing changes.
+    pub fn end_read_for(&self, time: Duration) -> Result<(), Refused> {
+        let Some(end) = Instant::now().checked_add(time) else {
+            self.end_read();
+            return Ok(());
+        };
+        self.end_read_until(end)
+    }
+
+    /// As [`end_read_for`](Self::end_read_for), and calls `f` with the data under the same lock.
+    ///
+    /// Where `f` panics no field changes. `f` must not call this monitor.
+    ///
+    /// # Errors
+    ///
+    /// [`Refused`] where its time is over and `readers > 0` is false. Then nothing changes.
+    pub fn end_read_for_with<R>(&self, time: Duration, f: impl FnOnce(&mut D) -> R) -> Result<R, Refused> {
+        let Some(end) = Instant::now().checked_add(time) else {
+            return Ok(self.end_read_with(f));
+        };
+        self.end_read_until_with(end, f)
     }
 
     /// Does not wait.
@@ -412,6 +583,88 @@ impl<D> ReadersWriters<D> {
         Ok(result)
     }
 
+    /// As [`start_write`](Self::start_write), but waits for `readers == 0 && !writing && queued > 0` no longer than until `end`.
+    ///
+    /// # Errors
+    ///
+    /// [`Refused`] where its time is over and `readers == 0 && !writing && queued > 0` is false. Then nothing changes.
+    pub fn start_write_until(&self, end: Instant) -> Result<(), Refused> {
+        let mut inner = lock(&self.inner);
+        while !inner.state.can_start_write() {
+            let Some(left) = time_left(end) else {
+                return Err(Refused);
+            };
+            inner.asleep_start_write += 1;
+            inner = wait_for(&self.can_start_write, inner, left);
+            inner.asleep_start_write -= 1;
+        }
+        inner.state.run_start_write();
+        let copy = inner.copy();
+        drop(inner);
+        if copy.asleep_end_write > 0 {
+            self.can_end_write.notify_one();
+        }
+        Ok(())
+    }
+
+    /// As [`start_write_until`](Self::start_write_until), and calls `f` with the data under the same lock.
+    ///
+    /// Where `f` panics no field changes. `f` must not call this monitor.
+    ///
+    /// # Errors
+    ///
+    /// [`Refused`] where its time is over and `readers == 0 && !writing && queued > 0` is false. Then nothing changes.
+    pub fn start_write_until_with<R>(&self, end: Instant, f: impl FnOnce(&mut D) -> R) -> Result<R, Refused> {
+        let mut inner = lock(&self.inner);
+        while !inner.state.can_start_write() {
+            let Some(left) = time_left(end) else {
+                return Err(Refused);
+            };
+            inner.asleep_start_write += 1;
+            inner = wait_for(&self.can_start_write, inner, left);
+            inner.asleep_start_write -= 1;
+        }
+        let hand = HandOn(&self.can_start_write);
+        let mut next = inner.state;
+        next.run_start_write();
+        let result = f(&mut inner.data);
+        std::mem::forget(hand);
+        inner.state = next;
+        let copy = inner.copy();
+        drop(inner);
+        if copy.asleep_end_write > 0 {
+            self.can_end_write.notify_one();
+        }
+        Ok(result)
+    }
+
+    /// As [`start_write`](Self::start_write), but waits for `readers == 0 && !writing && queued > 0` no longer than `time`.
+    ///
+    /// # Errors
+    ///
+    /// [`Refused`] where its time is over and `readers == 0 && !writing && queued > 0` is false. Then nothing changes.
+    pub fn start_write_for(&self, time: Duration) -> Result<(), Refused> {
+        let Some(end) = Instant::now().checked_add(time) else {
+            self.start_write();
+            return Ok(());
+        };
+        self.start_write_until(end)
+    }
+
+    /// As [`start_write_for`](Self::start_write_for), and calls `f` with the data under the same lock.
+    ///
+    /// Where `f` panics no field changes. `f` must not call this monitor.
+    ///
+    /// # Errors
+    ///
+    /// [`Refused`] where its time is over and `readers == 0 && !writing && queued > 0` is false. Then nothing changes.
+    pub fn start_write_for_with<R>(&self, time: Duration, f: impl FnOnce(&mut D) -> R) -> Result<R, Refused> {
+        let Some(end) = Instant::now().checked_add(time) else {
+            return Ok(self.start_write_with(f));
+        };
+        self.start_write_until_with(end, f)
+    }
+
     /// Waits until `writing`.
     pub fn end_write(&self) {
         let mut inner = lock(&self.inner);
@@ -509,6 +762,94 @@ impl<D> ReadersWriters<D> {
         Ok(result)
     }
 
+    /// As [`end_write`](Self::end_write), but waits for `writing` no longer than until `end`.
+    ///
+    /// # Errors
+    ///
+    /// [`Refused`] where its time is over and `writing` is false. Then nothing changes.
+    pub fn end_write_until(&self, end: Instant) -> Result<(), Refused> {
+        let mut inner = lock(&self.inner);
+        while !inner.state.can_end_write() {
+            let Some(left) = time_left(end) else {
+                return Err(Refused);
+            };
+            inner.asleep_end_write += 1;
+            inner = wait_for(&self.can_end_write, inner, left);
+            inner.asleep_end_write -= 1;
+        }
+        inner.state.run_end_write();
+        let copy = inner.copy();
+        drop(inner);
+        if copy.asleep_start_read > 0 && copy.state.can_start_read() {
+            self.can_start_read.notify_all();
+        }
+        if copy.asleep_start_write > 0 && copy.state.can_start_write() {
+            self.can_start_write.notify_one();
+        }
+        Ok(())
+    }
+
+    /// As [`end_write_until`](Self::end_write_until), and calls `f` with the data under the same lock.
+    ///
+    /// Where `f` panics no field changes. `f` must not call this monitor.
+    ///
+    /// # Errors
+    ///
+    /// [`Refused`] where its time is over and `writing` is false. Then nothing changes.
+    pub fn end_write_until_with<R>(&self, end: Instant, f: impl FnOnce(&mut D) -> R) -> Result<R, Refused> {
+        let mut inner = lock(&self.inner);
+        while !inner.state.can_end_write() {
+            let Some(left) = time_left(end) else {
+                return Err(Refused);
+            };
+            inner.asleep_end_write += 1;
+            inner = wait_for(&self.can_end_write, inner, left);
+            inner.asleep_end_write -= 1;
+        }
+        let hand = HandOn(&self.can_end_write);
+        let mut next = inner.state;
+        next.run_end_write();
+        let result = f(&mut inner.data);
+        std::mem::forget(hand);
+        inner.state = next;
+        let copy = inner.copy();
+        drop(inner);
+        if copy.asleep_start_read > 0 && copy.state.can_start_read() {
+            self.can_start_read.notify_all();
+        }
+        if copy.asleep_start_write > 0 && copy.state.can_start_write() {
+            self.can_start_write.notify_one();
+        }
+        Ok(result)
+    }
+
+    /// As [`end_write`](Self::end_write), but waits for `writing` no longer than `time`.
+    ///
+    /// # Errors
+    ///
+    /// [`Refused`] where its time is over and `writing` is false. Then nothing changes.
+    pub fn end_write_for(&self, time: Duration) -> Result<(), Refused> {
+        let Some(end) = Instant::now().checked_add(time) else {
+            self.end_write();
+            return Ok(());
+        };
+        self.end_write_until(end)
+    }
+
+    /// As [`end_write_for`](Self::end_write_for), and calls `f` with the data under the same lock.
+    ///
+    /// Where `f` panics no field changes. `f` must not call this monitor.
+    ///
+    /// # Errors
+    ///
+    /// [`Refused`] where its time is over and `writing` is false. Then nothing changes.
+    pub fn end_write_for_with<R>(&self, time: Duration, f: impl FnOnce(&mut D) -> R) -> Result<R, Refused> {
+        let Some(end) = Instant::now().checked_add(time) else {
+            return Ok(self.end_write_with(f));
+        };
+        self.end_write_until_with(end, f)
+    }
+
     /// Waits until `queued != 0`.
     pub fn cancel(&self) {
         let mut inner = lock(&self.inner);
@@ -592,6 +933,88 @@ impl<D> ReadersWriters<D> {
             self.can_start_read.notify_all();
         }
         Ok(result)
+    }
+
+    /// As [`cancel`](Self::cancel), but waits for `queued != 0` no longer than until `end`.
+    ///
+    /// # Errors
+    ///
+    /// [`Refused`] where its time is over and `queued != 0` is false. Then nothing changes.
+    pub fn cancel_until(&self, end: Instant) -> Result<(), Refused> {
+        let mut inner = lock(&self.inner);
+        while !inner.state.can_cancel() {
+            let Some(left) = time_left(end) else {
+                return Err(Refused);
+            };
+            inner.asleep_cancel += 1;
+            inner = wait_for(&self.can_cancel, inner, left);
+            inner.asleep_cancel -= 1;
+        }
+        inner.state.run_cancel();
+        let copy = inner.copy();
+        drop(inner);
+        if copy.asleep_start_read > 0 && copy.state.can_start_read() {
+            self.can_start_read.notify_all();
+        }
+        Ok(())
+    }
+
+    /// As [`cancel_until`](Self::cancel_until), and calls `f` with the data under the same lock.
+    ///
+    /// Where `f` panics no field changes. `f` must not call this monitor.
+    ///
+    /// # Errors
+    ///
+    /// [`Refused`] where its time is over and `queued != 0` is false. Then nothing changes.
+    pub fn cancel_until_with<R>(&self, end: Instant, f: impl FnOnce(&mut D) -> R) -> Result<R, Refused> {
+        let mut inner = lock(&self.inner);
+        while !inner.state.can_cancel() {
+            let Some(left) = time_left(end) else {
+                return Err(Refused);
+            };
+            inner.asleep_cancel += 1;
+            inner = wait_for(&self.can_cancel, inner, left);
+            inner.asleep_cancel -= 1;
+        }
+        let hand = HandOn(&self.can_cancel);
+        let mut next = inner.state;
+        next.run_cancel();
+        let result = f(&mut inner.data);
+        std::mem::forget(hand);
+        inner.state = next;
+        let copy = inner.copy();
+        drop(inner);
+        if copy.asleep_start_read > 0 && copy.state.can_start_read() {
+            self.can_start_read.notify_all();
+        }
+        Ok(result)
+    }
+
+    /// As [`cancel`](Self::cancel), but waits for `queued != 0` no longer than `time`.
+    ///
+    /// # Errors
+    ///
+    /// [`Refused`] where its time is over and `queued != 0` is false. Then nothing changes.
+    pub fn cancel_for(&self, time: Duration) -> Result<(), Refused> {
+        let Some(end) = Instant::now().checked_add(time) else {
+            self.cancel();
+            return Ok(());
+        };
+        self.cancel_until(end)
+    }
+
+    /// As [`cancel_for`](Self::cancel_for), and calls `f` with the data under the same lock.
+    ///
+    /// Where `f` panics no field changes. `f` must not call this monitor.
+    ///
+    /// # Errors
+    ///
+    /// [`Refused`] where its time is over and `queued != 0` is false. Then nothing changes.
+    pub fn cancel_for_with<R>(&self, time: Duration, f: impl FnOnce(&mut D) -> R) -> Result<R, Refused> {
+        let Some(end) = Instant::now().checked_add(time) else {
+            return Ok(self.cancel_with(f));
+        };
+        self.cancel_until_with(end, f)
     }
 }
 
@@ -733,6 +1156,24 @@ impl Drop for HandOn<'_> {
     }
 }
 
+/// As `wait`, but no longer than this.
+fn wait_for<'a, D>(
+    condition: &Condvar,
+    inner: MutexGuard<'a, Inner<D>>,
+    left: Duration,
+) -> MutexGuard<'a, Inner<D>> {
+    condition
+        .wait_timeout(inner, left)
+        .unwrap_or_else(PoisonError::into_inner)
+        .0
+}
+
+/// How long it is until then, or `None` where it has come.
+fn time_left(end: Instant) -> Option<Duration> {
+    end.checked_duration_since(Instant::now())
+        .filter(|left| !left.is_zero())
+}
+
 /// A number would have left 64 bits.
 #[derive(Clone, Copy, Debug, PartialEq, Eq)]
 pub struct Overflow;
@@ -750,7 +1191,7 @@ fn narrow(number: i128) -> Result<i64, Overflow> {
     i64::try_from(number).map_err(|_| Overflow)
 }
 
-/// The guard was false, and the call did not wait. Nothing changed.
+/// The guard was false, and the call did not wait, or not any longer. Nothing changed.
 #[derive(Clone, Copy, Debug, PartialEq, Eq)]
 pub struct Refused;
 

@@ -2,6 +2,7 @@
 // Change the monitor, and not this file. It wants Rust 1.65 and the edition 2021, or later ones.
 
 use std::sync::{Condvar, Mutex, MutexGuard, PoisonError};
+use std::time::{Duration, Instant};
 
 /// The monitor `Semaphore`. Threads share it by reference. A call waits for its guard, unless it tries.
 ///
@@ -170,6 +171,88 @@ impl<D> Semaphore<D> {
         Ok(result)
     }
 
+    /// As [`take_all`](Self::take_all), but waits for `free > 0` no longer than until `end`.
+    ///
+    /// # Errors
+    ///
+    /// [`Refused`] where its time is over and `free > 0` is false. Then nothing changes.
+    pub fn take_all_until(&self, end: Instant) -> Result<(), Refused> {
+        let mut inner = lock(&self.inner);
+        while !inner.state.can_take_all() {
+            let Some(left) = time_left(end) else {
+                return Err(Refused);
+            };
+            inner.asleep_take_all += 1;
+            inner = wait_for(&self.can_take_all, inner, left);
+            inner.asleep_take_all -= 1;
+        }
+        inner.state.run_take_all();
+        let copy = inner.copy();
+        drop(inner);
+        if copy.asleep_give > 0 {
+            self.can_give.notify_all();
+        }
+        Ok(())
+    }
+
+    /// As [`take_all_until`](Self::take_all_until), and calls `f` with the data under the same lock.
+    ///
+    /// Where `f` panics no field changes. `f` must not call this monitor.
+    ///
+    /// # Errors
+    ///
+    /// [`Refused`] where its time is over and `free > 0` is false. Then nothing changes.
+    pub fn take_all_until_with<R>(&self, end: Instant, f: impl FnOnce(&mut D) -> R) -> Result<R, Refused> {
+        let mut inner = lock(&self.inner);
+        while !inner.state.can_take_all() {
+            let Some(left) = time_left(end) else {
+                return Err(Refused);
+            };
+            inner.asleep_take_all += 1;
+            inner = wait_for(&self.can_take_all, inner, left);
+            inner.asleep_take_all -= 1;
+        }
+        let hand = HandOn(&self.can_take_all);
+        let mut next = inner.state;
+        next.run_take_all();
+        let result = f(&mut inner.data);
+        std::mem::forget(hand);
+        inner.state = next;
+        let copy = inner.copy();
+        drop(inner);
+        if copy.asleep_give > 0 {
+            self.can_give.notify_all();
+        }
+        Ok(result)
+    }
+
+    /// As [`take_all`](Self::take_all), but waits for `free > 0` no longer than `time`.
+    ///
+    /// # Errors
+    ///
+    /// [`Refused`] where its time is over and `free > 0` is false. Then nothing changes.
+    pub fn take_all_for(&self, time: Duration) -> Result<(), Refused> {
+        let Some(end) = Instant::now().checked_add(time) else {
+            self.take_all();
+            return Ok(());
+        };
+        self.take_all_until(end)
+    }
+
+    /// As [`take_all_for`](Self::take_all_for), and calls `f` with the data under the same lock.
+    ///
+    /// Where `f` panics no field changes. `f` must not call this monitor.
+    ///
+    /// # Errors
+    ///
+    /// [`Refused`] where its time is over and `free > 0` is false. Then nothing changes.
+    pub fn take_all_for_with<R>(&self, time: Duration, f: impl FnOnce(&mut D) -> R) -> Result<R, Refused> {
+        let Some(end) = Instant::now().checked_add(time) else {
+            return Ok(self.take_all_with(f));
+        };
+        self.take_all_until_with(end, f)
+    }
+
     /// Waits until `free >= 1`.
     pub fn take(&self) {
         let mut inner = lock(&self.inner);
@@ -255,6 +338,88 @@ impl<D> Semaphore<D> {
         Ok(result)
     }
 
+    /// As [`take`](Self::take), but waits for `free >= 1` no longer than until `end`.
+    ///
+    /// # Errors
+    ///
+    /// [`Refused`] where its time is over and `free >= 1` is false. Then nothing changes.
+    pub fn take_until(&self, end: Instant) -> Result<(), Refused> {
+        let mut inner = lock(&self.inner);
+        while !inner.state.can_take_all() {
+            let Some(left) = time_left(end) else {
+                return Err(Refused);
+            };
+            inner.asleep_take_all += 1;
+            inner = wait_for(&self.can_take_all, inner, left);
+            inner.asleep_take_all -= 1;
+        }
+        inner.state.run_take();
+        let copy = inner.copy();
+        drop(inner);
+        if copy.asleep_give > 0 {
+            self.can_give.notify_one();
+        }
+        Ok(())
+    }
+
+    /// As [`take_until`](Self::take_until), and calls `f` with the data under the same lock.
+    ///
+    /// Where `f` panics no field changes. `f` must not call this monitor.
+    ///
+    /// # Errors
+    ///
+    /// [`Refused`] where its time is over and `free >= 1` is false. Then nothing changes.
+    pub fn take_until_with<R>(&self, end: Instant, f: impl FnOnce(&mut D) -> R) -> Result<R, Refused> {
+        let mut inner = lock(&self.inner);
+        while !inner.state.can_take_all() {
+            let Some(left) = time_left(end) else {
+                return Err(Refused);
+            };
+            inner.asleep_take_all += 1;
+            inner = wait_for(&self.can_take_all, inner, left);
+            inner.asleep_take_all -= 1;
+        }
+        let hand = HandOn(&self.can_take_all);
+        let mut next = inner.state;
+        next.run_take();
+        let result = f(&mut inner.data);
+        std::mem::forget(hand);
+        inner.state = next;
+        let copy = inner.copy();
+        drop(inner);
+        if copy.asleep_give > 0 {
+            self.can_give.notify_one();
+        }
+        Ok(result)
+    }
+
+    /// As [`take`](Self::take), but waits for `free >= 1` no longer than `time`.
+    ///
+    /// # Errors
+    ///
+    /// [`Refused`] where its time is over and `free >= 1` is false. Then nothing changes.
+    pub fn take_for(&self, time: Duration) -> Result<(), Refused> {
+        let Some(end) = Instant::now().checked_add(time) else {
+            self.take();
+            return Ok(());
+        };
+        self.take_until(end)
+    }
+
+    /// As [`take_for`](Self::take_for), and calls `f` with the data under the same lock.
+    ///
+    /// Where `f` panics no field changes. `f` must not call this monitor.
+    ///
+    /// # Errors
+    ///
+    /// [`Refused`] where its time is over and `free >= 1` is false. Then nothing changes.
+    pub fn take_for_with<R>(&self, time: Duration, f: impl FnOnce(&mut D) -> R) -> Result<R, Refused> {
+        let Some(end) = Instant::now().checked_add(time) else {
+            return Ok(self.take_with(f));
+        };
+        self.take_until_with(end, f)
+    }
+
     /// Waits until `free >= 2`.
     pub fn take_two(&self) {
         let mut inner = lock(&self.inner);
@@ -338,6 +503,88 @@ impl<D> Semaphore<D> {
             self.can_give.notify_all();
         }
         Ok(result)
+    }
+
+    /// As [`take_two`](Self::take_two), but waits for `free >= 2` no longer than until `end`.
+    ///
+    /// # Errors
+    ///
+    /// [`Refused`] where its time is over and `free >= 2` is false. Then nothing changes.
+    pub fn take_two_until(&self, end: Instant) -> Result<(), Refused> {
+        let mut inner = lock(&self.inner);
+        while !inner.state.can_take_two() {
+            let Some(left) = time_left(end) else {
+                return Err(Refused);
+            };
+            inner.asleep_take_two += 1;
+            inner = wait_for(&self.can_take_two, inner, left);
+            inner.asleep_take_two -= 1;
+        }
+        inner.state.run_take_two();
+        let copy = inner.copy();
+        drop(inner);
+        if copy.asleep_give > 0 {
+            self.can_give.notify_all();
+        }
+        Ok(())
+    }
+
+    /// As [`take_two_until`](Self::take_two_until), and calls `f` with the data under the same lock.
+    ///
+    /// Where `f` panics no field changes. `f` must not call this monitor.
+    ///
+    /// # Errors
+    ///
+    /// [`Refused`] where its time is over and `free >= 2` is false. Then nothing changes.
+    pub fn take_two_until_with<R>(&self, end: Instant, f: impl FnOnce(&mut D) -> R) -> Result<R, Refused> {
+        let mut inner = lock(&self.inner);
+        while !inner.state.can_take_two() {
+            let Some(left) = time_left(end) else {
+                return Err(Refused);
+            };
+            inner.asleep_take_two += 1;
+            inner = wait_for(&self.can_take_two, inner, left);
+            inner.asleep_take_two -= 1;
+        }
+        let hand = HandOn(&self.can_take_two);
+        let mut next = inner.state;
+        next.run_take_two();
+        let result = f(&mut inner.data);
+        std::mem::forget(hand);
+        inner.state = next;
+        let copy = inner.copy();
+        drop(inner);
+        if copy.asleep_give > 0 {
+            self.can_give.notify_all();
+        }
+        Ok(result)
+    }
+
+    /// As [`take_two`](Self::take_two), but waits for `free >= 2` no longer than `time`.
+    ///
+    /// # Errors
+    ///
+    /// [`Refused`] where its time is over and `free >= 2` is false. Then nothing changes.
+    pub fn take_two_for(&self, time: Duration) -> Result<(), Refused> {
+        let Some(end) = Instant::now().checked_add(time) else {
+            self.take_two();
+            return Ok(());
+        };
+        self.take_two_until(end)
+    }
+
+    /// As [`take_two_for`](Self::take_two_for), and calls `f` with the data under the same lock.
+    ///
+    /// Where `f` panics no field changes. `f` must not call this monitor.
+    ///
+    /// # Errors
+    ///
+    /// [`Refused`] where its time is over and `free >= 2` is false. Then nothing changes.
+    pub fn take_two_for_with<R>(&self, time: Duration, f: impl FnOnce(&mut D) -> R) -> Result<R, Refused> {
+        let Some(end) = Instant::now().checked_add(time) else {
+            return Ok(self.take_two_with(f));
+        };
+        self.take_two_until_with(end, f)
     }
 
     /// Waits until `free < LIMIT`.
@@ -435,6 +682,94 @@ impl<D> Semaphore<D> {
             self.can_take_two.notify_one();
         }
         Ok(result)
+    }
+
+    /// As [`give`](Self::give), but waits for `free < LIMIT` no longer than until `end`.
+    ///
+    /// # Errors
+    ///
+    /// [`Refused`] where its time is over and `free < LIMIT` is false. Then nothing changes.
+    pub fn give_until(&self, end: Instant) -> Result<(), Refused> {
+        let mut inner = lock(&self.inner);
+        while !inner.state.can_give() {
+            let Some(left) = time_left(end) else {
+                return Err(Refused);
+            };
+            inner.asleep_give += 1;
+            inner = wait_for(&self.can_give, inner, left);
+            inner.asleep_give -= 1;
+        }
+        inner.state.run_give();
+        let copy = inner.copy();
+        drop(inner);
+        if copy.asleep_take_all > 0 {
+            self.can_take_all.notify_one();
+        }
+        if copy.asleep_take_two > 0 && copy.state.can_take_two() {
+            self.can_take_two.notify_one();
+        }
+        Ok(())
+    }
+
+    /// As [`give_until`](Self::give_until), and calls `f` with the data under the same lock.
+    ///
+    /// Where `f` panics no field changes. `f` must not call this monitor.
+    ///
+    /// # Errors
+    ///
+    /// [`Refused`] where its time is over and `free < LIMIT` is false. Then nothing changes.
+    pub fn give_until_with<R>(&self, end: Instant, f: impl FnOnce(&mut D) -> R) -> Result<R, Refused> {
+        let mut inner = lock(&self.inner);
+        while !inner.state.can_give() {
+            let Some(left) = time_left(end) else {
+                return Err(Refused);
+            };
+            inner.asleep_give += 1;
+            inner = wait_for(&self.can_give, inner, left);
+            inner.asleep_give -= 1;
+        }
+        let hand = HandOn(&self.can_give);
+        let mut next = inner.state;
+        next.run_give();
+        let result = f(&mut inner.data);
+        std::mem::forget(hand);
+        inner.state = next;
+        let copy = inner.copy();
+        drop(inner);
+        if copy.asleep_take_all > 0 {
+            self.can_take_all.notify_one();
+        }
+        if copy.asleep_take_two > 0 && copy.state.can_take_two() {
+            self.can_take_two.notify_one();
+        }
+        Ok(result)
+    }
+
+    /// As [`give`](Self::give), but waits for `free < LIMIT` no longer than `time`.
+    ///
+    /// # Errors
+    ///
+    /// [`Refused`] where its time is over and `free < LIMIT` is false. Then nothing changes.
+    pub fn give_for(&self, time: Duration) -> Result<(), Refused> {
+        let Some(end) = Instant::now().checked_add(time) else {
+            self.give();
+            return Ok(());
+        };
+        self.give_until(end)
+    }
+
+    /// As [`give_for`](Self::give_for), and calls `f` with the data under the same lock.
+    ///
+    /// Where `f` panics no field changes. `f` must not call this monitor.
+    ///
+    /// # Errors
+    ///
+    /// [`Refused`] where its time is over and `free < LIMIT` is false. Then nothing changes.
+    pub fn give_for_with<R>(&self, time: Duration, f: impl FnOnce(&mut D) -> R) -> Result<R, Refused> {
+        let Some(end) = Instant::now().checked_add(time) else {
+            return Ok(self.give_with(f));
+        };
+        self.give_until_with(end, f)
     }
 }
 
@@ -550,7 +885,25 @@ impl Drop for HandOn<'_> {
     }
 }
 
-/// The guard was false, and the call did not wait. Nothing changed.
+/// As `wait`, but no longer than this.
+fn wait_for<'a, D>(
+    condition: &Condvar,
+    inner: MutexGuard<'a, Inner<D>>,
+    left: Duration,
+) -> MutexGuard<'a, Inner<D>> {
+    condition
+        .wait_timeout(inner, left)
+        .unwrap_or_else(PoisonError::into_inner)
+        .0
+}
+
+/// How long it is until then, or `None` where it has come.
+fn time_left(end: Instant) -> Option<Duration> {
+    end.checked_duration_since(Instant::now())
+        .filter(|left| !left.is_zero())
+}
+
+/// The guard was false, and the call did not wait, or not any longer. Nothing changed.
 #[derive(Clone, Copy, Debug, PartialEq, Eq)]
 pub struct Refused;
 

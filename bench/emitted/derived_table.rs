@@ -2,6 +2,7 @@
 // Change the monitor, and not this file. It wants Rust 1.65 and the edition 2021, or later ones.
 
 use std::sync::{Condvar, Mutex, MutexGuard, PoisonError};
+use std::time::{Duration, Instant};
 
 /// The monitor `Table`. Threads share it by reference. A call waits for its guard, unless it tries.
 ///
@@ -194,6 +195,88 @@ impl<D> Table<D> {
         Ok(result)
     }
 
+    /// As [`eat1`](Self::eat1), but waits for `a == 0 && b == 0` no longer than until `end`.
+    ///
+    /// # Errors
+    ///
+    /// [`Refused`] where its time is over and `a == 0 && b == 0` is false. Then nothing changes.
+    pub fn eat1_until(&self, end: Instant) -> Result<(), Refused> {
+        let mut inner = lock(&self.inner);
+        while !inner.state.can_eat1() {
+            let Some(left) = time_left(end) else {
+                return Err(Refused);
+            };
+            inner.asleep_eat1 += 1;
+            inner = wait_for(&self.can_eat1, inner, left);
+            inner.asleep_eat1 -= 1;
+        }
+        inner.state.run_eat1();
+        let copy = inner.copy();
+        drop(inner);
+        if copy.asleep_think1 > 0 {
+            self.can_think1.notify_one();
+        }
+        Ok(())
+    }
+
+    /// As [`eat1_until`](Self::eat1_until), and calls `f` with the data under the same lock.
+    ///
+    /// Where `f` panics no field changes. `f` must not call this monitor.
+    ///
+    /// # Errors
+    ///
+    /// [`Refused`] where its time is over and `a == 0 && b == 0` is false. Then nothing changes.
+    pub fn eat1_until_with<R>(&self, end: Instant, f: impl FnOnce(&mut D) -> R) -> Result<R, Refused> {
+        let mut inner = lock(&self.inner);
+        while !inner.state.can_eat1() {
+            let Some(left) = time_left(end) else {
+                return Err(Refused);
+            };
+            inner.asleep_eat1 += 1;
+            inner = wait_for(&self.can_eat1, inner, left);
+            inner.asleep_eat1 -= 1;
+        }
+        let hand = HandOn(&self.can_eat1);
+        let mut next = inner.state;
+        next.run_eat1();
+        let result = f(&mut inner.data);
+        std::mem::forget(hand);
+        inner.state = next;
+        let copy = inner.copy();
+        drop(inner);
+        if copy.asleep_think1 > 0 {
+            self.can_think1.notify_one();
+        }
+        Ok(result)
+    }
+
+    /// As [`eat1`](Self::eat1), but waits for `a == 0 && b == 0` no longer than `time`.
+    ///
+    /// # Errors
+    ///
+    /// [`Refused`] where its time is over and `a == 0 && b == 0` is false. Then nothing changes.
+    pub fn eat1_for(&self, time: Duration) -> Result<(), Refused> {
+        let Some(end) = Instant::now().checked_add(time) else {
+            self.eat1();
+            return Ok(());
+        };
+        self.eat1_until(end)
+    }
+
+    /// As [`eat1_for`](Self::eat1_for), and calls `f` with the data under the same lock.
+    ///
+    /// Where `f` panics no field changes. `f` must not call this monitor.
+    ///
+    /// # Errors
+    ///
+    /// [`Refused`] where its time is over and `a == 0 && b == 0` is false. Then nothing changes.
+    pub fn eat1_for_with<R>(&self, time: Duration, f: impl FnOnce(&mut D) -> R) -> Result<R, Refused> {
+        let Some(end) = Instant::now().checked_add(time) else {
+            return Ok(self.eat1_with(f));
+        };
+        self.eat1_until_with(end, f)
+    }
+
     /// Waits until `b == 0 && c == 0`.
     pub fn eat2(&self) {
         let mut inner = lock(&self.inner);
@@ -279,6 +362,88 @@ impl<D> Table<D> {
         Ok(result)
     }
 
+    /// As [`eat2`](Self::eat2), but waits for `b == 0 && c == 0` no longer than until `end`.
+    ///
+    /// # Errors
+    ///
+    /// [`Refused`] where its time is over and `b == 0 && c == 0` is false. Then nothing changes.
+    pub fn eat2_until(&self, end: Instant) -> Result<(), Refused> {
+        let mut inner = lock(&self.inner);
+        while !inner.state.can_eat2() {
+            let Some(left) = time_left(end) else {
+                return Err(Refused);
+            };
+            inner.asleep_eat2 += 1;
+            inner = wait_for(&self.can_eat2, inner, left);
+            inner.asleep_eat2 -= 1;
+        }
+        inner.state.run_eat2();
+        let copy = inner.copy();
+        drop(inner);
+        if copy.asleep_think2 > 0 {
+            self.can_think2.notify_one();
+        }
+        Ok(())
+    }
+
+    /// As [`eat2_until`](Self::eat2_until), and calls `f` with the data under the same lock.
+    ///
+    /// Where `f` panics no field changes. `f` must not call this monitor.
+    ///
+    /// # Errors
+    ///
+    /// [`Refused`] where its time is over and `b == 0 && c == 0` is false. Then nothing changes.
+    pub fn eat2_until_with<R>(&self, end: Instant, f: impl FnOnce(&mut D) -> R) -> Result<R, Refused> {
+        let mut inner = lock(&self.inner);
+        while !inner.state.can_eat2() {
+            let Some(left) = time_left(end) else {
+                return Err(Refused);
+            };
+            inner.asleep_eat2 += 1;
+            inner = wait_for(&self.can_eat2, inner, left);
+            inner.asleep_eat2 -= 1;
+        }
+        let hand = HandOn(&self.can_eat2);
+        let mut next = inner.state;
+        next.run_eat2();
+        let result = f(&mut inner.data);
+        std::mem::forget(hand);
+        inner.state = next;
+        let copy = inner.copy();
+        drop(inner);
+        if copy.asleep_think2 > 0 {
+            self.can_think2.notify_one();
+        }
+        Ok(result)
+    }
+
+    /// As [`eat2`](Self::eat2), but waits for `b == 0 && c == 0` no longer than `time`.
+    ///
+    /// # Errors
+    ///
+    /// [`Refused`] where its time is over and `b == 0 && c == 0` is false. Then nothing changes.
+    pub fn eat2_for(&self, time: Duration) -> Result<(), Refused> {
+        let Some(end) = Instant::now().checked_add(time) else {
+            self.eat2();
+            return Ok(());
+        };
+        self.eat2_until(end)
+    }
+
+    /// As [`eat2_for`](Self::eat2_for), and calls `f` with the data under the same lock.
+    ///
+    /// Where `f` panics no field changes. `f` must not call this monitor.
+    ///
+    /// # Errors
+    ///
+    /// [`Refused`] where its time is over and `b == 0 && c == 0` is false. Then nothing changes.
+    pub fn eat2_for_with<R>(&self, time: Duration, f: impl FnOnce(&mut D) -> R) -> Result<R, Refused> {
+        let Some(end) = Instant::now().checked_add(time) else {
+            return Ok(self.eat2_with(f));
+        };
+        self.eat2_until_with(end, f)
+    }
+
     /// Waits until `c == 0 && a == 0`.
     pub fn eat3(&self) {
         let mut inner = lock(&self.inner);
@@ -362,6 +527,88 @@ impl<D> Table<D> {
             self.can_think3.notify_one();
         }
         Ok(result)
+    }
+
+    /// As [`eat3`](Self::eat3), but waits for `c == 0 && a == 0` no longer than until `end`.
+    ///
+    /// # Errors
+    ///
+    /// [`Refused`] where its time is over and `c == 0 && a == 0` is false. Then nothing changes.
+    pub fn eat3_until(&self, end: Instant) -> Result<(), Refused> {
+        let mut inner = lock(&self.inner);
+        while !inner.state.can_eat3() {
+            let Some(left) = time_left(end) else {
+                return Err(Refused);
+            };
+            inner.asleep_eat3 += 1;
+            inner = wait_for(&self.can_eat3, inner, left);
+            inner.asleep_eat3 -= 1;
+        }
+        inner.state.run_eat3();
+        let copy = inner.copy();
+        drop(inner);
+        if copy.asleep_think3 > 0 {
+            self.can_think3.notify_one();
+        }
+        Ok(())
+    }
+
+    /// As [`eat3_until`](Self::eat3_until), and calls `f` with the data under the same lock.
+    ///
+    /// Where `f` panics no field changes. `f` must not call this monitor.
+    ///
+    /// # Errors
+    ///
+    /// [`Refused`] where its time is over and `c == 0 && a == 0` is false. Then nothing changes.
+    pub fn eat3_until_with<R>(&self, end: Instant, f: impl FnOnce(&mut D) -> R) -> Result<R, Refused> {
+        let mut inner = lock(&self.inner);
+        while !inner.state.can_eat3() {
+            let Some(left) = time_left(end) else {
+                return Err(Refused);
+            };
+            inner.asleep_eat3 += 1;
+            inner = wait_for(&self.can_eat3, inner, left);
+            inner.asleep_eat3 -= 1;
+        }
+        let hand = HandOn(&self.can_eat3);
+        let mut next = inner.state;
+        next.run_eat3();
+        let result = f(&mut inner.data);
+        std::mem::forget(hand);
+        inner.state = next;
+        let copy = inner.copy();
+        drop(inner);
+        if copy.asleep_think3 > 0 {
+            self.can_think3.notify_one();
+        }
+        Ok(result)
+    }
+
+    /// As [`eat3`](Self::eat3), but waits for `c == 0 && a == 0` no longer than `time`.
+    ///
+    /// # Errors
+    ///
+    /// [`Refused`] where its time is over and `c == 0 && a == 0` is false. Then nothing changes.
+    pub fn eat3_for(&self, time: Duration) -> Result<(), Refused> {
+        let Some(end) = Instant::now().checked_add(time) else {
+            self.eat3();
+            return Ok(());
+        };
+        self.eat3_until(end)
+    }
+
+    /// As [`eat3_for`](Self::eat3_for), and calls `f` with the data under the same lock.
+    ///
+    /// Where `f` panics no field changes. `f` must not call this monitor.
+    ///
+    /// # Errors
+    ///
+    /// [`Refused`] where its time is over and `c == 0 && a == 0` is false. Then nothing changes.
+    pub fn eat3_for_with<R>(&self, time: Duration, f: impl FnOnce(&mut D) -> R) -> Result<R, Refused> {
+        let Some(end) = Instant::now().checked_add(time) else {
+            return Ok(self.eat3_with(f));
+        };
+        self.eat3_until_with(end, f)
     }
 
     /// Waits until `a == 1 && b == 1`.
@@ -473,6 +720,100 @@ impl<D> Table<D> {
         Ok(result)
     }
 
+    /// As [`think1`](Self::think1), but waits for `a == 1 && b == 1` no longer than until `end`.
+    ///
+    /// # Errors
+    ///
+    /// [`Refused`] where its time is over and `a == 1 && b == 1` is false. Then nothing changes.
+    pub fn think1_until(&self, end: Instant) -> Result<(), Refused> {
+        let mut inner = lock(&self.inner);
+        while !inner.state.can_think1() {
+            let Some(left) = time_left(end) else {
+                return Err(Refused);
+            };
+            inner.asleep_think1 += 1;
+            inner = wait_for(&self.can_think1, inner, left);
+            inner.asleep_think1 -= 1;
+        }
+        inner.state.run_think1();
+        let copy = inner.copy();
+        drop(inner);
+        if copy.asleep_eat1 > 0 {
+            self.can_eat1.notify_one();
+        }
+        if copy.asleep_eat2 > 0 && copy.state.can_eat2() {
+            self.can_eat2.notify_one();
+        }
+        if copy.asleep_eat3 > 0 && copy.state.can_eat3() {
+            self.can_eat3.notify_one();
+        }
+        Ok(())
+    }
+
+    /// As [`think1_until`](Self::think1_until), and calls `f` with the data under the same lock.
+    ///
+    /// Where `f` panics no field changes. `f` must not call this monitor.
+    ///
+    /// # Errors
+    ///
+    /// [`Refused`] where its time is over and `a == 1 && b == 1` is false. Then nothing changes.
+    pub fn think1_until_with<R>(&self, end: Instant, f: impl FnOnce(&mut D) -> R) -> Result<R, Refused> {
+        let mut inner = lock(&self.inner);
+        while !inner.state.can_think1() {
+            let Some(left) = time_left(end) else {
+                return Err(Refused);
+            };
+            inner.asleep_think1 += 1;
+            inner = wait_for(&self.can_think1, inner, left);
+            inner.asleep_think1 -= 1;
+        }
+        let hand = HandOn(&self.can_think1);
+        let mut next = inner.state;
+        next.run_think1();
+        let result = f(&mut inner.data);
+        std::mem::forget(hand);
+        inner.state = next;
+        let copy = inner.copy();
+        drop(inner);
+        if copy.asleep_eat1 > 0 {
+            self.can_eat1.notify_one();
+        }
+        if copy.asleep_eat2 > 0 && copy.state.can_eat2() {
+            self.can_eat2.notify_one();
+        }
+        if copy.asleep_eat3 > 0 && copy.state.can_eat3() {
+            self.can_eat3.notify_one();
+        }
+        Ok(result)
+    }
+
+    /// As [`think1`](Self::think1), but waits for `a == 1 && b == 1` no longer than `time`.
+    ///
+    /// # Errors
+    ///
+    /// [`Refused`] where its time is over and `a == 1 && b == 1` is false. Then nothing changes.
+    pub fn think1_for(&self, time: Duration) -> Result<(), Refused> {
+        let Some(end) = Instant::now().checked_add(time) else {
+            self.think1();
+            return Ok(());
+        };
+        self.think1_until(end)
+    }
+
+    /// As [`think1_for`](Self::think1_for), and calls `f` with the data under the same lock.
+    ///
+    /// Where `f` panics no field changes. `f` must not call this monitor.
+    ///
+    /// # Errors
+    ///
+    /// [`Refused`] where its time is over and `a == 1 && b == 1` is false. Then nothing changes.
+    pub fn think1_for_with<R>(&self, time: Duration, f: impl FnOnce(&mut D) -> R) -> Result<R, Refused> {
+        let Some(end) = Instant::now().checked_add(time) else {
+            return Ok(self.think1_with(f));
+        };
+        self.think1_until_with(end, f)
+    }
+
     /// Waits until `b == 2 && c == 2`.
     pub fn think2(&self) {
         let mut inner = lock(&self.inner);
@@ -582,6 +923,100 @@ impl<D> Table<D> {
         Ok(result)
     }
 
+    /// As [`think2`](Self::think2), but waits for `b == 2 && c == 2` no longer than until `end`.
+    ///
+    /// # Errors
+    ///
+    /// [`Refused`] where its time is over and `b == 2 && c == 2` is false. Then nothing changes.
+    pub fn think2_until(&self, end: Instant) -> Result<(), Refused> {
+        let mut inner = lock(&self.inner);
+        while !inner.state.can_think2() {
+            let Some(left) = time_left(end) else {
+                return Err(Refused);
+            };
+            inner.asleep_think2 += 1;
+            inner = wait_for(&self.can_think2, inner, left);
+            inner.asleep_think2 -= 1;
+        }
+        inner.state.run_think2();
+        let copy = inner.copy();
+        drop(inner);
+        if copy.asleep_eat1 > 0 && copy.state.can_eat1() {
+            self.can_eat1.notify_one();
+        }
+        if copy.asleep_eat2 > 0 {
+            self.can_eat2.notify_one();
+        }
+        if copy.asleep_eat3 > 0 && copy.state.can_eat3() {
+            self.can_eat3.notify_one();
+        }
+        Ok(())
+    }
+
+    /// As [`think2_until`](Self::think2_until), and calls `f` with the data under the same lock.
+    ///
+    /// Where `f` panics no field changes. `f` must not call this monitor.
+    ///
+    /// # Errors
+    ///
+    /// [`Refused`] where its time is over and `b == 2 && c == 2` is false. Then nothing changes.
+    pub fn think2_until_with<R>(&self, end: Instant, f: impl FnOnce(&mut D) -> R) -> Result<R, Refused> {
+        let mut inner = lock(&self.inner);
+        while !inner.state.can_think2() {
+            let Some(left) = time_left(end) else {
+                return Err(Refused);
+            };
+            inner.asleep_think2 += 1;
+            inner = wait_for(&self.can_think2, inner, left);
+            inner.asleep_think2 -= 1;
+        }
+        let hand = HandOn(&self.can_think2);
+        let mut next = inner.state;
+        next.run_think2();
+        let result = f(&mut inner.data);
+        std::mem::forget(hand);
+        inner.state = next;
+        let copy = inner.copy();
+        drop(inner);
+        if copy.asleep_eat1 > 0 && copy.state.can_eat1() {
+            self.can_eat1.notify_one();
+        }
+        if copy.asleep_eat2 > 0 {
+            self.can_eat2.notify_one();
+        }
+        if copy.asleep_eat3 > 0 && copy.state.can_eat3() {
+            self.can_eat3.notify_one();
+        }
+        Ok(result)
+    }
+
+    /// As [`think2`](Self::think2), but waits for `b == 2 && c == 2` no longer than `time`.
+    ///
+    /// # Errors
+    ///
+    /// [`Refused`] where its time is over and `b == 2 && c == 2` is false. Then nothing changes.
+    pub fn think2_for(&self, time: Duration) -> Result<(), Refused> {
+        let Some(end) = Instant::now().checked_add(time) else {
+            self.think2();
+            return Ok(());
+        };
+        self.think2_until(end)
+    }
+
+    /// As [`think2_for`](Self::think2_for), and calls `f` with the data under the same lock.
+    ///
+    /// Where `f` panics no field changes. `f` must not call this monitor.
+    ///
+    /// # Errors
+    ///
+    /// [`Refused`] where its time is over and `b == 2 && c == 2` is false. Then nothing changes.
+    pub fn think2_for_with<R>(&self, time: Duration, f: impl FnOnce(&mut D) -> R) -> Result<R, Refused> {
+        let Some(end) = Instant::now().checked_add(time) else {
+            return Ok(self.think2_with(f));
+        };
+        self.think2_until_with(end, f)
+    }
+
     /// Waits until `c == 3 && a == 3`.
     pub fn think3(&self) {
         let mut inner = lock(&self.inner);
@@ -689,6 +1124,100 @@ impl<D> Table<D> {
             self.can_eat3.notify_one();
         }
         Ok(result)
+    }
+
+    /// As [`think3`](Self::think3), but waits for `c == 3 && a == 3` no longer than until `end`.
+    ///
+    /// # Errors
+    ///
+    /// [`Refused`] where its time is over and `c == 3 && a == 3` is false. Then nothing changes.
+    pub fn think3_until(&self, end: Instant) -> Result<(), Refused> {
+        let mut inner = lock(&self.inner);
+        while !inner.state.can_think3() {
+            let Some(left) = time_left(end) else {
+                return Err(Refused);
+            };
+            inner.asleep_think3 += 1;
+            inner = wait_for(&self.can_think3, inner, left);
+            inner.asleep_think3 -= 1;
+        }
+        inner.state.run_think3();
+        let copy = inner.copy();
+        drop(inner);
+        if copy.asleep_eat1 > 0 && copy.state.can_eat1() {
+            self.can_eat1.notify_one();
+        }
+        if copy.asleep_eat2 > 0 && copy.state.can_eat2() {
+            self.can_eat2.notify_one();
+        }
+        if copy.asleep_eat3 > 0 {
+            self.can_eat3.notify_one();
+        }
+        Ok(())
+    }
+
+    /// As [`think3_until`](Self::think3_until), and calls `f` with the data under the same lock.
+    ///
+    /// Where `f` panics no field changes. `f` must not call this monitor.
+    ///
+    /// # Errors
+    ///
+    /// [`Refused`] where its time is over and `c == 3 && a == 3` is false. Then nothing changes.
+    pub fn think3_until_with<R>(&self, end: Instant, f: impl FnOnce(&mut D) -> R) -> Result<R, Refused> {
+        let mut inner = lock(&self.inner);
+        while !inner.state.can_think3() {
+            let Some(left) = time_left(end) else {
+                return Err(Refused);
+            };
+            inner.asleep_think3 += 1;
+            inner = wait_for(&self.can_think3, inner, left);
+            inner.asleep_think3 -= 1;
+        }
+        let hand = HandOn(&self.can_think3);
+        let mut next = inner.state;
+        next.run_think3();
+        let result = f(&mut inner.data);
+        std::mem::forget(hand);
+        inner.state = next;
+        let copy = inner.copy();
+        drop(inner);
+        if copy.asleep_eat1 > 0 && copy.state.can_eat1() {
+            self.can_eat1.notify_one();
+        }
+        if copy.asleep_eat2 > 0 && copy.state.can_eat2() {
+            self.can_eat2.notify_one();
+        }
+        if copy.asleep_eat3 > 0 {
+            self.can_eat3.notify_one();
+        }
+        Ok(result)
+    }
+
+    /// As [`think3`](Self::think3), but waits for `c == 3 && a == 3` no longer than `time`.
+    ///
+    /// # Errors
+    ///
+    /// [`Refused`] where its time is over and `c == 3 && a == 3` is false. Then nothing changes.
+    pub fn think3_for(&self, time: Duration) -> Result<(), Refused> {
+        let Some(end) = Instant::now().checked_add(time) else {
+            self.think3();
+            return Ok(());
+        };
+        self.think3_until(end)
+    }
+
+    /// As [`think3_for`](Self::think3_for), and calls `f` with the data under the same lock.
+    ///
+    /// Where `f` panics no field changes. `f` must not call this monitor.
+    ///
+    /// # Errors
+    ///
+    /// [`Refused`] where its time is over and `c == 3 && a == 3` is false. Then nothing changes.
+    pub fn think3_for_with<R>(&self, time: Duration, f: impl FnOnce(&mut D) -> R) -> Result<R, Refused> {
+        let Some(end) = Instant::now().checked_add(time) else {
+            return Ok(self.think3_with(f));
+        };
+        self.think3_until_with(end, f)
     }
 }
 
@@ -840,7 +1369,25 @@ impl Drop for HandOn<'_> {
     }
 }
 
-/// The guard was false, and the call did not wait. Nothing changed.
+/// As `wait`, but no longer than this.
+fn wait_for<'a, D>(
+    condition: &Condvar,
+    inner: MutexGuard<'a, Inner<D>>,
+    left: Duration,
+) -> MutexGuard<'a, Inner<D>> {
+    condition
+        .wait_timeout(inner, left)
+        .unwrap_or_else(PoisonError::into_inner)
+        .0
+}
+
+/// How long it is until then, or `None` where it has come.
+fn time_left(end: Instant) -> Option<Duration> {
+    end.checked_duration_since(Instant::now())
+        .filter(|left| !left.is_zero())
+}
+
+/// The guard was false, and the call did not wait, or not any longer. Nothing changed.
 #[derive(Clone, Copy, Debug, PartialEq, Eq)]
 pub struct Refused;
 

@@ -2,6 +2,7 @@
 // Change the monitor, and not this file. It wants Rust 1.65 and the edition 2021, or later ones.
 
 use std::sync::{Condvar, Mutex, MutexGuard, PoisonError};
+use std::time::{Duration, Instant};
 
 /// The monitor `Tickets`. Threads share it by reference. A call waits for its guard, unless it tries.
 ///
@@ -214,6 +215,88 @@ impl<D> Tickets<D> {
         Ok(result)
     }
 
+    /// As [`enter`](Self::enter), but waits for `ticket == serving && serving < next && !busy` no longer than until `end`.
+    ///
+    /// # Errors
+    ///
+    /// [`Refused`] where its time is over and `ticket == serving && serving < next && !busy` is false. Then nothing changes.
+    pub fn enter_until(&self, ticket: i64, end: Instant) -> Result<(), Refused> {
+        let mut inner = lock(&self.inner);
+        while !inner.state.can_enter(ticket) {
+            let Some(left) = time_left(end) else {
+                return Err(Refused);
+            };
+            inner.asleep_enter += 1;
+            inner = wait_for(&self.can_enter, inner, left);
+            inner.asleep_enter -= 1;
+        }
+        inner.state.run_enter(ticket);
+        let copy = inner.copy();
+        drop(inner);
+        if copy.asleep_leave > 0 {
+            self.can_leave.notify_one();
+        }
+        Ok(())
+    }
+
+    /// As [`enter_until`](Self::enter_until), and calls `f` with the data under the same lock.
+    ///
+    /// Where `f` panics no field changes. `f` must not call this monitor.
+    ///
+    /// # Errors
+    ///
+    /// [`Refused`] where its time is over and `ticket == serving && serving < next && !busy` is false. Then nothing changes.
+    pub fn enter_until_with<R>(&self, ticket: i64, end: Instant, f: impl FnOnce(&mut D) -> R) -> Result<R, Refused> {
+        let mut inner = lock(&self.inner);
+        while !inner.state.can_enter(ticket) {
+            let Some(left) = time_left(end) else {
+                return Err(Refused);
+            };
+            inner.asleep_enter += 1;
+            inner = wait_for(&self.can_enter, inner, left);
+            inner.asleep_enter -= 1;
+        }
+        let hand = HandOn(&self.can_enter);
+        let mut next = inner.state;
+        next.run_enter(ticket);
+        let result = f(&mut inner.data);
+        std::mem::forget(hand);
+        inner.state = next;
+        let copy = inner.copy();
+        drop(inner);
+        if copy.asleep_leave > 0 {
+            self.can_leave.notify_one();
+        }
+        Ok(result)
+    }
+
+    /// As [`enter`](Self::enter), but waits for `ticket == serving && serving < next && !busy` no longer than `time`.
+    ///
+    /// # Errors
+    ///
+    /// [`Refused`] where its time is over and `ticket == serving && serving < next && !busy` is false. Then nothing changes.
+    pub fn enter_for(&self, ticket: i64, time: Duration) -> Result<(), Refused> {
+        let Some(end) = Instant::now().checked_add(time) else {
+            self.enter(ticket);
+            return Ok(());
+        };
+        self.enter_until(ticket, end)
+    }
+
+    /// As [`enter_for`](Self::enter_for), and calls `f` with the data under the same lock.
+    ///
+    /// Where `f` panics no field changes. `f` must not call this monitor.
+    ///
+    /// # Errors
+    ///
+    /// [`Refused`] where its time is over and `ticket == serving && serving < next && !busy` is false. Then nothing changes.
+    pub fn enter_for_with<R>(&self, ticket: i64, time: Duration, f: impl FnOnce(&mut D) -> R) -> Result<R, Refused> {
+        let Some(end) = Instant::now().checked_add(time) else {
+            return Ok(self.enter_with(ticket, f));
+        };
+        self.enter_until_with(ticket, end, f)
+    }
+
     /// Waits until `turn == serving && serving < next && !busy`.
     pub fn give_up(&self, turn: i64) {
         let mut inner = lock(&self.inner);
@@ -309,6 +392,94 @@ impl<D> Tickets<D> {
             self.can_rest.notify_all();
         }
         Ok(result)
+    }
+
+    /// As [`give_up`](Self::give_up), but waits for `turn == serving && serving < next && !busy` no longer than until `end`.
+    ///
+    /// # Errors
+    ///
+    /// [`Refused`] where its time is over and `turn == serving && serving < next && !busy` is false. Then nothing changes.
+    pub fn give_up_until(&self, turn: i64, end: Instant) -> Result<(), Refused> {
+        let mut inner = lock(&self.inner);
+        while !inner.state.can_give_up(turn) {
+            let Some(left) = time_left(end) else {
+                return Err(Refused);
+            };
+            inner.asleep_enter += 1;
+            inner = wait_for(&self.can_enter, inner, left);
+            inner.asleep_enter -= 1;
+        }
+        inner.state.run_give_up(turn);
+        let copy = inner.copy();
+        drop(inner);
+        if copy.asleep_enter > 0 {
+            self.can_enter.notify_all();
+        }
+        if copy.asleep_rest > 0 && copy.state.can_rest() {
+            self.can_rest.notify_all();
+        }
+        Ok(())
+    }
+
+    /// As [`give_up_until`](Self::give_up_until), and calls `f` with the data under the same lock.
+    ///
+    /// Where `f` panics no field changes. `f` must not call this monitor.
+    ///
+    /// # Errors
+    ///
+    /// [`Refused`] where its time is over and `turn == serving && serving < next && !busy` is false. Then nothing changes.
+    pub fn give_up_until_with<R>(&self, turn: i64, end: Instant, f: impl FnOnce(&mut D) -> R) -> Result<R, Refused> {
+        let mut inner = lock(&self.inner);
+        while !inner.state.can_give_up(turn) {
+            let Some(left) = time_left(end) else {
+                return Err(Refused);
+            };
+            inner.asleep_enter += 1;
+            inner = wait_for(&self.can_enter, inner, left);
+            inner.asleep_enter -= 1;
+        }
+        let hand = HandOn(&self.can_enter);
+        let mut next = inner.state;
+        next.run_give_up(turn);
+        let result = f(&mut inner.data);
+        std::mem::forget(hand);
+        inner.state = next;
+        let copy = inner.copy();
+        drop(inner);
+        if copy.asleep_enter > 0 {
+            self.can_enter.notify_all();
+        }
+        if copy.asleep_rest > 0 && copy.state.can_rest() {
+            self.can_rest.notify_all();
+        }
+        Ok(result)
+    }
+
+    /// As [`give_up`](Self::give_up), but waits for `turn == serving && serving < next && !busy` no longer than `time`.
+    ///
+    /// # Errors
+    ///
+    /// [`Refused`] where its time is over and `turn == serving && serving < next && !busy` is false. Then nothing changes.
+    pub fn give_up_for(&self, turn: i64, time: Duration) -> Result<(), Refused> {
+        let Some(end) = Instant::now().checked_add(time) else {
+            self.give_up(turn);
+            return Ok(());
+        };
+        self.give_up_until(turn, end)
+    }
+
+    /// As [`give_up_for`](Self::give_up_for), and calls `f` with the data under the same lock.
+    ///
+    /// Where `f` panics no field changes. `f` must not call this monitor.
+    ///
+    /// # Errors
+    ///
+    /// [`Refused`] where its time is over and `turn == serving && serving < next && !busy` is false. Then nothing changes.
+    pub fn give_up_for_with<R>(&self, turn: i64, time: Duration, f: impl FnOnce(&mut D) -> R) -> Result<R, Refused> {
+        let Some(end) = Instant::now().checked_add(time) else {
+            return Ok(self.give_up_with(turn, f));
+        };
+        self.give_up_until_with(turn, end, f)
     }
 
     /// Waits until `busy`.
@@ -408,6 +579,94 @@ impl<D> Tickets<D> {
         Ok(result)
     }
 
+    /// As [`leave`](Self::leave), but waits for `busy` no longer than until `end`.
+    ///
+    /// # Errors
+    ///
+    /// [`Refused`] where its time is over and `busy` is false. Then nothing changes.
+    pub fn leave_until(&self, end: Instant) -> Result<(), Refused> {
+        let mut inner = lock(&self.inner);
+        while !inner.state.can_leave() {
+            let Some(left) = time_left(end) else {
+                return Err(Refused);
+            };
+            inner.asleep_leave += 1;
+            inner = wait_for(&self.can_leave, inner, left);
+            inner.asleep_leave -= 1;
+        }
+        inner.state.run_leave();
+        let copy = inner.copy();
+        drop(inner);
+        if copy.asleep_enter > 0 {
+            self.can_enter.notify_all();
+        }
+        if copy.asleep_rest > 0 && copy.state.can_rest() {
+            self.can_rest.notify_all();
+        }
+        Ok(())
+    }
+
+    /// As [`leave_until`](Self::leave_until), and calls `f` with the data under the same lock.
+    ///
+    /// Where `f` panics no field changes. `f` must not call this monitor.
+    ///
+    /// # Errors
+    ///
+    /// [`Refused`] where its time is over and `busy` is false. Then nothing changes.
+    pub fn leave_until_with<R>(&self, end: Instant, f: impl FnOnce(&mut D) -> R) -> Result<R, Refused> {
+        let mut inner = lock(&self.inner);
+        while !inner.state.can_leave() {
+            let Some(left) = time_left(end) else {
+                return Err(Refused);
+            };
+            inner.asleep_leave += 1;
+            inner = wait_for(&self.can_leave, inner, left);
+            inner.asleep_leave -= 1;
+        }
+        let hand = HandOn(&self.can_leave);
+        let mut next = inner.state;
+        next.run_leave();
+        let result = f(&mut inner.data);
+        std::mem::forget(hand);
+        inner.state = next;
+        let copy = inner.copy();
+        drop(inner);
+        if copy.asleep_enter > 0 {
+            self.can_enter.notify_all();
+        }
+        if copy.asleep_rest > 0 && copy.state.can_rest() {
+            self.can_rest.notify_all();
+        }
+        Ok(result)
+    }
+
+    /// As [`leave`](Self::leave), but waits for `busy` no longer than `time`.
+    ///
+    /// # Errors
+    ///
+    /// [`Refused`] where its time is over and `busy` is false. Then nothing changes.
+    pub fn leave_for(&self, time: Duration) -> Result<(), Refused> {
+        let Some(end) = Instant::now().checked_add(time) else {
+            self.leave();
+            return Ok(());
+        };
+        self.leave_until(end)
+    }
+
+    /// As [`leave_for`](Self::leave_for), and calls `f` with the data under the same lock.
+    ///
+    /// Where `f` panics no field changes. `f` must not call this monitor.
+    ///
+    /// # Errors
+    ///
+    /// [`Refused`] where its time is over and `busy` is false. Then nothing changes.
+    pub fn leave_for_with<R>(&self, time: Duration, f: impl FnOnce(&mut D) -> R) -> Result<R, Refused> {
+        let Some(end) = Instant::now().checked_add(time) else {
+            return Ok(self.leave_with(f));
+        };
+        self.leave_until_with(end, f)
+    }
+
     /// Waits until `serving == next && !busy`.
     pub fn rest(&self) {
         let mut inner = lock(&self.inner);
@@ -477,6 +736,80 @@ impl<D> Tickets<D> {
         Ok(result)
     }
 
+    /// As [`rest`](Self::rest), but waits for `serving == next && !busy` no longer than until `end`.
+    ///
+    /// # Errors
+    ///
+    /// [`Refused`] where its time is over and `serving == next && !busy` is false. Then nothing changes.
+    pub fn rest_until(&self, end: Instant) -> Result<(), Refused> {
+        let mut inner = lock(&self.inner);
+        while !inner.state.can_rest() {
+            let Some(left) = time_left(end) else {
+                return Err(Refused);
+            };
+            inner.asleep_rest += 1;
+            inner = wait_for(&self.can_rest, inner, left);
+            inner.asleep_rest -= 1;
+        }
+        inner.state.run_rest();
+        drop(inner);
+        Ok(())
+    }
+
+    /// As [`rest_until`](Self::rest_until), and calls `f` with the data under the same lock.
+    ///
+    /// Where `f` panics no field changes. `f` must not call this monitor.
+    ///
+    /// # Errors
+    ///
+    /// [`Refused`] where its time is over and `serving == next && !busy` is false. Then nothing changes.
+    pub fn rest_until_with<R>(&self, end: Instant, f: impl FnOnce(&mut D) -> R) -> Result<R, Refused> {
+        let mut inner = lock(&self.inner);
+        while !inner.state.can_rest() {
+            let Some(left) = time_left(end) else {
+                return Err(Refused);
+            };
+            inner.asleep_rest += 1;
+            inner = wait_for(&self.can_rest, inner, left);
+            inner.asleep_rest -= 1;
+        }
+        let hand = HandOn(&self.can_rest);
+        let mut next = inner.state;
+        next.run_rest();
+        let result = f(&mut inner.data);
+        std::mem::forget(hand);
+        inner.state = next;
+        drop(inner);
+        Ok(result)
+    }
+
+    /// As [`rest`](Self::rest), but waits for `serving == next && !busy` no longer than `time`.
+    ///
+    /// # Errors
+    ///
+    /// [`Refused`] where its time is over and `serving == next && !busy` is false. Then nothing changes.
+    pub fn rest_for(&self, time: Duration) -> Result<(), Refused> {
+        let Some(end) = Instant::now().checked_add(time) else {
+            self.rest();
+            return Ok(());
+        };
+        self.rest_until(end)
+    }
+
+    /// As [`rest_for`](Self::rest_for), and calls `f` with the data under the same lock.
+    ///
+    /// Where `f` panics no field changes. `f` must not call this monitor.
+    ///
+    /// # Errors
+    ///
+    /// [`Refused`] where its time is over and `serving == next && !busy` is false. Then nothing changes.
+    pub fn rest_for_with<R>(&self, time: Duration, f: impl FnOnce(&mut D) -> R) -> Result<R, Refused> {
+        let Some(end) = Instant::now().checked_add(time) else {
+            return Ok(self.rest_with(f));
+        };
+        self.rest_until_with(end, f)
+    }
+
     /// Waits until `serving > next`.
     pub fn fail(&self) {
         let mut inner = lock(&self.inner);
@@ -544,6 +877,80 @@ impl<D> Tickets<D> {
         inner.state = next;
         drop(inner);
         Ok(result)
+    }
+
+    /// As [`fail`](Self::fail), but waits for `serving > next` no longer than until `end`.
+    ///
+    /// # Errors
+    ///
+    /// [`Refused`] where its time is over and `serving > next` is false. Then nothing changes.
+    pub fn fail_until(&self, end: Instant) -> Result<(), Refused> {
+        let mut inner = lock(&self.inner);
+        while !inner.state.can_fail() {
+            let Some(left) = time_left(end) else {
+                return Err(Refused);
+            };
+            inner.asleep_fail += 1;
+            inner = wait_for(&self.can_fail, inner, left);
+            inner.asleep_fail -= 1;
+        }
+        inner.state.run_fail();
+        drop(inner);
+        Ok(())
+    }
+
+    /// As [`fail_until`](Self::fail_until), and calls `f` with the data under the same lock.
+    ///
+    /// Where `f` panics no field changes. `f` must not call this monitor.
+    ///
+    /// # Errors
+    ///
+    /// [`Refused`] where its time is over and `serving > next` is false. Then nothing changes.
+    pub fn fail_until_with<R>(&self, end: Instant, f: impl FnOnce(&mut D) -> R) -> Result<R, Refused> {
+        let mut inner = lock(&self.inner);
+        while !inner.state.can_fail() {
+            let Some(left) = time_left(end) else {
+                return Err(Refused);
+            };
+            inner.asleep_fail += 1;
+            inner = wait_for(&self.can_fail, inner, left);
+            inner.asleep_fail -= 1;
+        }
+        let hand = HandOn(&self.can_fail);
+        let mut next = inner.state;
+        next.run_fail();
+        let result = f(&mut inner.data);
+        std::mem::forget(hand);
+        inner.state = next;
+        drop(inner);
+        Ok(result)
+    }
+
+    /// As [`fail`](Self::fail), but waits for `serving > next` no longer than `time`.
+    ///
+    /// # Errors
+    ///
+    /// [`Refused`] where its time is over and `serving > next` is false. Then nothing changes.
+    pub fn fail_for(&self, time: Duration) -> Result<(), Refused> {
+        let Some(end) = Instant::now().checked_add(time) else {
+            self.fail();
+            return Ok(());
+        };
+        self.fail_until(end)
+    }
+
+    /// As [`fail_for`](Self::fail_for), and calls `f` with the data under the same lock.
+    ///
+    /// Where `f` panics no field changes. `f` must not call this monitor.
+    ///
+    /// # Errors
+    ///
+    /// [`Refused`] where its time is over and `serving > next` is false. Then nothing changes.
+    pub fn fail_for_with<R>(&self, time: Duration, f: impl FnOnce(&mut D) -> R) -> Result<R, Refused> {
+        let Some(end) = Instant::now().checked_add(time) else {
+            return Ok(self.fail_with(f));
+        };
+        self.fail_until_with(end, f)
     }
 }
 
@@ -686,6 +1093,24 @@ impl Drop for HandOn<'_> {
     }
 }
 
+/// As `wait`, but no longer than this.
+fn wait_for<'a, D>(
+    condition: &Condvar,
+    inner: MutexGuard<'a, Inner<D>>,
+    left: Duration,
+) -> MutexGuard<'a, Inner<D>> {
+    condition
+        .wait_timeout(inner, left)
+        .unwrap_or_else(PoisonError::into_inner)
+        .0
+}
+
+/// How long it is until then, or `None` where it has come.
+fn time_left(end: Instant) -> Option<Duration> {
+    end.checked_duration_since(Instant::now())
+        .filter(|left| !left.is_zero())
+}
+
 /// A number would have left 64 bits.
 #[derive(Clone, Copy, Debug, PartialEq, Eq)]
 pub struct Overflow;
@@ -703,7 +1128,7 @@ fn narrow(number: i128) -> Result<i64, Overflow> {
     i64::try_from(number).map_err(|_| Overflow)
 }
 
-/// The guard was false, and the call did not wait. Nothing changed.
+/// The guard was false, and the call did not wait, or not any longer. Nothing changed.
 #[derive(Clone, Copy, Debug, PartialEq, Eq)]
 pub struct Refused;
 

@@ -2,6 +2,7 @@
 // Change the monitor, and not this file. It wants Rust 1.65 and the edition 2021, or later ones.
 
 use std::sync::{Condvar, Mutex, MutexGuard, PoisonError};
+use std::time::{Duration, Instant};
 
 /// The monitor `TwoKinds`. Threads share it by reference. A call waits for its guard, unless it tries.
 ///
@@ -193,6 +194,94 @@ impl<D> TwoKinds<D> {
         Ok(result)
     }
 
+    /// As [`put_red`](Self::put_red), but waits for `total < ROOM` no longer than until `end`.
+    ///
+    /// # Errors
+    ///
+    /// [`Refused`] where its time is over and `total < ROOM` is false. Then nothing changes.
+    pub fn put_red_until(&self, end: Instant) -> Result<(), Refused> {
+        let mut inner = lock(&self.inner);
+        while !inner.state.can_put_red() {
+            let Some(left) = time_left(end) else {
+                return Err(Refused);
+            };
+            inner.asleep_put_red += 1;
+            inner = wait_for(&self.can_put_red, inner, left);
+            inner.asleep_put_red -= 1;
+        }
+        inner.state.run_put_red();
+        let copy = inner.copy();
+        drop(inner);
+        if copy.asleep_get_red > 0 {
+            self.can_get_red.notify_one();
+        }
+        if copy.asleep_drain > 0 && copy.state.can_drain() {
+            self.can_drain.notify_one();
+        }
+        Ok(())
+    }
+
+    /// As [`put_red_until`](Self::put_red_until), and calls `f` with the data under the same lock.
+    ///
+    /// Where `f` panics no field changes. `f` must not call this monitor.
+    ///
+    /// # Errors
+    ///
+    /// [`Refused`] where its time is over and `total < ROOM` is false. Then nothing changes.
+    pub fn put_red_until_with<R>(&self, end: Instant, f: impl FnOnce(&mut D) -> R) -> Result<R, Refused> {
+        let mut inner = lock(&self.inner);
+        while !inner.state.can_put_red() {
+            let Some(left) = time_left(end) else {
+                return Err(Refused);
+            };
+            inner.asleep_put_red += 1;
+            inner = wait_for(&self.can_put_red, inner, left);
+            inner.asleep_put_red -= 1;
+        }
+        let hand = HandOn(&self.can_put_red);
+        let mut next = inner.state;
+        next.run_put_red();
+        let result = f(&mut inner.data);
+        std::mem::forget(hand);
+        inner.state = next;
+        let copy = inner.copy();
+        drop(inner);
+        if copy.asleep_get_red > 0 {
+            self.can_get_red.notify_one();
+        }
+        if copy.asleep_drain > 0 && copy.state.can_drain() {
+            self.can_drain.notify_one();
+        }
+        Ok(result)
+    }
+
+    /// As [`put_red`](Self::put_red), but waits for `total < ROOM` no longer than `time`.
+    ///
+    /// # Errors
+    ///
+    /// [`Refused`] where its time is over and `total < ROOM` is false. Then nothing changes.
+    pub fn put_red_for(&self, time: Duration) -> Result<(), Refused> {
+        let Some(end) = Instant::now().checked_add(time) else {
+            self.put_red();
+            return Ok(());
+        };
+        self.put_red_until(end)
+    }
+
+    /// As [`put_red_for`](Self::put_red_for), and calls `f` with the data under the same lock.
+    ///
+    /// Where `f` panics no field changes. `f` must not call this monitor.
+    ///
+    /// # Errors
+    ///
+    /// [`Refused`] where its time is over and `total < ROOM` is false. Then nothing changes.
+    pub fn put_red_for_with<R>(&self, time: Duration, f: impl FnOnce(&mut D) -> R) -> Result<R, Refused> {
+        let Some(end) = Instant::now().checked_add(time) else {
+            return Ok(self.put_red_with(f));
+        };
+        self.put_red_until_with(end, f)
+    }
+
     /// Waits until `total < ROOM`.
     pub fn put_blue(&self) {
         let mut inner = lock(&self.inner);
@@ -288,6 +377,94 @@ impl<D> TwoKinds<D> {
             self.can_drain.notify_one();
         }
         Ok(result)
+    }
+
+    /// As [`put_blue`](Self::put_blue), but waits for `total < ROOM` no longer than until `end`.
+    ///
+    /// # Errors
+    ///
+    /// [`Refused`] where its time is over and `total < ROOM` is false. Then nothing changes.
+    pub fn put_blue_until(&self, end: Instant) -> Result<(), Refused> {
+        let mut inner = lock(&self.inner);
+        while !inner.state.can_put_red() {
+            let Some(left) = time_left(end) else {
+                return Err(Refused);
+            };
+            inner.asleep_put_red += 1;
+            inner = wait_for(&self.can_put_red, inner, left);
+            inner.asleep_put_red -= 1;
+        }
+        inner.state.run_put_blue();
+        let copy = inner.copy();
+        drop(inner);
+        if copy.asleep_get_blue > 0 {
+            self.can_get_blue.notify_one();
+        }
+        if copy.asleep_drain > 0 && copy.state.can_drain() {
+            self.can_drain.notify_one();
+        }
+        Ok(())
+    }
+
+    /// As [`put_blue_until`](Self::put_blue_until), and calls `f` with the data under the same lock.
+    ///
+    /// Where `f` panics no field changes. `f` must not call this monitor.
+    ///
+    /// # Errors
+    ///
+    /// [`Refused`] where its time is over and `total < ROOM` is false. Then nothing changes.
+    pub fn put_blue_until_with<R>(&self, end: Instant, f: impl FnOnce(&mut D) -> R) -> Result<R, Refused> {
+        let mut inner = lock(&self.inner);
+        while !inner.state.can_put_red() {
+            let Some(left) = time_left(end) else {
+                return Err(Refused);
+            };
+            inner.asleep_put_red += 1;
+            inner = wait_for(&self.can_put_red, inner, left);
+            inner.asleep_put_red -= 1;
+        }
+        let hand = HandOn(&self.can_put_red);
+        let mut next = inner.state;
+        next.run_put_blue();
+        let result = f(&mut inner.data);
+        std::mem::forget(hand);
+        inner.state = next;
+        let copy = inner.copy();
+        drop(inner);
+        if copy.asleep_get_blue > 0 {
+            self.can_get_blue.notify_one();
+        }
+        if copy.asleep_drain > 0 && copy.state.can_drain() {
+            self.can_drain.notify_one();
+        }
+        Ok(result)
+    }
+
+    /// As [`put_blue`](Self::put_blue), but waits for `total < ROOM` no longer than `time`.
+    ///
+    /// # Errors
+    ///
+    /// [`Refused`] where its time is over and `total < ROOM` is false. Then nothing changes.
+    pub fn put_blue_for(&self, time: Duration) -> Result<(), Refused> {
+        let Some(end) = Instant::now().checked_add(time) else {
+            self.put_blue();
+            return Ok(());
+        };
+        self.put_blue_until(end)
+    }
+
+    /// As [`put_blue_for`](Self::put_blue_for), and calls `f` with the data under the same lock.
+    ///
+    /// Where `f` panics no field changes. `f` must not call this monitor.
+    ///
+    /// # Errors
+    ///
+    /// [`Refused`] where its time is over and `total < ROOM` is false. Then nothing changes.
+    pub fn put_blue_for_with<R>(&self, time: Duration, f: impl FnOnce(&mut D) -> R) -> Result<R, Refused> {
+        let Some(end) = Instant::now().checked_add(time) else {
+            return Ok(self.put_blue_with(f));
+        };
+        self.put_blue_until_with(end, f)
     }
 
     /// Waits until `total < ROOM`.
@@ -399,6 +576,100 @@ impl<D> TwoKinds<D> {
         Ok(result)
     }
 
+    /// As [`put`](Self::put), but waits for `total < ROOM` no longer than until `end`.
+    ///
+    /// # Errors
+    ///
+    /// [`Refused`] where its time is over and `total < ROOM` is false. Then nothing changes.
+    pub fn put_until(&self, is_red: bool, end: Instant) -> Result<(), Refused> {
+        let mut inner = lock(&self.inner);
+        while !inner.state.can_put_red() {
+            let Some(left) = time_left(end) else {
+                return Err(Refused);
+            };
+            inner.asleep_put_red += 1;
+            inner = wait_for(&self.can_put_red, inner, left);
+            inner.asleep_put_red -= 1;
+        }
+        inner.state.run_put(is_red);
+        let copy = inner.copy();
+        drop(inner);
+        if copy.asleep_get_red > 0 && copy.state.can_get_red() {
+            self.can_get_red.notify_one();
+        }
+        if copy.asleep_get_blue > 0 && copy.state.can_get_blue() {
+            self.can_get_blue.notify_one();
+        }
+        if copy.asleep_drain > 0 && copy.state.can_drain() {
+            self.can_drain.notify_one();
+        }
+        Ok(())
+    }
+
+    /// As [`put_until`](Self::put_until), and calls `f` with the data under the same lock.
+    ///
+    /// Where `f` panics no field changes. `f` must not call this monitor.
+    ///
+    /// # Errors
+    ///
+    /// [`Refused`] where its time is over and `total < ROOM` is false. Then nothing changes.
+    pub fn put_until_with<R>(&self, is_red: bool, end: Instant, f: impl FnOnce(&mut D) -> R) -> Result<R, Refused> {
+        let mut inner = lock(&self.inner);
+        while !inner.state.can_put_red() {
+            let Some(left) = time_left(end) else {
+                return Err(Refused);
+            };
+            inner.asleep_put_red += 1;
+            inner = wait_for(&self.can_put_red, inner, left);
+            inner.asleep_put_red -= 1;
+        }
+        let hand = HandOn(&self.can_put_red);
+        let mut next = inner.state;
+        next.run_put(is_red);
+        let result = f(&mut inner.data);
+        std::mem::forget(hand);
+        inner.state = next;
+        let copy = inner.copy();
+        drop(inner);
+        if copy.asleep_get_red > 0 && copy.state.can_get_red() {
+            self.can_get_red.notify_one();
+        }
+        if copy.asleep_get_blue > 0 && copy.state.can_get_blue() {
+            self.can_get_blue.notify_one();
+        }
+        if copy.asleep_drain > 0 && copy.state.can_drain() {
+            self.can_drain.notify_one();
+        }
+        Ok(result)
+    }
+
+    /// As [`put`](Self::put), but waits for `total < ROOM` no longer than `time`.
+    ///
+    /// # Errors
+    ///
+    /// [`Refused`] where its time is over and `total < ROOM` is false. Then nothing changes.
+    pub fn put_for(&self, is_red: bool, time: Duration) -> Result<(), Refused> {
+        let Some(end) = Instant::now().checked_add(time) else {
+            self.put(is_red);
+            return Ok(());
+        };
+        self.put_until(is_red, end)
+    }
+
+    /// As [`put_for`](Self::put_for), and calls `f` with the data under the same lock.
+    ///
+    /// Where `f` panics no field changes. `f` must not call this monitor.
+    ///
+    /// # Errors
+    ///
+    /// [`Refused`] where its time is over and `total < ROOM` is false. Then nothing changes.
+    pub fn put_for_with<R>(&self, is_red: bool, time: Duration, f: impl FnOnce(&mut D) -> R) -> Result<R, Refused> {
+        let Some(end) = Instant::now().checked_add(time) else {
+            return Ok(self.put_with(is_red, f));
+        };
+        self.put_until_with(is_red, end, f)
+    }
+
     /// Waits until `red > 0`.
     pub fn get_red(&self) {
         let mut inner = lock(&self.inner);
@@ -482,6 +753,88 @@ impl<D> TwoKinds<D> {
             self.can_put_red.notify_one();
         }
         Ok(result)
+    }
+
+    /// As [`get_red`](Self::get_red), but waits for `red > 0` no longer than until `end`.
+    ///
+    /// # Errors
+    ///
+    /// [`Refused`] where its time is over and `red > 0` is false. Then nothing changes.
+    pub fn get_red_until(&self, end: Instant) -> Result<(), Refused> {
+        let mut inner = lock(&self.inner);
+        while !inner.state.can_get_red() {
+            let Some(left) = time_left(end) else {
+                return Err(Refused);
+            };
+            inner.asleep_get_red += 1;
+            inner = wait_for(&self.can_get_red, inner, left);
+            inner.asleep_get_red -= 1;
+        }
+        inner.state.run_get_red();
+        let copy = inner.copy();
+        drop(inner);
+        if copy.asleep_put_red > 0 {
+            self.can_put_red.notify_one();
+        }
+        Ok(())
+    }
+
+    /// As [`get_red_until`](Self::get_red_until), and calls `f` with the data under the same lock.
+    ///
+    /// Where `f` panics no field changes. `f` must not call this monitor.
+    ///
+    /// # Errors
+    ///
+    /// [`Refused`] where its time is over and `red > 0` is false. Then nothing changes.
+    pub fn get_red_until_with<R>(&self, end: Instant, f: impl FnOnce(&mut D) -> R) -> Result<R, Refused> {
+        let mut inner = lock(&self.inner);
+        while !inner.state.can_get_red() {
+            let Some(left) = time_left(end) else {
+                return Err(Refused);
+            };
+            inner.asleep_get_red += 1;
+            inner = wait_for(&self.can_get_red, inner, left);
+            inner.asleep_get_red -= 1;
+        }
+        let hand = HandOn(&self.can_get_red);
+        let mut next = inner.state;
+        next.run_get_red();
+        let result = f(&mut inner.data);
+        std::mem::forget(hand);
+        inner.state = next;
+        let copy = inner.copy();
+        drop(inner);
+        if copy.asleep_put_red > 0 {
+            self.can_put_red.notify_one();
+        }
+        Ok(result)
+    }
+
+    /// As [`get_red`](Self::get_red), but waits for `red > 0` no longer than `time`.
+    ///
+    /// # Errors
+    ///
+    /// [`Refused`] where its time is over and `red > 0` is false. Then nothing changes.
+    pub fn get_red_for(&self, time: Duration) -> Result<(), Refused> {
+        let Some(end) = Instant::now().checked_add(time) else {
+            self.get_red();
+            return Ok(());
+        };
+        self.get_red_until(end)
+    }
+
+    /// As [`get_red_for`](Self::get_red_for), and calls `f` with the data under the same lock.
+    ///
+    /// Where `f` panics no field changes. `f` must not call this monitor.
+    ///
+    /// # Errors
+    ///
+    /// [`Refused`] where its time is over and `red > 0` is false. Then nothing changes.
+    pub fn get_red_for_with<R>(&self, time: Duration, f: impl FnOnce(&mut D) -> R) -> Result<R, Refused> {
+        let Some(end) = Instant::now().checked_add(time) else {
+            return Ok(self.get_red_with(f));
+        };
+        self.get_red_until_with(end, f)
     }
 
     /// Waits until `red < total`.
@@ -569,6 +922,88 @@ impl<D> TwoKinds<D> {
         Ok(result)
     }
 
+    /// As [`get_blue`](Self::get_blue), but waits for `red < total` no longer than until `end`.
+    ///
+    /// # Errors
+    ///
+    /// [`Refused`] where its time is over and `red < total` is false. Then nothing changes.
+    pub fn get_blue_until(&self, end: Instant) -> Result<(), Refused> {
+        let mut inner = lock(&self.inner);
+        while !inner.state.can_get_blue() {
+            let Some(left) = time_left(end) else {
+                return Err(Refused);
+            };
+            inner.asleep_get_blue += 1;
+            inner = wait_for(&self.can_get_blue, inner, left);
+            inner.asleep_get_blue -= 1;
+        }
+        inner.state.run_get_blue();
+        let copy = inner.copy();
+        drop(inner);
+        if copy.asleep_put_red > 0 {
+            self.can_put_red.notify_one();
+        }
+        Ok(())
+    }
+
+    /// As [`get_blue_until`](Self::get_blue_until), and calls `f` with the data under the same lock.
+    ///
+    /// Where `f` panics no field changes. `f` must not call this monitor.
+    ///
+    /// # Errors
+    ///
+    /// [`Refused`] where its time is over and `red < total` is false. Then nothing changes.
+    pub fn get_blue_until_with<R>(&self, end: Instant, f: impl FnOnce(&mut D) -> R) -> Result<R, Refused> {
+        let mut inner = lock(&self.inner);
+        while !inner.state.can_get_blue() {
+            let Some(left) = time_left(end) else {
+                return Err(Refused);
+            };
+            inner.asleep_get_blue += 1;
+            inner = wait_for(&self.can_get_blue, inner, left);
+            inner.asleep_get_blue -= 1;
+        }
+        let hand = HandOn(&self.can_get_blue);
+        let mut next = inner.state;
+        next.run_get_blue();
+        let result = f(&mut inner.data);
+        std::mem::forget(hand);
+        inner.state = next;
+        let copy = inner.copy();
+        drop(inner);
+        if copy.asleep_put_red > 0 {
+            self.can_put_red.notify_one();
+        }
+        Ok(result)
+    }
+
+    /// As [`get_blue`](Self::get_blue), but waits for `red < total` no longer than `time`.
+    ///
+    /// # Errors
+    ///
+    /// [`Refused`] where its time is over and `red < total` is false. Then nothing changes.
+    pub fn get_blue_for(&self, time: Duration) -> Result<(), Refused> {
+        let Some(end) = Instant::now().checked_add(time) else {
+            self.get_blue();
+            return Ok(());
+        };
+        self.get_blue_until(end)
+    }
+
+    /// As [`get_blue_for`](Self::get_blue_for), and calls `f` with the data under the same lock.
+    ///
+    /// Where `f` panics no field changes. `f` must not call this monitor.
+    ///
+    /// # Errors
+    ///
+    /// [`Refused`] where its time is over and `red < total` is false. Then nothing changes.
+    pub fn get_blue_for_with<R>(&self, time: Duration, f: impl FnOnce(&mut D) -> R) -> Result<R, Refused> {
+        let Some(end) = Instant::now().checked_add(time) else {
+            return Ok(self.get_blue_with(f));
+        };
+        self.get_blue_until_with(end, f)
+    }
+
     /// Waits until `total == ROOM`.
     pub fn drain(&self) {
         let mut inner = lock(&self.inner);
@@ -652,6 +1087,88 @@ impl<D> TwoKinds<D> {
             self.can_put_red.notify_all();
         }
         Ok(result)
+    }
+
+    /// As [`drain`](Self::drain), but waits for `total == ROOM` no longer than until `end`.
+    ///
+    /// # Errors
+    ///
+    /// [`Refused`] where its time is over and `total == ROOM` is false. Then nothing changes.
+    pub fn drain_until(&self, end: Instant) -> Result<(), Refused> {
+        let mut inner = lock(&self.inner);
+        while !inner.state.can_drain() {
+            let Some(left) = time_left(end) else {
+                return Err(Refused);
+            };
+            inner.asleep_drain += 1;
+            inner = wait_for(&self.can_drain, inner, left);
+            inner.asleep_drain -= 1;
+        }
+        inner.state.run_drain();
+        let copy = inner.copy();
+        drop(inner);
+        if copy.asleep_put_red > 0 {
+            self.can_put_red.notify_all();
+        }
+        Ok(())
+    }
+
+    /// As [`drain_until`](Self::drain_until), and calls `f` with the data under the same lock.
+    ///
+    /// Where `f` panics no field changes. `f` must not call this monitor.
+    ///
+    /// # Errors
+    ///
+    /// [`Refused`] where its time is over and `total == ROOM` is false. Then nothing changes.
+    pub fn drain_until_with<R>(&self, end: Instant, f: impl FnOnce(&mut D) -> R) -> Result<R, Refused> {
+        let mut inner = lock(&self.inner);
+        while !inner.state.can_drain() {
+            let Some(left) = time_left(end) else {
+                return Err(Refused);
+            };
+            inner.asleep_drain += 1;
+            inner = wait_for(&self.can_drain, inner, left);
+            inner.asleep_drain -= 1;
+        }
+        let hand = HandOn(&self.can_drain);
+        let mut next = inner.state;
+        next.run_drain();
+        let result = f(&mut inner.data);
+        std::mem::forget(hand);
+        inner.state = next;
+        let copy = inner.copy();
+        drop(inner);
+        if copy.asleep_put_red > 0 {
+            self.can_put_red.notify_all();
+        }
+        Ok(result)
+    }
+
+    /// As [`drain`](Self::drain), but waits for `total == ROOM` no longer than `time`.
+    ///
+    /// # Errors
+    ///
+    /// [`Refused`] where its time is over and `total == ROOM` is false. Then nothing changes.
+    pub fn drain_for(&self, time: Duration) -> Result<(), Refused> {
+        let Some(end) = Instant::now().checked_add(time) else {
+            self.drain();
+            return Ok(());
+        };
+        self.drain_until(end)
+    }
+
+    /// As [`drain_for`](Self::drain_for), and calls `f` with the data under the same lock.
+    ///
+    /// Where `f` panics no field changes. `f` must not call this monitor.
+    ///
+    /// # Errors
+    ///
+    /// [`Refused`] where its time is over and `total == ROOM` is false. Then nothing changes.
+    pub fn drain_for_with<R>(&self, time: Duration, f: impl FnOnce(&mut D) -> R) -> Result<R, Refused> {
+        let Some(end) = Instant::now().checked_add(time) else {
+            return Ok(self.drain_with(f));
+        };
+        self.drain_until_with(end, f)
     }
 }
 
@@ -789,7 +1306,25 @@ impl Drop for HandOn<'_> {
     }
 }
 
-/// The guard was false, and the call did not wait. Nothing changed.
+/// As `wait`, but no longer than this.
+fn wait_for<'a, D>(
+    condition: &Condvar,
+    inner: MutexGuard<'a, Inner<D>>,
+    left: Duration,
+) -> MutexGuard<'a, Inner<D>> {
+    condition
+        .wait_timeout(inner, left)
+        .unwrap_or_else(PoisonError::into_inner)
+        .0
+}
+
+/// How long it is until then, or `None` where it has come.
+fn time_left(end: Instant) -> Option<Duration> {
+    end.checked_duration_since(Instant::now())
+        .filter(|left| !left.is_zero())
+}
+
+/// The guard was false, and the call did not wait, or not any longer. Nothing changed.
 #[derive(Clone, Copy, Debug, PartialEq, Eq)]
 pub struct Refused;
 

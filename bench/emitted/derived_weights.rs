@@ -2,6 +2,7 @@
 // Change the monitor, and not this file. It wants Rust 1.65 and the edition 2021, or later ones.
 
 use std::sync::{Condvar, Mutex, MutexGuard, PoisonError};
+use std::time::{Duration, Instant};
 
 /// The monitor `Weights`. Threads share it by reference. A call waits for its guard, unless it tries.
 ///
@@ -174,6 +175,88 @@ impl<D> Weights<D> {
         Ok(result)
     }
 
+    /// As [`take5`](Self::take5), but waits for `free >= 5` no longer than until `end`.
+    ///
+    /// # Errors
+    ///
+    /// [`Refused`] where its time is over and `free >= 5` is false. Then nothing changes.
+    pub fn take5_until(&self, end: Instant) -> Result<(), Refused> {
+        let mut inner = lock(&self.inner);
+        while !inner.state.can_take5() {
+            let Some(left) = time_left(end) else {
+                return Err(Refused);
+            };
+            inner.asleep_take5 += 1;
+            inner = wait_for(&self.can_take5, inner, left);
+            inner.asleep_take5 -= 1;
+        }
+        inner.state.run_take5();
+        let copy = inner.copy();
+        drop(inner);
+        if copy.asleep_give > 0 && copy.state.can_give() {
+            self.can_give.notify_all();
+        }
+        Ok(())
+    }
+
+    /// As [`take5_until`](Self::take5_until), and calls `f` with the data under the same lock.
+    ///
+    /// Where `f` panics no field changes. `f` must not call this monitor.
+    ///
+    /// # Errors
+    ///
+    /// [`Refused`] where its time is over and `free >= 5` is false. Then nothing changes.
+    pub fn take5_until_with<R>(&self, end: Instant, f: impl FnOnce(&mut D) -> R) -> Result<R, Refused> {
+        let mut inner = lock(&self.inner);
+        while !inner.state.can_take5() {
+            let Some(left) = time_left(end) else {
+                return Err(Refused);
+            };
+            inner.asleep_take5 += 1;
+            inner = wait_for(&self.can_take5, inner, left);
+            inner.asleep_take5 -= 1;
+        }
+        let hand = HandOn(&self.can_take5);
+        let mut next = inner.state;
+        next.run_take5();
+        let result = f(&mut inner.data);
+        std::mem::forget(hand);
+        inner.state = next;
+        let copy = inner.copy();
+        drop(inner);
+        if copy.asleep_give > 0 && copy.state.can_give() {
+            self.can_give.notify_all();
+        }
+        Ok(result)
+    }
+
+    /// As [`take5`](Self::take5), but waits for `free >= 5` no longer than `time`.
+    ///
+    /// # Errors
+    ///
+    /// [`Refused`] where its time is over and `free >= 5` is false. Then nothing changes.
+    pub fn take5_for(&self, time: Duration) -> Result<(), Refused> {
+        let Some(end) = Instant::now().checked_add(time) else {
+            self.take5();
+            return Ok(());
+        };
+        self.take5_until(end)
+    }
+
+    /// As [`take5_for`](Self::take5_for), and calls `f` with the data under the same lock.
+    ///
+    /// Where `f` panics no field changes. `f` must not call this monitor.
+    ///
+    /// # Errors
+    ///
+    /// [`Refused`] where its time is over and `free >= 5` is false. Then nothing changes.
+    pub fn take5_for_with<R>(&self, time: Duration, f: impl FnOnce(&mut D) -> R) -> Result<R, Refused> {
+        let Some(end) = Instant::now().checked_add(time) else {
+            return Ok(self.take5_with(f));
+        };
+        self.take5_until_with(end, f)
+    }
+
     /// Waits until `free >= 10`.
     pub fn take10(&self) {
         let mut inner = lock(&self.inner);
@@ -259,6 +342,88 @@ impl<D> Weights<D> {
         Ok(result)
     }
 
+    /// As [`take10`](Self::take10), but waits for `free >= 10` no longer than until `end`.
+    ///
+    /// # Errors
+    ///
+    /// [`Refused`] where its time is over and `free >= 10` is false. Then nothing changes.
+    pub fn take10_until(&self, end: Instant) -> Result<(), Refused> {
+        let mut inner = lock(&self.inner);
+        while !inner.state.can_take10() {
+            let Some(left) = time_left(end) else {
+                return Err(Refused);
+            };
+            inner.asleep_take10 += 1;
+            inner = wait_for(&self.can_take10, inner, left);
+            inner.asleep_take10 -= 1;
+        }
+        inner.state.run_take10();
+        let copy = inner.copy();
+        drop(inner);
+        if copy.asleep_give > 0 && copy.state.can_give() {
+            self.can_give.notify_all();
+        }
+        Ok(())
+    }
+
+    /// As [`take10_until`](Self::take10_until), and calls `f` with the data under the same lock.
+    ///
+    /// Where `f` panics no field changes. `f` must not call this monitor.
+    ///
+    /// # Errors
+    ///
+    /// [`Refused`] where its time is over and `free >= 10` is false. Then nothing changes.
+    pub fn take10_until_with<R>(&self, end: Instant, f: impl FnOnce(&mut D) -> R) -> Result<R, Refused> {
+        let mut inner = lock(&self.inner);
+        while !inner.state.can_take10() {
+            let Some(left) = time_left(end) else {
+                return Err(Refused);
+            };
+            inner.asleep_take10 += 1;
+            inner = wait_for(&self.can_take10, inner, left);
+            inner.asleep_take10 -= 1;
+        }
+        let hand = HandOn(&self.can_take10);
+        let mut next = inner.state;
+        next.run_take10();
+        let result = f(&mut inner.data);
+        std::mem::forget(hand);
+        inner.state = next;
+        let copy = inner.copy();
+        drop(inner);
+        if copy.asleep_give > 0 && copy.state.can_give() {
+            self.can_give.notify_all();
+        }
+        Ok(result)
+    }
+
+    /// As [`take10`](Self::take10), but waits for `free >= 10` no longer than `time`.
+    ///
+    /// # Errors
+    ///
+    /// [`Refused`] where its time is over and `free >= 10` is false. Then nothing changes.
+    pub fn take10_for(&self, time: Duration) -> Result<(), Refused> {
+        let Some(end) = Instant::now().checked_add(time) else {
+            self.take10();
+            return Ok(());
+        };
+        self.take10_until(end)
+    }
+
+    /// As [`take10_for`](Self::take10_for), and calls `f` with the data under the same lock.
+    ///
+    /// Where `f` panics no field changes. `f` must not call this monitor.
+    ///
+    /// # Errors
+    ///
+    /// [`Refused`] where its time is over and `free >= 10` is false. Then nothing changes.
+    pub fn take10_for_with<R>(&self, time: Duration, f: impl FnOnce(&mut D) -> R) -> Result<R, Refused> {
+        let Some(end) = Instant::now().checked_add(time) else {
+            return Ok(self.take10_with(f));
+        };
+        self.take10_until_with(end, f)
+    }
+
     /// Waits until `free >= 15`.
     pub fn take15(&self) {
         let mut inner = lock(&self.inner);
@@ -342,6 +507,88 @@ impl<D> Weights<D> {
             self.can_give.notify_all();
         }
         Ok(result)
+    }
+
+    /// As [`take15`](Self::take15), but waits for `free >= 15` no longer than until `end`.
+    ///
+    /// # Errors
+    ///
+    /// [`Refused`] where its time is over and `free >= 15` is false. Then nothing changes.
+    pub fn take15_until(&self, end: Instant) -> Result<(), Refused> {
+        let mut inner = lock(&self.inner);
+        while !inner.state.can_take15() {
+            let Some(left) = time_left(end) else {
+                return Err(Refused);
+            };
+            inner.asleep_take15 += 1;
+            inner = wait_for(&self.can_take15, inner, left);
+            inner.asleep_take15 -= 1;
+        }
+        inner.state.run_take15();
+        let copy = inner.copy();
+        drop(inner);
+        if copy.asleep_give > 0 && copy.state.can_give() {
+            self.can_give.notify_all();
+        }
+        Ok(())
+    }
+
+    /// As [`take15_until`](Self::take15_until), and calls `f` with the data under the same lock.
+    ///
+    /// Where `f` panics no field changes. `f` must not call this monitor.
+    ///
+    /// # Errors
+    ///
+    /// [`Refused`] where its time is over and `free >= 15` is false. Then nothing changes.
+    pub fn take15_until_with<R>(&self, end: Instant, f: impl FnOnce(&mut D) -> R) -> Result<R, Refused> {
+        let mut inner = lock(&self.inner);
+        while !inner.state.can_take15() {
+            let Some(left) = time_left(end) else {
+                return Err(Refused);
+            };
+            inner.asleep_take15 += 1;
+            inner = wait_for(&self.can_take15, inner, left);
+            inner.asleep_take15 -= 1;
+        }
+        let hand = HandOn(&self.can_take15);
+        let mut next = inner.state;
+        next.run_take15();
+        let result = f(&mut inner.data);
+        std::mem::forget(hand);
+        inner.state = next;
+        let copy = inner.copy();
+        drop(inner);
+        if copy.asleep_give > 0 && copy.state.can_give() {
+            self.can_give.notify_all();
+        }
+        Ok(result)
+    }
+
+    /// As [`take15`](Self::take15), but waits for `free >= 15` no longer than `time`.
+    ///
+    /// # Errors
+    ///
+    /// [`Refused`] where its time is over and `free >= 15` is false. Then nothing changes.
+    pub fn take15_for(&self, time: Duration) -> Result<(), Refused> {
+        let Some(end) = Instant::now().checked_add(time) else {
+            self.take15();
+            return Ok(());
+        };
+        self.take15_until(end)
+    }
+
+    /// As [`take15_for`](Self::take15_for), and calls `f` with the data under the same lock.
+    ///
+    /// Where `f` panics no field changes. `f` must not call this monitor.
+    ///
+    /// # Errors
+    ///
+    /// [`Refused`] where its time is over and `free >= 15` is false. Then nothing changes.
+    pub fn take15_for_with<R>(&self, time: Duration, f: impl FnOnce(&mut D) -> R) -> Result<R, Refused> {
+        let Some(end) = Instant::now().checked_add(time) else {
+            return Ok(self.take15_with(f));
+        };
+        self.take15_until_with(end, f)
     }
 
     /// Waits until `free < LIMIT`.
@@ -451,6 +698,100 @@ impl<D> Weights<D> {
             self.can_take15.notify_one();
         }
         Ok(result)
+    }
+
+    /// As [`give`](Self::give), but waits for `free < LIMIT` no longer than until `end`.
+    ///
+    /// # Errors
+    ///
+    /// [`Refused`] where its time is over and `free < LIMIT` is false. Then nothing changes.
+    pub fn give_until(&self, end: Instant) -> Result<(), Refused> {
+        let mut inner = lock(&self.inner);
+        while !inner.state.can_give() {
+            let Some(left) = time_left(end) else {
+                return Err(Refused);
+            };
+            inner.asleep_give += 1;
+            inner = wait_for(&self.can_give, inner, left);
+            inner.asleep_give -= 1;
+        }
+        inner.state.run_give();
+        let copy = inner.copy();
+        drop(inner);
+        if copy.asleep_take5 > 0 && copy.state.can_take5() {
+            self.can_take5.notify_one();
+        }
+        if copy.asleep_take10 > 0 && copy.state.can_take10() {
+            self.can_take10.notify_one();
+        }
+        if copy.asleep_take15 > 0 && copy.state.can_take15() {
+            self.can_take15.notify_one();
+        }
+        Ok(())
+    }
+
+    /// As [`give_until`](Self::give_until), and calls `f` with the data under the same lock.
+    ///
+    /// Where `f` panics no field changes. `f` must not call this monitor.
+    ///
+    /// # Errors
+    ///
+    /// [`Refused`] where its time is over and `free < LIMIT` is false. Then nothing changes.
+    pub fn give_until_with<R>(&self, end: Instant, f: impl FnOnce(&mut D) -> R) -> Result<R, Refused> {
+        let mut inner = lock(&self.inner);
+        while !inner.state.can_give() {
+            let Some(left) = time_left(end) else {
+                return Err(Refused);
+            };
+            inner.asleep_give += 1;
+            inner = wait_for(&self.can_give, inner, left);
+            inner.asleep_give -= 1;
+        }
+        let hand = HandOn(&self.can_give);
+        let mut next = inner.state;
+        next.run_give();
+        let result = f(&mut inner.data);
+        std::mem::forget(hand);
+        inner.state = next;
+        let copy = inner.copy();
+        drop(inner);
+        if copy.asleep_take5 > 0 && copy.state.can_take5() {
+            self.can_take5.notify_one();
+        }
+        if copy.asleep_take10 > 0 && copy.state.can_take10() {
+            self.can_take10.notify_one();
+        }
+        if copy.asleep_take15 > 0 && copy.state.can_take15() {
+            self.can_take15.notify_one();
+        }
+        Ok(result)
+    }
+
+    /// As [`give`](Self::give), but waits for `free < LIMIT` no longer than `time`.
+    ///
+    /// # Errors
+    ///
+    /// [`Refused`] where its time is over and `free < LIMIT` is false. Then nothing changes.
+    pub fn give_for(&self, time: Duration) -> Result<(), Refused> {
+        let Some(end) = Instant::now().checked_add(time) else {
+            self.give();
+            return Ok(());
+        };
+        self.give_until(end)
+    }
+
+    /// As [`give_for`](Self::give_for), and calls `f` with the data under the same lock.
+    ///
+    /// Where `f` panics no field changes. `f` must not call this monitor.
+    ///
+    /// # Errors
+    ///
+    /// [`Refused`] where its time is over and `free < LIMIT` is false. Then nothing changes.
+    pub fn give_for_with<R>(&self, time: Duration, f: impl FnOnce(&mut D) -> R) -> Result<R, Refused> {
+        let Some(end) = Instant::now().checked_add(time) else {
+            return Ok(self.give_with(f));
+        };
+        self.give_until_with(end, f)
     }
 }
 
@@ -572,7 +913,25 @@ impl Drop for HandOn<'_> {
     }
 }
 
-/// The guard was false, and the call did not wait. Nothing changed.
+/// As `wait`, but no longer than this.
+fn wait_for<'a, D>(
+    condition: &Condvar,
+    inner: MutexGuard<'a, Inner<D>>,
+    left: Duration,
+) -> MutexGuard<'a, Inner<D>> {
+    condition
+        .wait_timeout(inner, left)
+        .unwrap_or_else(PoisonError::into_inner)
+        .0
+}
+
+/// How long it is until then, or `None` where it has come.
+fn time_left(end: Instant) -> Option<Duration> {
+    end.checked_duration_since(Instant::now())
+        .filter(|left| !left.is_zero())
+}
+
+/// The guard was false, and the call did not wait, or not any longer. Nothing changed.
 #[derive(Clone, Copy, Debug, PartialEq, Eq)]
 pub struct Refused;
 

@@ -2,6 +2,7 @@
 // Change the monitor, and not this file. It wants Rust 1.65 and the edition 2021, or later ones.
 
 use std::sync::{Condvar, Mutex, MutexGuard, PoisonError};
+use std::time::{Duration, Instant};
 
 /// The monitor `Lock`. Threads share it by reference. A call waits for its guard, unless it tries.
 ///
@@ -158,6 +159,88 @@ impl<D> Lock<D> {
         Ok(result)
     }
 
+    /// As [`acquire`](Self::acquire), but waits for `!held` no longer than until `end`.
+    ///
+    /// # Errors
+    ///
+    /// [`Refused`] where its time is over and `!held` is false. Then nothing changes.
+    pub fn acquire_until(&self, end: Instant) -> Result<(), Refused> {
+        let mut inner = lock(&self.inner);
+        while !inner.state.can_acquire() {
+            let Some(left) = time_left(end) else {
+                return Err(Refused);
+            };
+            inner.asleep_acquire += 1;
+            inner = wait_for(&self.can_acquire, inner, left);
+            inner.asleep_acquire -= 1;
+        }
+        inner.state.run_acquire();
+        let copy = inner.copy();
+        drop(inner);
+        if copy.asleep_release > 0 {
+            self.can_release.notify_one();
+        }
+        Ok(())
+    }
+
+    /// As [`acquire_until`](Self::acquire_until), and calls `f` with the data under the same lock.
+    ///
+    /// Where `f` panics no field changes. `f` must not call this monitor.
+    ///
+    /// # Errors
+    ///
+    /// [`Refused`] where its time is over and `!held` is false. Then nothing changes.
+    pub fn acquire_until_with<R>(&self, end: Instant, f: impl FnOnce(&mut D) -> R) -> Result<R, Refused> {
+        let mut inner = lock(&self.inner);
+        while !inner.state.can_acquire() {
+            let Some(left) = time_left(end) else {
+                return Err(Refused);
+            };
+            inner.asleep_acquire += 1;
+            inner = wait_for(&self.can_acquire, inner, left);
+            inner.asleep_acquire -= 1;
+        }
+        let hand = HandOn(&self.can_acquire);
+        let mut next = inner.state;
+        next.run_acquire();
+        let result = f(&mut inner.data);
+        std::mem::forget(hand);
+        inner.state = next;
+        let copy = inner.copy();
+        drop(inner);
+        if copy.asleep_release > 0 {
+            self.can_release.notify_one();
+        }
+        Ok(result)
+    }
+
+    /// As [`acquire`](Self::acquire), but waits for `!held` no longer than `time`.
+    ///
+    /// # Errors
+    ///
+    /// [`Refused`] where its time is over and `!held` is false. Then nothing changes.
+    pub fn acquire_for(&self, time: Duration) -> Result<(), Refused> {
+        let Some(end) = Instant::now().checked_add(time) else {
+            self.acquire();
+            return Ok(());
+        };
+        self.acquire_until(end)
+    }
+
+    /// As [`acquire_for`](Self::acquire_for), and calls `f` with the data under the same lock.
+    ///
+    /// Where `f` panics no field changes. `f` must not call this monitor.
+    ///
+    /// # Errors
+    ///
+    /// [`Refused`] where its time is over and `!held` is false. Then nothing changes.
+    pub fn acquire_for_with<R>(&self, time: Duration, f: impl FnOnce(&mut D) -> R) -> Result<R, Refused> {
+        let Some(end) = Instant::now().checked_add(time) else {
+            return Ok(self.acquire_with(f));
+        };
+        self.acquire_until_with(end, f)
+    }
+
     /// Waits until `held`.
     pub fn release(&self) {
         let mut inner = lock(&self.inner);
@@ -241,6 +324,88 @@ impl<D> Lock<D> {
             self.can_acquire.notify_one();
         }
         Ok(result)
+    }
+
+    /// As [`release`](Self::release), but waits for `held` no longer than until `end`.
+    ///
+    /// # Errors
+    ///
+    /// [`Refused`] where its time is over and `held` is false. Then nothing changes.
+    pub fn release_until(&self, end: Instant) -> Result<(), Refused> {
+        let mut inner = lock(&self.inner);
+        while !inner.state.can_release() {
+            let Some(left) = time_left(end) else {
+                return Err(Refused);
+            };
+            inner.asleep_release += 1;
+            inner = wait_for(&self.can_release, inner, left);
+            inner.asleep_release -= 1;
+        }
+        inner.state.run_release();
+        let copy = inner.copy();
+        drop(inner);
+        if copy.asleep_acquire > 0 {
+            self.can_acquire.notify_one();
+        }
+        Ok(())
+    }
+
+    /// As [`release_until`](Self::release_until), and calls `f` with the data under the same lock.
+    ///
+    /// Where `f` panics no field changes. `f` must not call this monitor.
+    ///
+    /// # Errors
+    ///
+    /// [`Refused`] where its time is over and `held` is false. Then nothing changes.
+    pub fn release_until_with<R>(&self, end: Instant, f: impl FnOnce(&mut D) -> R) -> Result<R, Refused> {
+        let mut inner = lock(&self.inner);
+        while !inner.state.can_release() {
+            let Some(left) = time_left(end) else {
+                return Err(Refused);
+            };
+            inner.asleep_release += 1;
+            inner = wait_for(&self.can_release, inner, left);
+            inner.asleep_release -= 1;
+        }
+        let hand = HandOn(&self.can_release);
+        let mut next = inner.state;
+        next.run_release();
+        let result = f(&mut inner.data);
+        std::mem::forget(hand);
+        inner.state = next;
+        let copy = inner.copy();
+        drop(inner);
+        if copy.asleep_acquire > 0 {
+            self.can_acquire.notify_one();
+        }
+        Ok(result)
+    }
+
+    /// As [`release`](Self::release), but waits for `held` no longer than `time`.
+    ///
+    /// # Errors
+    ///
+    /// [`Refused`] where its time is over and `held` is false. Then nothing changes.
+    pub fn release_for(&self, time: Duration) -> Result<(), Refused> {
+        let Some(end) = Instant::now().checked_add(time) else {
+            self.release();
+            return Ok(());
+        };
+        self.release_until(end)
+    }
+
+    /// As [`release_for`](Self::release_for), and calls `f` with the data under the same lock.
+    ///
+    /// Where `f` panics no field changes. `f` must not call this monitor.
+    ///
+    /// # Errors
+    ///
+    /// [`Refused`] where its time is over and `held` is false. Then nothing changes.
+    pub fn release_for_with<R>(&self, time: Duration, f: impl FnOnce(&mut D) -> R) -> Result<R, Refused> {
+        let Some(end) = Instant::now().checked_add(time) else {
+            return Ok(self.release_with(f));
+        };
+        self.release_until_with(end, f)
     }
 }
 
@@ -342,7 +507,25 @@ impl Drop for HandOn<'_> {
     }
 }
 
-/// The guard was false, and the call did not wait. Nothing changed.
+/// As `wait`, but no longer than this.
+fn wait_for<'a, D>(
+    condition: &Condvar,
+    inner: MutexGuard<'a, Inner<D>>,
+    left: Duration,
+) -> MutexGuard<'a, Inner<D>> {
+    condition
+        .wait_timeout(inner, left)
+        .unwrap_or_else(PoisonError::into_inner)
+        .0
+}
+
+/// How long it is until then, or `None` where it has come.
+fn time_left(end: Instant) -> Option<Duration> {
+    end.checked_duration_since(Instant::now())
+        .filter(|left| !left.is_zero())
+}
+
+/// The guard was false, and the call did not wait, or not any longer. Nothing changed.
 #[derive(Clone, Copy, Debug, PartialEq, Eq)]
 pub struct Refused;
 

@@ -2,6 +2,7 @@
 // Change the monitor, and not this file. It wants Rust 1.65 and the edition 2021, or later ones.
 
 use std::sync::{Condvar, Mutex, MutexGuard, PoisonError};
+use std::time::{Duration, Instant};
 
 /// Names that mean \*something\* in Rust, as \`self\`, \[\`State\`\] and \<b\>; see https\://doc.rust-lang.org/std.
 /// 1\. A number, and 2) another. \_\_init\_\_ \| \~none\~ \& # + - = \\
@@ -318,6 +319,132 @@ impl<D> State_<D> {
         Ok(result)
     }
 
+    /// As [`await_`](Self::await_), but waits for `answer * 2 >= narrow - match` no longer than until `end`.
+    ///
+    /// # Errors
+    ///
+    /// [`Failed::Refused`] where its time is over and `answer * 2 >= narrow - match` is false. Then nothing changes.
+    ///
+    /// [`Failed::Overflow`] where a number would leave 64 bits. Its block then changes nothing, and no later one runs.
+    pub fn await__until(&self, answer_: i64, narrow_: i64, end: Instant) -> Result<i64, Failed> {
+        let mut drop_: i64 = 0;
+        let mut lock_: bool = true;
+        let mut inner = lock(&self.inner);
+        while !inner.state.can_await_(answer_, narrow_, drop_, lock_) {
+            let Some(left) = time_left(end) else {
+                return Err(Failed::Refused);
+            };
+            inner.asleep_await_ += 1;
+            inner = wait_for(&self.can_await_, inner, left);
+            inner.asleep_await_ -= 1;
+        }
+        let Ok(()) = inner.state.run_await_(answer_, narrow_, &mut drop_, &mut lock_) else {
+            self.can_await_.notify_one();
+            return Err(Failed::Overflow);
+        };
+        let copy = inner.copy();
+        drop(inner);
+        if copy.asleep2_await_ > 0 {
+            self.can2_await_.notify_all();
+        }
+        let mut inner = lock(&self.inner);
+        while !inner.state.can2_await_(answer_, narrow_, drop_, lock_) {
+            inner.asleep2_await_ += 1;
+            inner = wait(&self.can2_await_, inner);
+            inner.asleep2_await_ -= 1;
+        }
+        let Ok(answer) = inner.state.run2_await_(answer_, narrow_, &mut drop_, &mut lock_) else {
+            self.can2_await_.notify_one();
+            return Err(Failed::Overflow);
+        };
+        let copy = inner.copy();
+        drop(inner);
+        if copy.asleep_await_ > 0 {
+            self.can_await_.notify_all();
+        }
+        Ok(answer)
+    }
+
+    /// As [`await__until`](Self::await__until), and calls `f` with the data and the answer under the same lock, in its last block.
+    ///
+    /// Where `f` panics that block changes no field. `f` must not call this monitor.
+    ///
+    /// # Errors
+    ///
+    /// [`Failed::Refused`] where its time is over and `answer * 2 >= narrow - match` is false. Then nothing changes.
+    ///
+    /// [`Failed::Overflow`] where a number would leave 64 bits. Its block then changes nothing, and no later one runs.
+    pub fn await__until_with<R>(&self, answer_: i64, narrow_: i64, end: Instant, f: impl FnOnce(&mut D, i64) -> R) -> Result<R, Failed> {
+        let mut drop_: i64 = 0;
+        let mut lock_: bool = true;
+        let mut inner = lock(&self.inner);
+        while !inner.state.can_await_(answer_, narrow_, drop_, lock_) {
+            let Some(left) = time_left(end) else {
+                return Err(Failed::Refused);
+            };
+            inner.asleep_await_ += 1;
+            inner = wait_for(&self.can_await_, inner, left);
+            inner.asleep_await_ -= 1;
+        }
+        let Ok(()) = inner.state.run_await_(answer_, narrow_, &mut drop_, &mut lock_) else {
+            self.can_await_.notify_one();
+            return Err(Failed::Overflow);
+        };
+        let copy = inner.copy();
+        drop(inner);
+        if copy.asleep2_await_ > 0 {
+            self.can2_await_.notify_all();
+        }
+        let mut inner = lock(&self.inner);
+        while !inner.state.can2_await_(answer_, narrow_, drop_, lock_) {
+            inner.asleep2_await_ += 1;
+            inner = wait(&self.can2_await_, inner);
+            inner.asleep2_await_ -= 1;
+        }
+        let hand = HandOn(&self.can2_await_);
+        let mut next = inner.state;
+        let answer = next.run2_await_(answer_, narrow_, &mut drop_, &mut lock_)?;
+        let result = f(&mut inner.data, answer);
+        std::mem::forget(hand);
+        inner.state = next;
+        let copy = inner.copy();
+        drop(inner);
+        if copy.asleep_await_ > 0 {
+            self.can_await_.notify_all();
+        }
+        Ok(result)
+    }
+
+    /// As [`await_`](Self::await_), but waits for `answer * 2 >= narrow - match` no longer than `time`.
+    ///
+    /// # Errors
+    ///
+    /// [`Failed::Refused`] where its time is over and `answer * 2 >= narrow - match` is false. Then nothing changes.
+    ///
+    /// [`Failed::Overflow`] where a number would leave 64 bits. Its block then changes nothing, and no later one runs.
+    pub fn await__for(&self, answer_: i64, narrow_: i64, time: Duration) -> Result<i64, Failed> {
+        let Some(end) = Instant::now().checked_add(time) else {
+            return Ok(self.await_(answer_, narrow_)?);
+        };
+        self.await__until(answer_, narrow_, end)
+    }
+
+    /// As [`await__for`](Self::await__for), and calls `f` with the data and the answer under the same lock, in its last block.
+    ///
+    /// Where `f` panics that block changes no field. `f` must not call this monitor.
+    ///
+    /// # Errors
+    ///
+    /// [`Failed::Refused`] where its time is over and `answer * 2 >= narrow - match` is false. Then nothing changes.
+    ///
+    /// [`Failed::Overflow`] where a number would leave 64 bits. Its block then changes nothing, and no later one runs.
+    pub fn await__for_with<R>(&self, answer_: i64, narrow_: i64, time: Duration, f: impl FnOnce(&mut D, i64) -> R) -> Result<R, Failed> {
+        let Some(end) = Instant::now().checked_add(time) else {
+            return Ok(self.await__with(answer_, narrow_, f)?);
+        };
+        self.await__until_with(answer_, narrow_, end, f)
+    }
+
     /// Does not wait.
     pub fn try_new_(&self) {
         let mut inner = lock(&self.inner);
@@ -480,6 +607,24 @@ impl Drop for HandOn<'_> {
     }
 }
 
+/// As `wait`, but no longer than this.
+fn wait_for<'a, D>(
+    condition: &Condvar,
+    inner: MutexGuard<'a, Inner<D>>,
+    left: Duration,
+) -> MutexGuard<'a, Inner<D>> {
+    condition
+        .wait_timeout(inner, left)
+        .unwrap_or_else(PoisonError::into_inner)
+        .0
+}
+
+/// How long it is until then, or `None` where it has come.
+fn time_left(end: Instant) -> Option<Duration> {
+    end.checked_duration_since(Instant::now())
+        .filter(|left| !left.is_zero())
+}
+
 /// A number would have left 64 bits.
 #[derive(Clone, Copy, Debug, PartialEq, Eq)]
 pub struct Overflow;
@@ -497,10 +642,10 @@ fn narrow(number: i128) -> Result<i64, Overflow> {
     i64::try_from(number).map_err(|_| Overflow)
 }
 
-/// Why a call that tries has no answer.
+/// Why a call that tries, or has a time, has no answer.
 #[derive(Clone, Copy, Debug, PartialEq, Eq)]
 pub enum Failed {
-    /// The guard was false, and the call did not wait. Nothing changed.
+    /// The guard was false, and the call did not wait, or not any longer. Nothing changed.
     Refused,
     /// A number would have left 64 bits.
     Overflow,

@@ -2,6 +2,7 @@
 // Change the monitor, and not this file. It wants Rust 1.65 and the edition 2021, or later ones.
 
 use std::sync::{Condvar, Mutex, MutexGuard, PoisonError};
+use std::time::{Duration, Instant};
 
 /// The monitor `Up`. Threads share it by reference. A call waits for its guard, unless it tries.
 ///
@@ -158,6 +159,91 @@ impl<D> Up<D> {
         drop(inner);
         Ok(result)
     }
+
+    /// As [`inc`](Self::inc), but waits for `x > 0` no longer than until `end`.
+    ///
+    /// # Errors
+    ///
+    /// [`Failed::Refused`] where its time is over and `x > 0` is false. Then nothing changes.
+    ///
+    /// [`Failed::Overflow`] where a number would leave 64 bits. Then nothing changes.
+    pub fn inc_until(&self, end: Instant) -> Result<(), Failed> {
+        let mut inner = lock(&self.inner);
+        while !inner.state.can_inc() {
+            let Some(left) = time_left(end) else {
+                return Err(Failed::Refused);
+            };
+            inner.asleep_inc += 1;
+            inner = wait_for(&self.can_inc, inner, left);
+            inner.asleep_inc -= 1;
+        }
+        let Ok(()) = inner.state.run_inc() else {
+            self.can_inc.notify_one();
+            return Err(Failed::Overflow);
+        };
+        drop(inner);
+        Ok(())
+    }
+
+    /// As [`inc_until`](Self::inc_until), and calls `f` with the data under the same lock.
+    ///
+    /// Where `f` panics no field changes. `f` must not call this monitor.
+    ///
+    /// # Errors
+    ///
+    /// [`Failed::Refused`] where its time is over and `x > 0` is false. Then nothing changes.
+    ///
+    /// [`Failed::Overflow`] where a number would leave 64 bits. Then nothing changes.
+    pub fn inc_until_with<R>(&self, end: Instant, f: impl FnOnce(&mut D) -> R) -> Result<R, Failed> {
+        let mut inner = lock(&self.inner);
+        while !inner.state.can_inc() {
+            let Some(left) = time_left(end) else {
+                return Err(Failed::Refused);
+            };
+            inner.asleep_inc += 1;
+            inner = wait_for(&self.can_inc, inner, left);
+            inner.asleep_inc -= 1;
+        }
+        let hand = HandOn(&self.can_inc);
+        let mut next = inner.state;
+        next.run_inc()?;
+        let result = f(&mut inner.data);
+        std::mem::forget(hand);
+        inner.state = next;
+        drop(inner);
+        Ok(result)
+    }
+
+    /// As [`inc`](Self::inc), but waits for `x > 0` no longer than `time`.
+    ///
+    /// # Errors
+    ///
+    /// [`Failed::Refused`] where its time is over and `x > 0` is false. Then nothing changes.
+    ///
+    /// [`Failed::Overflow`] where a number would leave 64 bits. Then nothing changes.
+    pub fn inc_for(&self, time: Duration) -> Result<(), Failed> {
+        let Some(end) = Instant::now().checked_add(time) else {
+            self.inc()?;
+            return Ok(());
+        };
+        self.inc_until(end)
+    }
+
+    /// As [`inc_for`](Self::inc_for), and calls `f` with the data under the same lock.
+    ///
+    /// Where `f` panics no field changes. `f` must not call this monitor.
+    ///
+    /// # Errors
+    ///
+    /// [`Failed::Refused`] where its time is over and `x > 0` is false. Then nothing changes.
+    ///
+    /// [`Failed::Overflow`] where a number would leave 64 bits. Then nothing changes.
+    pub fn inc_for_with<R>(&self, time: Duration, f: impl FnOnce(&mut D) -> R) -> Result<R, Failed> {
+        let Some(end) = Instant::now().checked_add(time) else {
+            return Ok(self.inc_with(f)?);
+        };
+        self.inc_until_with(end, f)
+    }
 }
 
 impl Default for Up {
@@ -249,6 +335,24 @@ impl Drop for HandOn<'_> {
     }
 }
 
+/// As `wait`, but no longer than this.
+fn wait_for<'a, D>(
+    condition: &Condvar,
+    inner: MutexGuard<'a, Inner<D>>,
+    left: Duration,
+) -> MutexGuard<'a, Inner<D>> {
+    condition
+        .wait_timeout(inner, left)
+        .unwrap_or_else(PoisonError::into_inner)
+        .0
+}
+
+/// How long it is until then, or `None` where it has come.
+fn time_left(end: Instant) -> Option<Duration> {
+    end.checked_duration_since(Instant::now())
+        .filter(|left| !left.is_zero())
+}
+
 /// A number would have left 64 bits.
 #[derive(Clone, Copy, Debug, PartialEq, Eq)]
 pub struct Overflow;
@@ -266,10 +370,10 @@ fn narrow(number: i128) -> Result<i64, Overflow> {
     i64::try_from(number).map_err(|_| Overflow)
 }
 
-/// Why a call that tries has no answer.
+/// Why a call that tries, or has a time, has no answer.
 #[derive(Clone, Copy, Debug, PartialEq, Eq)]
 pub enum Failed {
-    /// The guard was false, and the call did not wait. Nothing changed.
+    /// The guard was false, and the call did not wait, or not any longer. Nothing changed.
     Refused,
     /// A number would have left 64 bits.
     Overflow,
