@@ -26,6 +26,7 @@ fn main() {
     set_hook(Box::new(|_| ()));
     gives_up_again_and_again();
     (0..50).for_each(|_| hands_on());
+    (0..500).for_each(comes_with_the_end);
     is_over_at_once();
     waits_as_long();
     waits_without_end();
@@ -102,6 +103,23 @@ fn hands_on() {
         room.put();
     });
     assert_eq!(got.into_inner(), 1);
+}
+
+/// An item comes when the time of one of two ends that wait for it: one of them gets it.
+fn comes_with_the_end(turn: u32) {
+    let (room, end) = (Buffer::new(), Instant::now() + 10 * SHORT);
+    in_threads(3, |thread| match thread {
+        0 if room.get_until(end).is_ok() => room.put(),
+        0 => (),
+        1 => room.get(),
+        _ => {
+            while Instant::now() + turn % 50 * Duration::from_micros(2) < end {
+                std::hint::spin_loop();
+            }
+            room.put();
+        }
+    });
+    assert_state(&room, "count: 0");
 }
 
 /// A call whose time is over tests its guard once.

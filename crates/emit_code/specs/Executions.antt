@@ -40,8 +40,8 @@ program_with system told timed = record {
 }
 
 -- no call has a time
-abbrev pub no_times : ℕ → ℕ → Bool
-no_times thread call = false
+abbrev pub untimed : ℕ → ℕ → Bool
+untimed thread call = false
 
 -- where a thread is
 pub data Position : Type 0 where

@@ -7,7 +7,7 @@ use Rattle.machine_events.specs.declared.plan.CondKind.TheVariants as kinds
 use Rattle.machine_events.specs.declared.plan.Note.{Note}
 use Rattle.machine_events.specs.declared.plan.Plan.{Plan}
 use Rattle.emit_code.specs.Code.{is_waited_on, code_of}
-use Rattle.emit_code.specs.Executions.{Program, no_times}
+use Rattle.emit_code.specs.Executions.{Program, untimed}
 
 -- the notes on conditions on which someone may wait
 abbrev pub heard_notes : MonitorParts → List Note → List Note
@@ -43,4 +43,4 @@ timed_program monitor plan clients timed = record {
 
 -- where none has
 abbrev pub printed_program : MonitorParts → Plan → List Client → Program
-printed_program monitor plan clients = timed_program monitor plan clients no_times
+printed_program monitor plan clients = timed_program monitor plan clients untimed

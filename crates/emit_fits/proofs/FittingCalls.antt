@@ -15,7 +15,7 @@ use Rattle.machine_events.specs.Laws.{HasCountingPlan}
 use Rattle.machine_events.specs.Pending.{IsSystem}
 use Rattle.machine_events.specs.Plans.{FitsPlan}
 use Rattle.emit_code.specs.Code.{Op, late_order}
-use Rattle.emit_code.specs.Executions.{AreNotified, Executes, Frame, IsMove, IsThread, Moment, Position, RunsBody, Thread, call_of, goes, new_thread, no_times, program_with, start}
+use Rattle.emit_code.specs.Executions.{AreNotified, Executes, Frame, IsMove, IsThread, Moment, Position, RunsBody, Thread, call_of, goes, new_thread, untimed, program_with, start}
 use Rattle.emit_code.specs.Executions.Position.{Outside, At, Asleep, Notified}
 use Rattle.emit_code.specs.Executions.IsMove.{calls, takes, passes, falls_asleep, wakes, retakes, refuses, abandons, runs_body, panics, notifies, unlocks, releases, returns}
 use Rattle.emit_code.specs.Executions.Executes.{none_yet, one_more}
@@ -134,4 +134,4 @@ calls_never_overflow monitor plan clients last thread frame rest call rule scrip
     let system : System = system_under monitor clients live in
     let set_is : IsSystem system = record { rule = rule; scripts = scripts; plan = live_fits monitor plan fits } in
     let set : HasCountingPlan system = record { is = set_is; lawful = live_is_lawful_by_counting monitor plan lawful } in
-    clear_late system (late_order live) no_times set (late_is_told system set_is) starts pass last run thread frame (At rest) at tt call is each over
+    clear_late system (late_order live) untimed set (late_is_told system set_is) starts pass last run thread frame (At rest) at tt call is each over

@@ -16,7 +16,7 @@ use Rattle.machine_events.specs.Pending.{IsSystem}
 use Rattle.machine_events.specs.Plans.{FitsPlan}
 use Rattle.machine_events.proofs.Facing.{guard_is}
 use Rattle.emit_code.specs.Code.{Op, late_order}
-use Rattle.emit_code.specs.Executions.{Frame, Moment, RunsBody, program_with, no_times}
+use Rattle.emit_code.specs.Executions.{Frame, Moment, RunsBody, program_with, untimed}
 use Rattle.emit_code.specs.Laws.{Leads}
 use Rattle.emit_code.specs.LivePlans.{live_plan, printed_program}
 use Rattle.emit_code.specs.Orders.{IsTold}
@@ -73,4 +73,4 @@ never_overflows monitor plan clients before next thread frame rule scripts fits 
     let system : System = system_under monitor clients live in
     let is : IsSystem system = record { rule = rule; scripts = scripts; plan = live_fits monitor plan fits } in
     let set : HasCountingPlan system = record { is = is; lawful = live_is_lawful_by_counting monitor plan lawful } in
-    never_told system (late_order live) no_times set (late_is_told system is) starts pass thread frame before next run move
+    never_told system (late_order live) untimed set (late_is_told system is) starts pass thread frame before next run move
