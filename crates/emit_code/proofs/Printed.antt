@@ -12,7 +12,7 @@ use Rattle.machine_events.specs.Pending.{IsSystem}
 use Rattle.machine_events.specs.Laws.{HasCountingPlan}
 use Rattle.emit_code.specs.Code.{Op, late_order}
 use Rattle.emit_code.specs.Executions.{Moment, program_with}
-use Rattle.emit_code.specs.LivePlans.{live_plan, timed_program}
+use Rattle.emit_code.specs.LivePlans.{live_plan, printed_program}
 use Rattle.emit_code.specs.Laws.{Leads, LosesNone}
 use Rattle.emit_code.proofs.Running.{late_runs}
 use Rattle.emit_code.proofs.Holding.{late_holders_act, late_ready}
@@ -25,7 +25,7 @@ use Rattle.emit_code.proofs.Order.{late_is_told}
 use Rattle.emit_code.proofs.Live.{live_fits, live_is_lawful_by_counting}
 
 pub counted_loses_none : (monitor : MonitorParts) (plan : Plan) (clients : List Client) (timed : ℕ → ℕ → Bool) (last : Moment) → IsMonitor monitor → FitsScripts monitor clients → FitsPlan monitor plan → IsLawfulByCounting monitor plan
-    → Leads (timed_program monitor plan clients timed) last → LosesNone (timed_program monitor plan clients timed) last
+    → Leads (printed_program monitor plan clients timed) last → LosesNone (printed_program monitor plan clients timed) last
 counted_loses_none monitor plan clients timed last rule scripts fits lawful run =
     let live = live_plan monitor plan in
     let system : System = system_under monitor clients live in
@@ -47,5 +47,5 @@ counted_loses_none monitor plan clients timed last rule scripts fits lawful run 
     }
 
 pub printed_loses_none : (monitor : MonitorParts) (plan : Plan) (clients : List Client) (timed : ℕ → ℕ → Bool) (last : Moment) → IsMonitor monitor → FitsScripts monitor clients → FitsPlan monitor plan → IsLawful monitor plan
-    → Leads (timed_program monitor plan clients timed) last → LosesNone (timed_program monitor plan clients timed) last
+    → Leads (printed_program monitor plan clients timed) last → LosesNone (printed_program monitor plan clients timed) last
 printed_loses_none monitor plan clients timed last rule scripts fits lawful run = counted_loses_none monitor plan clients timed last rule scripts fits (lawful_by_counting monitor plan lawful) run

@@ -39,10 +39,6 @@ program_with system told timed = record {
   timed = timed;
 }
 
--- no call has a time
-abbrev pub untimed : ℕ → ℕ → Bool
-untimed thread call = false
-
 -- where a thread is
 pub data Position : Type 0 where
   -- between two calls

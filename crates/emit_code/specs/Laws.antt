@@ -25,7 +25,7 @@ use Rattle.emit_code.specs.Executions.Position.{Outside, At, Asleep, Notified}
 use Rattle.emit_code.specs.Functions.{FunctionsRanOnce}
 use Rattle.emit_code.specs.Sleepers.{SleepersAreCounted, UncountedSleepNot, LeftOutIsMade}
 use Rattle.emit_code.specs.Orders.{notes_to_come, IsTold}
-use Rattle.emit_code.specs.LivePlans.{live_plan, printed_program, timed_program}
+use Rattle.emit_code.specs.LivePlans.{live_plan, printed_program}
 
 -- an execution of the program from its start leads to the moment
 abbrev pub Leads : Program → Moment → Type 0
@@ -331,40 +331,22 @@ pub record LosesNone (program : Program) (last : Moment) : Type 0 where
   pub ends : StillIsTheEnd program last
   pub ends_the_run : StillEndsTheRun program last
 
--- the printed program of a lawful plan loses no wake-up, whatever threads call its methods, and as
--- often as they do
+-- The printed program of a lawful plan loses no wake-up, whatever threads call its methods, as
+-- often as they do, and whichever calls have a time. Calls that try are the same to their caller
+-- where they have one: what ran is a run of the implicit monitor, in which they try.
 abbrev pub PrintedCodeLosesNone : Type 0
 PrintedCodeLosesNone =
-    (monitor : MonitorParts) (plan : Plan) (clients : List Client) (last : Moment)
-    → IsMonitor monitor → FitsScripts monitor clients
+    (monitor : MonitorParts) (plan : Plan) (clients : List Client) (timed : ℕ → ℕ → Bool)
+    (last : Moment) → IsMonitor monitor → FitsScripts monitor clients
     → FitsPlan monitor plan → IsLawful monitor plan
-    → Leads (printed_program monitor plan clients) last
-    → LosesNone (printed_program monitor plan clients) last
+    → Leads (printed_program monitor plan clients timed) last
+    → LosesNone (printed_program monitor plan clients timed) last
 
--- so the program that is printed under a plan that is lawful by counting loses none
+-- so does the program that is printed under a plan that is lawful by counting
 abbrev pub CountedCodeLosesNone : Type 0
 CountedCodeLosesNone =
-    (monitor : MonitorParts) (plan : Plan) (clients : List Client) (last : Moment)
-    → IsMonitor monitor → FitsScripts monitor clients
-    → FitsPlan monitor plan → IsLawfulByCounting monitor plan
-    → Leads (printed_program monitor plan clients) last
-    → LosesNone (printed_program monitor plan clients) last
-
--- The same of the programs whose calls may have times. Calls that try are the same to their caller
--- where they have one: what ran is a run of the implicit monitor, in which they try.
-abbrev pub TimedCodeLosesNone : Type 0
-TimedCodeLosesNone =
-    (monitor : MonitorParts) (plan : Plan) (clients : List Client) (timed : ℕ → ℕ → Bool)
-    (last : Moment) → IsMonitor monitor → FitsScripts monitor clients
-    → FitsPlan monitor plan → IsLawful monitor plan
-    → Leads (timed_program monitor plan clients timed) last
-    → LosesNone (timed_program monitor plan clients timed) last
-
--- and under plans that are lawful by counting
-abbrev pub CountedTimedCodeLosesNone : Type 0
-CountedTimedCodeLosesNone =
     (monitor : MonitorParts) (plan : Plan) (clients : List Client) (timed : ℕ → ℕ → Bool)
     (last : Moment) → IsMonitor monitor → FitsScripts monitor clients
     → FitsPlan monitor plan → IsLawfulByCounting monitor plan
-    → Leads (timed_program monitor plan clients timed) last
-    → LosesNone (timed_program monitor plan clients timed) last
+    → Leads (printed_program monitor plan clients timed) last
+    → LosesNone (printed_program monitor plan clients timed) last

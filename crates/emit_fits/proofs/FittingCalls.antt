@@ -15,7 +15,7 @@ use Rattle.machine_events.specs.Laws.{HasCountingPlan}
 use Rattle.machine_events.specs.Pending.{IsSystem}
 use Rattle.machine_events.specs.Plans.{FitsPlan}
 use Rattle.emit_code.specs.Code.{Op, late_order}
-use Rattle.emit_code.specs.Executions.{AreNotified, Executes, Frame, IsMove, IsThread, Moment, Position, RunsBody, Thread, call_of, goes, new_thread, untimed, program_with, start}
+use Rattle.emit_code.specs.Executions.{AreNotified, Executes, Frame, IsMove, IsThread, Moment, Position, RunsBody, Thread, call_of, goes, new_thread, program_with, start}
 use Rattle.emit_code.specs.Executions.Position.{Outside, At, Asleep, Notified}
 use Rattle.emit_code.specs.Executions.IsMove.{calls, takes, passes, falls_asleep, wakes, retakes, refuses, abandons, runs_body, panics, notifies, unlocks, releases, returns}
 use Rattle.emit_code.specs.Executions.Executes.{none_yet, one_more}
@@ -126,12 +126,12 @@ module _ (system : System) (told : ℕ → List Op) (timed : ℕ → ℕ → Boo
   clear_late last none_yet = λ thread frame position at inside. absurd (new_clear system.clients thread frame position at inside)
   clear_late last (one_more middle end so_far move) = move_clear middle end so_far (clear_late middle so_far) move
 
-pub calls_never_overflow : (monitor : MonitorParts) (plan : Plan) (clients : List Client) (last : Moment) (thread : ℕ) (frame : Frame) (rest : List Op) (call : Call) → IsMonitor monitor → FitsScripts monitor clients
-    → FitsPlan monitor plan → IsLawfulByCounting monitor plan → StartsIn64 monitor → PassIn64 clients → Leads (printed_program monitor plan clients) last
-    → IsThread last.threads thread frame (At rest) → call_of (printed_program monitor plan clients) thread frame ≡ Some call → MethodFits monitor plan.kept call.method → frame.answer ≡ replies.Overflow → ⊥
-calls_never_overflow monitor plan clients last thread frame rest call rule scripts fits lawful starts pass run at is each over =
+pub calls_never_overflow : (monitor : MonitorParts) (plan : Plan) (clients : List Client) (timed : ℕ → ℕ → Bool) (last : Moment) (thread : ℕ) (frame : Frame) (rest : List Op) (call : Call) → IsMonitor monitor → FitsScripts monitor clients
+    → FitsPlan monitor plan → IsLawfulByCounting monitor plan → StartsIn64 monitor → PassIn64 clients → Leads (printed_program monitor plan clients timed) last
+    → IsThread last.threads thread frame (At rest) → call_of (printed_program monitor plan clients timed) thread frame ≡ Some call → MethodFits monitor plan.kept call.method → frame.answer ≡ replies.Overflow → ⊥
+calls_never_overflow monitor plan clients timed last thread frame rest call rule scripts fits lawful starts pass run at is each over =
     let live = live_plan monitor plan in
     let system : System = system_under monitor clients live in
     let set_is : IsSystem system = record { rule = rule; scripts = scripts; plan = live_fits monitor plan fits } in
     let set : HasCountingPlan system = record { is = set_is; lawful = live_is_lawful_by_counting monitor plan lawful } in
-    clear_late system (late_order live) untimed set (late_is_told system set_is) starts pass last run thread frame (At rest) at tt call is each over
+    clear_late system (late_order live) timed set (late_is_told system set_is) starts pass last run thread frame (At rest) at tt call is each over

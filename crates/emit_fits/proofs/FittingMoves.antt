@@ -16,7 +16,7 @@ use Rattle.machine_events.specs.Pending.{IsSystem}
 use Rattle.machine_events.specs.Plans.{FitsPlan}
 use Rattle.machine_events.proofs.Facing.{guard_is}
 use Rattle.emit_code.specs.Code.{Op, late_order}
-use Rattle.emit_code.specs.Executions.{Frame, Moment, RunsBody, program_with, untimed}
+use Rattle.emit_code.specs.Executions.{Frame, Moment, RunsBody, program_with}
 use Rattle.emit_code.specs.Laws.{Leads}
 use Rattle.emit_code.specs.LivePlans.{live_plan, printed_program}
 use Rattle.emit_code.specs.Orders.{IsTold}
@@ -64,13 +64,13 @@ never_told system told timed set order starts pass thread frame before next run 
       | inr over ↦ fits body.here.block (given body.call.inputs frame.locals) before.state runs over.0
     ]
 
-pub never_overflows : (monitor : MonitorParts) (plan : Plan) (clients : List Client) (before next : Moment) (thread : ℕ) (frame : Frame) → IsMonitor monitor → FitsScripts monitor clients → FitsPlan monitor plan
-    → IsLawfulByCounting monitor plan → StartsIn64 monitor → PassIn64 clients → Leads (printed_program monitor plan clients) before
-    → (move : RunsBody (printed_program monitor plan clients) thread frame before next)
+pub never_overflows : (monitor : MonitorParts) (plan : Plan) (clients : List Client) (timed : ℕ → ℕ → Bool) (before next : Moment) (thread : ℕ) (frame : Frame) → IsMonitor monitor → FitsScripts monitor clients → FitsPlan monitor plan
+    → IsLawfulByCounting monitor plan → StartsIn64 monitor → PassIn64 clients → Leads (printed_program monitor plan clients timed) before
+    → (move : RunsBody (printed_program monitor plan clients timed) thread frame before next)
     → Fits64 monitor plan.kept move.block → move.reply ≡ replies.Overflow → ⊥
-never_overflows monitor plan clients before next thread frame rule scripts fits lawful starts pass run move =
+never_overflows monitor plan clients timed before next thread frame rule scripts fits lawful starts pass run move =
     let live = live_plan monitor plan in
     let system : System = system_under monitor clients live in
     let is : IsSystem system = record { rule = rule; scripts = scripts; plan = live_fits monitor plan fits } in
     let set : HasCountingPlan system = record { is = is; lawful = live_is_lawful_by_counting monitor plan lawful } in
-    never_told system (late_order live) untimed set (late_is_told system is) starts pass thread frame before next run move
+    never_told system (late_order live) timed set (late_is_told system is) starts pass thread frame before next run move

@@ -1,5 +1,5 @@
 -- What the laws say.
-use Rattle.std.specs.Prelude.{◌≡◌, ℕ, ◌+◌, ◌<◌, ◌≤◌, List, All, Some, slice_get}
+use Rattle.std.specs.Prelude.{◌≡◌, ℕ, ◌+◌, ◌<◌, ◌≤◌, Bool, List, All, Some, slice_get}
 use Rattle.lang_monitor.specs.declared.candidate.Candidate.{Candidate}
 use Rattle.lang_monitor.specs.MonitorParts.{MonitorParts, IsMonitor, count_in, first_in, locals_in}
 use Rattle.lang_monitor.specs.MonitorParts.{start_of}
@@ -48,13 +48,13 @@ MomentsStayIn64 =
 -- that runs the body of a block which fits under what the plan keeps.
 abbrev pub FittingBlocksNeverOverflow : Type 0
 FittingBlocksNeverOverflow =
-    (monitor : MonitorParts) (plan : Plan) (clients : List Client) (before next : Moment)
-    (thread : ℕ) (frame : Frame)
+    (monitor : MonitorParts) (plan : Plan) (clients : List Client) (timed : ℕ → ℕ → Bool)
+    (before next : Moment) (thread : ℕ) (frame : Frame)
     → IsMonitor monitor → FitsScripts monitor clients
     → FitsPlan monitor plan → IsLawfulByCounting monitor plan
     → StartsIn64 monitor → PassIn64 clients
-    → Leads (printed_program monitor plan clients) before
-    → (move : RunsBody (printed_program monitor plan clients) thread frame before next)
+    → Leads (printed_program monitor plan clients timed) before
+    → (move : RunsBody (printed_program monitor plan clients timed) thread frame before next)
     → Fits64 monitor plan.kept move.block → move.reply ≡ replies.Overflow → ⊥
 
 -- each block of the method fits
@@ -69,12 +69,12 @@ MethodFits monitor kept method =
 -- its begin to its return.
 abbrev pub FittingCallsNeverOverflow : Type 0
 FittingCallsNeverOverflow =
-    (monitor : MonitorParts) (plan : Plan) (clients : List Client) (last : Moment) (thread : ℕ)
-    (frame : Frame) (rest : List Op) (call : Call)
+    (monitor : MonitorParts) (plan : Plan) (clients : List Client) (timed : ℕ → ℕ → Bool)
+    (last : Moment) (thread : ℕ) (frame : Frame) (rest : List Op) (call : Call)
     → IsMonitor monitor → FitsScripts monitor clients
     → FitsPlan monitor plan → IsLawfulByCounting monitor plan
     → StartsIn64 monitor → PassIn64 clients
-    → Leads (printed_program monitor plan clients) last
+    → Leads (printed_program monitor plan clients timed) last
     → IsThread last.threads thread frame (At rest)
-    → call_of (printed_program monitor plan clients) thread frame ≡ Some call
+    → call_of (printed_program monitor plan clients timed) thread frame ≡ Some call
     → MethodFits monitor plan.kept call.method → frame.answer ≡ replies.Overflow → ⊥

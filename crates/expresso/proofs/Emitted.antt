@@ -28,7 +28,7 @@ emit_works file = record { files = refl; refused = λ held text is. is; accepted
 
 -- under a counted plan, threads lose no wake-up by the printed code
 threads_lose_none : CountedCodeLosesNone → (monitor : MonitorParts) (plan : Plan) → IsChosen Counted monitor plan → ThreadsLoseNone monitor plan
-threads_lose_none law monitor plan chosen = λ clients last fits leads. law monitor plan clients last chosen.placement.is fits chosen.fits chosen.lawful leads
+threads_lose_none law monitor plan chosen = λ clients timed last fits leads. law monitor plan clients timed last chosen.placement.is fits chosen.fits chosen.lawful leads
 
 -- what is so of the program and of the printed bodies, by the laws
 pub record PrintedLaws : Type 0 where
@@ -64,22 +64,22 @@ start_is_short : StartsAreShort → (bytes : List ℕ) (tree : MonitorTree) (mon
 start_is_short law bytes tree monitor accepted = law tree monitor accepted.unbroken accepted.typed
 
 moments_stay_short : MomentsStayIn64 → StartsAreShort → (bytes : List ℕ) (tree : MonitorTree) (monitor : MonitorParts) (plan : Plan) → IsAccepted bytes tree monitor → MomentsStayShort monitor plan
-moments_stay_short stays starts bytes tree monitor plan accepted = λ clients last pass leads.
+moments_stay_short stays starts bytes tree monitor plan accepted = λ clients timed last pass leads.
     let start = start_is_short starts bytes tree monitor accepted in
-    let is = stays (printed_program monitor plan clients) last (record { state = start.0; locals = start.1 }) pass leads in
+    let is = stays (printed_program monitor plan clients timed) last (record { state = start.0; locals = start.1 }) pass leads in
     record { state = is.state; locals = is.locals }
 
 whole_never : FittingBlocksNeverOverflow → StartsAreShort → (bytes : List ℕ) (tree : MonitorTree) (monitor : MonitorParts) (plan : Plan) (whole : List Bool) → IsAccepted bytes tree monitor → IsChosen Counted monitor plan
     → AreWhole monitor plan.kept whole → WholeBlocksNeverOverflow monitor plan whole
-whole_never never starts bytes tree monitor plan whole accepted chosen are = λ clients before next thread frame scripts pass leads move told over.
+whole_never never starts bytes tree monitor plan whole accepted chosen are = λ clients timed before next thread frame scripts pass leads move told over.
     let start = start_is_short starts bytes tree monitor accepted in
-    never monitor plan clients before next thread frame chosen.placement.is scripts chosen.fits chosen.lawful (record { state = start.0; locals = start.1 }) pass leads move (are.each move.block true told) over
+    never monitor plan clients timed before next thread frame chosen.placement.is scripts chosen.fits chosen.lawful (record { state = start.0; locals = start.1 }) pass leads move (are.each move.block true told) over
 
 whole_calls : FittingCallsNeverOverflow → StartsAreShort → (bytes : List ℕ) (tree : MonitorTree) (monitor : MonitorParts) (plan : Plan) (whole : List Bool) → IsAccepted bytes tree monitor → IsChosen Counted monitor plan
     → AreWhole monitor plan.kept whole → WholeCallsNeverOverflow monitor plan whole
-whole_calls calls starts bytes tree monitor plan whole accepted chosen are = λ clients last thread frame rest call scripts pass leads at is each over.
+whole_calls calls starts bytes tree monitor plan whole accepted chosen are = λ clients timed last thread frame rest call scripts pass leads at is each over.
     let start = start_is_short starts bytes tree monitor accepted in
-    calls monitor plan clients last thread frame rest call chosen.placement.is scripts chosen.fits chosen.lawful (record { state = start.0; locals = start.1 }) pass leads at is
+    calls monitor plan clients timed last thread frame rest call chosen.placement.is scripts chosen.fits chosen.lawful (record { state = start.0; locals = start.1 }) pass leads at is
     (λ number low high. are.each number true (each number low high)) over
 
 is_as_promised : PrintedLaws → (bytes : List ℕ) (tree : MonitorTree) (monitor : MonitorParts) (plan : Plan) (whole : List Bool) → IsAccepted bytes tree monitor → IsChosen Counted monitor plan

@@ -25,15 +25,16 @@ use Rattle.emit_numbers.specs.Laws.{AreShort, CallSteps, MayRun, StaysWide, scop
 use Rattle.emit_numbers.specs.Tests.{printed_test}
 use Rattle.plan_fits.specs.Answers.{AreWhole}
 
--- Any number of threads call the methods, each as often as it does, with arguments that fit. Then
--- at each moment of each execution all that `LosesNone` lists is so: what ran is a run of the
--- implicit monitor, calls answer its replies, no wake-up is lost, and where no thread can move none
--- hangs whose guard is true. This is the law `printed_code_loses_none` of `emit_code` for one plan.
+-- Any number of threads call the methods, each as often as it does, with arguments that fit, and
+-- some of them with a time. Then at each moment of each execution all that `LosesNone` lists is so:
+-- what ran is a run of the implicit monitor, calls answer its replies, no wake-up is lost, and
+-- where no thread can move none hangs whose guard is true. This is the law
+-- `printed_code_loses_none` of `emit_code` for one plan.
 abbrev pub ThreadsLoseNone : MonitorParts → Plan → Type 0
 ThreadsLoseNone monitor plan =
-    (clients : List Client) (last : Moment) → FitsScripts monitor clients
-    → Leads (printed_program monitor plan clients) last
-    → LosesNone (printed_program monitor plan clients) last
+    (clients : List Client) (timed : ℕ → ℕ → Bool) (last : Moment) → FitsScripts monitor clients
+    → Leads (printed_program monitor plan clients timed) last
+    → LosesNone (printed_program monitor plan clients timed) last
 
 -- From each state within 64 bits, with such arguments and locals, a call of the function that is
 -- printed of a block's body is a step of the block: it answers an overflow just where a value
@@ -109,8 +110,8 @@ pub record IsShortMoment (now : Moment) : Type 0 where
 -- does its block's step, and no number on the way leaves 128 bits.
 abbrev pub MomentsStayShort : MonitorParts → Plan → Type 0
 MomentsStayShort monitor plan =
-    (clients : List Client) (last : Moment) → PassShort clients
-    → Leads (printed_program monitor plan clients) last → IsShortMoment last
+    (clients : List Client) (timed : ℕ → ℕ → Bool) (last : Moment) → PassShort clients
+    → Leads (printed_program monitor plan clients timed) last → IsShortMoment last
 
 -- ---- blocks that are printed whole
 
@@ -119,10 +120,11 @@ MomentsStayShort monitor plan =
 -- `fitting_blocks_never_overflow` of `emit_fits` for one plan.
 abbrev pub WholeBlocksNeverOverflow : MonitorParts → Plan → List Bool → Type 0
 WholeBlocksNeverOverflow monitor plan whole =
-    (clients : List Client) (before next : Moment) (thread : ℕ) (frame : Frame)
+    (clients : List Client) (timed : ℕ → ℕ → Bool) (before next : Moment) (thread : ℕ)
+    (frame : Frame)
     → FitsScripts monitor clients → PassShort clients
-    → Leads (printed_program monitor plan clients) before
-    → (move : RunsBody (printed_program monitor plan clients) thread frame before next)
+    → Leads (printed_program monitor plan clients timed) before
+    → (move : RunsBody (printed_program monitor plan clients timed) thread frame before next)
     → slice_get whole move.block ≡ Some true → move.reply ≡ replies.Overflow → ⊥
 
 -- each block of the method is printed whole
@@ -137,12 +139,12 @@ AllAreWhole monitor whole method =
 -- printed function answers its value itself. This is that law's other part.
 abbrev pub WholeCallsNeverOverflow : MonitorParts → Plan → List Bool → Type 0
 WholeCallsNeverOverflow monitor plan whole =
-    (clients : List Client) (last : Moment) (thread : ℕ) (frame : Frame) (rest : List Op)
-    (call : Call)
+    (clients : List Client) (timed : ℕ → ℕ → Bool) (last : Moment) (thread : ℕ) (frame : Frame)
+    (rest : List Op) (call : Call)
     → FitsScripts monitor clients → PassShort clients
-    → Leads (printed_program monitor plan clients) last
+    → Leads (printed_program monitor plan clients timed) last
     → IsThread last.threads thread frame (At rest)
-    → call_of (printed_program monitor plan clients) thread frame ≡ Some call
+    → call_of (printed_program monitor plan clients timed) thread frame ≡ Some call
     → AllAreWhole monitor whole call.method → frame.answer ≡ replies.Overflow → ⊥
 
 -- ---- what is promised

@@ -58,7 +58,7 @@ loses_none laws count monitor plan is fits lawful =
       pending = λ clients events last scripts happened. laws.pending (system_under monitor clients plan) events last (has_counting_plan monitor plan clients is fits counted scripts) happened;
       ends = λ clients events last scripts happened stuck. laws.ends (system_under monitor clients plan) events last (has_counting_plan monitor plan clients is fits counted scripts) happened stuck;
       closed = λ clients log last scripts legal closed. laws.closed (system_under monitor clients plan) log last (has_counting_plan monitor plan clients is fits counted scripts) legal closed;
-      threads = λ clients last scripts leads. laws.threads monitor plan clients last is scripts fits counted leads;
+      threads = λ clients timed last scripts leads. laws.threads monitor plan clients timed last is scripts fits counted leads;
     }
 
 -- what a plan that is found lawful is

@@ -1,4 +1,3 @@
-use Rattle.emit_code.specs.Executions.{untimed}
 use Rattle.emit_code.proofs.Covering.{late_seen_to}
 use Rattle.emit_code.proofs.Stillness.{quiet_late, still_late, still_ends}
 use Rattle.emit_code.proofs.Live.{live_is_lawful_by_counting}
@@ -21,7 +20,4 @@ pub returns-clause-live : goal.returns-clause-live
 returns-clause-live c = live_is_lawful_by_counting
 
 pub returns-clause-printed : goal.returns-clause-printed
-returns-clause-printed c monitor plan clients = counted_loses_none monitor plan clients untimed
-
-pub returns-clause-timed : goal.returns-clause-timed
-returns-clause-timed c = counted_loses_none
+returns-clause-printed c = counted_loses_none
