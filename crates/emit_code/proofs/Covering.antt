@@ -2,12 +2,15 @@
 -- with a true guard is seen to.
 use Rattle.std.proofs.Common.{◌≡◌, ◌==◌, ℕ, suc, ◌+◌, ◌-◌, ◌<◌, Bool, true, false, cond, not, ◌&&◌, ◌⊎◌, List, [], ◌∷◌, ◌++◌, length, Option, Some, None, refl, sym, ap, subst, ◌∙◌, arith, inl, inr}
 use Rattle.std.specs.Prelude.{All, slice_get}
-use Rattle.std.proofs.lemmas.Option.{none-some, slice_get_within}
+use Rattle.std.proofs.lemmas.Option.{none-some, same_Some, slice_get_within}
 use Rattle.std.proofs.lemmas.List.Elements.{All-nil, All-cons, All-head, All-tail}
 use Rattle.std.proofs.lemmas.Bool.{eqb-true, eq-eqb, ne_eqb, or_cases, or_left, or_right, and_from, and_parts, not_from_false}
 use Rattle.lang_base.specs.declared.value.Value.{Value}
+use Rattle.logic_linear.specs.Truth.{truth_of}
+use Rattle.lang_monitor.specs.declared.monitor.Condition.{Condition}
+use Rattle.lang_monitor.specs.Inputs.{reads_inputs}
 use Rattle.lang_monitor.specs.MonitorParts.{locals_in}
-use Rattle.lang_monitor.specs.Bodies.{Memory, after}
+use Rattle.lang_monitor.specs.Bodies.{Memory, after, valuation}
 use Rattle.lang_monitor.specs.Candidates.{AllHold}
 use Rattle.machine_implicit.specs.declared.commit.Commit.{Commit}
 use Rattle.machine_implicit.specs.declared.commit.Reply.{Reply}
@@ -16,7 +19,7 @@ use Rattle.machine_implicit.specs.declared.script.Call.{Call}
 use Rattle.machine_implicit.specs.declared.place.Place.{Place}
 use Rattle.machine_implicit.specs.Steps.{given, condition_truth}
 use Rattle.machine_implicit.specs.Scripted.{calls_of}
-use Rattle.machine_implicit.specs.Places.{block_at, first_place, FitsPlace}
+use Rattle.machine_implicit.specs.Places.{block_at, inputs_at, first_place, FitsPlace}
 use Rattle.machine_implicit.proofs.Fitting.{at_index, run_fits}
 use Rattle.machine_events.specs.declared.plan.CondKind.{CondKind}
 use Rattle.machine_events.specs.declared.plan.CondKind.TheVariants as kinds
@@ -30,16 +33,16 @@ use Rattle.machine_events.specs.Events.{NoneWaits}
 use Rattle.machine_events.specs.Pending.{IsSystem, IsPending, announces, sees_to}
 use Rattle.machine_events.proofs.Facing.{guard_is, condition_is}
 use Rattle.machine_events.proofs.Counting.{measure_of, someone_sees}
-use Rattle.machine_events.proofs.Covered.{MayStep, kept_next, signal_guard, leaves_pending, returns_pending, wakes_pending}
+use Rattle.machine_events.proofs.Covered.{MayStep, kept_next, condition_truth_is, signal_guard, leaves_pending, returns_pending, wakes_pending}
 use Rattle.emit_code.specs.Code.{Op, is_waited_on, signal_on, overflow_notes, telling_code}
 use Rattle.emit_code.specs.Code.Op.{Lock, WaitUntil, ElseRefuse, Run, Notify, Unlock, Release}
-use Rattle.emit_code.specs.Executions.{Position, Frame, Thread, Moment, IsThread, goes, program_with, is_open, Abandons, continues, recovers, is_made, NoneSleeps, AreNotified, is_called_for, untested, called_for, start, RunsBody, IsMove, Executes}
+use Rattle.emit_code.specs.Executions.{Position, Frame, Thread, Moment, IsThread, goes, program_with, is_open, continues, recovers, is_made, NoneSleeps, AreNotified, is_called_for, untested, called_for, start, RunsBody, IsMove, Executes}
 use Rattle.emit_code.specs.Executions.Position.{Outside, At, Asleep, Notified}
 use Rattle.emit_code.specs.Executions.IsMove.{calls, takes, passes, falls_asleep, wakes, retakes, refuses, abandons, runs_body, panics, notifies, unlocks, releases, returns}
 use Rattle.emit_code.specs.Executions.Executes.{none_yet, one_more}
 use Rattle.emit_code.specs.Sleepers.{SleepersAreCounted}
 use Rattle.emit_code.specs.Orders.{notes_to_come, IsTestable, HasAllNotes, IsTold}
-use Rattle.emit_code.specs.Laws.{Leads, SomeoneSees, SleepersAreSeenTo}
+use Rattle.emit_code.specs.Laws.{Leads, NobodyIsOwed, SomeoneSees, SleepersAreSeenTo}
 use Rattle.emit_code.proofs.Views.{next_block, place_by, place_at, phase_at, phase_of, stand, standings, stands, stands_from, goes_here, goes_unseen, goes_seen, all_woken, sleeps_from}
 use Rattle.emit_code.proofs.Stages.{refuses_in, IsAt, call_code, told_code, block_is, condition_at, open_is_guard, some_block, inside_locked, never, follows_locked, called_next, called_any, telling_notes, again_next, again_notes, tells_phase}
 use Rattle.emit_code.proofs.Placed.{Loops, ArePlaced, IsSoundly, fits_there, faced_there, moment, code_is, passed_at, continues_tells, panic_tells, after_note, after_unlock, after_release, all_first, shape_of, start_position}
@@ -469,28 +472,32 @@ late_seen_to system told timed last set order run free thread frame block condit
 
 -- ---- who gives up
 
--- on a condition of kind signal a block's guard is the condition's
-own_truth : (system : System) (told : ℕ → List Op) (timed : ℕ → ℕ → Bool) → HasCountingPlan system → (now : Moment) → IsSoundly system told timed now
+-- where the guard of a condition reads no inputs, a block's guard is the condition's
+own_truth : (system : System) (told : ℕ → List Op) (timed : ℕ → ℕ → Bool) → IsSystem system → (now : Moment) → IsSoundly system told timed now
     → (thread : ℕ) (frame : Frame) (position : Position) (block condition : ℕ) (rest : List Op) → IsThread now.threads thread frame position
     → place_at system thread frame position ≡ place_by system thread frame (Some block) → Loops system told timed thread frame.past block condition rest
-    → condition_kind system.plan condition ≡ Some kinds.Signal → condition_truth system.monitor now.state condition ≡ is_open (program_with system told timed) now.state thread frame block
-own_truth system told timed set now sound thread frame position block condition rest at place_is loops kind =
+    → (which : Condition) → IsCondition system.monitor condition which → reads_inputs which.guard ≡ false
+    → condition_truth system.monitor now.state condition ≡ is_open (program_with system told timed) now.state thread frame block
+own_truth system told timed is now sound thread frame position block condition rest at place_is loops which which_is none =
     let place = place_by system thread frame (Some block) in
-    let here = faced_there system told timed now set.is sound thread frame position at loops.call block (suc loops.left) place_is loops.at in
+    let here = faced_there system told timed now is sound thread frame position at loops.call block (suc loops.left) place_is loops.at in
+    let inputs = inputs_at loops.call place in
     let same : condition ≡ here.block.condition =
     loops.condition_is ∙ sym (condition_at system thread frame loops.call block (suc loops.left) loops.at) ∙ condition_is system thread place loops.call here.block here.which here.faced in
-    ap (condition_truth system.monitor now.state) same
-    ∙ signal_guard system set now.state thread place loops.call here.block here.which here.faced (subst (λ (one : ℕ). condition_kind system.plan one ≡ Some kinds.Signal) same kind)
+    let alike : which ≡ here.which =
+    same_Some which here.which (sym which_is.there ∙ subst (λ (one : ℕ). slice_get system.monitor.conditions (one - 1) ≡ Some here.which) (sym same) here.faced.which_is.there) in
+    condition_truth_is system now.state inputs condition which which_is none
+    ∙ ap (λ (one : Condition). truth_of (valuation now.state inputs) one.guard) alike
+    ∙ ap (truth_of (valuation now.state inputs)) here.faced.same_guard
+    ∙ sym (guard_is system now.state thread place loops.call here.block here.which here.faced)
     ∙ sym (open_is_guard system told timed now.state thread frame loops.call block (suc loops.left) loops.at)
 
-pub nobody_owed : (system : System) (told : ℕ → List Op) (timed : ℕ → ℕ → Bool) (before next : Moment) → HasCountingPlan system → IsTold system told
-    → Leads (program_with system told timed) before → (thread : ℕ) (frame : Frame) (move : Abandons (program_with system told timed) thread frame before next)
-    → condition_kind system.plan move.condition ≡ Some kinds.Signal → (other : ℕ) (others_frame : Frame) (block : ℕ) (rest : List Op)
-    → IsThread before.threads other others_frame (Asleep block move.condition rest) → is_open (program_with system told timed) before.state other others_frame block ≡ false
-nobody_owed system told timed before next set order run thread frame move kind other others_frame block rest at =
-    let sound = sound_late system told timed set.is order before run in
+pub nobody_owed : (system : System) (told : ℕ → List Op) (timed : ℕ → ℕ → Bool) (last : Moment) → IsSystem system → IsTold system told
+    → Leads (program_with system told timed) last → NobodyIsOwed (program_with system told timed) last
+nobody_owed system told timed last is order run thread frame next move which which_is none other others_frame block rest at =
+    let sound = sound_late system told timed is order last run in
     let own = sound.placed thread frame (At (WaitUntil move.block move.condition ∷ move.rest)) move.at in
     let others = sound.placed other others_frame (Asleep block move.condition rest) at in
-    sym (own_truth system told timed set before sound other others_frame (Asleep block move.condition rest) block move.condition rest at refl others kind)
-    ∙ own_truth system told timed set before sound thread frame (At (WaitUntil move.block move.condition ∷ move.rest)) move.block move.condition move.rest move.at refl own.1 kind
+    sym (own_truth system told timed is last sound other others_frame (Asleep block move.condition rest) block move.condition rest at refl others which which_is none)
+    ∙ own_truth system told timed is last sound thread frame (At (WaitUntil move.block move.condition ∷ move.rest)) move.block move.condition move.rest move.at refl own.1 which which_is none
     ∙ move.closed_is

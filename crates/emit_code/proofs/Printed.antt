@@ -19,7 +19,7 @@ use Rattle.emit_code.proofs.Holding.{late_holders_act, late_ready}
 use Rattle.emit_code.proofs.Functions.{ran_once}
 use Rattle.emit_code.proofs.Counting.{counted_late}
 use Rattle.emit_code.proofs.Answering.{late_answers}
-use Rattle.emit_code.proofs.Covering.{late_seen_to}
+use Rattle.emit_code.proofs.Covering.{late_seen_to, nobody_owed}
 use Rattle.emit_code.proofs.Stillness.{quiet_late, still_late, still_ends}
 use Rattle.emit_code.proofs.Order.{late_is_told}
 use Rattle.emit_code.proofs.Live.{live_fits, live_is_lawful_by_counting}
@@ -41,6 +41,7 @@ counted_loses_none monitor plan clients timed last rule scripts fits lawful run 
       answers = late_answers system told timed last is order run;
       counts = counted_late system told timed last run;
       pending = late_seen_to system told timed last set order run;
+      owed = nobody_owed system told timed last is order run;
       rests = quiet_late system told timed last set order run;
       ends = still_late system told timed last set order run;
       ends_the_run = still_ends system told timed last set order run;

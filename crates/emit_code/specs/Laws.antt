@@ -1,6 +1,8 @@
 -- What the laws say.
 use Rattle.std.specs.Prelude.{◌≡◌, ◌≢◌, ◌⊎◌, ℕ, ◌+◌, Bool, true, false, List, [], ◌∷◌, ◌++◌}
 use Rattle.std.specs.Prelude.{All, None, Some, slice_get}
+use Rattle.lang_monitor.specs.declared.monitor.Condition.{Condition}
+use Rattle.lang_monitor.specs.Inputs.{reads_inputs}
 use Rattle.lang_monitor.specs.MonitorParts.{MonitorParts, IsMonitor, count_in}
 use Rattle.machine_implicit.specs.declared.commit.Commit.{Commit}
 use Rattle.machine_implicit.specs.declared.script.Call.{Call}
@@ -8,10 +10,9 @@ use Rattle.machine_implicit.specs.declared.script.Client.{Client}
 use Rattle.machine_implicit.specs.Scripted.{FitsScripts}
 use Rattle.machine_implicit.specs.Places.{gives_up}
 use Rattle.machine_implicit.specs.Runs.{Situation, IsRun, Ends}
-use Rattle.machine_events.specs.declared.plan.CondKind.TheVariants as kinds
 use Rattle.machine_events.specs.declared.plan.Note.{Note}
 use Rattle.machine_events.specs.declared.plan.Plan.{Plan}
-use Rattle.machine_events.specs.Plans.{condition_kind, has_note, FitsPlan, IsLawful}
+use Rattle.machine_events.specs.Plans.{has_note, FitsPlan, IsCondition, IsLawful}
 use Rattle.machine_events.specs.Configurations.{System}
 use Rattle.machine_events.specs.Pending.{IsSystem}
 use Rattle.machine_events.specs.Counts.{IsLawfulByCounting}
@@ -115,6 +116,20 @@ SleepersAreSeenTo program last =
     → IsThread last.threads thread frame (Asleep block condition rest)
     → is_open program last.state thread frame block ≡ true → SomeoneSees last condition
 
+-- ---- a call gives up after its time
+
+-- Where it does, and the guard of its condition reads no inputs, the guard of each thread that
+-- sleeps on the condition is false too. So it has no note to pass on: who woke in its place would
+-- sleep again. Where guards read inputs, the notes of a lawful plan wake all.
+abbrev pub NobodyIsOwed : Program → Moment → Type 0
+NobodyIsOwed program last =
+    (thread : ℕ) (frame : Frame) (next : Moment)
+    (move : Abandons program thread frame last next) (which : Condition)
+    → IsCondition program.monitor move.condition which → reads_inputs which.guard ≡ false
+    → (other : ℕ) (others_frame : Frame) (block : ℕ) (rest : List Op)
+    → IsThread last.threads other others_frame (Asleep block move.condition rest)
+    → is_open program last.state other others_frame block ≡ false
+
 -- ---- where no thread can move but by chance
 
 -- the thread is between two calls and has none left, or it sleeps and its guard is false
@@ -198,6 +213,13 @@ LateAnswersAreReplies =
     → IsTold system told → Leads (program_with system told timed) last
     → AnswersAreReplies (program_with system told timed) last
 
+-- whatever the plan, who gives up after its time owes nobody a note
+abbrev pub LateNobodyIsOwed : Type 0
+LateNobodyIsOwed =
+    (system : System) (told : ℕ → List Op) (timed : ℕ → ℕ → Bool) (last : Moment) → IsSystem system
+    → IsTold system told → Leads (program_with system told timed) last
+    → NobodyIsOwed (program_with system told timed) last
+
 -- under a lawful plan no wake-up is lost
 abbrev pub LateSleepersAreSeenTo : Type 0
 LateSleepersAreSeenTo =
@@ -259,22 +281,6 @@ CountedStillEndsTheRun =
 abbrev pub LateOrderIsTold : Type 0
 LateOrderIsTold = (system : System) → IsSystem system → IsTold system (late_order system.plan)
 
--- ---- a call gives up after its time
-
--- Where it does, and its condition is one on which a note wakes one alone, the guard of each thread
--- that sleeps on the condition is false. So it owes nobody the note that may have woken it: whoever
--- that woke in its place would sleep again.
-abbrev pub LateNobodyIsOwed : Type 0
-LateNobodyIsOwed =
-    (system : System) (told : ℕ → List Op) (timed : ℕ → ℕ → Bool) (before next : Moment)
-    → HasCountingPlan system → IsTold system told
-    → Leads (program_with system told timed) before → (thread : ℕ) (frame : Frame)
-    (move : Abandons (program_with system told timed) thread frame before next)
-    → condition_kind system.plan move.condition ≡ Some kinds.Signal
-    → (other : ℕ) (others_frame : Frame) (block : ℕ) (rest : List Op)
-    → IsThread before.threads other others_frame (Asleep block move.condition rest)
-    → is_open (program_with system told timed) before.state other others_frame block ≡ false
-
 -- ---- the counts beside the fields, whatever the plan and the order
 
 -- the counts are right
@@ -327,6 +333,7 @@ pub record LosesNone (program : Program) (last : Moment) : Type 0 where
   pub answers : AnswersAreReplies program last
   pub counts : SleepersAreCounted last
   pub pending : SleepersAreSeenTo program last
+  pub owed : NobodyIsOwed program last
   pub rests : QuietIsAtRest program last
   pub ends : StillIsTheEnd program last
   pub ends_the_run : StillEndsTheRun program last

@@ -26,20 +26,20 @@ ghost use Rattle.emit_code.specs.Laws.{LateNobodyIsOwed};
 /// can move but by chance, each has no call left, or sleeps and its guard is false, and the run is
 /// at its end. Threads may also stop between two calls or before they lock the mutex, as after a
 /// panic, and times may never end: where the others can't move, none of them hangs whose guard is
-/// true. A call that gives up after its time has no note to pass on: where notes on its condition
-/// wake one alone, each that sleeps there has a false guard. The order that is printed is such an
-/// order: the mutex is given back, and the notes come next that the counts and tests called for
-/// then.
+/// true. A call that gives up after its time has no note to pass on: where the guard of its
+/// condition reads no inputs, it is false for each that sleeps there. The order that is printed is
+/// such an order: the mutex is given back, and the notes come next that the counts and tests called
+/// for then.
 pub fn late_notes_lose_none()
     ensures mutex { LateHoldersAct }
     ensures ready { LateBodiesAreReady }
     ensures run { LateExecutionsRun }
     ensures answers { LateAnswersAreReplies }
+    ensures owed { LateNobodyIsOwed }
     ensures pending { LateSleepersAreSeenTo }
     ensures rests { LateQuietIsAtRest }
     ensures ends { LateStillIsTheEnd }
     ensures ends_the_run { LateStillEndsTheRun }
-    ensures owed { LateNobodyIsOwed }
     ensures order { LateOrderIsTold }
 {}
 

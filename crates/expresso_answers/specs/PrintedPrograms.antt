@@ -26,9 +26,10 @@ use Rattle.emit_numbers.specs.Tests.{printed_test}
 use Rattle.plan_fits.specs.Answers.{AreWhole}
 
 -- Any number of threads call the methods, each as often as it does, with arguments that fit, and
--- some of them with a time. Then at each moment of each execution all that `LosesNone` lists is so:
--- what ran is a run of the implicit monitor, calls answer its replies, no wake-up is lost, and
--- where no thread can move none hangs whose guard is true. This is the law
+-- whichever of these calls have a time. Then at each moment of each execution all that `LosesNone`
+-- lists is so: what ran is a run of the implicit monitor, in which a call that has a time is one
+-- that tries, calls answer its replies, no wake-up is lost, who gives up has no note to pass on,
+-- and where no thread can move none hangs whose guard is true. This is the law
 -- `printed_code_loses_none` of `emit_code` for one plan.
 abbrev pub ThreadsLoseNone : MonitorParts → Plan → Type 0
 ThreadsLoseNone monitor plan =
