@@ -6,4 +6,5 @@ pub mod OddNames
 pub mod Spellings
 pub mod Tries
 pub mod Withs
+pub mod Lasting
 pub mod TryTexts

@@ -6,7 +6,8 @@ use Rattle.std.proofs.lemmas.List.Folds.{list_any-append}
 use Rattle.lang_tree.specs.declared.tree.Decl.{Decl}
 use Rattle.lang_tree.specs.declared.tree.MethodTree.{MethodTree}
 use Rattle.lang_tree.specs.declared.tree.MonitorTree.{MonitorTree}
-use Rattle.emit_names.specs.Names.{declared_text, is_with_free, member_names, method_name, try_name, try_names, with_name}
+use Rattle.emit_names.specs.declared.endings.Ending.{Ending}
+use Rattle.emit_names.specs.Names.{declared_text, ended_name, is_ended_free, member_names, method_name, try_name, try_names}
 use Rattle.emit_names.proofs.OddNames.{any_of_two}
 use Rattle.emit_names.proofs.Reading.{any_map}
 
@@ -19,10 +20,10 @@ member_is tree text declared methods one other answer has does is are either =
     ∙ ap (λ (l : List Decl). list_any (bytes_eq text) (map (declared_text tree) l ++ map (method_name tree) methods)) has
     ∙ ap (λ (l : List MethodTree). list_any (bytes_eq text) (map (declared_text tree) tree.decls ++ map (method_name tree) l)) does
 
-pub with_says : (tree : MonitorTree) (text name : List ℕ) (methods : List MethodTree) (one other answer : Bool)
-    → text ≡ with_name tree name → methods ≡ tree.methods → one ≡ list_any (bytes_eq text) (member_names tree)
-    → other ≡ list_any (λ it. bytes_eq text (try_name tree it.name)) methods → answer ≡ not (one || other) → answer ≡ is_with_free tree name
-with_says tree text name methods one other answer says does is are neither =
+pub ended_says : (tree : MonitorTree) (ending : Ending) (text name : List ℕ) (methods : List MethodTree) (one other answer : Bool)
+    → text ≡ ended_name tree ending name → methods ≡ tree.methods → one ≡ list_any (bytes_eq text) (member_names tree)
+    → other ≡ list_any (λ it. bytes_eq text (try_name tree it.name)) methods → answer ≡ not (one || other) → answer ≡ is_ended_free tree ending name
+ended_says tree ending text name methods one other answer says does is are neither =
     neither
     ∙ ap (λ (t : Bool). not (t || other)) is
     ∙ ap (λ (t : Bool). not (list_any (bytes_eq text) (member_names tree) || t)) (are ∙ any_map (bytes_eq text) (λ (method : MethodTree). try_name tree method.name) methods)

@@ -22,11 +22,11 @@ withs_apart tree name other here there same =
     (append_cancel_right (member_name tree styles.Snake name) (member_name tree styles.Snake other) (codes "_with") same)
 
 -- one of the names is this
-any_is : (names : List (List ℕ)) (text : List ℕ) → Contains names text → list_any (bytes_eq text) names ≡ true
+pub any_is : (names : List (List ℕ)) (text : List ℕ) → Contains names text → list_any (bytes_eq text) names ≡ true
 any_is names text (k, within, at) = list_any-from_Any (bytes_eq text) names (k, text, within, at, (bytes_eq-Decides text text).1 refl)
 
 -- none of them is
-none_is : (names : List (List ℕ)) (text : List ℕ) → not (list_any (bytes_eq text) names) ≡ true → Contains names text → ⊥
+pub none_is : (names : List (List ℕ)) (text : List ℕ) → not (list_any (bytes_eq text) names) ≡ true → Contains names text → ⊥
 none_is names text none here = false≢true (sym (not_true (list_any (bytes_eq text) names) none) ∙ any_is names text here)
 
 pub withs_free : WithsStandFree
@@ -35,23 +35,23 @@ withs_free tree name free = none_is (member_names tree ++ try_names tree) (with_
 -- ---- those that try
 
 -- where a test passes of a name of these methods it passes of a member
-member_passes : (tree : MonitorTree) (test : List ℕ → Bool) → list_any (λ (method : MethodTree). test (method_name tree method)) tree.methods ≡ true → list_any test (member_names tree) ≡ true
+pub member_passes : (tree : MonitorTree) (test : List ℕ → Bool) → list_any (λ (method : MethodTree). test (method_name tree method)) tree.methods ≡ true → list_any test (member_names tree) ≡ true
 member_passes tree test is =
     list_any-append test (map (declared_text tree) tree.decls) (map (method_name tree) tree.methods)
     ∙ or_right (list_any test (map (declared_text tree) tree.decls)) (list_any test (map (method_name tree) tree.methods))
     (sym (any_map test (method_name tree) tree.methods) ∙ is)
 
-any_same : {X : Type 0} (f g : X → Bool) (xs : List X) → ((x : X) → f x ≡ true → g x ≡ true) → list_any f xs ≡ true → list_any g xs ≡ true
+pub any_same : {X : Type 0} (f g : X → Bool) (xs : List X) → ((x : X) → f x ≡ true → g x ≡ true) → list_any f xs ≡ true → list_any g xs ≡ true
 any_same f g [] each is = is
 any_same f g (x ∷ xs) each is = elim (or_cases (f x) (list_any f xs) is) [
   | inl here ↦ or_left (g x) (list_any g xs) (each x here)
   | inr later ↦ or_right (g x) (list_any g xs) (any_same f g xs each later)
 ]
 
-same_text : (text other : List ℕ) → bytes_eq text other ≡ true → text ≡ other
+pub same_text : (text other : List ℕ) → bytes_eq text other ≡ true → text ≡ other
 same_text text other is = (bytes_eq-Decides text other).0 is
 
-text_same : (text other : List ℕ) → text ≡ other → bytes_eq text other ≡ true
+pub text_same : (text other : List ℕ) → text ≡ other → bytes_eq text other ≡ true
 text_same text other is = (bytes_eq-Decides text other).1 is
 
 -- the name of one that tries is that of a member with a function
@@ -94,21 +94,23 @@ try_withs_free tree name free here =
 
 -- ---- words that have a meaning
 
--- it ends as such a name
-abbrev ends_with : List ℕ → Bool
-ends_with [] = false
-ends_with (b ∷ text) = bytes_eq (b ∷ text) (codes "_with") || ends_with text
+-- it ends in this
+abbrev pub ends_in : List ℕ → List ℕ → Bool
+ends_in ending [] = false
+ends_in ending (b ∷ text) = bytes_eq (b ∷ text) ending || ends_in ending text
 
-with_ends : (text : List ℕ) → ends_with (text ++ codes "_with") ≡ true
-with_ends [] = refl
-with_ends (b ∷ text) = or_right (bytes_eq (b ∷ text ++ codes "_with") (codes "_with")) (ends_with (text ++ codes "_with")) (with_ends text)
+in_ends : (first : ℕ) (ending text : List ℕ) → ends_in (first ∷ ending) (text ++ (first ∷ ending)) ≡ true
+in_ends first ending [] = or_left (bytes_eq (first ∷ ending) (first ∷ ending)) (ends_in (first ∷ ending) ending) (text_same (first ∷ ending) (first ∷ ending) refl)
+in_ends first ending (b ∷ text) = or_right (bytes_eq (b ∷ text ++ (first ∷ ending)) (first ∷ ending)) (ends_in (first ∷ ending) (text ++ (first ∷ ending))) (in_ends first ending text)
 
-no_ending : (words : List (List ℕ)) (text : List ℕ) → list_all (λ word. not (ends_with word)) words ≡ true → Contains words (text ++ codes "_with") → ⊥
-no_ending words text others (k, within, at) =
-    false≢true (sym (list_all_at (λ word. not (ends_with word)) words k (text ++ codes "_with") within (ap (λ (word : List ℕ). not (ends_with word)) at ∙ ap not (with_ends text))) ∙ others)
+pub no_ending : (words : List (List ℕ)) (first : ℕ) (ending text : List ℕ) → list_all (λ word. not (ends_in (first ∷ ending) word)) words ≡ true → Contains words (text ++ (first ∷ ending)) → ⊥
+no_ending words first ending text others (k, within, at) =
+    false≢true
+    (sym (list_all_at (λ word. not (ends_in (first ∷ ending) word)) words k (text ++ (first ∷ ending)) within (ap (λ (word : List ℕ). not (ends_in (first ∷ ending) word)) at ∙ ap not (in_ends first ending text)))
+    ∙ others)
 
 pub withs_stay : WithsAreNoKeywords
 withs_stay tree name = (
-  no_ending (KEYWORDS ++ MEMBER_WORDS) (member_name tree styles.Snake name) refl,
+  no_ending (KEYWORDS ++ MEMBER_WORDS) 95 (codes "with") (member_name tree styles.Snake name) refl,
   no_word (KEYWORDS ++ MEMBER_WORDS) (with_name tree name) refl,
 )

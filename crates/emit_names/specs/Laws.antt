@@ -1,11 +1,15 @@
 -- What follows from the definitions alone.
-use Rattle.std.specs.Prelude.{◌≡◌, ℕ, true, List, ◌++◌, Contains}
+use Rattle.std.specs.Prelude.{◌≡◌, ℕ, Bool, true, false, List, ◌++◌, Contains}
 use Rattle.lang_tree.specs.declared.tree.MethodTree.{MethodTree}
 use Rattle.lang_tree.specs.declared.tree.MonitorTree.{MonitorTree}
+use Rattle.emit_names.specs.declared.endings.Ending.{Ending}
+use Rattle.emit_names.specs.declared.endings.Ending.TheVariants as endings
 use Rattle.emit_names.specs.declared.style.Style.{Style}
 use Rattle.emit_names.specs.Names.{rust_name, members, member_name, inputs_of, input_name, type_name}
 use Rattle.emit_names.specs.Names.{member_names, try_name, try_names, is_try_free, with_name}
 use Rattle.emit_names.specs.Names.{with_names, try_with_name, is_with_free, is_try_with_free}
+use Rattle.emit_names.specs.Names.{ended_name, other_names, are_lasting_free}
+use Rattle.emit_names.specs.Names.{are_lasting_with_free}
 use Rattle.emit_names.specs.Words.{KEYWORDS, TYPE_WORDS, MEMBER_WORDS, INPUT_WORDS}
 
 -- two names of a scope that are written alike are one, in whatever style each of them is written
@@ -97,3 +101,45 @@ WithsAreNoKeywords =
     (tree : MonitorTree) (name : List ℕ)
     → (Contains (KEYWORDS ++ MEMBER_WORDS) (with_name tree name) → ⊥)
     × (Contains (KEYWORDS ++ MEMBER_WORDS) (try_with_name tree name) → ⊥)
+
+-- ---- the methods whose calls have a time
+
+-- the ending is that of such a method
+abbrev pub has_time : Ending → Bool
+has_time endings.With = false
+has_time endings.Until = true
+has_time endings.For = true
+has_time endings.UntilWith = true
+has_time endings.ForWith = true
+
+-- two of them that are written alike have one ending, and are those of one method
+abbrev pub LastingStayApart : Type 0
+LastingStayApart =
+    (tree : MonitorTree) (ending other_ending : Ending) (name other : List ℕ)
+    → has_time ending ≡ true → has_time other_ending ≡ true
+    → Contains (members tree) name → Contains (members tree) other
+    → ended_name tree ending name ≡ ended_name tree other_ending other
+    → (ending ≡ other_ending) × (name ≡ other)
+
+-- names that are free are not those of a constant, a field or another method
+abbrev pub LastingStandFree : Type 0
+LastingStandFree =
+    (tree : MonitorTree) (name : List ℕ)
+    → are_lasting_free tree name ≡ true
+    → (Contains (other_names tree) (ended_name tree endings.Until name) → ⊥)
+    × (Contains (other_names tree) (ended_name tree endings.For name) → ⊥)
+
+-- nor are those of the methods whose calls are given a function too
+abbrev pub LastingWithsStandFree : Type 0
+LastingWithsStandFree =
+    (tree : MonitorTree) (name : List ℕ)
+    → are_lasting_free tree name ≡ true → are_lasting_with_free tree name ≡ true
+    → (Contains (other_names tree) (ended_name tree endings.UntilWith name) → ⊥)
+    × (Contains (other_names tree) (ended_name tree endings.ForWith name) → ⊥)
+
+-- and none of them is named by a word that has a meaning
+abbrev pub LastingAreNoKeywords : Type 0
+LastingAreNoKeywords =
+    (tree : MonitorTree) (ending : Ending) (name : List ℕ)
+    → has_time ending ≡ true
+    → Contains (KEYWORDS ++ MEMBER_WORDS) (ended_name tree ending name) → ⊥

@@ -8,6 +8,8 @@ use Rattle.lang_tree.specs.declared.tree.Decl.TheVariants as decls
 use Rattle.lang_tree.specs.declared.tree.MethodTree.{MethodTree}
 use Rattle.lang_tree.specs.declared.tree.MonitorTree.{MonitorTree}
 use Rattle.lang_tree.specs.Names.{declared_name}
+use Rattle.emit_names.specs.declared.endings.Ending.{Ending}
+use Rattle.emit_names.specs.declared.endings.Ending.TheVariants as endings
 use Rattle.emit_names.specs.declared.style.Style.{Style}
 use Rattle.emit_names.specs.declared.style.Style.TheVariants as styles
 use Rattle.emit_names.specs.Letters.{camel, snake, spelled}
@@ -104,9 +106,21 @@ try_name tree name = codes "try_" ++ member_name tree styles.Snake name
 abbrev pub try_names : MonitorTree → List (List ℕ)
 try_names tree = map (λ method. try_name tree method.name) tree.methods
 
+-- ---- the methods whose calls are given a function, or have a time, or both
+
+abbrev pub ending_text : Ending → List ℕ
+ending_text endings.With = codes "_with"
+ending_text endings.Until = codes "_until"
+ending_text endings.For = codes "_for"
+ending_text endings.UntilWith = codes "_until_with"
+ending_text endings.ForWith = codes "_for_with"
+
+abbrev pub ended_name : MonitorTree → Ending → List ℕ → List ℕ
+ended_name tree ending name = member_name tree styles.Snake name ++ ending_text ending
+
 -- `put_with` does what `put` does, and calls a function with the data
 abbrev pub with_name : MonitorTree → List ℕ → List ℕ
-with_name tree name = member_name tree styles.Snake name ++ codes "_with"
+with_name tree = ended_name tree endings.With
 
 -- `try_put_with` does not wait
 abbrev pub try_with_name : MonitorTree → List ℕ → List ℕ
@@ -116,17 +130,41 @@ try_with_name tree name = codes "try_" ++ with_name tree name
 abbrev pub with_names : MonitorTree → List (List ℕ)
 with_names tree = map (λ method. with_name tree method.name) tree.methods
 
+abbrev pub try_with_names : MonitorTree → List (List ℕ)
+try_with_names tree = map (λ method. try_with_name tree method.name) tree.methods
+
+-- what else is named in a module's type beside the methods whose calls have a time
+abbrev pub other_names : MonitorTree → List (List ℕ)
+other_names tree =
+    (member_names tree ++ try_names tree) ++ (with_names tree ++ try_with_names tree)
+
+-- ---- whether a name is free
+
 -- no constant, field or method of the monitor is written so
 abbrev pub is_try_free : MonitorTree → List ℕ → Bool
 is_try_free tree name = not (list_any (bytes_eq (try_name tree name)) (member_names tree))
 
 -- nor a method that tries
+abbrev pub is_ended_free : MonitorTree → Ending → List ℕ → Bool
+is_ended_free tree ending name =
+    not (list_any (bytes_eq (ended_name tree ending name)) (member_names tree ++ try_names tree))
+
 abbrev pub is_with_free : MonitorTree → List ℕ → Bool
-is_with_free tree name =
-    not (list_any (bytes_eq (with_name tree name)) (member_names tree ++ try_names tree))
+is_with_free tree = is_ended_free tree endings.With
 
 -- where the others are free too
 abbrev pub is_try_with_free : MonitorTree → List ℕ → Bool
 is_try_with_free tree name =
     not (list_any (bytes_eq (try_with_name tree name)) (member_names tree))
     && (is_try_free tree name && is_with_free tree name)
+
+-- `put_until` and `put_for`: calls that wait until a time, and for one, which calls the other
+abbrev pub are_lasting_free : MonitorTree → List ℕ → Bool
+are_lasting_free tree name =
+    is_ended_free tree endings.Until name && is_ended_free tree endings.For name
+
+-- `put_until_with` and `put_for_with`, which may call `put_with`
+abbrev pub are_lasting_with_free : MonitorTree → List ℕ → Bool
+are_lasting_with_free tree name =
+    is_with_free tree name
+    && (is_ended_free tree endings.UntilWith name && is_ended_free tree endings.ForWith name)

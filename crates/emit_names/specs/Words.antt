@@ -20,7 +20,7 @@ TYPE_WORDS =
     codes "Inner" ∷ codes "State" ∷ codes "Overflow" ∷ codes "Refused" ∷ codes "Failed" ∷
     codes "Mutex" ∷ codes "MutexGuard" ∷ codes "Condvar" ∷ codes "PoisonError" ∷ codes "Default" ∷
     codes "From" ∷ codes "Result" ∷ codes "Drop" ∷ codes "FnOnce" ∷ codes "HandOn" ∷ codes "D" ∷
-    codes "R" ∷ []
+    codes "R" ∷ codes "Duration" ∷ codes "Instant" ∷ []
 
 -- the other functions of a monitor's type
 abbrev pub MEMBER_WORDS : List (List ℕ)
@@ -32,6 +32,7 @@ MEMBER_WORDS =
 abbrev pub INPUT_WORDS : List (List ℕ)
 INPUT_WORDS =
     codes "inner" ∷ codes "copy" ∷ codes "next" ∷ codes "answer" ∷ codes "f" ∷ codes "hand" ∷
-    codes "result" ∷ codes "lock" ∷ codes "wait" ∷ codes "narrow" ∷ codes "whole" ∷ codes "drop" ∷
+    codes "result" ∷ codes "end" ∷ codes "time" ∷ codes "left" ∷ codes "lock" ∷ codes "wait" ∷
+    codes "wait_for" ∷ codes "time_left" ∷ codes "narrow" ∷ codes "whole" ∷ codes "drop" ∷
     codes "Ok" ∷ codes "Err" ∷ codes "Some" ∷ codes "None" ∷ codes "Overflow" ∷ codes "Refused" ∷
     codes "HandOn" ∷ []

@@ -5,7 +5,8 @@ ghost use Rattle.emit_names.specs.Laws.{InputsAreNoKeywords, MembersAreNoKeyword
 ghost use Rattle.emit_names.specs.Laws.{TriesAreNoKeywords, TriesStandFree, TriesStayApart};
 ghost use Rattle.emit_names.specs.Laws.{TypesAreNoKeywords};
 ghost use Rattle.emit_names.specs.Laws.{TryWithsStandFree, WithsAreNoKeywords, WithsStandFree};
-ghost use Rattle.emit_names.specs.Laws.{WithsStayApart};
+ghost use Rattle.emit_names.specs.Laws.{LastingAreNoKeywords, LastingStandFree};
+ghost use Rattle.emit_names.specs.Laws.{LastingStayApart, LastingWithsStandFree, WithsStayApart};
 
 /// Two names of one scope that Rust's text writes alike are one name: no two become one by another
 /// case, by a `_` before an upper-case letter, or by the `_` after a word that has a meaning. So
@@ -39,4 +40,13 @@ pub fn with_names_stay_apart()
     ensures free { WithsStandFree }
     ensures tries { TryWithsStandFree }
     ensures words { WithsAreNoKeywords }
+{}
+
+/// So are the methods whose calls have a time, where their names are free: from one another, and
+/// from all others of the module.
+pub fn lasting_names_stay_apart()
+    ensures apart { LastingStayApart }
+    ensures free { LastingStandFree }
+    ensures withs { LastingWithsStandFree }
+    ensures words { LastingAreNoKeywords }
 {}

@@ -4,11 +4,14 @@
 //! `specs/Names` says how, [`names_stay_apart`] that no two of one scope become one, and
 //! [`names_are_no_keywords`] that each may stand in Rust. [`write_try_name`] writes the name of the
 //! method that tries, which no other has where [`is_try_free`] ([`try_names_stay_apart`]), and
-//! [`write_with_name`] and [`write_try_with_name`] those of the methods whose calls are given a
-//! function, where [`is_with_free`] and [`is_try_with_free`] ([`with_names_stay_apart`]).
+//! [`write_ended_name`] and [`write_try_with_name`] those of the methods whose calls are given a
+//! function or have a time, where [`is_with_free`] and [`is_try_with_free`]
+//! ([`with_names_stay_apart`]), or [`are_lasting_free`] and [`are_lasting_with_free`]
+//! ([`lasting_names_stay_apart`]).
 //! [`has_odd_name`] says whether rustc's lints would speak of a name (`specs/Lints`).
 #![tactic(auto)]
 
+mod endings;
 mod laws;
 mod lints;
 mod names;
@@ -16,13 +19,15 @@ mod spelling;
 mod style;
 mod trying;
 
+pub use endings::Ending;
 pub use laws::{
-    names_are_no_keywords, names_stay_apart, try_names_stay_apart, with_names_stay_apart,
+    lasting_names_stay_apart, names_are_no_keywords, names_stay_apart, try_names_stay_apart,
+    with_names_stay_apart,
 };
 pub use lints::has_odd_name;
 pub use names::{write_input, write_member, write_type};
 pub use style::Style;
 pub use trying::{
-    is_try_free, is_try_with_free, is_with_free, write_try_name, write_try_with_name,
-    write_with_name,
+    are_lasting_free, are_lasting_with_free, is_try_free, is_try_with_free, is_with_free,
+    write_ended_name, write_try_name, write_try_with_name,
 };

@@ -7,12 +7,13 @@ ghost use Rattle.std.specs.Str.{bytes_eq};
 ghost use Rattle.emit_names.specs.Letters.{camel, camel_from, marked, raised, spelled, starts};
 ghost use Rattle.emit_names.specs.Names.{escape_text, escaped, input_name, is_escaped};
 ghost use Rattle.emit_names.specs.Names.{is_shifted, meets, member_name, style_in, type_name};
-ghost use Rattle.emit_names.specs.Names.{with_name};
+ghost use Rattle.emit_names.specs.Names.{ended_name, ending_text};
 ghost use Rattle.emit_names.specs.inner.Reading.{after_mark, rest_of, takes};
 ghost use Rattle.emit_names.specs.inner.Spellings.{spelling_text};
 ghost use Rattle.emit_names.specs.declared.style.Style.TheVariants as styles;
 ghost use Rattle.base_io.specs.Writing.{Wrote};
 
+use crate::endings::{Ending, ending_bytes};
 use crate::spelling::{Spelling, spelling_of};
 use crate::style::{Style, begins_word, cased, upper};
 use base_io::{Sink, SinkFailed, write_piece};
@@ -74,7 +75,7 @@ const KEYWORDS: [&[u8]; 52] = [
     b"yield",
 ];
 
-const TYPE_WORDS: [&[u8]; 17] = [
+const TYPE_WORDS: [&[u8]; 19] = [
     b"Inner",
     b"State",
     b"Overflow",
@@ -92,6 +93,8 @@ const TYPE_WORDS: [&[u8]; 17] = [
     b"HandOn",
     b"D",
     b"R",
+    b"Duration",
+    b"Instant",
 ];
 
 const MEMBER_WORDS: [&[u8]; 5] = [
@@ -102,7 +105,7 @@ const MEMBER_WORDS: [&[u8]; 5] = [
     b"is_poisoned",
 ];
 
-const INPUT_WORDS: [&[u8]; 19] = [
+const INPUT_WORDS: [&[u8]; 24] = [
     b"inner",
     b"copy",
     b"next",
@@ -110,8 +113,13 @@ const INPUT_WORDS: [&[u8]; 19] = [
     b"f",
     b"hand",
     b"result",
+    b"end",
+    b"time",
+    b"left",
     b"lock",
     b"wait",
+    b"wait_for",
+    b"time_left",
     b"narrow",
     b"whole",
     b"drop",
@@ -155,9 +163,14 @@ pub(crate) fn member_spelling<'a>(
     spelling_of(word, style, bytes, escape_bytes(escaped))
 }
 
-/// The name of a method whose calls are given a function, after a word.
-pub(crate) fn with_spelling<'a>(tree: &MonitorTree, word: &'a [u8], name: &'a Name) -> Spelling<'a>
-    ensures { spelling_text result ≡ word.now ++ with_name tree.now name.now }
+/// The name of a method with an ending, after a word.
+pub(crate) fn ended_spelling<'a>(
+    tree: &MonitorTree,
+    word: &'a [u8],
+    name: &'a Name,
+    ending: Ending,
+) -> Spelling<'a>
+    ensures { spelling_text result ≡ word.now ++ ended_name tree.now ending name.now }
 {
     let bytes = name.bytes();
     let style = style_in(
@@ -167,13 +180,28 @@ pub(crate) fn with_spelling<'a>(tree: &MonitorTree, word: &'a [u8], name: &'a Na
         bytes,
     );
     let escaped = is_escaped(&MEMBER_WORDS, style, bytes);
-    spelling_of(word, style, bytes, with_bytes(escaped))
+    spelling_of(word, style, bytes, ended_bytes(escaped, ending))
 }
 
-fn with_bytes(escaped: bool) -> &'static [u8]
-    ensures { result.now ≡ escape_text escaped ++ codes "_with" }
+fn ended_bytes(escaped: bool, ending: Ending) -> &'static [u8]
+    ensures { result.now ≡ escape_text escaped ++ ending_text ending }
 {
-    if escaped { b"__with" } else { b"_with" }
+    if escaped {
+        return escaped_ending(ending);
+    }
+    ending_bytes(ending)
+}
+
+fn escaped_ending(ending: Ending) -> &'static [u8]
+    ensures { result.now ≡ codes "_" ++ ending_text ending }
+{
+    match ending {
+        Ending::With => b"__with",
+        Ending::Until => b"__until",
+        Ending::For => b"__for",
+        Ending::UntilWith => b"__until_with",
+        Ending::ForWith => b"__for_with",
+    }
 }
 
 /// Writes the name of a parameter or a local as Rust has it. It takes no memory.

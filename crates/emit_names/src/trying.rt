@@ -1,17 +1,18 @@
-//! The names of the methods that try, and of those whose calls are given a function.
+//! The names of the methods that try, and of those whose calls are given a function or have a time.
 
 ghost use Rattle.std.specs.Prelude.{◌≡◌, ◌&&◌, ◌||◌, not};
 ghost use Rattle.std.specs.List.{list_any};
 ghost use Rattle.std.specs.Str.{bytes_eq};
-ghost use Rattle.emit_names.specs.Names.{declared_style, declared_text, is_try_free};
+ghost use Rattle.emit_names.specs.Names.{are_lasting_free, are_lasting_with_free, declared_style};
+ghost use Rattle.emit_names.specs.Names.{declared_text, ended_name, is_ended_free, is_try_free};
 ghost use Rattle.emit_names.specs.Names.{is_try_with_free, is_with_free, member_names, method_name};
-ghost use Rattle.emit_names.specs.Names.{try_name};
-ghost use Rattle.emit_names.specs.Names.{try_with_name, with_name};
+ghost use Rattle.emit_names.specs.Names.{try_name, try_with_name};
 ghost use Rattle.emit_names.specs.declared.style.Style.TheVariants as styles;
 ghost use Rattle.emit_names.specs.inner.Spellings.{spelling_text};
 ghost use Rattle.base_io.specs.Writing.{Wrote};
 
-use crate::names::{member_spelling, with_spelling, write_member};
+use crate::endings::{Ending, ending_bytes};
+use crate::names::{ended_spelling, member_spelling, write_member};
 use crate::spelling::{Spelling, is_same};
 use crate::style::Style;
 use base_io::{Sink, SinkFailed, write_piece};
@@ -41,22 +42,25 @@ pub fn is_try_free(tree: &MonitorTree, name: &Name) -> bool
     !is_member(tree, tried)
 }
 
-/// Writes the name of the method that does what the method of this name does and calls a function.
-/// It takes no memory.
+/// Writes the name of the method that does what the method of this name does and calls a function,
+/// has a time, or both. It takes no memory.
 ///
 /// After `SinkFailed` the first bytes were taken, fewer than all and maybe none.
-pub fn write_with_name<S: Sink>(
+pub fn write_ended_name<S: Sink>(
     tree: &MonitorTree,
+    ending: Ending,
     name: &Name,
     out: &mut S,
 ) -> Result<(), SinkFailed>
-    ensures { Wrote (S.seen out.old) (S.seen out.new) result (with_name tree.now name.now) }
+    ensures { Wrote (S.seen out.old) (S.seen out.new) result
+        (ended_name tree.now ending name.now) }
 {
     write_member(tree, Style::Snake, name, out)?;
-    write_piece(b"_with", out)
+    write_piece(ending_bytes(ending), out)
 }
 
-/// Writes the name of the method that tries what that one waits for. It takes no memory.
+/// Writes the name of the method that tries what the one waits for that calls a function. It takes
+/// no memory.
 ///
 /// After `SinkFailed` the first bytes were taken, fewer than all and maybe none.
 pub fn write_try_with_name<S: Sink>(
@@ -67,24 +71,50 @@ pub fn write_try_with_name<S: Sink>(
     ensures { Wrote (S.seen out.old) (S.seen out.new) result (try_with_name tree.now name.now) }
 {
     write_piece(b"try_", out)?;
-    write_with_name(tree, name, out)
+    write_ended_name(tree, Ending::With, name, out)
 }
 
 /// Whether nothing else is written as the method whose calls are given a function.
 pub fn is_with_free(tree: &MonitorTree, name: &Name) -> bool
     ensures { result ≡ is_with_free tree.now name.now }
 {
-    let with = with_spelling(tree, b"", name);
-    let member = is_member(tree, with);
-    let tries = any_try_is(tree, tree.methods.items(), with);
+    is_ended_free(tree, Ending::With, name)
+}
+
+fn is_ended_free(tree: &MonitorTree, ending: Ending, name: &Name) -> bool
+    ensures { result ≡ is_ended_free tree.now ending name.now }
+{
+    let ended = ended_spelling(tree, b"", name, ending);
+    let member = is_member(tree, ended);
+    let tries = any_try_is(tree, tree.methods.items(), ended);
     is_neither(member, tries)
+}
+
+/// Whether nothing else is written as the methods that wait until a time, and for one.
+pub fn are_lasting_free(tree: &MonitorTree, name: &Name) -> bool
+    ensures { result ≡ are_lasting_free tree.now name.now }
+{
+    let until = is_ended_free(tree, Ending::Until, name);
+    let lasts = is_ended_free(tree, Ending::For, name);
+    until && lasts
+}
+
+/// Whether nothing else is written as those whose calls are given a function too, and as the one
+/// that has no time.
+pub fn are_lasting_with_free(tree: &MonitorTree, name: &Name) -> bool
+    ensures { result ≡ are_lasting_with_free tree.now name.now }
+{
+    let with = is_with_free(tree, name);
+    let until = is_ended_free(tree, Ending::UntilWith, name);
+    let lasts = is_ended_free(tree, Ending::ForWith, name);
+    with && (until && lasts)
 }
 
 /// Whether nothing else is written as that method for calls that try.
 pub fn is_try_with_free(tree: &MonitorTree, name: &Name) -> bool
     ensures { result ≡ is_try_with_free tree.now name.now }
 {
-    let member = is_member(tree, with_spelling(tree, b"try_", name));
+    let member = is_member(tree, ended_spelling(tree, b"try_", name, Ending::With));
     let tries = is_try_free(tree, name);
     let with = is_with_free(tree, name);
     are_free(member, tries, with)

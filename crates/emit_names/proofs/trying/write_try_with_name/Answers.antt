@@ -6,4 +6,4 @@ pub returns-in_err-write_piece : goal.returns-in_err-write_piece
 returns-in_err-write_piece g c = wrote_fails _ c.from_residual.ensures.0 (wrote_longer (with_name c.args.tree.now c.args.name.now) c.in_err-write_piece.ensures)
 
 pub returns : goal.returns
-returns g c = wrote_both c.in_ok-write_piece.ensures c.write_with_name.ensures
+returns g c = wrote_both c.in_ok-write_piece.ensures c.write_ended_name.ensures
