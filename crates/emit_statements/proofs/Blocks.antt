@@ -13,6 +13,7 @@ use Rattle.emit_code.specs.Code.Op.{Lock, WaitUntil, ElseRefuse, Run}
 use Rattle.emit_code.specs.LivePlans.{heard_notes, live_plan}
 use Rattle.emit_code.proofs.Live.{notes_live}
 use Rattle.emit_statements.specs.Sources.{SourceParts}
+use Rattle.emit_statements.specs.Ways.{tries}
 use Rattle.emit_statements.specs.Statements.{MethodParts, blocks_ops, note_text, op_text, ops_text, release_text}
 use Rattle.emit_statements.specs.inner.Parts.{block_ops, heard_texts, run_op, test_ops, told_ops}
 use Rattle.emit_statements.proofs.Heard.{hears, none_heard}
@@ -115,10 +116,10 @@ module _ (it : MethodParts) where
       ∙ sym (first_block tries block (suc index))
 
   -- one block more
-  pub blocks_more : (index : ℕ) → blocks_ops it index ++ block_ops it (it.tries && (index == 0)) (it.first + index) ≡ blocks_ops it (index + 1)
+  pub blocks_more : (index : ℕ) → blocks_ops it index ++ block_ops it (tries it.way && (index == 0)) (it.first + index) ≡ blocks_ops it (index + 1)
   blocks_more index =
       let more : suc index ≡ index + 1 = omega arith in
-      last_block it.tries it.first index ∙ ap (blocks_ops it) more
+      last_block (tries it.way) it.first index ∙ ap (blocks_ops it) more
 
   grown : (index extra : ℕ) → (rest : List ℕ) × (blocks_ops it index ++ rest ≡ blocks_ops it (index + extra))
   grown index zero =
@@ -126,13 +127,13 @@ module _ (it : MethodParts) where
       ([], append-nil (blocks_ops it index) ∙ ap (blocks_ops it) same)
   grown index (suc extra) =
       let before = grown index extra in
-      let next = block_ops it (it.tries && ((index + extra) == 0)) (it.first + (index + extra)) in
+      let next = block_ops it (tries it.way && ((index + extra) == 0)) (it.first + (index + extra)) in
       let same : (index + extra) + 1 ≡ index + suc extra = omega arith in
       (before.0 ++ next, sym (append_assoc (blocks_ops it index) before.0 next) ∙ ap (λ text. text ++ next) before.1 ∙ blocks_more (index + extra) ∙ ap (blocks_ops it) same)
 
   -- a block among so many, and those after it
   pub blocks_cut : (index count : ℕ) → index < count
-      → (rest : List ℕ) × (blocks_ops it index ++ block_ops it (it.tries && (index == 0)) (it.first + index) ++ rest ≡ blocks_ops it count)
+      → (rest : List ℕ) × (blocks_ops it index ++ block_ops it (tries it.way && (index == 0)) (it.first + index) ++ rest ≡ blocks_ops it count)
   blocks_cut index count less =
       let after = grown (index + 1) (count - (index + 1)) in
       let same : (index + 1) + (count - (index + 1)) ≡ count = omega (arith, less) in

@@ -5,6 +5,7 @@ use Rattle.machine_events.specs.Configurations.{block_condition}
 use Rattle.emit_code.specs.Code.{is_waited_on, overflow_notes, signal_on}
 use Rattle.emit_code.specs.Code.Op.{WaitUntil, ElseRefuse}
 use Rattle.emit_statements.specs.Sources.{answer_of}
+use Rattle.emit_statements.specs.Ways.{may_refuse}
 use Rattle.emit_statements.specs.Conditions.{around_name, condition_name}
 use Rattle.emit_statements.specs.Statements.{MethodParts, answer_name, call_text, fails_at, forget_text, hand_text, op_text, ops_text, overflow_text, plain_run, run_text}
 use Rattle.emit_statements.specs.inner.Parts.{guarded_run, own_run, test_ops}
@@ -50,7 +51,7 @@ module _ (it : MethodParts) (block : ℕ) where
 
   pub run_guarded : (fails answer : Bool) → fails ≡ fails_at it block → fails ≡ true → answer ≡ waits → answer ≡ true → guarded_run it block ≡ own_run it block
   run_guarded fails answer is holds same waiting =
-      noted (codes "        let Ok(" ++ answer_name (answer_of it.source.monitor block) ++ codes ") = " ++ call_text it block) (condition_name it.source (block_condition it.source.monitor block)) (overflow_text it.tries)
+      noted (codes "        let Ok(" ++ answer_name (answer_of it.source.monitor block) ++ codes ") = " ++ call_text it block) (condition_name it.source (block_condition it.source.monitor block)) (overflow_text (may_refuse it.way))
       ∙ ap (λ (b : Bool). run_by true b) (sym holds ∙ is) ∙ ap (λ (b : Bool). run_by b (fails_at it block)) (sym waiting ∙ same)
 
   -- ---- what is dropped where the block changes nothing

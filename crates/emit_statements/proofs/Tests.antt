@@ -3,6 +3,7 @@ use Rattle.std.proofs.Common.{◌≡◌, ℕ, ◌+◌, ◌==◌, Bool, true, fal
 use Rattle.machine_events.specs.Configurations.{block_condition}
 use Rattle.emit_expressions.specs.declared.scope.Reach.TheVariants as reaches
 use Rattle.emit_statements.specs.Sources.{reads_inputs}
+use Rattle.emit_statements.specs.Ways.{tries}
 use Rattle.emit_statements.specs.Conditions.{around_name}
 use Rattle.emit_statements.specs.Statements.{MethodParts, own_call, test_text}
 use Rattle.emit_statements.specs.inner.Parts.{block_ops}
@@ -18,6 +19,6 @@ module _ (it : MethodParts) (block condition : ℕ) (answer : Bool) (is : condit
   test_shared lacks = no_text (reads_inputs it.source.monitor (block_condition it.source.monitor block)) answer (own_call it (codes "can") block reaches.Held) _ (says ∙ ap (reads_inputs it.source.monitor) is) lacks
 
 -- a block, by its number
-pub block_says : (it : MethodParts) (index block : ℕ) (tries : Bool) → tries ≡ (it.tries && (index == 0)) → block ≡ it.first + index
-    → block_ops it tries block ≡ block_ops it (it.tries && (index == 0)) (it.first + index)
-block_says it index block tries try is = ap (λ (b : Bool). block_ops it b block) try ∙ ap (block_ops it (it.tries && (index == 0))) is
+pub block_says : (it : MethodParts) (index block : ℕ) (try : Bool) → try ≡ (tries it.way && (index == 0)) → block ≡ it.first + index
+    → block_ops it try block ≡ block_ops it (tries it.way && (index == 0)) (it.first + index)
+block_says it index block try says is = ap (λ (b : Bool). block_ops it b block) says ∙ ap (block_ops it (tries it.way && (index == 0))) is

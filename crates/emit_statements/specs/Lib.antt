@@ -1,3 +1,4 @@
+pub mod Ways
 pub mod Sources
 pub mod Conditions
 pub mod Statements

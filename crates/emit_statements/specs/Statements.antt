@@ -17,6 +17,8 @@ use Rattle.emit_expressions.specs.declared.scope.Reach.TheVariants as reaches
 use Rattle.emit_bodies.specs.Blocks.{block_name}
 use Rattle.emit_bodies.specs.Bodies.{body_fails, body_shortens}
 use Rattle.emit_statements.specs.declared.source.Calls.{Calls}
+use Rattle.emit_statements.specs.declared.ways.Way.{Way}
+use Rattle.emit_statements.specs.Ways.{ends, may_refuse, tries}
 use Rattle.emit_statements.specs.Sources.{SourceParts, seen, answer_of, is_whole, reads_inputs}
 use Rattle.emit_statements.specs.Conditions.{arguments_text, around_count, around_name}
 
@@ -48,7 +50,7 @@ method_shortens source number method =
     list_any (λ one. block_shortens source method (first_of source number + one.0) one.1)
     (enumerate_from 0 method.blocks)
 
--- ---- a method, for calls that wait or for those that try, with a function or with none
+-- ---- a method, for calls that wait, try or have a time, with a function or with none
 
 -- what the text of a method hangs on
 pub record MethodParts : Type 0 where
@@ -60,7 +62,8 @@ pub record MethodParts : Type 0 where
   pub answer : Option Kind
   -- some block of it may fail
   pub fails : Bool
-  pub tries : Bool
+  -- how its calls wait for the guard of that block
+  pub way : Way
   -- its last block calls a function with the data
   pub works : Bool
 
@@ -72,7 +75,7 @@ method_seen calls = record {
   first = calls.first;
   answer = calls.answer;
   fails = calls.fails;
-  tries = calls.tries;
+  way = calls.way;
   works = calls.works;
 }
 
@@ -113,11 +116,36 @@ refusal_text false = codes " {\n            return Err(Refused);\n        }\n"
 
 -- ---- the loop of a block
 
+-- The loop ends where the time of the call is over, by whether its method may fail too; the first
+-- block of a method alone has such a loop.
+abbrev pub end_at : MethodParts → ℕ → Option Bool
+end_at it block = if ends it.way && (block == it.first) then Some it.fails else None
+
+-- the call is refused there
+abbrev pub sleep_start : Option Bool → List ℕ
+sleep_start None = codes " {\n            inner."
+sleep_start (Some true) =
+    codes " {\n            let Some(left) = time_left(end) else {\n"
+    ++ codes "                return Err(Failed::Refused);\n            };\n            inner."
+sleep_start (Some false) =
+    codes " {\n            let Some(left) = time_left(end) else {\n"
+    ++ codes "                return Err(Refused);\n            };\n            inner."
+
+-- it waits no longer than what is left
+abbrev pub wait_start : Option Bool → List ℕ
+wait_start None = codes "            inner = wait(&self."
+wait_start (Some fails) = codes "            inner = wait_for(&self."
+
+-- after the condition
+abbrev pub wait_end : Option Bool → List ℕ
+wait_end None = codes ", inner);\n"
+wait_end (Some fails) = codes ", inner, left);\n"
+
 -- where its guard is false: who waits is counted while it does
-abbrev pub sleep_text : SourceParts → ℕ → List ℕ
-sleep_text source condition =
-    around_count source (codes " {\n            inner.") condition (codes " += 1;\n")
-    ++ around_name source (codes "            inner = wait(&self.") condition (codes ", inner);\n")
+abbrev pub sleep_text : SourceParts → Option Bool → ℕ → List ℕ
+sleep_text source end condition =
+    around_count source (sleep_start end) condition (codes " += 1;\n")
+    ++ around_name source (wait_start end) condition (wait_end end)
     ++ around_count source (codes "            inner.") condition (codes " -= 1;\n        }\n")
 
 -- ---- notes
@@ -170,7 +198,7 @@ abbrev pub plain_run : MethodParts → ℕ → List ℕ → List ℕ
 plain_run it block ending =
     let_text (answer_of it.source.monitor block) ++ call_text it block ++ ending
 
--- the error of a body that overflows, by whether the call tries
+-- the error of a body that overflows, by whether the call may be refused
 abbrev pub overflow_text : Bool → List ℕ
 overflow_text true = codes "            return Err(Failed::Overflow);\n        };\n"
 overflow_text false = codes "            return Err(Overflow);\n        };\n"
@@ -183,7 +211,7 @@ run_text it block (note ∷ notes) true =
     codes "        let Ok(" ++ answer_name (answer_of it.source.monitor block) ++ codes ") = "
     ++ call_text it block ++ codes " else {\n"
     ++ flat_map (λ other. codes "    " ++ notify_text it.source other) (note ∷ notes)
-    ++ overflow_text it.tries
+    ++ overflow_text (may_refuse it.way)
 
 -- ---- the body of a block that calls a function
 
@@ -229,7 +257,8 @@ work_text it block notes =
 abbrev pub op_text : MethodParts → Op → List ℕ
 op_text it Lock = codes "        let mut inner = lock(&self.inner);\n"
 op_text it (WaitUntil block condition) =
-    codes "        while !inner.state." ++ test_text it block ++ sleep_text it.source condition
+    codes "        while !inner.state." ++ test_text it block
+    ++ sleep_text it.source (end_at it block) condition
 op_text it (ElseRefuse block) =
     codes "        if !inner.state." ++ test_text it block ++ refusal_text it.fails
 op_text it (Run block otherwise) =
@@ -246,9 +275,11 @@ ops_text it = flat_map (op_text it)
 -- those of so many blocks of a method, from its first on
 abbrev pub blocks_ops : MethodParts → ℕ → List ℕ
 blocks_ops it count =
-    ops_text it (blocks_code it.source.monitor (late_order it.source.plan) it.tries it.first count)
+    ops_text it
+    (blocks_code it.source.monitor (late_order it.source.plan) (tries it.way) it.first count)
 
--- ---- what the method answers after them, by whether it may fail, and whether its calls try
+-- ---- what the method answers after them, by whether it may fail, and whether its calls may be
+-- refused
 
 -- it is answered as it is
 abbrev pub plain_end : Option Kind → List ℕ
@@ -257,16 +288,17 @@ plain_end (Some kind) = codes "        answer\n"
 
 -- the last line of a method that is given no function
 abbrev pub own_end : Bool → Bool → Option Kind → List ℕ
-own_end fails tries answer =
-    if fails || tries then codes "        Ok(" ++ answer_name answer ++ codes ")\n"
+own_end fails refused answer =
+    if fails || refused then codes "        Ok(" ++ answer_name answer ++ codes ")\n"
     else plain_end answer
 
 -- what the function answered
 abbrev pub work_end : Bool → Bool → List ℕ
-work_end fails tries =
-    if fails || tries then codes "        Ok(result)\n" else codes "        result\n"
+work_end fails refused =
+    if fails || refused then codes "        Ok(result)\n" else codes "        result\n"
 
 -- the last line of a method
 abbrev pub end_text : MethodParts → List ℕ
 end_text it =
-    if it.works then work_end it.fails it.tries else own_end it.fails it.tries it.answer
+    if it.works then work_end it.fails (may_refuse it.way)
+    else own_end it.fails (may_refuse it.way) it.answer

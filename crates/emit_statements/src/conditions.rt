@@ -141,7 +141,10 @@ pub(crate) fn write_arguments<S: Sink>(
     write_handed_locals(method, reach, method.locals.items(), out)
 }
 
-fn write_handed_parameters<S: Sink>(
+/// Writes the names of the parameters of a method, with commas between them. It takes no memory.
+///
+/// After `SinkFailed` the first bytes were taken, fewer than all and maybe none.
+pub fn write_handed_parameters<S: Sink>(
     method: &MethodTree,
     inputs: &[InputTree],
     out: &mut S,
@@ -200,7 +203,8 @@ fn write_handed_local<S: Sink>(
     write_input(method, local.name(), out)
 }
 
-fn comma_bytes(before: usize) -> &'static [u8]
+/// What stands before an argument, after so many others.
+pub fn comma_bytes(before: usize) -> &'static [u8]
     ensures { result.now ≡ comma_text before }
 {
     if before == 0 { b"" } else { b", " }

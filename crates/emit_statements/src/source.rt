@@ -11,6 +11,7 @@ ghost use Rattle.emit_statements.specs.Sources.{seen};
 ghost use Rattle.emit_statements.specs.Conditions.{first_block, is_of};
 ghost use Rattle.emit_statements.specs.inner.Parts.{are_none};
 
+use crate::ways::Way;
 use lang_base::Kind;
 use lang_monitor::{Block, Monitor, Ret};
 use lang_tree::{MethodTree, MonitorTree};
@@ -32,7 +33,7 @@ pub struct Source<'a> {
     pub whole: &'a [bool],
 }
 
-/// A method, for calls that wait or for those that try, with a function or with none.
+/// A method, for calls that wait, try or have a time, with a function or with none.
 #[derive(Clone, Copy)]
 pub struct Calls<'a> {
     /// What its module is printed of.
@@ -45,8 +46,8 @@ pub struct Calls<'a> {
     pub answer: Option<Kind>,
     /// Whether some block of it may fail.
     pub fails: bool,
-    /// Whether its calls try.
-    pub tries: bool,
+    /// How its calls wait for the guard of that block.
+    pub way: Way,
     /// Whether its last block calls a function with the data.
     pub works: bool,
 }

@@ -1,19 +1,21 @@
 //! The statements of a method: one for each operation of its code.
 
 ghost use Rattle.std.specs.Prelude.{◌≡◌, ◌++◌, ◌+◌, ◌<◌, ◌^◌, ◌==◌, codes, if◌then◌else◌, not};
-ghost use Rattle.std.specs.Prelude.{◌&&◌, ◌||◌};
+ghost use Rattle.std.specs.Prelude.{◌&&◌, ◌||◌, None, Some};
 ghost use Rattle.std.specs.List.{enumerate_from, flat_map, list_any};
 ghost use Rattle.machine_events.specs.Configurations.{block_condition};
 ghost use Rattle.base_io.specs.Writing.{Wrote};
 ghost use Rattle.emit_statements.specs.Sources.{answer_of, seen};
 ghost use Rattle.emit_statements.specs.Conditions.{around_name};
 ghost use Rattle.emit_statements.specs.Statements.{answer_name, block_fails, block_shortens};
-ghost use Rattle.emit_statements.specs.Statements.{blocks_ops, call_text, end_text, fails_at};
+ghost use Rattle.emit_statements.specs.Statements.{blocks_ops, call_text, end_at, end_text};
+ghost use Rattle.emit_statements.specs.Statements.{fails_at, sleep_start, wait_end, wait_start};
 ghost use Rattle.emit_statements.specs.Statements.{let_text, method_fails, method_seen};
 ghost use Rattle.emit_statements.specs.Statements.{method_shortens, note_test, note_text};
 ghost use Rattle.emit_statements.specs.Statements.{notify_call, notify_text, op_text, own_call};
 ghost use Rattle.emit_statements.specs.Statements.{own_end, plain_end, plain_run, refusal_text};
 ghost use Rattle.emit_statements.specs.Statements.{release_text, sleep_text, test_text};
+ghost use Rattle.emit_statements.specs.Ways.{ends, may_refuse, tries};
 ghost use Rattle.emit_statements.specs.inner.Parts.{block_ops, guarded_end, guarded_run};
 ghost use Rattle.emit_statements.specs.inner.Parts.{heard_text, own_run};
 ghost use Rattle.emit_statements.specs.inner.Parts.{heard_texts, run_op, test_ops, told_ops};
@@ -26,6 +28,7 @@ use crate::source::{
     Calls, Source, answer_of, are_heard, condition_of, first_of, is_waited_on, is_whole, notes_of,
     reads_inputs,
 };
+use crate::ways::{Way, ends, may_refuse, tries};
 use crate::working::{work_end, works_at, write_work};
 use base_io::{Sink, SinkFailed, write_piece, write_pieces};
 use emit_bodies::{fails, shortens, write_block_name};
@@ -136,21 +139,16 @@ pub fn write_blocks<S: Sink>(it: &Calls, count: u32, out: &mut S) -> Result<(), 
 // A block, by its number in the method, from 0.
 fn write_block<S: Sink>(it: &Calls, index: u32, out: &mut S) -> Result<(), SinkFailed>
     ensures { Wrote (S.seen out.old) (S.seen out.new) result
-        (block_ops (method_seen it.now) (it.now.tries && (index == 0)) (it.now.first + index)) }
+        (block_ops (method_seen it.now) (tries it.now.way && (index == 0)) (it.now.first + index)) }
 {
-    write_statements(
-        it,
-        tries_at(it.tries, index),
-        block_at(it.first, index),
-        out,
-    )
+    write_statements(it, tries_at(it.way, index), block_at(it.first, index), out)
 }
 
 // A call that tries does so at the first block alone.
-fn tries_at(tries: bool, index: u32) -> bool
-    ensures { result ≡ (tries && (index == 0)) }
+fn tries_at(way: Way, index: u32) -> bool
+    ensures { result ≡ (tries way && (index == 0)) }
 {
-    tries && index == 0
+    tries(way) && index == 0
 }
 
 fn block_at(first: u32, index: u32) -> usize
@@ -233,30 +231,37 @@ fn write_loop<S: Sink>(it: &Calls, block: usize, out: &mut S) -> Result<(), Sink
 // What is done where the guard of a block is false.
 fn write_own_sleep<S: Sink>(it: &Calls, block: usize, out: &mut S) -> Result<(), SinkFailed>
     ensures { Wrote (S.seen out.old) (S.seen out.new) result (sleep_text (seen it.now.source.now)
+        (end_at (method_seen it.now) block)
         (block_condition it.now.source.now.monitor.now block)) }
 {
     let condition = condition_of(it.source.monitor, block);
-    write_sleep(it.source, condition, out)
+    write_sleep(it.source, end_at(it, block), condition, out)
 }
 
-fn write_sleep<S: Sink>(source: &Source, condition: u32, out: &mut S) -> Result<(), SinkFailed>
-    ensures { Wrote (S.seen out.old) (S.seen out.new) result
-        (sleep_text (seen source.now) condition) }
+// Whether the loop ends where the time of the call is over, and then whether its method may fail.
+fn end_at(it: &Calls, block: usize) -> Option<bool>
+    ensures { result ≡ end_at (method_seen it.now) block }
 {
-    write_around_count(
-        source,
-        b" {\n            inner.",
-        condition,
-        b" += 1;\n",
-        out,
-    )?;
-    write_around_name(
-        source,
-        b"            inner = wait(&self.",
-        condition,
-        b", inner);\n",
-        out,
-    )?;
+    end_by(ends(it.way), block == it.first as usize, it.fails)
+}
+
+fn end_by(ends: bool, first: bool, fails: bool) -> Option<bool>
+    ensures { result ≡ if ends && first then Some fails else None }
+{
+    if ends && first { Some(fails) } else { None }
+}
+
+fn write_sleep<S: Sink>(
+    source: &Source,
+    end: Option<bool>,
+    condition: u32,
+    out: &mut S,
+) -> Result<(), SinkFailed>
+    ensures { Wrote (S.seen out.old) (S.seen out.new) result
+        (sleep_text (seen source.now) end condition) }
+{
+    write_around_count(source, sleep_start(end), condition, b" += 1;\n", out)?;
+    write_around_name(source, wait_start(end), condition, wait_end(end), out)?;
     write_around_count(
         source,
         b"            inner.",
@@ -264,6 +269,46 @@ fn write_sleep<S: Sink>(source: &Source, condition: u32, out: &mut S) -> Result<
         b" -= 1;\n        }\n",
         out,
     )
+}
+
+fn sleep_start(end: Option<bool>) -> &'static [u8]
+    ensures { result.now ≡ sleep_start end }
+{
+    match end {
+        None => b" {\n            inner.",
+        Some(true) => {
+            b" {
+            let Some(left) = time_left(end) else {
+                return Err(Failed::Refused);
+            };
+            inner."
+        }
+        Some(false) => {
+            b" {
+            let Some(left) = time_left(end) else {
+                return Err(Refused);
+            };
+            inner."
+        }
+    }
+}
+
+fn wait_start(end: Option<bool>) -> &'static [u8]
+    ensures { result.now ≡ wait_start end }
+{
+    match end {
+        None => b"            inner = wait(&self.",
+        Some(_) => b"            inner = wait_for(&self.",
+    }
+}
+
+fn wait_end(end: Option<bool>) -> &'static [u8]
+    ensures { result.now ≡ wait_end end }
+{
+    match end {
+        None => b", inner);\n",
+        Some(_) => b", inner, left);\n",
+    }
 }
 
 // The name of a block's condition between two pieces.
@@ -393,21 +438,22 @@ fn write_guarded_run<S: Sink>(it: &Calls, block: usize, out: &mut S) -> Result<(
 fn write_overflow<S: Sink>(it: &Calls, block: usize, out: &mut S) -> Result<(), SinkFailed>
     ensures { Wrote (S.seen out.old) (S.seen out.new) result
         (around_name (seen it.now.source.now) (codes " else {\n            self.")
-        (block_condition it.now.source.now.monitor.now block) (guarded_end it.now.tries)) }
+        (block_condition it.now.source.now.monitor.now block)
+        (guarded_end (may_refuse it.now.way))) }
 {
     write_around_own_name(
         it,
         b" else {\n            self.",
         block,
-        guarded_end(it.tries),
+        guarded_end(may_refuse(it.way)),
         out,
     )
 }
 
-fn guarded_end(tries: bool) -> &'static [u8]
-    ensures { result.now ≡ guarded_end tries }
+fn guarded_end(refused: bool) -> &'static [u8]
+    ensures { result.now ≡ guarded_end refused }
 {
-    if tries {
+    if refused {
         b".notify_one();\n            return Err(Failed::Overflow);\n        };\n"
     } else {
         b".notify_one();\n            return Err(Overflow);\n        };\n"
@@ -540,31 +586,31 @@ pub fn write_end<S: Sink>(it: &Calls, out: &mut S) -> Result<(), SinkFailed>
     ensures { Wrote (S.seen out.old) (S.seen out.new) result (end_text (method_seen it.now)) }
 {
     if it.works {
-        return write_piece(work_end(it.fails, it.tries), out);
+        return write_piece(work_end(it.fails, may_refuse(it.way)), out);
     }
-    write_own_end(it.fails, it.tries, it.answer, out)
+    write_own_end(it.fails, may_refuse(it.way), it.answer, out)
 }
 
-// By whether it may fail, and whether its calls try, where it is given no function.
+// By whether it may fail, and whether its calls may be refused, where it is given no function.
 fn write_own_end<S: Sink>(
     fails: bool,
-    tries: bool,
+    refused: bool,
     answer: Option<Kind>,
     out: &mut S,
 ) -> Result<(), SinkFailed>
-    ensures { Wrote (S.seen out.old) (S.seen out.new) result (own_end fails tries answer) }
+    ensures { Wrote (S.seen out.old) (S.seen out.new) result (own_end fails refused answer) }
 {
-    if !is_wrapped(fails, tries) {
+    if !is_wrapped(fails, refused) {
         return write_piece(plain_end(answer), out);
     }
     write_wrapped_end(answer, out)
 }
 
 // Whether the answer is a `Result`.
-fn is_wrapped(fails: bool, tries: bool) -> bool
-    ensures { result ≡ (fails || tries) }
+fn is_wrapped(fails: bool, refused: bool) -> bool
+    ensures { result ≡ (fails || refused) }
 {
-    fails || tries
+    fails || refused
 }
 
 fn write_wrapped_end<S: Sink>(answer: Option<Kind>, out: &mut S) -> Result<(), SinkFailed>

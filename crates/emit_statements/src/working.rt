@@ -99,11 +99,11 @@ fn given_bytes(answer: Option<Kind>) -> &'static [u8]
     }
 }
 
-/// The last line of such a method, by whether it may fail, and whether its calls try.
-pub(crate) fn work_end(fails: bool, tries: bool) -> &'static [u8]
-    ensures { result.now ≡ work_end fails tries }
+/// The last line of such a method, by whether it may fail, and whether its calls may be refused.
+pub(crate) fn work_end(fails: bool, refused: bool) -> &'static [u8]
+    ensures { result.now ≡ work_end fails refused }
 {
-    if fails || tries {
+    if fails || refused {
         b"        Ok(result)\n"
     } else {
         b"        result\n"

@@ -12,6 +12,7 @@ use Rattle.emit_statements.specs.Conditions.{around_name}
 use Rattle.emit_statements.specs.Statements.{MethodParts, answer_name, call_text, fails_at}
 use Rattle.emit_statements.specs.Statements.{note_text, op_text, ops_text, overflow_text, run_text}
 use Rattle.emit_statements.specs.Sources.{answer_of}
+use Rattle.emit_statements.specs.Ways.{may_refuse}
 
 -- a formula of no parts is `true`
 abbrev pub are_none : List Formula → Bool
@@ -33,7 +34,7 @@ own_run it block =
 
 -- a note, and the error of a body that overflows
 abbrev pub guarded_end : Bool → List ℕ
-guarded_end tries = codes ".notify_one();\n" ++ overflow_text tries
+guarded_end refused = codes ".notify_one();\n" ++ overflow_text refused
 
 -- a body that may fail in a block that waits
 abbrev pub guarded_run : MethodParts → ℕ → List ℕ
@@ -41,7 +42,7 @@ guarded_run it block =
     codes "        let Ok(" ++ answer_name (answer_of it.source.monitor block) ++ codes ") = "
     ++ call_text it block
     ++ around_name it.source (codes " else {\n            self.")
-    (block_condition it.source.monitor block) (guarded_end it.tries)
+    (block_condition it.source.monitor block) (guarded_end (may_refuse it.way))
 
 -- what comes after the body
 abbrev pub told_ops : MethodParts → ℕ → List ℕ
