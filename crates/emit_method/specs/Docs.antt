@@ -11,8 +11,12 @@ use Rattle.machine_events.specs.Configurations.{block_condition}
 use Rattle.emit_code.specs.Code.{is_waited_on}
 use Rattle.emit_comments.specs.Comments.{leading_docs, line_of}
 use Rattle.emit_names.specs.declared.style.Style.TheVariants as styles
-use Rattle.emit_names.specs.Names.{member_name, try_name}
+use Rattle.emit_names.specs.Names.{member_name}
+use Rattle.emit_statements.specs.declared.ways.Way.{Way}
+use Rattle.emit_statements.specs.declared.ways.Way.TheVariants as ways
+use Rattle.emit_statements.specs.Ways.{may_refuse}
 use Rattle.emit_statements.specs.Statements.{MethodParts}
+use Rattle.emit_method.specs.Called.{plain_called}
 
 -- ---- what a block waits for, by its number among those of its method, from 0
 
@@ -65,24 +69,45 @@ waiting_docs it =
     ++ flat_map (λ one. waiting_text it one.0 one.1) (enumerate_from 0 it.method.blocks)
     ++ errors_text it.fails (length it.method.blocks)
 
--- ---- calls that try
+-- ---- calls that try, or have a time
 
--- the guard for which they don't wait
+-- the guard for which they don't wait, or not any longer
 abbrev pub first_guard : MethodTree → List ℕ
 first_guard method =
     option_map_or (λ block. expression_text block.guard) (slice_get method.blocks 0) []
+
+-- before that guard
+abbrev pub unlike_text : Way → List ℕ
+unlike_text ways.Waits = []
+unlike_text ways.Tries = codes "), but does not wait until `"
+unlike_text ways.Until = codes "), but waits for `"
+unlike_text ways.For = codes "), but waits for `"
+
+-- and after it
+abbrev pub longest_text : Way → List ℕ
+longest_text ways.Waits = []
+longest_text ways.Tries = codes "`.\n"
+longest_text ways.Until = codes "` no longer than until `end`.\n"
+longest_text ways.For = codes "` no longer than `time`.\n"
 
 -- they do what the others do
 abbrev pub likeness_text : MethodParts → List ℕ
 likeness_text it =
     codes "    /// As [`" ++ member_name it.source.tree styles.Snake it.method.name
     ++ codes "`](Self::" ++ member_name it.source.tree styles.Snake it.method.name
-    ++ codes "), but does not wait until `" ++ first_guard it.method ++ codes "`.\n"
+    ++ unlike_text it.way ++ first_guard it.method ++ longest_text it.way
 
 -- when they are refused, by whether the method may fail too
 abbrev pub refused_by : Bool → List ℕ
-refused_by true = codes "    /// [`Failed::Refused`] where `"
-refused_by false = codes "    /// [`Refused`] where `"
+refused_by true = codes "    /// [`Failed::Refused`] where "
+refused_by false = codes "    /// [`Refused`] where "
+
+-- and when it may be
+abbrev pub when_text : Way → List ℕ
+when_text ways.Waits = []
+when_text ways.Tries = codes "`"
+when_text ways.Until = codes "its time is over and `"
+when_text ways.For = codes "its time is over and `"
 
 -- the other error
 abbrev pub other_error : Bool → ℕ → List ℕ
@@ -91,24 +116,18 @@ other_error true blocks =
     codes "    ///\n    /// [`Failed::Overflow`] where a number would leave 64 bits. "
     ++ stays_text blocks
 
--- when calls that try fail
+-- when calls fail that may be refused
 abbrev pub refusal_docs : MethodParts → List ℕ
 refusal_docs it =
-    ERRORS ++ refused_by it.fails ++ first_guard it.method
+    ERRORS ++ refused_by it.fails ++ when_text it.way ++ first_guard it.method
     ++ codes "` is false. Then nothing changes.\n"
     ++ other_error it.fails (length it.method.blocks)
 
--- what is said of a method for calls that try
+-- what is said of a method for such calls
 abbrev pub trying_docs : MethodParts → List ℕ
 trying_docs it = likeness_text it ++ refusal_docs it
 
 -- ---- calls that are given a function
-
--- what the method without one is called: `try_put` where the call tries
-abbrev pub plain_called : MethodParts → List ℕ
-plain_called it =
-    if it.tries then try_name it.source.tree it.method.name
-    else member_name it.source.tree styles.Snake it.method.name
 
 -- what the function is handed
 abbrev pub handed_text : Option Kind → List ℕ
@@ -133,7 +152,7 @@ work_likeness it =
 -- when they fail
 abbrev pub failure_docs : MethodParts → List ℕ
 failure_docs it =
-    if it.tries then refusal_docs it else errors_text it.fails (length it.method.blocks)
+    if may_refuse it.way then refusal_docs it else errors_text it.fails (length it.method.blocks)
 
 -- what is said of a method for calls with a function
 abbrev pub work_docs : MethodParts → List ℕ
@@ -143,7 +162,7 @@ work_docs it = work_likeness it ++ failure_docs it
 
 -- what is said of a method that is given no function
 abbrev pub own_docs : MethodParts → List ℕ
-own_docs it = if it.tries then trying_docs it else waiting_docs it
+own_docs it = if may_refuse it.way then trying_docs it else waiting_docs it
 
 -- what is said of a method
 abbrev pub docs_text : MethodParts → List ℕ

@@ -1,3 +1,5 @@
+pub mod Called
 pub mod Docs
+pub mod Lasting
 pub mod Methods
 pub mod inner

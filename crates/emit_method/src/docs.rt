@@ -10,13 +10,14 @@ ghost use Rattle.emit_method.specs.Docs.{ERRORS, docs_text, errors_text, first_g
 ghost use Rattle.emit_method.specs.Docs.{likeness_text, other_error, own_comments, refused_by};
 ghost use Rattle.emit_method.specs.Docs.{failure_docs, handed_text, own_docs, panics_text};
 ghost use Rattle.emit_method.specs.Docs.{refusal_docs, trying_docs, waiting_docs, waiting_text};
+ghost use Rattle.emit_method.specs.Docs.{longest_text, unlike_text, when_text};
 ghost use Rattle.emit_method.specs.Docs.{waits_until, work_docs, work_likeness};
 
-use crate::methods::write_plain_called;
+use crate::called::write_plain_called;
 use base_io::{Sink, SinkFailed, write_piece};
 use emit_comments::{line_of, write_leading};
 use emit_names::{Style, write_member};
-use emit_statements::{Calls, condition_of, is_waited_on};
+use emit_statements::{Calls, Way, condition_of, is_waited_on, may_refuse};
 use lang_base::Kind;
 use lang_printer::write_around;
 use lang_tree::{BlockTree, MethodTree};
@@ -34,7 +35,7 @@ pub(crate) fn write_docs<S: Sink>(it: &Calls, out: &mut S) -> Result<(), SinkFai
 fn write_own_docs<S: Sink>(it: &Calls, out: &mut S) -> Result<(), SinkFailed>
     ensures { Wrote (S.seen out.old) (S.seen out.new) result (own_docs (method_seen it.now)) }
 {
-    if it.tries {
+    if may_refuse(it.way) {
         return write_trying(it, out);
     }
     write_waiting_docs(it, out)
@@ -139,7 +140,7 @@ fn errors_bytes(fails: bool, blocks: usize) -> &'static [u8]
     }
 }
 
-// ---- calls that try
+// ---- calls that try, or have a time
 
 fn write_trying<S: Sink>(it: &Calls, out: &mut S) -> Result<(), SinkFailed>
     ensures { Wrote (S.seen out.old) (S.seen out.new) result (trying_docs (method_seen it.now)) }
@@ -148,12 +149,13 @@ fn write_trying<S: Sink>(it: &Calls, out: &mut S) -> Result<(), SinkFailed>
     write_refusals(it, out)
 }
 
-// When calls that try fail.
+// When calls fail that may be refused.
 fn write_refusals<S: Sink>(it: &Calls, out: &mut S) -> Result<(), SinkFailed>
     ensures { Wrote (S.seen out.old) (S.seen out.new) result (refusal_docs (method_seen it.now)) }
 {
     write_piece(errors_head(), out)?;
     write_piece(refused_by(it.fails), out)?;
+    write_piece(when_bytes(it.way), out)?;
     write_guard(it.method, out)?;
     write_piece(b"` is false. Then nothing changes.\n", out)?;
     write_other_error(it, out)
@@ -166,9 +168,31 @@ fn write_likeness<S: Sink>(it: &Calls, out: &mut S) -> Result<(), SinkFailed>
     write_member(it.source.tree, Style::Snake, &it.method.name, out)?;
     write_piece(b"`](Self::", out)?;
     write_member(it.source.tree, Style::Snake, &it.method.name, out)?;
-    write_piece(b"), but does not wait until `", out)?;
+    write_piece(unlike_bytes(it.way), out)?;
     write_guard(it.method, out)?;
-    write_piece(b"`.\n", out)
+    write_piece(longest_bytes(it.way), out)
+}
+
+fn unlike_bytes(way: Way) -> &'static [u8]
+    ensures { result.now ≡ unlike_text way }
+{
+    match way {
+        Way::Waits => b"",
+        Way::Tries => b"), but does not wait until `",
+        Way::Until => b"), but waits for `",
+        Way::For => b"), but waits for `",
+    }
+}
+
+fn longest_bytes(way: Way) -> &'static [u8]
+    ensures { result.now ≡ longest_text way }
+{
+    match way {
+        Way::Waits => b"",
+        Way::Tries => b"`.\n",
+        Way::Until => b"` no longer than until `end`.\n",
+        Way::For => b"` no longer than `time`.\n",
+    }
 }
 
 // The guard of a method's first block.
@@ -191,9 +215,20 @@ fn refused_by(fails: bool) -> &'static [u8]
     ensures { result.now ≡ refused_by fails }
 {
     if fails {
-        b"    /// [`Failed::Refused`] where `"
+        b"    /// [`Failed::Refused`] where "
     } else {
-        b"    /// [`Refused`] where `"
+        b"    /// [`Refused`] where "
+    }
+}
+
+fn when_bytes(way: Way) -> &'static [u8]
+    ensures { result.now ≡ when_text way }
+{
+    match way {
+        Way::Waits => b"",
+        Way::Tries => b"`",
+        Way::Until => b"its time is over and `",
+        Way::For => b"its time is over and `",
     }
 }
 
@@ -277,7 +312,7 @@ fn panics_bytes(blocks: usize) -> &'static [u8]
 fn write_failures<S: Sink>(it: &Calls, out: &mut S) -> Result<(), SinkFailed>
     ensures { Wrote (S.seen out.old) (S.seen out.new) result (failure_docs (method_seen it.now)) }
 {
-    if it.tries {
+    if may_refuse(it.way) {
         return write_refusals(it, out);
     }
     write_errors(it, out)

@@ -1,38 +1,42 @@
 //! The methods of a monitor.
 
-ghost use Rattle.std.specs.Prelude.{◌≡◌, ◌++◌, codes};
+ghost use Rattle.std.specs.Prelude.{◌≡◌, ◌++◌, codes, false, true};
 ghost use Rattle.std.specs.List.{flat_map};
 ghost use Rattle.emit_bodies.specs.Blocks.{parameter_text};
 ghost use Rattle.emit_bodies.specs.Bodies.{answer_text};
 ghost use Rattle.base_io.specs.Writing.{Wrote};
 ghost use Rattle.emit_statements.specs.Sources.{seen};
 ghost use Rattle.emit_statements.specs.Statements.{method_seen};
-ghost use Rattle.emit_method.specs.Docs.{plain_called};
-ghost use Rattle.emit_method.specs.Methods.{both_text, called_text, error_text, function_end};
-ghost use Rattle.emit_method.specs.Methods.{function_text, has_try, has_with, head_text};
-ghost use Rattle.emit_method.specs.Methods.{local_line, method_answer, method_arrow, method_text};
-ghost use Rattle.emit_method.specs.Methods.{methods_text, own_arrow, parts_of, try_arrow, try_text};
-ghost use Rattle.emit_method.specs.Methods.{waits_first, with_text, work_arrow, work_called};
+ghost use Rattle.emit_statements.specs.declared.ways.Way.TheVariants as ways;
+ghost use Rattle.emit_method.specs.Methods.{both_text, error_text, function_end, function_text};
+ghost use Rattle.emit_method.specs.Methods.{has_times, has_try, has_with, head_text, lasting_text};
+ghost use Rattle.emit_method.specs.Methods.{lasts, local_line, method_answer, method_arrow};
+ghost use Rattle.emit_method.specs.Methods.{method_text, methods_text, own_arrow, parts_of};
+ghost use Rattle.emit_method.specs.Methods.{time_text, timed_texts, times_text, try_arrow};
+ghost use Rattle.emit_method.specs.Methods.{try_text, waits_first, with_text, work_arrow};
 ghost use Rattle.emit_method.specs.inner.Parts.{calls_text};
 
+use crate::called::write_called;
 use crate::declared::write_typed_start;
 use crate::docs::write_docs;
+use crate::lasting::write_lasting_lines;
 use base_io::{Sink, SinkFailed, write_piece, write_pieces};
 use emit_bodies::{kind_bytes, write_arrow, write_parameters};
 use emit_names::{
-    Style, is_try_free, is_try_with_free, is_with_free, write_input, write_member, write_try_name,
-    write_try_with_name, write_with_name,
+    are_lasting_free, are_lasting_with_free, is_try_free, is_try_with_free, is_with_free,
+    write_input,
 };
 use emit_statements::{
-    Calls, Source, answer_of, condition_of, count_of, first_of, is_waited_on, method_fails,
-    write_blocks, write_end,
+    Calls, Source, Way, answer_of, condition_of, count_of, first_of, is_waited_on, may_refuse,
+    method_fails, write_blocks, write_end,
 };
 use lang_base::{Kind, Named};
 use lang_monitor::Monitor;
 use lang_tree::{Decl, MethodTree, MonitorTree};
 
-/// Writes a method of the monitor, by its number: for calls that wait, and for those that try, and
-/// each of them for calls that are given a function too, where it has them. It takes no memory.
+/// Writes a method of the monitor, by its number: for calls that wait, those that try, and those
+/// that have a time, and each of them for calls that are given a function too, where it has them.
+/// It takes no memory.
 ///
 /// After `SinkFailed` the first bytes were taken, fewer than all and maybe none.
 pub fn write_methods_of<S: Sink>(
@@ -44,8 +48,9 @@ pub fn write_methods_of<S: Sink>(
     ensures { Wrote (S.seen out.old) (S.seen out.new) result
         (methods_text (seen source.now) number method.now) }
 {
-    write_both(source, number, method, false, out)?;
-    write_try(source, number, method, out)
+    write_both(source, number, method, Way::Waits, out)?;
+    write_try(source, number, method, out)?;
+    write_times(source, number, method, out)
 }
 
 fn write_try<S: Sink>(
@@ -60,7 +65,36 @@ fn write_try<S: Sink>(
     if !has_try(source, number, method) {
         return Ok(());
     }
-    write_both(source, number, method, true, out)
+    write_both(source, number, method, Way::Tries, out)
+}
+
+fn write_times<S: Sink>(
+    source: &Source,
+    number: usize,
+    method: &MethodTree,
+    out: &mut S,
+) -> Result<(), SinkFailed>
+    ensures { Wrote (S.seen out.old) (S.seen out.new) result
+        (times_text (seen source.now) number method.now) }
+{
+    if !has_times(source, number, method) {
+        return Ok(());
+    }
+    write_timed(source, number, method, out)
+}
+
+// Until a time, and for one.
+fn write_timed<S: Sink>(
+    source: &Source,
+    number: usize,
+    method: &MethodTree,
+    out: &mut S,
+) -> Result<(), SinkFailed>
+    ensures { Wrote (S.seen out.old) (S.seen out.new) result
+        (timed_texts (seen source.now) number method.now) }
+{
+    write_both(source, number, method, Way::Until, out)?;
+    write_both(source, number, method, Way::For, out)
 }
 
 // Without a function, and with one.
@@ -68,40 +102,41 @@ fn write_both<S: Sink>(
     source: &Source,
     number: usize,
     method: &MethodTree,
-    tries: bool,
+    way: Way,
     out: &mut S,
 ) -> Result<(), SinkFailed>
     ensures { Wrote (S.seen out.old) (S.seen out.new) result
-        (both_text (seen source.now) number method.now tries) }
+        (both_text (seen source.now) number method.now way) }
 {
-    write_method(source, number, method, tries, false, out)?;
-    write_with(source, number, method, tries, out)
+    write_method(source, number, method, way, false, out)?;
+    write_with(source, number, method, way, out)
 }
 
 fn write_with<S: Sink>(
     source: &Source,
     number: usize,
     method: &MethodTree,
-    tries: bool,
+    way: Way,
     out: &mut S,
 ) -> Result<(), SinkFailed>
     ensures { Wrote (S.seen out.old) (S.seen out.new) result
-        (with_text (seen source.now) number method.now tries) }
+        (with_text (seen source.now) number method.now way) }
 {
-    if !has_with(source.tree, method, tries) {
+    if !has_with(source.tree, method, way) {
         return Ok(());
     }
-    write_method(source, number, method, tries, true, out)
+    write_method(source, number, method, way, true, out)
 }
 
 // Whether nothing else is called as the method that is given a function.
-fn has_with(tree: &MonitorTree, method: &MethodTree, tries: bool) -> bool
-    ensures { result ≡ has_with tree.now method.now tries }
+fn has_with(tree: &MonitorTree, method: &MethodTree, way: Way) -> bool
+    ensures { result ≡ has_with tree.now method.now way }
 {
-    if tries {
-        is_try_with_free(tree, &method.name)
-    } else {
-        is_with_free(tree, &method.name)
+    match way {
+        Way::Waits => is_with_free(tree, &method.name),
+        Way::Tries => is_try_with_free(tree, &method.name),
+        Way::Until => are_lasting_with_free(tree, &method.name),
+        Way::For => are_lasting_with_free(tree, &method.name),
     }
 }
 
@@ -112,6 +147,15 @@ pub fn has_try(source: &Source, number: usize, method: &MethodTree) -> bool
     let waits = waits_first(source.monitor, number);
     let free = is_try_free(source.tree, &method.name);
     waits && free
+}
+
+/// Whether a method of the monitor, by its number, has calls that have a time.
+pub fn has_times(source: &Source, number: usize, method: &MethodTree) -> bool
+    ensures { result ≡ has_times (seen source.now) number method.now }
+{
+    let tries = has_try(source, number, method);
+    let free = are_lasting_free(source.tree, &method.name);
+    tries && free
 }
 
 // Whether someone may wait for the guard of a method's first block.
@@ -128,25 +172,38 @@ fn write_method<S: Sink>(
     source: &Source,
     number: usize,
     method: &MethodTree,
-    tries: bool,
+    way: Way,
     works: bool,
     out: &mut S,
 ) -> Result<(), SinkFailed>
     ensures { Wrote (S.seen out.old) (S.seen out.new) result
-        (method_text (seen source.now) number method.now tries works) }
+        (method_text (seen source.now) number method.now way works) }
 {
-    let it = calls_of(source, number, method, tries, works);
+    let it = calls_of(source, number, method, way, works);
+    if lasts(way) {
+        return write_lasting(&it, out);
+    }
     write_calls(&it, count_of(source.monitor, number), out)
+}
+
+// Whether calls of this way wait for a time.
+fn lasts(way: Way) -> bool
+    ensures { result ≡ lasts way }
+{
+    match way {
+        Way::For => true,
+        Way::Waits | Way::Tries | Way::Until => false,
+    }
 }
 
 fn calls_of<'a>(
     source: &'a Source<'a>,
     number: usize,
     method: &'a MethodTree,
-    tries: bool,
+    way: Way,
     works: bool,
 ) -> Calls<'a>
-    ensures { method_seen result ≡ parts_of (seen source.now) number method.now tries works }
+    ensures { method_seen result ≡ parts_of (seen source.now) number method.now way works }
 {
     Calls {
         source,
@@ -154,7 +211,7 @@ fn calls_of<'a>(
         first: first_of(source.monitor, number),
         answer: method_answer(source.monitor, number),
         fails: method_fails(source, number, method),
-        tries,
+        way,
         works,
     }
 }
@@ -181,6 +238,17 @@ fn write_calls<S: Sink>(it: &Calls, count: u32, out: &mut S) -> Result<(), SinkF
     write_piece(b"    }\n", out)
 }
 
+// One that calls others.
+fn write_lasting<S: Sink>(it: &Calls, out: &mut S) -> Result<(), SinkFailed>
+    ensures { Wrote (S.seen out.old) (S.seen out.new) result (lasting_text (method_seen it.now)) }
+{
+    write_piece(b"\n", out)?;
+    write_docs(it, out)?;
+    write_head(it, out)?;
+    write_lasting_lines(it, out)?;
+    write_piece(b"    }\n", out)
+}
+
 // ---- the head
 
 fn write_head<S: Sink>(it: &Calls, out: &mut S) -> Result<(), SinkFailed>
@@ -190,47 +258,22 @@ fn write_head<S: Sink>(it: &Calls, out: &mut S) -> Result<(), SinkFailed>
     write_called(it, out)?;
     write_piece(b"(&self", out)?;
     write_own_parameters(it, out)?;
+    write_piece(time_bytes(it.way), out)?;
     write_function(it, out)?;
     write_piece(b")", out)?;
     write_method_arrow(it, out)?;
     write_piece(b" {\n", out)
 }
 
-fn write_called<S: Sink>(it: &Calls, out: &mut S) -> Result<(), SinkFailed>
-    ensures { Wrote (S.seen out.old) (S.seen out.new) result (called_text (method_seen it.now)) }
+fn time_bytes(way: Way) -> &'static [u8]
+    ensures { result.now ≡ time_text way }
 {
-    if !it.works {
-        return write_plain_called(it, out);
+    match way {
+        Way::Waits => b"",
+        Way::Tries => b"",
+        Way::Until => b", end: Instant",
+        Way::For => b", time: Duration",
     }
-    write_generic(it, out)
-}
-
-/// Writes the name of the method without a function: `try_put` where the call tries.
-pub(crate) fn write_plain_called<S: Sink>(it: &Calls, out: &mut S) -> Result<(), SinkFailed>
-    ensures { Wrote (S.seen out.old) (S.seen out.new) result (plain_called (method_seen it.now)) }
-{
-    if it.tries {
-        return write_try_name(it.source.tree, &it.method.name, out);
-    }
-    write_member(it.source.tree, Style::Snake, &it.method.name, out)
-}
-
-// With the type of what its function answers.
-fn write_generic<S: Sink>(it: &Calls, out: &mut S) -> Result<(), SinkFailed>
-    ensures { Wrote (S.seen out.old) (S.seen out.new) result
-        (work_called (method_seen it.now) ++ codes "<R>") }
-{
-    write_work_called(it, out)?;
-    write_piece(b"<R>", out)
-}
-
-fn write_work_called<S: Sink>(it: &Calls, out: &mut S) -> Result<(), SinkFailed>
-    ensures { Wrote (S.seen out.old) (S.seen out.new) result (work_called (method_seen it.now)) }
-{
-    if it.tries {
-        return write_try_with_name(it.source.tree, &it.method.name, out);
-    }
-    write_with_name(it.source.tree, &it.method.name, out)
 }
 
 // `, f: impl FnOnce(&mut D, i64) -> R`
@@ -271,15 +314,15 @@ fn write_method_arrow<S: Sink>(it: &Calls, out: &mut S) -> Result<(), SinkFailed
     ensures { Wrote (S.seen out.old) (S.seen out.new) result (method_arrow (method_seen it.now)) }
 {
     if it.works {
-        return write_piece(work_arrow(it.tries, it.fails), out);
+        return write_piece(work_arrow(may_refuse(it.way), it.fails), out);
     }
     write_own_arrow(it, out)
 }
 
-fn work_arrow(tries: bool, fails: bool) -> &'static [u8]
-    ensures { result.now ≡ work_arrow tries fails }
+fn work_arrow(refused: bool, fails: bool) -> &'static [u8]
+    ensures { result.now ≡ work_arrow refused fails }
 {
-    match (tries, fails) {
+    match (refused, fails) {
         (true, true) => b" -> Result<R, Failed>",
         (true, false) => b" -> Result<R, Refused>",
         (false, true) => b" -> Result<R, Overflow>",
@@ -290,7 +333,7 @@ fn work_arrow(tries: bool, fails: bool) -> &'static [u8]
 fn write_own_arrow<S: Sink>(it: &Calls, out: &mut S) -> Result<(), SinkFailed>
     ensures { Wrote (S.seen out.old) (S.seen out.new) result (own_arrow (method_seen it.now)) }
 {
-    if !it.tries {
+    if !may_refuse(it.way) {
         return write_arrow(it.answer, it.fails, out);
     }
     write_try_arrow(it.answer, it.fails, out)

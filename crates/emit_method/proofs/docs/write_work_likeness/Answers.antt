@@ -1,5 +1,6 @@
 use Rattle.std.proofs.Common.{codes, length}
-use Rattle.emit_method.specs.Docs.{handed_text, panics_text, plain_called}
+use Rattle.emit_method.specs.Called.{plain_called}
+use Rattle.emit_method.specs.Docs.{handed_text, panics_text}
 use Rattle.emit_statements.specs.Statements.{method_seen}
 use Rattle.base_io.proofs.Writing.{wrote_both, wrote_fails, wrote_longer, wrote_same}
 use Rattle.emit_method.proofs.docs.write_work_likeness.Goals as goal

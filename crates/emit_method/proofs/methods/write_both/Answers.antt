@@ -5,7 +5,7 @@ use Rattle.emit_method.proofs.methods.write_both.Goals as goal
 
 pub returns-in_err-write_method : goal.returns-in_err-write_method
 returns-in_err-write_method g c =
-    wrote_fails _ c.from_residual.ensures.0 (wrote_longer (with_text (seen c.args.source.now) c.args.number c.args.method.now c.args.tries) c.in_err-write_method.ensures)
+    wrote_fails _ c.from_residual.ensures.0 (wrote_longer (with_text (seen c.args.source.now) c.args.number c.args.method.now c.args.way) c.in_err-write_method.ensures)
 
 pub returns : goal.returns
 returns g c =

@@ -7,8 +7,8 @@ use Rattle.emit_method.proofs.methods.write_with.Goals as goal
 
 pub returns-then-not-has_with : goal.returns-then-not-has_with
 returns-then-not-has_with g c =
-    wrote_same _ (no_text (has_with c.args.source.now.tree.now c.args.method.now c.args.tries) _ (method_text (seen c.args.source.now) c.args.number c.args.method.now c.args.tries true) [] c.has_with.ensures c.if-not-has_with.true) (search rules)
+    wrote_same _ (no_text (has_with c.args.source.now.tree.now c.args.method.now c.args.way) _ (method_text (seen c.args.source.now) c.args.number c.args.method.now c.args.way true) [] c.has_with.ensures c.if-not-has_with.true) (search rules)
 
 pub returns : goal.returns
 returns g c =
-    wrote_same _ (yes_text (has_with c.args.source.now.tree.now c.args.method.now c.args.tries) _ (method_text (seen c.args.source.now) c.args.number c.args.method.now c.args.tries true) [] c.has_with.ensures c.if-not-has_with.false) c.write_method.ensures
+    wrote_same _ (yes_text (has_with c.args.source.now.tree.now c.args.method.now c.args.way) _ (method_text (seen c.args.source.now) c.args.number c.args.method.now c.args.way true) [] c.has_with.ensures c.if-not-has_with.false) c.write_method.ensures
