@@ -117,6 +117,19 @@ WAIT =
     ++ codes "impl Drop for HandOn<'_> {\n    fn drop(&mut self) {\n"
     ++ codes "        self.0.notify_one();\n    }\n}\n"
 
+-- the function that waits on a condition for a time, and the one that says how long
+abbrev pub TIMES : List ℕ
+TIMES =
+    codes "\n/// As `wait`, but no longer than this.\nfn wait_for<'a, D>(\n"
+    ++ codes "    condition: &Condvar,\n    inner: MutexGuard<'a, Inner<D>>,\n"
+    ++ codes "    left: Duration,\n) -> MutexGuard<'a, Inner<D>> {\n    condition\n"
+    ++ codes "        .wait_timeout(inner, left)\n"
+    ++ codes "        .unwrap_or_else(PoisonError::into_inner)\n        .0\n}\n\n"
+    ++ codes "/// How long it is until then, or `None` where it has come.\n"
+    ++ codes "fn time_left(end: Instant) -> Option<Duration> {\n"
+    ++ codes "    end.checked_duration_since(Instant::now())\n"
+    ++ codes "        .filter(|left| !left.is_zero())\n}\n"
+
 -- the error of calls that may fail, and the test of a number
 abbrev pub OVERFLOW : List ℕ
 OVERFLOW =
@@ -133,7 +146,8 @@ OVERFLOW =
 -- the error of calls that may be refused alone
 abbrev pub REFUSED : List ℕ
 REFUSED =
-    codes "\n/// The guard was false, and the call did not wait. Nothing changed.\n"
+    codes "\n/// The guard was false, and the call did not wait, or not any longer. "
+    ++ codes "Nothing changed.\n"
     ++ codes "#[derive(Clone, Copy, Debug, PartialEq, Eq)]\npub struct Refused;\n\n"
     ++ codes "impl std::fmt::Display for Refused {\n"
     ++ codes "    fn fmt(&self, f: &mut std::fmt::Formatter<'_>) -> std::fmt::Result {\n"
@@ -143,9 +157,10 @@ REFUSED =
 -- the error of calls that may be refused, and may overflow
 abbrev pub FAILED : List ℕ
 FAILED =
-    codes "\n/// Why a call that tries has no answer.\n"
+    codes "\n/// Why a call that tries, or has a time, has no answer.\n"
     ++ codes "#[derive(Clone, Copy, Debug, PartialEq, Eq)]\npub enum Failed {\n"
-    ++ codes "    /// The guard was false, and the call did not wait. Nothing changed.\n"
+    ++ codes "    /// The guard was false, and the call did not wait, or not any longer. "
+    ++ codes "Nothing changed.\n"
     ++ codes "    Refused,\n    /// A number would have left 64 bits.\n    Overflow,\n}\n\n"
     ++ codes "impl From<Overflow> for Failed {\n"
     ++ codes "    fn from(_: Overflow) -> Self {\n        Self::Overflow\n    }\n}\n\n"

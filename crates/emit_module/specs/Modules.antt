@@ -25,10 +25,10 @@ use Rattle.emit_bodies.specs.Guards.{guard_text}
 use Rattle.emit_statements.specs.Sources.{SourceParts, source_of, answer_of, is_whole, reads_inputs}
 use Rattle.emit_statements.specs.Conditions.{around_count, around_name, first_block}
 use Rattle.emit_statements.specs.Statements.{method_fails, method_shortens}
-use Rattle.emit_method.specs.Methods.{has_try, methods_text, start_text, typed_start}
+use Rattle.emit_method.specs.Methods.{has_times, has_try, methods_text, start_text, typed_start}
 use Rattle.emit_module.specs.Fixed.{VERSION, HEAD, NEW, WITH, WITH_DATA, DATA, DEFAULT, DEBUG}
 use Rattle.emit_module.specs.Fixed.{DEBUG_END, INNER, COPY, COPY_END, STATE, STATE_IMPL, LOCK, WAIT}
-use Rattle.emit_module.specs.Fixed.{OVERFLOW, REFUSED, FAILED, WHOLE}
+use Rattle.emit_module.specs.Fixed.{TIMES, OVERFLOW, REFUSED, FAILED, WHOLE}
 
 -- lints would speak of names that are written as they stand
 abbrev pub lints_text : MonitorTree → List ℕ
@@ -82,9 +82,19 @@ count_start source place which =
 -- what is used of `std`, by whether calls wait, and whether there are calls
 abbrev pub use_by : Bool → Bool → List ℕ
 use_by waits calls =
-    if waits then codes "use std::sync::{Condvar, Mutex, MutexGuard, PoisonError};\n\n"
-    else if calls then codes "use std::sync::{Mutex, MutexGuard, PoisonError};\n\n"
-    else codes "use std::sync::{Mutex, PoisonError};\n\n"
+    if waits then codes "use std::sync::{Condvar, Mutex, MutexGuard, PoisonError};\n"
+    else if calls then codes "use std::sync::{Mutex, MutexGuard, PoisonError};\n"
+    else codes "use std::sync::{Mutex, PoisonError};\n"
+
+-- and by whether some calls have a time
+abbrev pub use_times : Bool → List ℕ
+use_times true = codes "use std::time::{Duration, Instant};\n\n"
+use_times false = codes "\n"
+
+-- those of some method do
+abbrev pub times_somewhere : SourceParts → Bool
+times_somewhere source =
+    list_any (λ one. has_times source one.0 one.1) (enumerate_from 0 source.tree.methods)
 
 -- the monitor has methods
 abbrev pub has_calls : MonitorTree → Bool
@@ -92,7 +102,9 @@ has_calls tree = not (length tree.methods == 0)
 
 -- what this module uses of `std`
 abbrev pub use_text : SourceParts → List ℕ
-use_text source = use_by (waits_somewhere source.monitor) (has_calls source.tree)
+use_text source =
+    use_by (waits_somewhere source.monitor) (has_calls source.tree)
+    ++ use_times (times_somewhere source)
 
 -- what is said of the type, with its plan
 abbrev pub struct_docs : SourceParts → List ℕ
@@ -336,7 +348,7 @@ abbrev pub shortens_somewhere : SourceParts → Bool
 shortens_somewhere source =
     list_any (λ one. method_shortens source one.0 one.1) (enumerate_from 0 source.tree.methods)
 
--- the calls of a method that try are refused, by whether it may fail too
+-- the calls of a method that try or have a time are refused, by whether it may fail too
 abbrev pub refuses_so : SourceParts → Bool → ℕ → MethodTree → Bool
 refuses_so source fails number method =
     has_try source number method && (if fails then method_fails source number method
@@ -351,12 +363,12 @@ refuses_somewhere source fails =
 abbrev pub text_if : Bool → List ℕ → List ℕ
 text_if any text = if any then text else []
 
--- what is free of the monitor: where there are calls, where some wait, where some may fail, where
--- some may be refused, and where some number is known to have 64 bits
+-- what is free of the monitor: where there are calls, where some wait, where some have a time,
+-- where some may fail, where some may be refused, and where some number is known to have 64 bits
 abbrev pub functions_text : SourceParts → List ℕ
 functions_text source =
     text_if (has_calls source.tree) LOCK ++ text_if (waits_somewhere source.monitor) WAIT
-    ++ text_if (fails_somewhere source) OVERFLOW
+    ++ text_if (times_somewhere source) TIMES ++ text_if (fails_somewhere source) OVERFLOW
     ++ text_if (refuses_somewhere source false) REFUSED
     ++ text_if (refuses_somewhere source true) FAILED
     ++ text_if (shortens_somewhere source) WHOLE

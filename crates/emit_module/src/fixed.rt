@@ -3,7 +3,7 @@
 ghost use Rattle.std.specs.Prelude.{◌≡◌};
 ghost use Rattle.emit_module.specs.Fixed.{COPY, COPY_END, DATA, DEBUG, DEBUG_END, DEFAULT, FAILED};
 ghost use Rattle.emit_module.specs.Fixed.{HEAD, INNER, LOCK, NEW, OVERFLOW, REFUSED, STATE};
-ghost use Rattle.emit_module.specs.Fixed.{STATE_IMPL, VERSION, WAIT, WHOLE, WITH, WITH_DATA};
+ghost use Rattle.emit_module.specs.Fixed.{STATE_IMPL, TIMES, VERSION, WAIT, WHOLE, WITH, WITH_DATA};
 
 /// The program's version, which the head of a module names.
 pub fn version_bytes() -> &'static [u8]
@@ -219,6 +219,31 @@ impl Drop for HandOn<'_> {
 "
 }
 
+/// The function that waits on a condition for a time, and the one that says how long.
+pub(crate) fn times_bytes() -> &'static [u8]
+    ensures { result.now ≡ TIMES }
+{
+    b"
+/// As `wait`, but no longer than this.
+fn wait_for<'a, D>(
+    condition: &Condvar,
+    inner: MutexGuard<'a, Inner<D>>,
+    left: Duration,
+) -> MutexGuard<'a, Inner<D>> {
+    condition
+        .wait_timeout(inner, left)
+        .unwrap_or_else(PoisonError::into_inner)
+        .0
+}
+
+/// How long it is until then, or `None` where it has come.
+fn time_left(end: Instant) -> Option<Duration> {
+    end.checked_duration_since(Instant::now())
+        .filter(|left| !left.is_zero())
+}
+"
+}
+
 /// The error of calls that may fail, and the test of a number.
 pub(crate) fn overflow_bytes() -> &'static [u8]
     ensures { result.now ≡ OVERFLOW }
@@ -248,7 +273,7 @@ pub(crate) fn refused_bytes() -> &'static [u8]
     ensures { result.now ≡ REFUSED }
 {
     b"
-/// The guard was false, and the call did not wait. Nothing changed.
+/// The guard was false, and the call did not wait, or not any longer. Nothing changed.
 #[derive(Clone, Copy, Debug, PartialEq, Eq)]
 pub struct Refused;
 
@@ -267,10 +292,10 @@ pub(crate) fn failed_bytes() -> &'static [u8]
     ensures { result.now ≡ FAILED }
 {
     b"
-/// Why a call that tries has no answer.
+/// Why a call that tries, or has a time, has no answer.
 #[derive(Clone, Copy, Debug, PartialEq, Eq)]
 pub enum Failed {
-    /// The guard was false, and the call did not wait. Nothing changed.
+    /// The guard was false, and the call did not wait, or not any longer. Nothing changed.
     Refused,
     /// A number would have left 64 bits.
     Overflow,

@@ -6,8 +6,8 @@ ghost use Rattle.emit_code.specs.Code.{is_always};
 ghost use Rattle.base_io.specs.Writing.{Wrote};
 ghost use Rattle.emit_statements.specs.Sources.{seen};
 ghost use Rattle.emit_statements.specs.Statements.{method_fails, method_shortens};
-ghost use Rattle.emit_method.specs.Methods.{methods_text};
-ghost use Rattle.emit_module.specs.Fixed.{FAILED, REFUSED};
+ghost use Rattle.emit_method.specs.Methods.{has_times, methods_text};
+ghost use Rattle.emit_module.specs.Fixed.{FAILED, REFUSED, TIMES};
 ghost use Rattle.emit_module.specs.Modules.{constant_docs, constant_line, constant_text};
 ghost use Rattle.emit_module.specs.Modules.{constants_end, constants_text, debug_text};
 ghost use Rattle.emit_module.specs.Modules.{default_text, fails_somewhere, functions_text};
@@ -15,19 +15,20 @@ ghost use Rattle.emit_module.specs.Modules.{has_calls, head_text, impl_text, is_
 ghost use Rattle.emit_module.specs.Modules.{own_impl, plain_docs, refuses_so, refuses_somewhere};
 ghost use Rattle.emit_module.specs.Modules.{rust_text, shortens_somewhere, struct_docs};
 ghost use Rattle.emit_module.specs.Modules.{struct_head, struct_text, text_if, traits_text, use_by};
-ghost use Rattle.emit_module.specs.Modules.{use_text, waits_somewhere, with_data_text, with_impl};
+ghost use Rattle.emit_module.specs.Modules.{times_somewhere, use_text, use_times, waits_somewhere};
+ghost use Rattle.emit_module.specs.Modules.{with_data_text, with_impl};
 
 use crate::declared::{is_field, write_lints};
 use crate::fields::{ConditionLine, write_conditions};
 use crate::fixed::{
     data_bytes, debug_bytes, debug_end, default_bytes, failed_bytes, head_bytes, lock_bytes,
-    new_bytes, overflow_bytes, refused_bytes, version_bytes, wait_bytes, whole_bytes, with_bytes,
-    with_data_bytes,
+    new_bytes, overflow_bytes, refused_bytes, times_bytes, version_bytes, wait_bytes, whole_bytes,
+    with_bytes, with_data_bytes,
 };
 use crate::state::{write_inner, write_state, write_state_impl};
 use base_io::{Sink, SinkFailed, write_piece};
 use emit_comments::{first_line, has_comments, line_of, write_comments, write_leading};
-use emit_method::{has_try, write_methods_of, write_typed_start};
+use emit_method::{has_times, has_try, write_methods_of, write_typed_start};
 use emit_names::{Style, write_member, write_type};
 use emit_statements::{Source, is_always, method_fails, method_shortens};
 use lang_base::Named;
@@ -92,19 +93,30 @@ fn write_use<S: Sink>(source: &Source, out: &mut S) -> Result<(), SinkFailed>
     write_piece(
         use_bytes(waits_somewhere(source.monitor), has_calls(source.tree)),
         out,
-    )
+    )?;
+    write_piece(use_times(times_somewhere(source)), out)
 }
 
 fn use_bytes(waits: bool, calls: bool) -> &'static [u8]
     ensures { result.now ≡ use_by waits calls }
 {
     if waits {
-        return b"use std::sync::{Condvar, Mutex, MutexGuard, PoisonError};\n\n";
+        return b"use std::sync::{Condvar, Mutex, MutexGuard, PoisonError};\n";
     }
     if calls {
-        b"use std::sync::{Mutex, MutexGuard, PoisonError};\n\n"
+        b"use std::sync::{Mutex, MutexGuard, PoisonError};\n"
     } else {
-        b"use std::sync::{Mutex, PoisonError};\n\n"
+        b"use std::sync::{Mutex, PoisonError};\n"
+    }
+}
+
+fn use_times(times: bool) -> &'static [u8]
+    ensures { result.now ≡ use_times times }
+{
+    if times {
+        b"use std::time::{Duration, Instant};\n\n"
+    } else {
+        b"\n"
     }
 }
 
@@ -359,10 +371,18 @@ fn write_functions<S: Sink>(source: &Source, out: &mut S) -> Result<(), SinkFail
 {
     write_piece(text_if(has_calls(source.tree), lock_bytes()), out)?;
     write_piece(text_if(waits_somewhere(source.monitor), wait_bytes()), out)?;
+    write_times(source, out)?;
     write_piece(text_if(fails_somewhere(source), overflow_bytes()), out)?;
     write_refused(source, out)?;
     write_failed(source, out)?;
     write_piece(text_if(shortens_somewhere(source), whole_bytes()), out)
+}
+
+fn write_times<S: Sink>(source: &Source, out: &mut S) -> Result<(), SinkFailed>
+    ensures { Wrote (S.seen out.old) (S.seen out.new) result
+        (text_if (times_somewhere (seen source.now)) TIMES) }
+{
+    write_piece(text_if(times_somewhere(source), times_bytes()), out)
 }
 
 fn write_refused<S: Sink>(source: &Source, out: &mut S) -> Result<(), SinkFailed>
@@ -411,6 +431,25 @@ fn any_fails(source: &Source, methods: &[MethodTree]) -> bool
     found
 }
 
+// Whether the calls of some method have a time.
+fn times_somewhere(source: &Source) -> bool
+    ensures { result ≡ times_somewhere (seen source.now) }
+{
+    any_times(source, source.tree.methods.items())
+}
+
+fn any_times(source: &Source, methods: &[MethodTree]) -> bool
+    ensures { result ≡ list_any (λ one. has_times (seen source.now) one.0 one.1)
+        (enumerate_from 0 methods.now) }
+{
+    let mut found = false;
+    for (number, method) in methods.iter().enumerate() {
+        let here = has_times(source, number, method);
+        found = either(found, here);
+    }
+    found
+}
+
 // Whether some number is known to have 64 bits, and is worked out in 128.
 fn shortens_somewhere(source: &Source) -> bool
     ensures { result ≡ shortens_somewhere (seen source.now) }
@@ -430,7 +469,7 @@ fn any_shortens(source: &Source, methods: &[MethodTree]) -> bool
     found
 }
 
-// Whether the calls of some method that try are refused, by whether it may fail too.
+// Whether the calls of some method that try or have a time are refused, by whether it may fail too.
 fn refuses_somewhere(source: &Source, fails: bool) -> bool
     ensures { result ≡ refuses_somewhere (seen source.now) fails }
 {
