@@ -2,6 +2,7 @@
 // Change the monitor, and not this file. It wants Rust 1.65 and the edition 2021, or later ones.
 
 use std::sync::{Condvar, Mutex, MutexGuard, PoisonError};
+use std::time::{Duration, Instant};
 
 /// Who may touch a map, and when: readers together, or one writer alone. A writer first queues, and
 /// while one is queued no reader starts. Whoever ends has started: so no end waits, and each \`if\`
@@ -170,6 +171,91 @@ impl<D> MapGate<D> {
         inner.state = next;
         drop(inner);
         Ok(result)
+    }
+
+    /// As [`start_read`](Self::start_read), but waits for `state >= 0 && queued == 0` no longer than until `end`.
+    ///
+    /// # Errors
+    ///
+    /// [`Failed::Refused`] where its time is over and `state >= 0 && queued == 0` is false. Then nothing changes.
+    ///
+    /// [`Failed::Overflow`] where a number would leave 64 bits. Then nothing changes.
+    pub fn start_read_until(&self, end: Instant) -> Result<(), Failed> {
+        let mut inner = lock(&self.inner);
+        while !inner.state.can_start_read() {
+            let Some(left) = time_left(end) else {
+                return Err(Failed::Refused);
+            };
+            inner.asleep_start_read += 1;
+            inner = wait_for(&self.can_start_read, inner, left);
+            inner.asleep_start_read -= 1;
+        }
+        let Ok(()) = inner.state.run_start_read() else {
+            self.can_start_read.notify_one();
+            return Err(Failed::Overflow);
+        };
+        drop(inner);
+        Ok(())
+    }
+
+    /// As [`start_read_until`](Self::start_read_until), and calls `f` with the data under the same lock.
+    ///
+    /// Where `f` panics no field changes. `f` must not call this monitor.
+    ///
+    /// # Errors
+    ///
+    /// [`Failed::Refused`] where its time is over and `state >= 0 && queued == 0` is false. Then nothing changes.
+    ///
+    /// [`Failed::Overflow`] where a number would leave 64 bits. Then nothing changes.
+    pub fn start_read_until_with<R>(&self, end: Instant, f: impl FnOnce(&mut D) -> R) -> Result<R, Failed> {
+        let mut inner = lock(&self.inner);
+        while !inner.state.can_start_read() {
+            let Some(left) = time_left(end) else {
+                return Err(Failed::Refused);
+            };
+            inner.asleep_start_read += 1;
+            inner = wait_for(&self.can_start_read, inner, left);
+            inner.asleep_start_read -= 1;
+        }
+        let hand = HandOn(&self.can_start_read);
+        let mut next = inner.state;
+        next.run_start_read()?;
+        let result = f(&mut inner.data);
+        std::mem::forget(hand);
+        inner.state = next;
+        drop(inner);
+        Ok(result)
+    }
+
+    /// As [`start_read`](Self::start_read), but waits for `state >= 0 && queued == 0` no longer than `time`.
+    ///
+    /// # Errors
+    ///
+    /// [`Failed::Refused`] where its time is over and `state >= 0 && queued == 0` is false. Then nothing changes.
+    ///
+    /// [`Failed::Overflow`] where a number would leave 64 bits. Then nothing changes.
+    pub fn start_read_for(&self, time: Duration) -> Result<(), Failed> {
+        let Some(end) = Instant::now().checked_add(time) else {
+            self.start_read()?;
+            return Ok(());
+        };
+        self.start_read_until(end)
+    }
+
+    /// As [`start_read_for`](Self::start_read_for), and calls `f` with the data under the same lock.
+    ///
+    /// Where `f` panics no field changes. `f` must not call this monitor.
+    ///
+    /// # Errors
+    ///
+    /// [`Failed::Refused`] where its time is over and `state >= 0 && queued == 0` is false. Then nothing changes.
+    ///
+    /// [`Failed::Overflow`] where a number would leave 64 bits. Then nothing changes.
+    pub fn start_read_for_with<R>(&self, time: Duration, f: impl FnOnce(&mut D) -> R) -> Result<R, Failed> {
+        let Some(end) = Instant::now().checked_add(time) else {
+            return Ok(self.start_read_with(f)?);
+        };
+        self.start_read_until_with(end, f)
     }
 
     /// Does not wait.
@@ -403,6 +489,24 @@ impl Drop for HandOn<'_> {
     }
 }
 
+/// As `wait`, but no longer than this.
+fn wait_for<'a, D>(
+    condition: &Condvar,
+    inner: MutexGuard<'a, Inner<D>>,
+    left: Duration,
+) -> MutexGuard<'a, Inner<D>> {
+    condition
+        .wait_timeout(inner, left)
+        .unwrap_or_else(PoisonError::into_inner)
+        .0
+}
+
+/// How long it is until then, or `None` where it has come.
+fn time_left(end: Instant) -> Option<Duration> {
+    end.checked_duration_since(Instant::now())
+        .filter(|left| !left.is_zero())
+}
+
 /// A number would have left 64 bits.
 #[derive(Clone, Copy, Debug, PartialEq, Eq)]
 pub struct Overflow;
@@ -420,10 +524,10 @@ fn narrow(number: i128) -> Result<i64, Overflow> {
     i64::try_from(number).map_err(|_| Overflow)
 }
 
-/// Why a call that tries has no answer.
+/// Why a call that tries, or has a time, has no answer.
 #[derive(Clone, Copy, Debug, PartialEq, Eq)]
 pub enum Failed {
-    /// The guard was false, and the call did not wait. Nothing changed.
+    /// The guard was false, and the call did not wait, or not any longer. Nothing changed.
     Refused,
     /// A number would have left 64 bits.
     Overflow,

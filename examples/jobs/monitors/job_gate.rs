@@ -2,6 +2,7 @@
 // Change the monitor, and not this file. It wants Rust 1.65 and the edition 2021, or later ones.
 
 use std::sync::{Condvar, Mutex, MutexGuard, PoisonError};
+use std::time::{Duration, Instant};
 
 /// How many jobs a queue has, and who may come in. After \`close\` nothing is pushed any more; what is
 /// in the queue is still popped.
@@ -170,6 +171,87 @@ impl<D> JobGate<D> {
         Ok(result)
     }
 
+    /// As [`push`](Self::push), but waits for `count < CAP || !open` no longer than until `end`.
+    ///
+    /// # Errors
+    ///
+    /// [`Refused`] where its time is over and `count < CAP || !open` is false. Then nothing changes.
+    pub fn push_until(&self, end: Instant) -> Result<bool, Refused> {
+        let mut inner = lock(&self.inner);
+        while !inner.state.can_push() {
+            let Some(left) = time_left(end) else {
+                return Err(Refused);
+            };
+            inner.asleep_push += 1;
+            inner = wait_for(&self.can_push, inner, left);
+            inner.asleep_push -= 1;
+        }
+        let answer = inner.state.run_push();
+        let copy = inner.copy();
+        drop(inner);
+        if copy.asleep_pop > 0 {
+            self.can_pop.notify_one();
+        }
+        Ok(answer)
+    }
+
+    /// As [`push_until`](Self::push_until), and calls `f` with the data and the answer under the same lock.
+    ///
+    /// Where `f` panics no field changes. `f` must not call this monitor.
+    ///
+    /// # Errors
+    ///
+    /// [`Refused`] where its time is over and `count < CAP || !open` is false. Then nothing changes.
+    pub fn push_until_with<R>(&self, end: Instant, f: impl FnOnce(&mut D, bool) -> R) -> Result<R, Refused> {
+        let mut inner = lock(&self.inner);
+        while !inner.state.can_push() {
+            let Some(left) = time_left(end) else {
+                return Err(Refused);
+            };
+            inner.asleep_push += 1;
+            inner = wait_for(&self.can_push, inner, left);
+            inner.asleep_push -= 1;
+        }
+        let hand = HandOn(&self.can_push);
+        let mut next = inner.state;
+        let answer = next.run_push();
+        let result = f(&mut inner.data, answer);
+        std::mem::forget(hand);
+        inner.state = next;
+        let copy = inner.copy();
+        drop(inner);
+        if copy.asleep_pop > 0 {
+            self.can_pop.notify_one();
+        }
+        Ok(result)
+    }
+
+    /// As [`push`](Self::push), but waits for `count < CAP || !open` no longer than `time`.
+    ///
+    /// # Errors
+    ///
+    /// [`Refused`] where its time is over and `count < CAP || !open` is false. Then nothing changes.
+    pub fn push_for(&self, time: Duration) -> Result<bool, Refused> {
+        let Some(end) = Instant::now().checked_add(time) else {
+            return Ok(self.push());
+        };
+        self.push_until(end)
+    }
+
+    /// As [`push_for`](Self::push_for), and calls `f` with the data and the answer under the same lock.
+    ///
+    /// Where `f` panics no field changes. `f` must not call this monitor.
+    ///
+    /// # Errors
+    ///
+    /// [`Refused`] where its time is over and `count < CAP || !open` is false. Then nothing changes.
+    pub fn push_for_with<R>(&self, time: Duration, f: impl FnOnce(&mut D, bool) -> R) -> Result<R, Refused> {
+        let Some(end) = Instant::now().checked_add(time) else {
+            return Ok(self.push_with(f));
+        };
+        self.push_until_with(end, f)
+    }
+
     /// Waits until `count > 0 || !open`.
     pub fn pop(&self) -> bool {
         let mut found: bool = false;
@@ -258,6 +340,89 @@ impl<D> JobGate<D> {
             self.can_push.notify_one();
         }
         Ok(result)
+    }
+
+    /// As [`pop`](Self::pop), but waits for `count > 0 || !open` no longer than until `end`.
+    ///
+    /// # Errors
+    ///
+    /// [`Refused`] where its time is over and `count > 0 || !open` is false. Then nothing changes.
+    pub fn pop_until(&self, end: Instant) -> Result<bool, Refused> {
+        let mut found: bool = false;
+        let mut inner = lock(&self.inner);
+        while !inner.state.can_pop() {
+            let Some(left) = time_left(end) else {
+                return Err(Refused);
+            };
+            inner.asleep_pop += 1;
+            inner = wait_for(&self.can_pop, inner, left);
+            inner.asleep_pop -= 1;
+        }
+        let answer = inner.state.run_pop(&mut found);
+        let copy = inner.copy();
+        drop(inner);
+        if copy.asleep_push > 0 {
+            self.can_push.notify_one();
+        }
+        Ok(answer)
+    }
+
+    /// As [`pop_until`](Self::pop_until), and calls `f` with the data and the answer under the same lock.
+    ///
+    /// Where `f` panics no field changes. `f` must not call this monitor.
+    ///
+    /// # Errors
+    ///
+    /// [`Refused`] where its time is over and `count > 0 || !open` is false. Then nothing changes.
+    pub fn pop_until_with<R>(&self, end: Instant, f: impl FnOnce(&mut D, bool) -> R) -> Result<R, Refused> {
+        let mut found: bool = false;
+        let mut inner = lock(&self.inner);
+        while !inner.state.can_pop() {
+            let Some(left) = time_left(end) else {
+                return Err(Refused);
+            };
+            inner.asleep_pop += 1;
+            inner = wait_for(&self.can_pop, inner, left);
+            inner.asleep_pop -= 1;
+        }
+        let hand = HandOn(&self.can_pop);
+        let mut next = inner.state;
+        let answer = next.run_pop(&mut found);
+        let result = f(&mut inner.data, answer);
+        std::mem::forget(hand);
+        inner.state = next;
+        let copy = inner.copy();
+        drop(inner);
+        if copy.asleep_push > 0 {
+            self.can_push.notify_one();
+        }
+        Ok(result)
+    }
+
+    /// As [`pop`](Self::pop), but waits for `count > 0 || !open` no longer than `time`.
+    ///
+    /// # Errors
+    ///
+    /// [`Refused`] where its time is over and `count > 0 || !open` is false. Then nothing changes.
+    pub fn pop_for(&self, time: Duration) -> Result<bool, Refused> {
+        let Some(end) = Instant::now().checked_add(time) else {
+            return Ok(self.pop());
+        };
+        self.pop_until(end)
+    }
+
+    /// As [`pop_for`](Self::pop_for), and calls `f` with the data and the answer under the same lock.
+    ///
+    /// Where `f` panics no field changes. `f` must not call this monitor.
+    ///
+    /// # Errors
+    ///
+    /// [`Refused`] where its time is over and `count > 0 || !open` is false. Then nothing changes.
+    pub fn pop_for_with<R>(&self, time: Duration, f: impl FnOnce(&mut D, bool) -> R) -> Result<R, Refused> {
+        let Some(end) = Instant::now().checked_add(time) else {
+            return Ok(self.pop_with(f));
+        };
+        self.pop_until_with(end, f)
     }
 
     /// Does not wait.
@@ -428,7 +593,25 @@ impl Drop for HandOn<'_> {
     }
 }
 
-/// The guard was false, and the call did not wait. Nothing changed.
+/// As `wait`, but no longer than this.
+fn wait_for<'a, D>(
+    condition: &Condvar,
+    inner: MutexGuard<'a, Inner<D>>,
+    left: Duration,
+) -> MutexGuard<'a, Inner<D>> {
+    condition
+        .wait_timeout(inner, left)
+        .unwrap_or_else(PoisonError::into_inner)
+        .0
+}
+
+/// How long it is until then, or `None` where it has come.
+fn time_left(end: Instant) -> Option<Duration> {
+    end.checked_duration_since(Instant::now())
+        .filter(|left| !left.is_zero())
+}
+
+/// The guard was false, and the call did not wait, or not any longer. Nothing changed.
 #[derive(Clone, Copy, Debug, PartialEq, Eq)]
 pub struct Refused;
 
