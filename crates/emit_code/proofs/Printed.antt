@@ -11,7 +11,7 @@ use Rattle.machine_events.specs.Configurations.{System, system_under}
 use Rattle.machine_events.specs.Pending.{IsSystem}
 use Rattle.machine_events.specs.Laws.{HasCountingPlan}
 use Rattle.emit_code.specs.Code.{Op, late_order}
-use Rattle.emit_code.specs.Executions.{Moment, program_with}
+use Rattle.emit_code.specs.Executions.{Moment}
 use Rattle.emit_code.specs.LivePlans.{live_plan, printed_program}
 use Rattle.emit_code.specs.Laws.{Leads, LosesNone}
 use Rattle.emit_code.proofs.Running.{late_runs}
@@ -37,7 +37,7 @@ counted_loses_none monitor plan clients timed last rule scripts fits lawful run 
       mutex = late_holders_act system told timed last is order run;
       ready = late_ready system told timed last is order run;
       run = late_runs system told timed last is order run;
-      functions = ran_once (program_with system told timed) last;
+      functions = ran_once system told timed last is order;
       answers = late_answers system told timed last is order run;
       counts = counted_late system told timed last run;
       pending = late_seen_to system told timed last set order run;

@@ -30,7 +30,8 @@ use Rattle.machine_events.specs.Configurations.{block_condition}
 -- for each local, are the move `Calls`; its end is the move `Returns`. The last line of a method is
 -- what its last block answered: `answer`, or none where it has no result; `Ok(answer)` where a body
 -- of the method may overflow or its calls try, with `()` in place of `answer` where there is no
--- result. In a call with a function it is `result`. Calls with a time are `m_until(end)`, and
+-- result. In a call with a function it is `result`, or `Ok(result)`: what the function returned,
+-- which was handed `answer` where there is one. Calls with a time are `m_until(end)`, and
 -- `m_for(time)`: where `Instant::now().checked_add(time)` is `Some(end)` that is `m_until(end)`,
 -- and where it is `None`, since the clock does not get there, it is `m()`, so a call that waits.
 
@@ -59,8 +60,12 @@ pub data Op : Type 0 where
   -- is the `Unlock` that ends `telling_code`. In a call that is given a function its last block is
   -- `let hand = HandOn(&self.can_c);`, `let mut next = inner.state;`,
   -- `let answer = next.run_m()?;`, `let result = f(&mut inner.data, answer);`,
-  -- `std::mem::forget(hand);`, `inner.state = next;`. Where the `?` returns or `f` panics, `hand`
-  -- is dropped, which makes the note, and then `inner`; a panic is the move `Panics`
+  -- `std::mem::forget(hand);`, `inner.state = next;`. The first and the fifth are left out where
+  -- there are no such notes, so where nobody waits on the block's condition; the `?` where the body
+  -- can't overflow; `let answer = ` and `, answer` where it has no result. The shortest is
+  -- `let mut next = inner.state;`, `next.run_m();`, `let result = f(&mut inner.data);`,
+  -- `inner.state = next;`. Where the `?` returns or `f` panics, `hand` is dropped, which makes the
+  -- note, and then `inner`; a panic is the move `Panics`. No other block of the call calls `f`
   Run : (block : ℕ) (otherwise : List Note) → Op
   -- the mutex is given back, and those of the notes come next that are called for:
   -- `let copy = inner.copy(); drop(inner);`, and then of each note
@@ -139,6 +144,12 @@ abbrev pub code_with : MonitorParts → (ℕ → List Op) → ℕ → Bool → L
 code_with monitor told method tries =
     blocks_code monitor told tries (first_in (slice_get monitor.methods method))
     (count_in (slice_get monitor.methods method))
+
+-- no body is left to run: the one before this is the last of its call
+abbrev pub is_last_run : List Op → Bool
+is_last_run [] = true
+is_last_run (Run block otherwise ∷ rest) = false
+is_last_run (op ∷ rest) = is_last_run rest
 
 -- ---- the code that is printed
 

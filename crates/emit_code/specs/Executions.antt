@@ -16,7 +16,7 @@ use Rattle.machine_implicit.specs.Scripted.{calls_of}
 use Rattle.machine_events.specs.declared.plan.Note.{Note}
 use Rattle.machine_events.specs.Counts.{one_if}
 use Rattle.machine_events.specs.Configurations.{System}
-use Rattle.emit_code.specs.Code.{Op, telling_code, test_code, code_with}
+use Rattle.emit_code.specs.Code.{Op, telling_code, test_code, code_with, is_last_run}
 use Rattle.emit_code.specs.Code.Op.{Lock, WaitUntil, ElseRefuse, Run, Notify, Unlock, Release}
 
 -- ---- programs and threads
@@ -329,15 +329,17 @@ recovers program thread frame block otherwise rest =
     (at_once program thread frame (tries_there program thread frame block)) block
     (Run block otherwise ∷ rest))
 
--- A function that the call was given panics. Nothing has changed but its data. Where
--- the panic is caught the call may be made again, or another one, as by another thread; where it
--- isn't, the thread makes no move after it gave the mutex back.
+-- The function that a call was given panics, which its last body calls. In what is printed nothing
+-- else can panic, so at no other body is there such a move. Nothing has changed but the function's
+-- data. Where the panic is caught the call may be made again, or another one, as by another thread;
+-- where it isn't, the thread makes no move after it gave the mutex back.
 pub record Panics (program : Program) (thread : ℕ) (frame : Frame) (before next : Moment) : Type 0
   where
     pub block : ℕ
     pub otherwise : List Note
     pub rest : List Op
     pub at : IsThread before.threads thread frame (At (Run block otherwise ∷ rest))
+    pub last : is_last_run rest ≡ true
     pub becomes : next ≡ record before {
       threads = goes before.threads thread frame
           (At (recovers program thread frame block otherwise rest));

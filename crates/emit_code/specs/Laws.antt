@@ -23,7 +23,7 @@ use Rattle.emit_code.specs.Executions.{Program, program_with, Position, Frame, M
 use Rattle.emit_code.specs.Executions.{start, call_of, is_open, Abandons, Executes, IsStill}
 use Rattle.emit_code.specs.Executions.{IsQuiet}
 use Rattle.emit_code.specs.Executions.Position.{Outside, At, Asleep, Notified}
-use Rattle.emit_code.specs.Functions.{FunctionsRanOnce}
+use Rattle.emit_code.specs.Functions.{FunctionsRanOnce, DataFollowTheRun}
 use Rattle.emit_code.specs.Sleepers.{SleepersAreCounted, UncountedSleepNot, LeftOutIsMade}
 use Rattle.emit_code.specs.Orders.{notes_to_come, IsTold}
 use Rattle.emit_code.specs.LivePlans.{live_plan, printed_program}
@@ -51,8 +51,8 @@ HoldersAct program last =
     → IsThread last.threads thread frame (At (op ∷ rest)) → needs_mutex op ≡ true
     → last.holder ≡ Some thread
 
--- a thread that is about to run a body, and with it the function that its call was given, holds the
--- mutex, and the guard is true
+-- a thread that is about to run a body, and with the last one of its call the function that this
+-- was given, holds the mutex, and the guard is true
 abbrev pub BodiesAreReady : Program → Moment → Type 0
 BodiesAreReady program last =
     (thread : ℕ) (frame : Frame) (block : ℕ) (otherwise : List Note) (rest : List Op)
@@ -83,8 +83,9 @@ IsDoneBy monitor call commit =
     (gives_up commit.reply ≡ true)
     ⊎ (commit.block ≡ count_in (slice_get monitor.methods call.method))
 
--- the call that the thread is in answers the reply of the last commit of the thread, after which
--- the call is done
+-- The call that the thread is in answers the reply of the last commit of the thread, after which
+-- the call is done. A call with a function hands that reply to the function, and answers what this
+-- returns.
 pub record Answers (program : Program) (ran : List Commit) (thread : ℕ) (frame : Frame)
     (call : Call) : Type 0 where
   pub commit : Commit
@@ -193,11 +194,17 @@ LateBodiesAreReady =
     → IsTold system told → Leads (program_with system told timed) last
     → BodiesAreReady (program_with system told timed) last
 
--- whatever the plan and the order, functions run once for each block that replied last in its call
+-- whatever the plan, the functions that returned are those of the calls that blocks completed
 abbrev pub LateFunctionsRanOnce : Type 0
 LateFunctionsRanOnce =
-    (system : System) (told : ℕ → List Op) (timed : ℕ → ℕ → Bool) (last : Moment)
-    → FunctionsRanOnce (program_with system told timed) last
+    (system : System) (told : ℕ → List Op) (timed : ℕ → ℕ → Bool) (last : Moment) → IsSystem system
+    → IsTold system told → FunctionsRanOnce (program_with system told timed) last
+
+-- whatever the plan, data are what these functions leave of them
+abbrev pub LateDataFollowTheRun : Type 0 → Type 0
+LateDataFollowTheRun D =
+    (system : System) (told : ℕ → List Op) (timed : ℕ → ℕ → Bool) (last : Moment) → IsSystem system
+    → IsTold system told → DataFollowTheRun D (program_with system told timed) last
 
 -- whatever the plan, what ran is a run of the implicit monitor
 abbrev pub LateExecutionsRun : Type 0

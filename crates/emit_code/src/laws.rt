@@ -4,7 +4,7 @@ ghost use Rattle.emit_code.specs.Laws.{LateHoldersAct, LateExecutionsRun, LateAn
 ghost use Rattle.emit_code.specs.Laws.{LateSleepersAreSeenTo, LateStillIsTheEnd};
 ghost use Rattle.emit_code.specs.Laws.{LateStillEndsTheRun, LateOrderIsTold};
 ghost use Rattle.emit_code.specs.Laws.{LateBodiesAreReady, LateFunctionsRanOnce};
-ghost use Rattle.emit_code.specs.Functions.{DataFollowTheRun};
+ghost use Rattle.emit_code.specs.Laws.{LateDataFollowTheRun};
 ghost use Rattle.emit_code.specs.Laws.{LateQuietIsAtRest, CountedQuietIsAtRest};
 ghost use Rattle.emit_code.specs.Laws.{LateSleepersAreCounted, LateUncountedSleepNot};
 ghost use Rattle.emit_code.specs.Laws.{LateLeftOutIsMade};
@@ -19,7 +19,7 @@ ghost use Rattle.emit_code.specs.Laws.{LateNobodyIsOwed};
 /// leaves out those on conditions on which nobody sleeps by its count, with functions that are run
 /// with bodies, any of which may panic, and with calls that try but wait first, for a time: who
 /// reads or changes the state holds the mutex, a body and its function are run where the guard is
-/// true, what ran is a run of the implicit monitor, in which a call whose function panicked has
+/// true, what ran is a run of the implicit monitor, in which a block whose function panicked has
 /// changed nothing, and what a call answers is the reply of the last that its thread did. Under a
 /// lawful plan no wake-up is lost: where nobody holds the mutex and a thread sleeps whose guard is
 /// true, a thread is notified on its condition, or has a note on it to make; and where no thread
@@ -52,16 +52,17 @@ pub fn counts_are_kept()
     ensures left_out { LateLeftOutIsMade }
 {}
 
-/// Whatever the plan and the order, the functions that returned in an execution are those of the
-/// blocks that replied last in their calls, each once, in the order of what ran.
+/// Whatever the plan and the order: in an execution functions are called with the last bodies of
+/// the code of calls, and those that returned are those of the calls that blocks completed, by what
+/// the monitor says, each once, in the order of what ran.
 pub fn functions_run_once()
     ensures { LateFunctionsRanOnce }
 {}
 
-/// So where no function panics, what is left of data of any kind, by any functions, is what those of
-/// the blocks that replied last in their calls leave of them, in the order of what ran.
+/// So where no function panics, what is left of data of any kind, by any functions, is what those
+/// of the calls that blocks completed leave of them, in the order of what ran.
 pub fn data_follow_the_run<D>()
-    ensures { DataFollowTheRun D }
+    ensures { LateDataFollowTheRun D }
 {}
 
 /// The plan without the notes that nobody hears fits its monitor where the plan does, and is lawful
