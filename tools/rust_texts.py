@@ -11,7 +11,8 @@ HEAD = """\
 """
 
 SKIP = "#[rustfmt::skip]\n#[allow(dead_code, clippy::doc_markdown, clippy::style)]\n"
-METHODS = "#[rustfmt::skip]\n#[allow(dead_code, non_snake_case, clippy::doc_markdown, clippy::style)]\n"
+METHODS = ("#[rustfmt::skip]\n#[allow(dead_code, non_snake_case)]\n"
+           "#[allow(clippy::doc_markdown, clippy::style, clippy::too_many_arguments)]\n")
 
 USED = """\
 #[allow(dead_code, non_camel_case_types)]
@@ -50,7 +51,7 @@ DATA = """\
         self.inner.into_inner().unwrap_or_else(PoisonError::into_inner).data
     }
 
-    /// Whether a function that a call was given has panicked: the data are as it left them.
+    /// Whether the mutex is poisoned, as where a function panicked that a call was given.
     #[must_use]
     pub fn is_poisoned(&self) -> bool {
         self.inner.is_poisoned()
@@ -115,7 +116,7 @@ impl State {
     const START: Self = Self {"""
 
 LOCK = """
-/// Locks the monitor, poisoned or not: where a function panicked no field has changed.
+/// Locks the monitor, poisoned or not: where a function panicked its block changed no field.
 fn lock<D>(inner: &Mutex<Inner<D>>) -> MutexGuard<'_, Inner<D>> {
     inner.lock().unwrap_or_else(PoisonError::into_inner)
 }

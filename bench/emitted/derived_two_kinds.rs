@@ -58,7 +58,8 @@ impl TwoKinds {
 }
 
 #[rustfmt::skip]
-#[allow(dead_code, non_snake_case, clippy::doc_markdown, clippy::style)]
+#[allow(dead_code, non_snake_case)]
+#[allow(clippy::doc_markdown, clippy::style, clippy::too_many_arguments)]
 impl<D> TwoKinds<D> {
     /// The monitor at its start, with these data.
     #[must_use]
@@ -91,7 +92,7 @@ impl<D> TwoKinds<D> {
         self.inner.into_inner().unwrap_or_else(PoisonError::into_inner).data
     }
 
-    /// Whether a function that a call was given has panicked: the data are as it left them.
+    /// Whether the mutex is poisoned, as where a function panicked that a call was given.
     #[must_use]
     pub fn is_poisoned(&self) -> bool {
         self.inner.is_poisoned()
@@ -1284,7 +1285,7 @@ impl State {
     }
 }
 
-/// Locks the monitor, poisoned or not: where a function panicked no field has changed.
+/// Locks the monitor, poisoned or not: where a function panicked its block changed no field.
 fn lock<D>(inner: &Mutex<Inner<D>>) -> MutexGuard<'_, Inner<D>> {
     inner.lock().unwrap_or_else(PoisonError::into_inner)
 }

@@ -21,7 +21,8 @@ NEW =
 abbrev pub WITH : List ℕ
 WITH =
     codes "#[rustfmt::skip]\n"
-    ++ codes "#[allow(dead_code, non_snake_case, clippy::doc_markdown, clippy::style)]\nimpl<D> "
+    ++ codes "#[allow(dead_code, non_snake_case)]\n"
+    ++ codes "#[allow(clippy::doc_markdown, clippy::style, clippy::too_many_arguments)]\nimpl<D> "
 
 -- the monitor with data, up to the counts at their start
 abbrev pub WITH_DATA : List ℕ
@@ -39,8 +40,8 @@ DATA =
     ++ codes "    }\n\n    /// The data, without the monitor.\n    #[must_use]\n"
     ++ codes "    pub fn into_inner(self) -> D {\n"
     ++ codes "        self.inner.into_inner().unwrap_or_else(PoisonError::into_inner).data\n"
-    ++ codes "    }\n\n    /// Whether a function that a call was given has panicked: "
-    ++ codes "the data are as it left them.\n    #[must_use]\n"
+    ++ codes "    }\n\n    /// Whether the mutex is poisoned, as where a function "
+    ++ codes "panicked that a call was given.\n    #[must_use]\n"
     ++ codes "    pub fn is_poisoned(&self) -> bool {\n        self.inner.is_poisoned()\n    }\n"
 
 -- the braces of `impl Default`
@@ -98,8 +99,8 @@ STATE_IMPL =
 -- the function that locks the monitor
 abbrev pub LOCK : List ℕ
 LOCK =
-    codes "\n/// Locks the monitor, poisoned or not: where a function panicked no field has "
-    ++ codes "changed.\n"
+    codes "\n/// Locks the monitor, poisoned or not: where a function panicked its block "
+    ++ codes "changed no field.\n"
     ++ codes "fn lock<D>(inner: &Mutex<Inner<D>>) -> MutexGuard<'_, Inner<D>> {\n"
     ++ codes "    inner.lock().unwrap_or_else(PoisonError::into_inner)\n}\n"
 

@@ -41,7 +41,8 @@ pub(crate) fn with_bytes() -> &'static [u8]
     ensures { result.now ≡ WITH }
 {
     b"#[rustfmt::skip]
-#[allow(dead_code, non_snake_case, clippy::doc_markdown, clippy::style)]
+#[allow(dead_code, non_snake_case)]
+#[allow(clippy::doc_markdown, clippy::style, clippy::too_many_arguments)]
 impl<D> "
 }
 
@@ -62,7 +63,7 @@ pub(crate) fn data_bytes() -> &'static [u8]
         self.inner.into_inner().unwrap_or_else(PoisonError::into_inner).data
     }
 
-    /// Whether a function that a call was given has panicked: the data are as it left them.
+    /// Whether the mutex is poisoned, as where a function panicked that a call was given.
     #[must_use]
     pub fn is_poisoned(&self) -> bool {
         self.inner.is_poisoned()
@@ -188,7 +189,7 @@ pub(crate) fn lock_bytes() -> &'static [u8]
     ensures { result.now ≡ LOCK }
 {
     b"
-/// Locks the monitor, poisoned or not: where a function panicked no field has changed.
+/// Locks the monitor, poisoned or not: where a function panicked its block changed no field.
 fn lock<D>(inner: &Mutex<Inner<D>>) -> MutexGuard<'_, Inner<D>> {
     inner.lock().unwrap_or_else(PoisonError::into_inner)
 }
