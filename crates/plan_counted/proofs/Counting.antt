@@ -28,6 +28,7 @@ use Rattle.plan_counted.specs.declared.counted.Told.{Told}
 use Rattle.plan_counted.specs.declared.counted.Told.TheVariants as telling
 use Rattle.plan_counted.specs.Counted.{HasNoFewer, IsTold, broadcasts_on, column_at, counted_kind, counted_notes, counted_of, told_by, told_note, told_on, is_for_all, is_tested}
 use Rattle.plan_counted.specs.CountedAndRelayed.{CountsBroadcasts}
+use Rattle.plan_counted.specs.Rows.{NamesBestRows}
 use Rattle.plan_counted.specs.inner.Answers.{AnsweredColumnsCount, AnsweredColumnsFit, AnsweredColumnsLicense, AreColumns, IsColumn, IsColumnOf, IsToldAt, IsToldOf, broadcasts_told, gives_all}
 use Rattle.plan_counted.proofs.Best.{counted_list}
 use Rattle.plan_counted.proofs.Table.{has_if, kind_at, kind_missing, length_numbered, made_on, none_if, note_is, note_left, notes_missing, notes_there, on_theirs, broadcast_found}
@@ -348,6 +349,19 @@ counted_from monitor plan columns rule fits are = record {
             (sym (broadcasts_same monitor plan columns condition column fits are is.0 is.1 there known)) (known.first earlier low less);
       }));
 }
+
+-- the table names the rows by which it is
+pub best_named : (monitor : MonitorParts) (plan : Plan) (columns : columns_type) → FitsPlan monitor plan → AreColumns monitor plan columns
+    → NamesBestRows monitor plan (counted_of plan columns) columns
+best_named monitor plan columns fits are condition column is there =
+    let known : IsColumnOf monitor plan condition column = subst (IsColumn monitor plan condition) there (column_known monitor plan columns condition are is.0 is.1) in
+    let same = broadcasts_same monitor plan columns condition column fits are is.0 is.1 there known in record {
+      tried = known.tried;
+      told = λ block within. noted_as monitor plan columns condition column.row block
+          (told_there monitor plan columns condition block column fits are is.0 is.1 there known within);
+      fewest = λ other tried. subst (HasNoFewer monitor plan condition other) (sym same) (known.fewest other tried);
+      first = λ earlier low less. subst (λ (many : ℕ). HasNoFewer monitor plan condition earlier (many + 1)) (sym same) (known.first earlier low less);
+    }
 
 -- ---- the plan fits
 

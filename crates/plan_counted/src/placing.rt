@@ -12,6 +12,7 @@ ghost use Rattle.plan_counted.specs.Exact.{HasNoOpenQuestion, IsExactlyCounted};
 ghost use Rattle.plan_counted.specs.Counted.{counted_kind, counted_kinds};
 ghost use Rattle.plan_counted.specs.Counted.{counted_notes, counted_of};
 ghost use Rattle.plan_counted.specs.CountedAndRelayed.{CountsBroadcasts, OmitsNoMore};
+ghost use Rattle.plan_counted.specs.Rows.{NamesBestRows};
 
 use super::columns::columns_of;
 use super::counted::{Column, CountedPlan, Told};
@@ -30,9 +31,9 @@ use std::alloc::{AllocError, Global};
 /// note on it where one is placed, or where no certificate is found that it leaves the condition
 /// counted with none: a signal where certificates are found that this is enough, else a broadcast.
 /// It is tested where the placed note is, and where none is placed. Of these rows the one is taken
-/// that has the fewest broadcasts, and of several such ones the first. Every other condition stays
-/// as it is. So the plan is lawful by counting, and does more than it has to only where a query may
-/// stay open (`specs/Counted`, `IsCountedFrom`).
+/// that has the fewest broadcasts, and of several such ones the first; the table names it
+/// (`specs/Rows`). Every other condition stays as it is. So the plan is lawful by counting, and
+/// does more than it has to only where a query may stay open (`specs/Counted`, `IsCountedFrom`).
 pub fn count_plan(
     alloc: Global,
     monitor: &Monitor,
@@ -49,6 +50,8 @@ pub fn count_plan(
     ensures backed { IfOk result (λ it. AreBacked monitor.now placed.now it.columns) }
     ensures broadcasts { IfOk result (λ it.
         CountsBroadcasts monitor.now placed.now it.columns) }
+    ensures rows { IfOk result (λ it.
+        NamesBestRows monitor.now placed.now it.plan it.columns) }
     ensures omits { IfOk result (λ it. OmitsNoMore placed.now it.plan) }
 {
     let _blocks = monitor.blocks();

@@ -1,13 +1,15 @@
-use Rattle.std.proofs.Common.{sym, subst}
+use Rattle.std.proofs.Common.{sym, ap, subst, ◌∙◌}
 use Rattle.lang_monitor.specs.Candidates.{candidates_of}
+use Rattle.machine_events.specs.declared.plan.Plan.{Plan}
 use Rattle.machine_events.specs.Plans.{FitsPlan}
 use Rattle.machine_events.specs.Counts.{IsLawfulByCounting}
 use Rattle.logic_wp.specs.Expressible.{is_expressible}
-use Rattle.plan_counted.specs.Counted.{AreBacked, IsCountedFrom}
+use Rattle.plan_counted.specs.Counted.{AreBacked, IsCountedFrom, counted_of}
 use Rattle.plan_counted.specs.CountedAndRelayed.{CountsBroadcasts}
+use Rattle.plan_counted.specs.Rows.{NamesBestRows}
 use Rattle.plan_counted.specs.inner.Answers.{AreColumns}
 use Rattle.plan_counted.proofs.Answered.{backed, some_pass}
-use Rattle.plan_counted.proofs.Counting.{broadcasts_counted}
+use Rattle.plan_counted.proofs.Counting.{best_named, broadcasts_counted}
 use Rattle.plan_counted.proofs.placing.count_plan.Goals as goal
 
 pub columns_of-requires-clause-kept : goal.columns_of-requires-clause-kept
@@ -58,6 +60,15 @@ returns-clause-broadcasts c =
     let monitor = c.args.monitor.now in
     let placed = c.args.placed.now in
     subst (CountsBroadcasts monitor placed) (sym c.of.ensures) (broadcasts_counted monitor placed c.in_ok-columns.columns.items c.in_ok-columns.ensures)
+
+pub returns-clause-rows : goal.returns-clause-rows
+returns-clause-rows c =
+    let monitor = c.args.monitor.now in
+    let placed = c.args.placed.now in
+    let columns = c.in_ok-columns.columns.items in
+    subst (NamesBestRows monitor placed c.in_ok-plan.plan) (sym c.of.ensures)
+    (subst (λ (plan : Plan). NamesBestRows monitor placed plan columns) (sym (c.in_ok-plan.ensures ∙ ap (counted_of placed) c.deref.ensures.value))
+    (best_named monitor placed columns c.requires.fits c.in_ok-columns.ensures))
 
 pub returns-clause-omits : goal.returns-clause-omits
 returns-clause-omits c =
