@@ -165,15 +165,15 @@ rowless monitor plan condition claim question none is = (
 
 -- the first row and the others
 pub by_both : (monitor : MonitorParts) (plan : Plan) (condition : ℕ) (claim : Claim) (found : Option Question) (question : Question) (counted : Bool) (result : Option Question)
-    → found ≡ Some question → IsByRow monitor plan condition 1 found → IsByOthers monitor plan condition counted
+    → found ≡ Some question → HasRowAt monitor condition 1 → IsByRow monitor plan condition 1 found → IsByOthers monitor plan condition counted
     → result ≡ (if counted then None else Some question) → IsByRows monitor plan condition claim result
-by_both monitor plan condition claim found question true result some first others is = subst (IsByRows monitor plan condition claim) (sym is) others
-by_both monitor plan condition claim found question false result some first others is = subst (IsByRows monitor plan condition claim) (sym is) (
+by_both monitor plan condition claim found question true result some has first others is = subst (IsByRows monitor plan condition claim) (sym is) others
+by_both monitor plan condition claim found question false result some has first others is = subst (IsByRows monitor plan condition claim) (sym is) (
   (λ row tried. elim (cases_eq row 1) [
     | inl same ↦ (question, subst (λ (one : ℕ). IsNotCountedBy monitor plan condition one question) (sym same) own)
     | inr differs ↦ others row (omega (arith, tried.has.first, differs)) tried
   ]),
-  inl own,
+  inl (has, own),
 )
   where
     own : IsNotCountedBy monitor plan condition 1 question

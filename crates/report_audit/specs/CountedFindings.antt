@@ -141,7 +141,7 @@ block_of (claims.NoTest block condition) = block
 -- without a certificate by the first row; where the guard has none, of the block of the claim
 abbrev pub IsNamed : MonitorParts → Plan → ℕ → Claim → Question → Type 0
 IsNamed monitor plan condition claim question =
-    IsNotCountedBy monitor plan condition 1 question
+    (HasRowAt monitor condition 1 × IsNotCountedBy monitor plan condition 1 question)
     ⊎ ((HasRowAt monitor condition 1 → ⊥)
     × (question ≡ questions.Counts condition 1 (block_of claim)))
 

@@ -65,5 +65,5 @@ question_about monitor plan question rule of all first = by_name first.named
         (passing_askable monitor plan first.condition of (kept_pass monitor plan of all))
 
     by_name : IsNamed monitor plan first.condition first.claim question → IsAbout monitor question
-    by_name (inl named) = all_at (IsAbout monitor) (counting_questions monitor plan first.condition 1) named.place question named.here (questions_about monitor plan first.condition 1 reads)
+    by_name (inl (has, named)) = all_at (IsAbout monitor) (counting_questions monitor plan first.condition 1) named.place question named.here (questions_about monitor plan first.condition 1 reads)
     by_name (inr (rowless, is)) = subst (IsAbout monitor) (sym is) (record { is_block = block_there monitor first.claim asked; reads_none = reads })

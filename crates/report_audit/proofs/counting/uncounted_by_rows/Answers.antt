@@ -19,4 +19,4 @@ returns-in-None c =
 pub returns-in_ok-counted-in-Some : goal.returns-in_ok-counted-in-Some
 returns-in_ok-counted-in-Some c =
     by_both c.args.monitor.now c.args.plan.now c.args.condition c.args.claim c.in_ok-unanswered_by.field-0 c.in-Some.question c.in_ok-counted-in-Some.counted c.unless.result c.in-Some.is
-    c.in_ok-unanswered_by.ensures c.in_ok-counted-in-Some.ensures c.unless.ensures
+    (c.has_row.ensures.0 c.if-not-has_row.false) c.in_ok-unanswered_by.ensures c.in_ok-counted-in-Some.ensures c.unless.ensures
