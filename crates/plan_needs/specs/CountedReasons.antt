@@ -1,5 +1,5 @@
 -- Why the things of a counted plan are needed.
-use Rattle.std.specs.Prelude.{ℕ, Option, None}
+use Rattle.std.specs.Prelude.{ℕ, ◌<◌, Option, None}
 use Rattle.lang_monitor.specs.MonitorParts.{MonitorParts}
 use Rattle.logic_solve.specs.declared.valuation.Solution.{Solution}
 use Rattle.plan_counted.specs.declared.counted.CountedPlan.{CountedPlan}
@@ -12,18 +12,27 @@ use Rattle.plan_why.specs.Things.{IsBlockOf}
 use Rattle.plan_needs.specs.declared.broadcasts.BroadcastReason.{BroadcastReason}
 use Rattle.plan_needs.specs.Needs.{counted_row, signal_queries, sparing_queries}
 
--- the thing is about the block, and a triple fails that would have to be valid to spare it
+-- after the block the triples that would have to be valid to spare the thing are valid, where their
+-- queries are plain
+abbrev pub IsSparedAt : MonitorParts → CountedPlan → Thing → ℕ → Type 0
+IsSparedAt monitor counted thing block =
+    IsFailureAmong monitor (sparing_queries monitor counted thing block) None
+
+-- the thing is about the block, and a triple fails that would have to be valid to spare it; after
+-- each earlier block that it is about these are valid, where their queries are plain
 pub record IsCountedShown (monitor : MonitorParts) (counted : CountedPlan) (thing : Thing)
     (block : ℕ) (before : Solution) (after : Option Solution) : Type 0 where
   pub about : IsBlockOf monitor thing block
   pub fails : IsFailureIn monitor (sparing_queries monitor counted thing block)
       (record { before = before; after = after })
+  pub earlier : (other : ℕ) → other < block → IsBlockOf monitor thing other
+      → IsSparedAt monitor counted thing other
 
 -- after each block that the thing is about the triples that would have to be valid to spare it are
 -- valid, where their queries are plain
 abbrev pub IsCountedUndecided : MonitorParts → CountedPlan → Thing → Type 0
-IsCountedUndecided monitor counted thing = (block : ℕ) → IsBlockOf monitor thing block
-    → IsFailureAmong monitor (sparing_queries monitor counted thing block) None
+IsCountedUndecided monitor counted thing =
+    (block : ℕ) → IsBlockOf monitor thing block → IsSparedAt monitor counted thing block
 
 -- the answer is right for the thing
 abbrev pub IsCountedAnswer : MonitorParts → CountedPlan → Thing → Answer → Type 0

@@ -190,9 +190,9 @@ fn answer_of(
 /// condition of kind broadcast, where each block that waits at it leaves it counted with none by
 /// the first row of its guard, or leaves the guard false where it has no row. All else is spared as
 /// in the placed plan (`specs/Needs`). A thing that is needed is shown with a valuation in whole
-/// numbers at which one of these triples fails, after a block that the thing is about. It is
-/// undecided only where each of them is valid or not plain (`specs/CountedReasons`). It fails only
-/// for want of memory.
+/// numbers at which one of these triples fails, after the first block that the thing is about after
+/// which that is found. It is undecided only where each of them is valid or not plain
+/// (`specs/CountedReasons`). It fails only for want of memory.
 pub fn counted_reasons(
     alloc: Global,
     monitor: &Monitor,
