@@ -1,1 +1,2 @@
 mod Wakes
+mod Last
