@@ -7,7 +7,7 @@ KEYWORDS = set(
     "pub ref return self Self static struct super trait true type unsafe use where while async await dyn "
     "abstract become box do final gen macro override priv try typeof unsized virtual yield".split())
 TYPE_WORDS = set("Inner State Overflow Refused Failed Mutex MutexGuard Condvar PoisonError Default From Result "
-                 "Drop FnOnce HandOn D R Duration Instant".split())
+                 "Drop FnOnce HandOn D R Duration Instant Option".split())
 MEMBER_WORDS = set("new with_data get_mut into_inner is_poisoned".split())
 OWN_WORDS = set("inner copy next answer f hand result end time left lock wait wait_for time_left narrow whole drop "
                 "Ok Err Some None Overflow Refused HandOn".split())

@@ -34,6 +34,7 @@ use Rattle.machine_events.specs.Configurations.{block_condition}
 -- which was handed `answer` where there is one. Calls with a time are `m_until(end)`, and
 -- `m_for(time)`: where `Instant::now().checked_add(time)` is `Some(end)` that is `m_until(end)`,
 -- and where it is `None`, since the clock does not get there, it is `m()`, so a call that waits.
+-- With a function they are `m_until_with`, and `m_for_with` by this and `m_with`.
 
 -- what a thread does in a call, by one statement
 pub data Op : Type 0 where
@@ -42,8 +43,9 @@ pub data Op : Type 0 where
   -- `while !inner.state.can_m() { inner.asleep_c += 1; inner = wait(&self.can_c, inner);
   -- inner.asleep_c -= 1; }`: the guard of a block, on a condition; where the condition reads no
   -- inputs, the test is `can_c()`. The count is raised and lowered with the mutex. In a call with a
-  -- time the loop begins with `let Some(left) = time_left(end) else { return Err(Refused); };`
-  -- (`Failed::Refused` as below), whose `return` is the move `Abandons`, and it waits by
+  -- time the loop of its first block begins with
+  -- `let Some(left) = time_left(end) else { return Err(Refused); };` (`Failed::Refused` as below),
+  -- whose `return` is the move `Abandons`, and it waits by
   -- `inner = wait_for(&self.can_c, inner, left);`
   WaitUntil : (block condition : ℕ) → Op
   -- `if !inner.state.can_m() { return Err(Refused); }`: the guard of a block, tested as above; the

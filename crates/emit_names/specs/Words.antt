@@ -20,7 +20,7 @@ TYPE_WORDS =
     codes "Inner" ∷ codes "State" ∷ codes "Overflow" ∷ codes "Refused" ∷ codes "Failed" ∷
     codes "Mutex" ∷ codes "MutexGuard" ∷ codes "Condvar" ∷ codes "PoisonError" ∷ codes "Default" ∷
     codes "From" ∷ codes "Result" ∷ codes "Drop" ∷ codes "FnOnce" ∷ codes "HandOn" ∷ codes "D" ∷
-    codes "R" ∷ codes "Duration" ∷ codes "Instant" ∷ []
+    codes "R" ∷ codes "Duration" ∷ codes "Instant" ∷ codes "Option" ∷ []
 
 -- the other functions of a monitor's type
 abbrev pub MEMBER_WORDS : List (List ℕ)

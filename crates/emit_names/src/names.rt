@@ -75,7 +75,7 @@ const KEYWORDS: [&[u8]; 52] = [
     b"yield",
 ];
 
-const TYPE_WORDS: [&[u8]; 19] = [
+const TYPE_WORDS: [&[u8]; 20] = [
     b"Inner",
     b"State",
     b"Overflow",
@@ -95,6 +95,7 @@ const TYPE_WORDS: [&[u8]; 19] = [
     b"R",
     b"Duration",
     b"Instant",
+    b"Option",
 ];
 
 const MEMBER_WORDS: [&[u8]; 5] = [
