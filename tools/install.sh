@@ -131,6 +131,20 @@ build() {
     [ -x "$program" ] || fail "the program was not built; $cache/log says why, and what was proved is kept"
 }
 
+# free FILE..: each may be put below the prefix
+free() {
+    local file at
+    for file in "$@"; do
+        [ ! -d "$prefix/$file" ] || fail "$prefix/$file is a folder"
+        at=$(dirname "$prefix/$file")
+        while [ ! -e "$at" ]; do
+            at=$(dirname "$at")
+        done
+        [ -d "$at" ] || fail "no folder for $prefix/$file: $at is a file"
+        [ -w "$at" ] || fail "you may not write in $at"
+    done
+}
+
 # place: puts the program, its page and its completions below the prefix, each whole or not at all
 place() {
     local file files=()
@@ -208,6 +222,8 @@ done
 if [ ! -d "$above" ] || [ ! -w "$above" ]; then
     fail "you may not make files in $prefix"
 fi
+mapfile -t wanted_files < <(say bin/expresso; tools/manual.py list; say "$record")
+free "${wanted_files[@]}"
 tools/manual.py check >/dev/null || fail "tools/manual.py check: $(tools/manual.py check)"
 if [ -n "$program" ]; then
     if [ ! -f "$program" ] || [ ! -x "$program" ]; then

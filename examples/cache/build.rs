@@ -15,16 +15,27 @@ fn main() -> Result<(), Box<dyn Error>> {
     println!("cargo:rerun-if-env-changed=PATH");
     let out = PathBuf::from(env::var_os("OUT_DIR").ok_or("cargo names no OUT_DIR")?);
     for entry in fs::read_dir("monitors")? {
-        let kept = entry?.path();
-        if kept.extension().is_some_and(|extension| extension == "rs") {
-            let module = match emitted(&kept.with_extension("mon"))? {
+        let monitor = entry?.path();
+        if monitor
+            .extension()
+            .is_some_and(|extension| extension == "mon")
+        {
+            let kept = monitor.with_extension("rs");
+            let module = match emitted(&monitor)? {
                 Some(module) => module,
-                None => fs::read(&kept)?,
+                None => kept_module(&kept)?,
             };
             fs::write(out.join(kept.file_name().ok_or("no name")?), module)?;
         }
     }
     Ok(())
+}
+
+/// The module that is kept, which may be that of an older monitor.
+fn kept_module(kept: &Path) -> Result<Vec<u8>, Box<dyn Error>> {
+    let name = kept.display();
+    println!("cargo:warning=there is no expresso: {name} is taken as it stands");
+    fs::read(kept).map_err(|error| format!("{name}, and no expresso to make it: {error}").into())
 }
 
 /// The monitor's module, or `None` where no program was named and none is on the path.
@@ -39,7 +50,9 @@ fn emitted(monitor: &Path) -> Result<Option<Vec<u8>>, Box<dyn Error>> {
     if run.status.success() {
         return Ok(Some(run.stdout));
     }
-    // Why a file is refused stands on standard output.
+    // Why a file is refused stands on standard output, and a hint on standard error.
     let said = String::from_utf8_lossy(&run.stdout);
-    Err(format!("{} emit: {}", program.to_string_lossy(), said.trim_end()).into())
+    let hint = String::from_utf8_lossy(&run.stderr);
+    let name = program.to_string_lossy();
+    Err(format!("{name} emit: {}\n{}", said.trim_end(), hint.trim_end()).into())
 }
