@@ -1,16 +1,14 @@
 -- A body that does not overflow keeps the fields and locals within 64 bits.
-use Rattle.std.proofs.Common.{◌≡◌, ℕ, zero, suc, ◌-◌, Bool, true, false, not, cond, List, [], ◌∷◌, map, refl, sym, subst, inl, inr}
+use Rattle.std.proofs.Common.{◌≡◌, ℕ, zero, suc, ◌-◌, Bool, true, false, not, List, [], ◌∷◌, refl, sym, subst, inl, inr}
 use Rattle.std.specs.Prelude.{nat_lt, slice_set}
 use Rattle.std.proofs.lemmas.Bool.{cond_both, or_parts}
 use Rattle.std.proofs.lemmas.List.Elements.{All-cons, All-head, All-tail}
 use Rattle.lang_base.specs.declared.value.Value.{Value}
-use Rattle.logic_linear.specs.Truth.{truth_of}
+use Rattle.logic_linear.specs.declared.substitution.Put.{Put}
 use Rattle.lang_monitor.specs.declared.monitor.Block.{Block}
 use Rattle.lang_monitor.specs.declared.monitor.Stmt.{Stmt}
-use Rattle.lang_monitor.specs.declared.monitor.Stmt.TheOpen.{Stmt-F, SetInt, SetBool, If}
-use Rattle.lang_monitor.specs.declared.monitor.Stmt.TheViews.{roll-Stmt}
-use Rattle.lang_monitor.specs.declared.monitor.Stmt.TheFolds.{ind-Stmt, map-Stmt, fold-roll-Stmt}
-use Rattle.lang_monitor.specs.Bodies.{Effect, Inputs, Memory, block_result, body_effect, effect_of, effect_step, fits_64, fits_result_64, form_value, formula_value, in_turn, memory_of, overflows_in, reading, with_value}
+use Rattle.lang_monitor.specs.Bodies.{Inputs, Memory, assigning, block_result, body_effect, fits_64, fits_result_64, memory_of, on_memory, overflows_in, target_of, value_of_put, with_value}
+use Rattle.lang_monitor.proofs.Statements.{Keeps, all_pass, kept}
 use Rattle.machine_implicit.specs.declared.commit.Reply.{Reply}
 use Rattle.machine_implicit.specs.Steps.{BlockSteps}
 use Rattle.plan_fits.specs.Fits.{AreIn64}
@@ -36,51 +34,13 @@ not_not : (a : Bool) → not a ≡ false → a ≡ true
 not_not true e = refl
 not_not false e = absurd cc
 
-abbrev KeepsShort : Effect → Type 0
-KeepsShort effect = (memory : Memory) → effect.overflows memory ≡ false → AreShort memory → AreShort (effect.next memory)
+put_keeps : (arguments : List Value) (put : Put) → Keeps Memory AreShort (assigning arguments put)
+put_keeps arguments put memory stays short =
+    let value = value_of_put arguments put memory in
+    written memory (target_of put) value (not_not (fits_64 value) stays) short
 
-abbrev Keeps : Stmt → Type 0
-Keeps statement = (arguments : List Value) → KeepsShort (effect_of arguments statement)
-
-parts_keep : (body : List ((statement : Stmt) × Keeps statement)) (arguments : List Value) → KeepsShort (in_turn (map (effect_of arguments) (map (λ part. part.0) body)))
-parts_keep [] arguments memory stays short = short
-parts_keep (part ∷ body) arguments memory stays short =
-    let first = effect_of arguments part.0 in
-    let rest = in_turn (map (effect_of arguments) (map (λ part. part.0) body)) in
-    let both = or_parts (first.overflows memory) (rest.overflows (first.next memory)) stays in
-    parts_keep body arguments (first.next memory) both.1 (part.1 arguments memory both.0 short)
-
-abbrev LayerKeeps : Stmt-F Stmt → Type 0
-LayerKeeps layer = (arguments : List Value) → KeepsShort (effect_step arguments (map-Stmt _ Effect (effect_of arguments) layer))
-
-chosen : (when : Bool) (one other : Effect) → KeepsShort one → KeepsShort other → (memory : Memory) → cond when (one.overflows memory) (other.overflows memory) ≡ false
-    → AreShort memory → AreShort (cond when (one.next memory) (other.next memory))
-chosen true one other first second memory stays short = first memory stays short
-chosen false one other first second memory stays short = second memory stays short
-
-layer_keeps : (layer : Stmt-F ((statement : Stmt) × Keeps statement)) → LayerKeeps (map-Stmt _ Stmt (λ part. part.0) layer)
-layer_keeps (SetInt place form) arguments memory stays short =
-    let value = form_value arguments form memory in
-    written memory place value (not_not (fits_64 value) stays) short
-layer_keeps (SetBool place is) arguments memory stays short =
-    let value = formula_value arguments is memory in
-    written memory place value (not_not (fits_64 value) stays) short
-layer_keeps (If when body other) arguments memory stays short =
-    chosen (truth_of (reading arguments memory) when) (in_turn (map (effect_of arguments) (map (λ part. part.0) body))) (in_turn (map (effect_of arguments) (map (λ part. part.0) other)))
-    (parts_keep body arguments) (parts_keep other arguments) memory stays short
-
-rolled_keeps : (layer : Stmt-F Stmt) → LayerKeeps layer → Keeps (roll-Stmt layer)
-rolled_keeps layer keeps arguments = subst KeepsShort (sym (fold-roll-Stmt Effect (effect_step arguments) layer)) (keeps arguments)
-
-statement_keeps : (statement : Stmt) → Keeps statement
-statement_keeps = ind-Stmt Keeps (λ layer parts is. rolled_keeps layer (subst LayerKeeps is (layer_keeps parts)))
-
-body_keeps : (body : List Stmt) (arguments : List Value) → KeepsShort (body_effect arguments body)
-body_keeps [] arguments memory stays short = short
-body_keeps (statement ∷ body) arguments memory stays short =
-    let first = effect_of arguments statement in
-    let both = or_parts (first.overflows memory) ((body_effect arguments body).overflows (first.next memory)) stays in
-    body_keeps body arguments (first.next memory) both.1 (statement_keeps statement arguments memory both.0 short)
+body_keeps : (body : List Stmt) (arguments : List Value) → Keeps Memory AreShort (body_effect arguments body)
+body_keeps body arguments = kept Memory AreShort (on_memory arguments) (λ put. true) (λ when. true) (λ put fits. put_keeps arguments put) body (all_pass body)
 
 never_true : (a : Bool) → (a ≡ true → ⊥) → a ≡ false
 never_true true never = absurd (never refl)

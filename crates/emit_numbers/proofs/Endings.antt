@@ -14,7 +14,8 @@ use Rattle.lang_forms.specs.Sense.{is_other}
 use Rattle.lang_rules.specs.Rules.{Finding, early_faults, early_returns, faults_in_each, finding, finding_step, misplaced}
 use Rattle.lang_monitor.specs.declared.monitor.Stmt.{Stmt}
 use Rattle.lang_monitor.specs.declared.monitor.Ret.{Ret}
-use Rattle.lang_monitor.specs.Bodies.{Effect, Memory, body_effect, fits_64, fits_result_64, result_value}
+use Rattle.lang_monitor.specs.Bodies.{Memory, body_effect, fits_64, fits_result_64, result_value}
+use Rattle.lang_monitor.specs.Statements.{Effect}
 use Rattle.lang_types.specs.Typed.{result_layer, result_of, result_of_kind, statement_of, statement_of_step}
 use Rattle.lang_types.proofs.FineTrees.{append_none, no_places}
 use Rattle.lang_types.proofs.PlainExpressions.{has_kind}
@@ -29,13 +30,13 @@ use Rattle.emit_numbers.proofs.Running.{AreBoth, DoesAs, Follows, Setting, bool_
 
 -- It goes on where no assigned value and not the result is outside 64 bits, and then the answer is
 -- the result.
-abbrev pub Ends : Effect → (Memory → Option Value) → (Memory → Option Value) → Memory → Outcome → Type 0
+abbrev pub Ends : Effect Memory → (Memory → Option Value) → (Memory → Option Value) → Memory → Outcome → Type 0
 Ends effect result answer memory (goes_on next) =
     (effect.overflows memory ≡ false) × (effect.next memory ≡ next) × HasShort next × (result next ≡ answer next) × (fits_result_64 (result next) ≡ true)
 Ends effect result answer memory (stops last) =
     ((effect.overflows memory || not (fits_result_64 (result (effect.next memory)))) ≡ true) × HasShort last
 
-as_ends : (effect other : Effect) (result answer : Memory → Option Value) (memory now : Memory) (outcome : Outcome) → DoesAs effect memory other now → Ends other result answer now outcome
+as_ends : (effect other : Effect Memory) (result answer : Memory → Option Value) (memory now : Memory) (outcome : Outcome) → DoesAs effect memory other now → Ends other result answer now outcome
     → Ends effect result answer memory outcome
 as_ends effect other result answer memory now (goes_on next) same ends = (same.0 ∙ ends.0, same.1 ∙ ends.1, ends.2, ends.3, ends.4)
 as_ends effect other result answer memory now (stops last) same ends = ((λ i. same.0 i || not (fits_result_64 (result (same.1 i)))) ∙ ends.0, ends.1)
@@ -43,7 +44,7 @@ as_ends effect other result answer memory now (stops last) same ends = ((λ i. s
 or_by : (a b c : Bool) → a ≡ c → (a || b) ≡ (c || b)
 or_by a b c is = ap (λ (x : Bool). x || b) is
 
-then_ends : (whole one other : Effect) (result answer : Memory → Option Value) (memory : Memory) (outcome : Outcome) (rest : Memory → Outcome) → AreBoth whole one other memory → Follows one memory outcome
+then_ends : (whole one other : Effect Memory) (result answer : Memory → Option Value) (memory : Memory) (outcome : Outcome) (rest : Memory → Outcome) → AreBoth whole one other memory → Follows one memory outcome
     → ((now : Memory) → HasShort now → Ends other result answer now (rest now)) → Ends whole result answer memory (and_then outcome rest)
 then_ends whole one other result answer memory (goes_on next) rest both follows later =
     as_ends whole other result answer memory next (rest next)

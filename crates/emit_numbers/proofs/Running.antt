@@ -8,8 +8,8 @@ use Rattle.lang_tree.specs.declared.tree.StmtTree.TheOpen.{StmtTree-F, Set, If, 
 use Rattle.lang_tree.specs.declared.tree.StmtTree.TheFolds.{fold-roll-StmtTree, map-StmtTree, ind-StmtTree}
 use Rattle.logic_linear.specs.Linear.{Linear}
 use Rattle.logic_linear.specs.declared.formula.Formula.{Formula}
+use Rattle.logic_linear.specs.declared.substitution.Put.TheVariants as puts
 use Rattle.logic_linear.specs.Truth.{value_of, truth_of}
-use Rattle.lang_base.specs.declared.kind.Kind.{Kind}
 use Rattle.lang_base.specs.declared.kind.Kind.TheVariants as kinds
 use Rattle.lang_base.specs.declared.value.Value.{Value}
 use Rattle.lang_base.specs.declared.value.Value.TheVariants as values
@@ -26,9 +26,9 @@ use Rattle.lang_forms.proofs.SenseValues.{ints_keep_meaning, bools_keep_meaning}
 use Rattle.lang_rules.specs.Rules.{Finding, expected, finding, finding_step, misplaced, target_faults}
 use Rattle.lang_monitor.specs.declared.monitor.Stmt.{Stmt}
 use Rattle.lang_monitor.specs.declared.monitor.Stmt.TheVariants as statements
-use Rattle.lang_monitor.specs.declared.monitor.Stmt.TheOpen as layers
-use Rattle.lang_monitor.specs.declared.monitor.Stmt.TheFolds.{fold-roll-Stmt}
-use Rattle.lang_monitor.specs.Bodies.{Effect, Memory, body_effect, effect_of, effect_step, fits_64, reading, with_value}
+use Rattle.lang_monitor.specs.Bodies.{Memory, assigning, body_effect, effect_of, fits_64, on_memory, reading, with_value}
+use Rattle.lang_monitor.specs.Statements.{Effect, choosing}
+use Rattle.lang_monitor.proofs.Statements.{if_effect, put_effect}
 use Rattle.lang_types.specs.Typed.{assignment, set_of, statement_of, statement_of_step}
 use Rattle.lang_types.proofs.FineTrees.{append_none, no_fault, no_places}
 use Rattle.lang_types.proofs.NamedPlaces.{named_is_found}
@@ -49,44 +49,42 @@ or_false true = refl
 or_false false = refl
 
 -- two effects from a memory
-record IsAlike (effect : Effect) (memory : Memory) (overflow : Bool) (next : Memory) : Type 0 where
+record IsAlike (effect : Effect Memory) (memory : Memory) (overflow : Bool) (next : Memory) : Type 0 where
   overflows : effect.overflows memory ≡ overflow
   reaches : effect.next memory ≡ next
 
-one_effect : (arguments : List Value) (statement : Stmt) (effect : Effect) (memory : Memory) → effect_of arguments statement ≡ effect
+one_effect : (arguments : List Value) (statement : Stmt) (effect : Effect Memory) (memory : Memory) → effect_of arguments statement ≡ effect
     → IsAlike (body_effect arguments (statement ∷ [])) memory (effect.overflows memory) (effect.next memory)
 one_effect arguments statement effect memory is = record {
-  overflows = or_false ((effect_of arguments statement).overflows memory) ∙ ap (λ (x : Effect). x.overflows memory) is;
-  reaches = ap (λ (x : Effect). x.next memory) is;
+  overflows = or_false ((effect_of arguments statement).overflows memory) ∙ ap (λ (x : Effect Memory). x.overflows memory) is;
+  reaches = ap (λ (x : Effect Memory). x.next memory) is;
 }
 
-int_effect : (arguments : List Value) (memory : Memory) (place : ℕ) (form : Linear) (made : Value) → values.Int (value_of (reading arguments memory) form) ≡ made
-    → IsAlike (body_effect arguments (statements.SetInt place form ∷ [])) memory (not (fits_64 made)) (with_value memory place made)
-int_effect arguments memory place form made is =
-    subst (λ (x : Value). IsAlike (body_effect arguments (statements.SetInt place form ∷ [])) memory (not (fits_64 x)) (with_value memory place x)) is
-    (one_effect arguments (statements.SetInt place form) (effect_step arguments (layers.SetInt place form)) memory
-    (ap (effect_of arguments) (sym (statements.rolls-SetInt place form)) ∙ fold-roll-Stmt Effect (effect_step arguments) (layers.SetInt place form)))
+number_effect : (arguments : List Value) (memory : Memory) (place : ℕ) (form : Linear) (made : Value) → values.Int (value_of (reading arguments memory) form) ≡ made
+    → IsAlike (body_effect arguments (statements.Put (puts.Number place form) ∷ [])) memory (not (fits_64 made)) (with_value memory place made)
+number_effect arguments memory place form made is =
+    subst (λ (x : Value). IsAlike (body_effect arguments (statements.Put (puts.Number place form) ∷ [])) memory (not (fits_64 x)) (with_value memory place x)) is
+    (one_effect arguments (statements.Put (puts.Number place form)) (assigning arguments (puts.Number place form)) memory (put_effect (on_memory arguments) (puts.Number place form)))
 
-bool_effect : (arguments : List Value) (memory : Memory) (place : ℕ) (formula : Formula) (made : Value) → values.Bool (truth_of (reading arguments memory) formula) ≡ made
-    → IsAlike (body_effect arguments (statements.SetBool place formula ∷ [])) memory (not (fits_64 made)) (with_value memory place made)
-bool_effect arguments memory place formula made is =
-    subst (λ (x : Value). IsAlike (body_effect arguments (statements.SetBool place formula ∷ [])) memory (not (fits_64 x)) (with_value memory place x)) is
-    (one_effect arguments (statements.SetBool place formula) (effect_step arguments (layers.SetBool place formula)) memory
-    (ap (effect_of arguments) (sym (statements.rolls-SetBool place formula)) ∙ fold-roll-Stmt Effect (effect_step arguments) (layers.SetBool place formula)))
+truth_effect : (arguments : List Value) (memory : Memory) (place : ℕ) (formula : Formula) (made : Value) → values.Bool (truth_of (reading arguments memory) formula) ≡ made
+    → IsAlike (body_effect arguments (statements.Put (puts.Truth place formula) ∷ [])) memory (not (fits_64 made)) (with_value memory place made)
+truth_effect arguments memory place formula made is =
+    subst (λ (x : Value). IsAlike (body_effect arguments (statements.Put (puts.Truth place formula) ∷ [])) memory (not (fits_64 x)) (with_value memory place x)) is
+    (one_effect arguments (statements.Put (puts.Truth place formula)) (assigning arguments (puts.Truth place formula)) memory (put_effect (on_memory arguments) (puts.Truth place formula)))
 
 abbrev chosen_memory : Bool → Memory → Memory → Memory
 chosen_memory test one other = if test then one else other
 
-if_effect : (arguments : List Value) (memory : Memory) (when : Formula) (body other : List Stmt) (test : Bool) → truth_of (reading arguments memory) when ≡ test
+branch_effect : (arguments : List Value) (memory : Memory) (when : Formula) (body other : List Stmt) (test : Bool) → truth_of (reading arguments memory) when ≡ test
     → IsAlike (body_effect arguments (statements.If when body other ∷ [])) memory
     (if test then (body_effect arguments body).overflows memory else (body_effect arguments other).overflows memory)
     (chosen_memory test ((body_effect arguments body).next memory) ((body_effect arguments other).next memory))
-if_effect arguments memory when body other test is =
+branch_effect arguments memory when body other test is =
     subst (λ (x : Bool). IsAlike (body_effect arguments (statements.If when body other ∷ [])) memory
     (if x then (body_effect arguments body).overflows memory else (body_effect arguments other).overflows memory)
     (chosen_memory x ((body_effect arguments body).next memory) ((body_effect arguments other).next memory))) is
-    (one_effect arguments (statements.If when body other) (effect_step arguments (layers.If when (map (effect_of arguments) body) (map (effect_of arguments) other))) memory
-    (ap (effect_of arguments) (sym (statements.rolls-If when body other)) ∙ fold-roll-Stmt Effect (effect_step arguments) (layers.If when body other)))
+    (one_effect arguments (statements.If when body other) (choosing (λ (one : Memory). truth_of (reading arguments one) when) (body_effect arguments body) (body_effect arguments other)) memory
+    (if_effect (on_memory arguments) when body other))
 
 or_assoc : (a b c : Bool) → (a || (b || c)) ≡ ((a || b) || c)
 or_assoc true b c = refl
@@ -109,11 +107,11 @@ both_reach arguments (first ∷ these) those memory = both_reach arguments these
 -- ---- an outcome and an effect
 
 -- It goes on where nothing overflows, to what the effect reaches, and stops where something does.
-abbrev pub Follows : Effect → Memory → Outcome → Type 0
+abbrev pub Follows : Effect Memory → Memory → Outcome → Type 0
 Follows effect memory (goes_on next) = (effect.overflows memory ≡ false) × (effect.next memory ≡ next) × HasShort next
 Follows effect memory (stops last) = (effect.overflows memory ≡ true) × HasShort last
 
-tested_follows : (effect : Effect) (memory next : Memory) (narrows fits : Bool) → (narrows ≡ false → fits ≡ true) → IsAlike effect memory (not fits) next → HasShort memory → (fits ≡ true → HasShort next)
+tested_follows : (effect : Effect Memory) (memory next : Memory) (narrows fits : Bool) → (narrows ≡ false → fits ≡ true) → IsAlike effect memory (not fits) next → HasShort memory → (fits ≡ true → HasShort next)
     → Follows effect memory (if narrows && not fits then stops memory else goes_on next)
 tested_follows effect memory next true true atom alike short later = (alike.overflows, alike.reaches, later refl)
 tested_follows effect memory next true false atom alike short later = (alike.overflows, short)
@@ -121,21 +119,21 @@ tested_follows effect memory next false true atom alike short later = (alike.ove
 tested_follows effect memory next false false atom alike short later = absurd (true≢false (sym (atom refl)))
 
 -- an effect from another memory that does as much
-abbrev pub DoesAs : Effect → Memory → Effect → Memory → Type 0
+abbrev pub DoesAs : Effect Memory → Memory → Effect Memory → Memory → Type 0
 DoesAs effect memory other now = (effect.overflows memory ≡ other.overflows now) × (effect.next memory ≡ other.next now)
 
-pub as_follows : (effect other : Effect) (memory now : Memory) (outcome : Outcome) → DoesAs effect memory other now → Follows other now outcome → Follows effect memory outcome
+pub as_follows : (effect other : Effect Memory) (memory now : Memory) (outcome : Outcome) → DoesAs effect memory other now → Follows other now outcome → Follows effect memory outcome
 as_follows effect other memory now (goes_on next) same follows = (same.0 ∙ follows.0, same.1 ∙ follows.1, follows.2)
 as_follows effect other memory now (stops last) same follows = (same.0 ∙ follows.0, follows.1)
 
-chosen_follows : (effect one other : Effect) (memory : Memory) (test : Bool) (this that : Outcome)
+chosen_follows : (effect one other : Effect Memory) (memory : Memory) (test : Bool) (this that : Outcome)
     → IsAlike effect memory (if test then one.overflows memory else other.overflows memory) (chosen_memory test (one.next memory) (other.next memory))
     → Follows one memory this → Follows other memory that → Follows effect memory (if test then this else that)
 chosen_follows effect one other memory true this that alike follows others = as_follows effect one memory memory this (alike.overflows, alike.reaches) follows
 chosen_follows effect one other memory false this that alike follows others = as_follows effect other memory memory that (alike.overflows, alike.reaches) others
 
 -- the one and then the other
-pub record AreBoth (whole one other : Effect) (memory : Memory) : Type 0 where
+pub record AreBoth (whole one other : Effect Memory) (memory : Memory) : Type 0 where
   pub overflow : whole.overflows memory ≡ (one.overflows memory || other.overflows (one.next memory))
   pub reach : whole.next memory ≡ other.next (one.next memory)
 
@@ -145,7 +143,7 @@ or_first a b c is first = is ∙ ap (λ (x : Bool). x || b) first
 or_second : (a b c : Bool) → c ≡ (a || b) → a ≡ false → c ≡ b
 or_second a b c is first = is ∙ ap (λ (x : Bool). x || b) first
 
-then_follows : (whole one other : Effect) (memory : Memory) (outcome : Outcome) (rest : Memory → Outcome) → AreBoth whole one other memory
+then_follows : (whole one other : Effect Memory) (memory : Memory) (outcome : Outcome) (rest : Memory → Outcome) → AreBoth whole one other memory
     → Follows one memory outcome → ((now : Memory) → HasShort now → Follows other now (rest now)) → Follows whole memory (and_then outcome rest)
 then_follows whole one other memory (goes_on next) rest both follows later =
     as_follows whole other memory next (rest next) (
@@ -213,7 +211,7 @@ pub kept_here : (it : Setting) (memory : Memory) (short : HasShort memory) (valu
     → fits_64 (value_now it.scope it.arguments memory value) ≡ keeps_64 it.scope it.arguments memory value
 kept_here it memory short value none = sym (keeps_short (read_in it memory short) value none)
 
-kept_follows : (it : Setting) (memory : Memory) (short : HasShort memory) (value : Expr) → (sensed it value).faults ≡ [] → (effect : Effect) (next : Memory)
+kept_follows : (it : Setting) (memory : Memory) (short : HasShort memory) (value : Expr) → (sensed it value).faults ≡ [] → (effect : Effect Memory) (next : Memory)
     → Follows effect memory (tested (written it.scope value).narrows (fits_64 (made_in it memory value)) memory next)
     → Follows effect memory (tested (written it.scope value).narrows (keeps_64 it.scope it.arguments memory value) memory next)
 kept_follows it memory short value none effect next =
@@ -236,17 +234,17 @@ meaning_follows it memory short value variable (meanings.Int place) is plain non
     let form = linear_of (entries it.scope) (sensed it value).form in
     let fine = no_fault (is_other kinds.Int (sensed it value).kind) _ right in
     let target = Some (record { name = []; meaning = meanings.Int place; is_variable = true }) in
-    kept_follows it memory short value none (body_effect it.arguments (statements.SetInt place form ∷ [])) (with_value memory place made)
-    (tested_follows (body_effect it.arguments (statements.SetInt place form ∷ [])) memory (with_value memory place made) (written it.scope value).narrows (fits_64 made)
-    (value_short (read_in it memory short) value none) (int_effect it.arguments memory place form made (int_made it memory value none fine)) short (assigned_short target made memory short))
+    kept_follows it memory short value none (body_effect it.arguments (statements.Put (puts.Number place form) ∷ [])) (with_value memory place made)
+    (tested_follows (body_effect it.arguments (statements.Put (puts.Number place form) ∷ [])) memory (with_value memory place made) (written it.scope value).narrows (fits_64 made)
+    (value_short (read_in it memory short) value none) (number_effect it.arguments memory place form made (int_made it memory value none fine)) short (assigned_short target made memory short))
 meaning_follows it memory short value variable (meanings.Flag place) is plain none right =
     let made = made_in it memory value in
     let formula = (sensed it value).formula in
     let fine = no_fault (is_other kinds.Bool (sensed it value).kind) _ right in
     let target = Some (record { name = []; meaning = meanings.Flag place; is_variable = true }) in
-    kept_follows it memory short value none (body_effect it.arguments (statements.SetBool place formula ∷ [])) (with_value memory place made)
-    (tested_follows (body_effect it.arguments (statements.SetBool place formula ∷ [])) memory (with_value memory place made) (written it.scope value).narrows (fits_64 made)
-    (value_short (read_in it memory short) value none) (bool_effect it.arguments memory place formula made (bool_made it memory value none fine)) short (assigned_short target made memory short))
+    kept_follows it memory short value none (body_effect it.arguments (statements.Put (puts.Truth place formula) ∷ [])) (with_value memory place made)
+    (tested_follows (body_effect it.arguments (statements.Put (puts.Truth place formula) ∷ [])) memory (with_value memory place made) (written it.scope value).narrows (fits_64 made)
+    (value_short (read_in it memory short) value none) (truth_effect it.arguments memory place formula made (bool_made it memory value none fine)) short (assigned_short target made memory short))
 
 is_a_variable : (test : Bool) (fault : SourceFault) → (if test then [] else fault ∷ []) ≡ [] → test ≡ true
 is_a_variable true fault none = refl
@@ -321,7 +319,7 @@ layer_follows it (If at when body other) none quiet memory short =
     let those = inner_statements it other in
     chosen_follows (body_effect it.arguments (statements.If here.formula these those ∷ [])) (body_effect it.arguments these) (body_effect it.arguments those) memory test
     (in_order (map (statement_call it.scope it.arguments) (trees_of it body)) memory) (in_order (map (statement_call it.scope it.arguments) (trees_of it other)) memory)
-    (if_effect it.arguments memory here.formula these those test is) (inner_follow it body both.0 memory short) (inner_follow it other both.1 memory short)
+    (branch_effect it.arguments memory here.formula these those test is) (inner_follow it body both.0 memory short) (inner_follow it other both.1 memory short)
 layer_follows it (Return at value) none quiet memory short = absurd cc
 
 roll_follows : (it : Setting) (layer : StmtTree-F StmtTree) → LayerFollows it layer → StatementFollows it (roll-StmtTree layer)

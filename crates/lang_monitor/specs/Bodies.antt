@@ -1,10 +1,12 @@
 -- What a body does, over whole numbers without bounds, when it overflows, and which triples are
 -- valid.
 use Rattle.std.specs.Prelude.{◌≡◌, ℕ, ◌+◌, ◌-◌, ◌^◌, ℤ, pos, neg_ℤ, int_le, int_lt, Bool, true}
-use Rattle.std.specs.Prelude.{false, not, ◌&&◌, ◌||◌, nat_lt, List, [], ◌∷◌, map, Option, Some}
-use Rattle.std.specs.Prelude.{None, unwrap_or, slice_set, if◌then◌else◌}
+use Rattle.std.specs.Prelude.{false, not, ◌&&◌, ◌||◌, nat_lt, List, [], ◌∷◌, Option, Some, None}
+use Rattle.std.specs.Prelude.{unwrap_or, slice_set, if◌then◌else◌}
 use Rattle.logic_linear.specs.Linear.{Linear}
 use Rattle.logic_linear.specs.declared.formula.Formula.{Formula}
+use Rattle.logic_linear.specs.declared.substitution.Put.{Put}
+use Rattle.logic_linear.specs.declared.substitution.Put.TheVariants.{Number, Truth}
 use Rattle.logic_linear.specs.Truth.{Valuation, value_of, truth_of}
 use Rattle.lang_base.specs.Limits.{FIRST_INPUT, FIRST_LOCAL}
 use Rattle.lang_base.specs.declared.kind.Kind.{Kind}
@@ -13,11 +15,10 @@ use Rattle.lang_monitor.specs.MonitorParts.{Places, at_place}
 use Rattle.lang_base.specs.declared.value.Value.{Value}
 use Rattle.lang_base.specs.declared.value.Value.TheVariants as values
 use Rattle.lang_monitor.specs.declared.monitor.Stmt.{Stmt}
-use Rattle.lang_monitor.specs.declared.monitor.Stmt.TheOpen.{Stmt-F, SetInt, SetBool, If}
-use Rattle.lang_monitor.specs.declared.monitor.Stmt.TheFolds.{fold-Stmt}
 use Rattle.lang_monitor.specs.declared.monitor.Ret.{Ret}
 use Rattle.lang_monitor.specs.declared.monitor.Ret.TheVariants as rets
 use Rattle.lang_monitor.specs.declared.monitor.Block.{Block}
+use Rattle.lang_monitor.specs.Statements.{Effect, Runner, run_of, run_body}
 
 -- ---- what places stand for
 
@@ -81,54 +82,41 @@ abbrev pub reading : List Value → Memory → Valuation
 reading arguments memory =
     valuation memory.state (record { arguments = arguments; locals = memory.locals })
 
--- what statements do: the state and the locals that they reach, and whether some value that they
--- assign on the way is outside 64 bits
-pub record Effect : Type 0 where
-  pub next : Memory → Memory
-  pub overflows : Memory → Bool
-
--- one after the other
-abbrev pub in_turn : List Effect → Effect
-in_turn [] = record { next = λ memory. memory; overflows = λ memory. false }
-in_turn (first ∷ more) =
-    record {
-      next = λ memory. (in_turn more).next (first.next memory);
-      overflows =
-          λ memory. first.overflows memory || (in_turn more).overflows (first.next memory);
-    }
-
--- a value for a field or a local, made of what is read before
-abbrev pub assigning : ℕ → (Memory → Value) → Effect
-assigning place value =
-    record {
-      next = λ memory. with_value memory place (value memory);
-      overflows = λ memory. not (fits_64 (value memory));
-    }
-
 abbrev pub form_value : List Value → Linear → Memory → Value
 form_value arguments form memory = values.Int (value_of (reading arguments memory) form)
 
 abbrev pub formula_value : List Value → Formula → Memory → Value
 formula_value arguments formula memory = values.Bool (truth_of (reading arguments memory) formula)
 
--- the condition is read once, before the branch runs
-abbrev pub choosing : (Memory → Bool) → Effect → Effect → Effect
-choosing when body other = record {
-  next = λ memory. if when memory then body.next memory else other.next memory;
-  overflows = λ memory. if when memory then body.overflows memory else other.overflows memory;
+-- the place of the field or the local that is assigned
+abbrev pub target_of : Put → ℕ
+target_of (Number place form) = place
+target_of (Truth place is) = place
+
+-- the value that is assigned, made of what is read before
+abbrev pub value_of_put : List Value → Put → Memory → Value
+value_of_put arguments (Number place form) memory = form_value arguments form memory
+value_of_put arguments (Truth place is) memory = formula_value arguments is memory
+
+-- an assignment to a field or a local; it overflows where its value is outside 64 bits
+abbrev pub assigning : List Value → Put → Effect Memory
+assigning arguments put = record {
+  next = λ memory. with_value memory (target_of put) (value_of_put arguments put memory);
+  overflows = λ memory. not (fits_64 (value_of_put arguments put memory));
 }
 
-abbrev pub effect_step : List Value → Stmt-F Effect → Effect
-effect_step arguments (SetInt place form) = assigning place (form_value arguments form)
-effect_step arguments (SetBool place is) = assigning place (formula_value arguments is)
-effect_step arguments (If when body other) =
-    choosing (λ memory. truth_of (reading arguments memory) when) (in_turn body) (in_turn other)
+-- a run over the state and the locals, at these arguments
+abbrev pub on_memory : List Value → Runner Memory
+on_memory arguments = record {
+  does = assigning arguments;
+  holds = λ formula memory. truth_of (reading arguments memory) formula;
+}
 
-abbrev pub effect_of : List Value → Stmt → Effect
-effect_of arguments = fold-Stmt Effect (effect_step arguments)
+abbrev pub effect_of : List Value → Stmt → Effect Memory
+effect_of arguments = run_of (on_memory arguments)
 
-abbrev pub body_effect : List Value → List Stmt → Effect
-body_effect arguments body = in_turn (map (effect_of arguments) body)
+abbrev pub body_effect : List Value → List Stmt → Effect Memory
+body_effect arguments = run_body (on_memory arguments)
 
 -- where a block begins
 abbrev pub memory_of : List Value → Inputs → Memory

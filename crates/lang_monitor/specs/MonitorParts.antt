@@ -9,6 +9,8 @@ use Rattle.logic_linear.specs.declared.formula.Formula.{Formula}
 use Rattle.logic_linear.specs.declared.formula.Formula.TheOpen.{Formula-F, Row, Flag, All as Every}
 use Rattle.logic_linear.specs.declared.formula.Formula.TheOpen.{Any as Some_of}
 use Rattle.logic_linear.specs.declared.formula.Formula.TheFolds.{fold-Formula}
+use Rattle.logic_linear.specs.declared.substitution.Put.{Put}
+use Rattle.logic_linear.specs.declared.substitution.Put.TheVariants.{Number, Truth}
 use Rattle.lang_base.specs.Limits.{FIELDS, METHODS, INPUTS, LOCALS, METHOD_BLOCKS, BLOCKS}
 use Rattle.lang_base.specs.Limits.{CONDITIONS, FIRST_INPUT, FIRST_LOCAL, MOST_TIMES}
 use Rattle.lang_base.specs.Identifiers.{IsIdentifier}
@@ -20,13 +22,12 @@ use Rattle.lang_base.specs.declared.value.Value.TheVariants as values
 use Rattle.lang_monitor.specs.declared.monitor.Field.{Field}
 use Rattle.lang_monitor.specs.declared.monitor.Method.{Method}
 use Rattle.lang_monitor.specs.declared.monitor.Stmt.{Stmt}
-use Rattle.lang_monitor.specs.declared.monitor.Stmt.TheOpen.{Stmt-F, SetInt, SetBool, If}
-use Rattle.lang_monitor.specs.declared.monitor.Stmt.TheFolds.{fold-Stmt}
 use Rattle.lang_monitor.specs.declared.monitor.Ret.{Ret}
 use Rattle.lang_monitor.specs.declared.monitor.Ret.TheVariants as rets
 use Rattle.lang_monitor.specs.declared.monitor.Block.{Block}
 use Rattle.lang_monitor.specs.declared.monitor.Condition.{Condition}
 use Rattle.lang_monitor.specs.Conditions.{HasCondition, IsDescribed, HasFirstBlock}
+use Rattle.lang_monitor.specs.Statements.{every_part}
 
 pub record MonitorParts : Type 0 where
   pub name : List ℕ
@@ -105,16 +106,15 @@ fits_formula_step places (Some_of parts) = list_all (λ part. part) parts
 abbrev pub fits_formula : Places → Formula → Bool
 fits_formula places = fold-Formula Bool (fits_formula_step places)
 
-abbrev pub fits_statement_step : Places → Stmt-F Bool → Bool
-fits_statement_step places (SetInt place form) =
+-- an int gets a form, and a bool a formula
+abbrev pub fits_put : Places → Put → Bool
+fits_put places (Number place form) =
     is_kind kinds.Int (target_at places place) && fits_form places form
-fits_statement_step places (SetBool place is) =
+fits_put places (Truth place is) =
     is_kind kinds.Bool (target_at places place) && fits_formula places is
-fits_statement_step places (If when body other) =
-    fits_formula places when && (list_all (λ inner. inner) body && list_all (λ inner. inner) other)
 
 abbrev pub fits_statement : Places → Stmt → Bool
-fits_statement places = fold-Stmt Bool (fits_statement_step places)
+fits_statement places = every_part (fits_put places) (fits_formula places)
 
 abbrev pub fits_result : Places → Ret → Bool
 fits_result places rets.Nothing = true

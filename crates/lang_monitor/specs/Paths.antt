@@ -3,7 +3,7 @@ use Rattle.std.specs.Prelude.{ℕ, ◌+◌, List, [], map, Option, Some, None, s
 use Rattle.logic_linear.specs.Measures.{product}
 use Rattle.lang_monitor.specs.declared.monitor.Block.{Block}
 use Rattle.lang_monitor.specs.declared.monitor.Stmt.{Stmt}
-use Rattle.lang_monitor.specs.declared.monitor.Stmt.TheOpen.{Stmt-F, SetInt, SetBool, If}
+use Rattle.lang_monitor.specs.declared.monitor.Stmt.TheOpen.{Stmt-F, Put, If}
 use Rattle.lang_monitor.specs.declared.monitor.Stmt.TheFolds.{fold-Stmt}
 use Rattle.lang_monitor.specs.MonitorParts.{MonitorParts}
 
@@ -18,8 +18,7 @@ block_body monitor block = body_in (slice_get monitor.blocks block)
 
 -- a path of an `if` is one of its first side, or one of its other side
 abbrev pub count_step : Stmt-F ℕ → ℕ
-count_step (SetInt field form) = 1
-count_step (SetBool field is) = 1
+count_step (Put put) = 1
 count_step (If when body other) = product body + product other
 
 abbrev pub statement_count : Stmt → ℕ

@@ -25,8 +25,7 @@ fn count_of_statement(statement: &Stmt) -> u64
     ensures { result ≡ min (statement_count statement.now) (MOST_PATHS + 1) }
 {
     match statement {
-        Stmt::SetInt { .. } => 1,
-        Stmt::SetBool { .. } => 1,
+        Stmt::Put(_) => 1,
         Stmt::If { then, other, .. } => {
             (count_of_body(then.items()) + count_of_body(other.items())).min(MOST_PATHS + 1)
         }

@@ -4,7 +4,7 @@ ghost use Rattle.std.specs.Prelude.{◌≡◌};
 
 use base_list::Seq;
 use lang_base::{Kind, Name, Value};
-use logic_linear::{Formula, Lin};
+use logic_linear::{Formula, Lin, Put};
 use std::marker::Model;
 
 /// A field, with its value at the start.
@@ -27,17 +27,10 @@ pub struct Method {
 }
 
 /// A statement of a body. In its forms and formulas field `k` has place `k`, input `k` place `16 +
-/// k`, and local `k` place `22 + k`; `field` is such a place, of a field or of a local.
+/// k`, and local `k` place `22 + k`; an assignment is to the place of a field or of a local.
 #[derive(Debug, Drop)]
 pub enum Stmt {
-    SetInt {
-        field: u32,
-        form: Lin,
-    },
-    SetBool {
-        field: u32,
-        is: Formula,
-    },
+    Put(Put),
     If {
         when: Formula,
         then: Seq<Stmt>,

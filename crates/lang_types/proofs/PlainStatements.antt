@@ -10,7 +10,8 @@ use Rattle.lang_tree.specs.declared.tree.Expr.{Expr}
 use Rattle.lang_tree.specs.declared.tree.StmtTree.{StmtTree, roll-StmtTree, out-StmtTree, roll-out-StmtTree}
 use Rattle.lang_tree.specs.declared.tree.StmtTree.TheOpen.{StmtTree-F, Set, If, Return}
 use Rattle.lang_tree.specs.declared.tree.StmtTree.TheFolds.{fold-roll-StmtTree, map-StmtTree, ind-StmtTree}
-use Rattle.logic_linear.specs.Linear.{Linear}
+use Rattle.logic_linear.specs.declared.substitution.Put.{Put}
+use Rattle.logic_linear.specs.declared.substitution.Put.TheVariants as puts
 use Rattle.logic_linear.specs.declared.formula.Formula.{Formula}
 use Rattle.logic_linear.specs.Truth.{value_of, truth_of}
 use Rattle.lang_base.specs.declared.kind.Kind.{Kind}
@@ -30,11 +31,11 @@ use Rattle.lang_forms.proofs.SenseValues.{ints_keep_meaning, bools_keep_meaning}
 use Rattle.lang_rules.specs.Rules.{Finding, early_returns, expected, finding, finding_step, misplaced, target_faults}
 use Rattle.lang_monitor.specs.declared.monitor.Stmt.{Stmt}
 use Rattle.lang_monitor.specs.declared.monitor.Stmt.TheVariants as statements
-use Rattle.lang_monitor.specs.declared.monitor.Stmt.TheOpen as layers
-use Rattle.lang_monitor.specs.declared.monitor.Stmt.TheFolds.{fold-roll-Stmt}
 use Rattle.lang_monitor.specs.declared.monitor.Ret.{Ret}
 use Rattle.lang_monitor.specs.MonitorParts.{AreOfKinds, IsOfKind}
-use Rattle.lang_monitor.specs.Bodies.{Effect, Memory, body_effect, effect_of, effect_step, number_of_value, reading, result_value, truth_of_value, value_at, with_value}
+use Rattle.lang_monitor.specs.Bodies.{Memory, body_effect, effect_of, number_of_value, on_memory, reading, result_value, target_of, truth_of_value, value_at, value_of_put, with_value}
+use Rattle.lang_monitor.specs.Statements.{Effect}
+use Rattle.lang_monitor.proofs.Statements.{if_effect, put_effect}
 use Rattle.lang_types.specs.Typed.{assignment, result_layer, result_of, result_of_kind, set_of, statement_of, statement_of_step}
 use Rattle.lang_types.specs.PlainRuns.{Environment, PlainState, reassigned, expression_value, one_by_one, plain_of, run_step, statement_run}
 use Rattle.lang_types.proofs.FineTrees.{append_none, no_fault, no_places}
@@ -216,18 +217,12 @@ set_agrees given memory next names target entry place value made agrees new = re
 
 -- ---- what one statement of a body does
 
-int_effect : (arguments : List Value) (memory : Memory) (place : ℕ) (form : Linear) → run_in arguments (statements.SetInt place form ∷ []) memory ≡ with_value memory place (values.Int (value_of (reading arguments memory) form))
-int_effect arguments memory place form =
-    ap (λ (effect : Effect). effect.next memory) (ap (effect_of arguments) (sym (statements.rolls-SetInt place form)) ∙ fold-roll-Stmt Effect (effect_step arguments) (layers.SetInt place form))
+put_run : (arguments : List Value) (memory : Memory) (put : Put) → run_in arguments (statements.Put put ∷ []) memory ≡ with_value memory (target_of put) (value_of_put arguments put memory)
+put_run arguments memory put = ap (λ (effect : Effect Memory). effect.next memory) (put_effect (on_memory arguments) put)
 
-bool_effect : (arguments : List Value) (memory : Memory) (place : ℕ) (formula : Formula) → run_in arguments (statements.SetBool place formula ∷ []) memory ≡ with_value memory place (values.Bool (truth_of (reading arguments memory) formula))
-bool_effect arguments memory place formula =
-    ap (λ (effect : Effect). effect.next memory) (ap (effect_of arguments) (sym (statements.rolls-SetBool place formula)) ∙ fold-roll-Stmt Effect (effect_step arguments) (layers.SetBool place formula))
-
-if_effect : (arguments : List Value) (memory : Memory) (when : Formula) (body other : List Stmt)
+if_run : (arguments : List Value) (memory : Memory) (when : Formula) (body other : List Stmt)
     → run_in arguments (statements.If when body other ∷ []) memory ≡ chosen (truth_of (reading arguments memory) when) (run_in arguments body memory) (run_in arguments other memory)
-if_effect arguments memory when body other =
-    ap (λ (effect : Effect). effect.next memory) (ap (effect_of arguments) (sym (statements.rolls-If when body other)) ∙ fold-roll-Stmt Effect (effect_step arguments) (layers.If when body other))
+if_run arguments memory when body other = ap (λ (effect : Effect Memory). effect.next memory) (if_effect (on_memory arguments) when body other)
 
 after_both : (arguments : List Value) (these those : List Stmt) (memory : Memory) → run_in arguments (these ++ those) memory ≡ run_in arguments those (run_in arguments these memory)
 after_both arguments [] those memory = refl
@@ -280,7 +275,7 @@ int_set given memory names target value entry place agrees named means placed no
       placed = subst (HasPlace place) (sym means) refl;
       read = ap (meaning_value (reading given.arguments next)) means ∙ read;
     }) in
-    subst (λ (x : Memory). Agrees given x (reassigned target (expression_value names value) names)) (sym (int_effect given.arguments memory place form)) after_set
+    subst (λ (x : Memory). Agrees given x (reassigned target (expression_value names value) names)) (sym (put_run given.arguments memory (puts.Number place form))) after_set
 
 bool_set : (given : Setting) (memory : Memory) (names : Environment) (target : List ℕ) (value : Expr) (entry : Entry) (place : ℕ) → Agrees given memory names
     → found given.scope target ≡ Some entry → entry.meaning ≡ meanings.Flag place → TargetPlace given.variables (meanings.Flag place)
@@ -299,7 +294,7 @@ bool_set given memory names target value entry place agrees named means placed n
       placed = subst (HasPlace place) (sym means) refl;
       read = ap (meaning_value (reading given.arguments next)) means ∙ read;
     }) in
-    subst (λ (x : Memory). Agrees given x (reassigned target (expression_value names value) names)) (sym (bool_effect given.arguments memory place formula)) after_set
+    subst (λ (x : Memory). Agrees given x (reassigned target (expression_value names value) names)) (sym (put_run given.arguments memory (puts.Truth place formula))) after_set
 
 meaning_set : (given : Setting) (memory : Memory) (names : Environment) (target : List ℕ) (value : Expr) (entry : Entry) (meaning : Meaning) → Agrees given memory names
     → found given.scope target ≡ Some entry → entry.meaning ≡ meaning → TargetPlace given.variables meaning
@@ -380,7 +375,7 @@ if_agrees given when body other none fine this that memory before agrees =
     let run = one_by_one (map statement_run (trees_of given body)) before in
     let other_run = one_by_one (map statement_run (trees_of given other)) before in
     subst (λ (x : Memory). Agrees given x (if truth_in (expression_value before.names when) then run else other_run).names)
-    (sym (if_effect given.arguments memory formula (inner_statements given body) (inner_statements given other) ∙ ap (λ (x : Bool). chosen x reached others) test))
+    (sym (if_run given.arguments memory formula (inner_statements given body) (inner_statements given other) ∙ ap (λ (x : Bool). chosen x reached others) test))
     (branch_agrees given (truth_in (expression_value before.names when)) reached others run other_run (inner_agree given body this memory before agrees) (inner_agree given other that memory before agrees))
 
 layer_agrees : (given : Setting) (layer : StmtTree-F (Known given)) → LayerAgrees given (bare_layer given layer)

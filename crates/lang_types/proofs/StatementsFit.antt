@@ -2,7 +2,8 @@
 use Rattle.std.proofs.Common.{◌≡◌, ℕ, Bool, true, false, List, [], ◌∷◌, ◌++◌, map, Option, Some, None, refl, sym, ap, subst, ◌∙◌}
 use Rattle.std.specs.Prelude.{◌&&◌, if◌then◌else◌}
 use Rattle.std.specs.List.{flat_map, list_all}
-use Rattle.std.proofs.lemmas.List.Folds.{list_all-append, list_all-map}
+use Rattle.std.proofs.lemmas.List.Folds.{list_all-append}
+use Rattle.logic_linear.specs.declared.substitution.Put.TheVariants as puts
 use Rattle.logic_linear.specs.Linear.{Linear}
 use Rattle.logic_linear.specs.declared.formula.Formula.{Formula}
 use Rattle.lang_tree.specs.declared.tree.Expr.{Expr}
@@ -25,10 +26,9 @@ use Rattle.lang_forms.proofs.SoundSenses.{or_else_none}
 use Rattle.lang_rules.specs.Rules.{Finding, expected, finding, finding_step, misplaced, return_faults, target_faults}
 use Rattle.lang_monitor.specs.declared.monitor.Stmt.{Stmt}
 use Rattle.lang_monitor.specs.declared.monitor.Stmt.TheVariants as statements
-use Rattle.lang_monitor.specs.declared.monitor.Stmt.TheOpen as layers
-use Rattle.lang_monitor.specs.declared.monitor.Stmt.TheFolds.{fold-roll-Stmt}
+use Rattle.lang_monitor.proofs.Statements.{if_parts, put_part}
 use Rattle.lang_monitor.specs.declared.monitor.Block.{Block}
-use Rattle.lang_monitor.specs.MonitorParts.{Places, fits_block, fits_form, fits_formula, fits_result, fits_statement, is_kind, target_at, fits_statement_step as fits_step}
+use Rattle.lang_monitor.specs.MonitorParts.{Places, fits_block, fits_form, fits_formula, fits_put, fits_result, fits_statement, is_kind, target_at}
 use Rattle.lang_monitor.specs.declared.monitor.Ret.TheVariants as rets
 use Rattle.lang_types.specs.Typed.{IsBlockOf, assignment, result_layer, result_of, result_of_kind, set_of, statement_of, statement_of_step as typed_step}
 use Rattle.lang_types.proofs.FineTrees.{append_none, no_fault, no_places}
@@ -54,18 +54,14 @@ pub record IsFit (places : Places) (scope : List Entry) : Type 0 where
 
 -- ---- each form of a statement
 
-fits-SetInt : (places : Places) (field : ℕ) (form : Linear) → fits_statement places (statements.SetInt field form) ≡ (is_kind kinds.Int (target_at places field) && fits_form places form)
-fits-SetInt places field form = ap (fits_statement places) (sym (statements.rolls-SetInt field form)) ∙ fold-roll-Stmt Bool (fits_step places) (layers.SetInt field form)
+fits-Number : (places : Places) (place : ℕ) (form : Linear) → fits_statement places (statements.Put (puts.Number place form)) ≡ (is_kind kinds.Int (target_at places place) && fits_form places form)
+fits-Number places place form = put_part (fits_put places) (fits_formula places) (puts.Number place form)
 
-fits-SetBool : (places : Places) (field : ℕ) (is : Formula) → fits_statement places (statements.SetBool field is) ≡ (is_kind kinds.Bool (target_at places field) && fits_formula places is)
-fits-SetBool places field is = ap (fits_statement places) (sym (statements.rolls-SetBool field is)) ∙ fold-roll-Stmt Bool (fits_step places) (layers.SetBool field is)
+fits-Truth : (places : Places) (place : ℕ) (is : Formula) → fits_statement places (statements.Put (puts.Truth place is)) ≡ (is_kind kinds.Bool (target_at places place) && fits_formula places is)
+fits-Truth places place is = put_part (fits_put places) (fits_formula places) (puts.Truth place is)
 
 fits-If : (places : Places) (when : Formula) (body other : List Stmt) → fits_statement places (statements.If when body other) ≡ (fits_formula places when && (list_all (fits_statement places) body && list_all (fits_statement places) other))
-fits-If places when body other =
-    ap (fits_statement places) (sym (statements.rolls-If when body other))
-    ∙ fold-roll-Stmt Bool (fits_step places) (layers.If when body other)
-    ∙ ap (λ inner. fits_formula places when && (inner && list_all (λ inner. inner) (map (fits_statement places) other))) (list_all-map (λ inner. inner) (fits_statement places) body)
-    ∙ ap (λ inner. fits_formula places when && (list_all (fits_statement places) body && inner)) (list_all-map (λ inner. inner) (fits_statement places) other)
+fits-If places when body other = if_parts (fits_put places) (fits_formula places) when body other
 
 one_fits : (places : Places) (statement : Stmt) → fits_statement places statement ≡ true → list_all (fits_statement places) (statement ∷ []) ≡ true
 one_fits places statement fits = rw fits refl
@@ -76,10 +72,10 @@ meaning_fits : (places : Places) (scope : List Entry) (meaning : Meaning) (value
 meaning_fits places scope (meanings.Number number) value fit fits none = refl
 meaning_fits places scope (meanings.Int place) value fit fits none =
     let fine = value_fine kinds.Int (sense scope value) none in
-    one_fits places (statements.SetInt place (linear_of scope (sense scope value).form)) (fits-SetInt places place (linear_of scope (sense scope value).form) ∙ rw (fits, int_fits places scope value fit.fits fit.small fine.0 fine.1) refl)
+    one_fits places (statements.Put (puts.Number place (linear_of scope (sense scope value).form))) (fits-Number places place (linear_of scope (sense scope value).form) ∙ rw (fits, int_fits places scope value fit.fits fit.small fine.0 fine.1) refl)
 meaning_fits places scope (meanings.Flag place) value fit fits none =
     let fine = value_fine kinds.Bool (sense scope value) none in
-    one_fits places (statements.SetBool place (sense scope value).formula) (fits-SetBool places place (sense scope value).formula ∙ rw (fits, bool_fits places scope value fit.fits fit.small fine.0 fine.1) refl)
+    one_fits places (statements.Put (puts.Truth place (sense scope value).formula)) (fits-Truth places place (sense scope value).formula ∙ rw (fits, bool_fits places scope value fit.fits fit.small fine.0 fine.1) refl)
 
 where_variable : (variable fits : Bool) → (if variable then fits else true) ≡ true → variable ≡ true → fits ≡ true
 where_variable true fits is variable_is = is

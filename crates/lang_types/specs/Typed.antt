@@ -12,6 +12,7 @@ use Rattle.lang_tree.specs.declared.tree.BlockTree.{BlockTree}
 use Rattle.lang_tree.specs.declared.tree.MethodTree.{MethodTree}
 use Rattle.lang_tree.specs.declared.tree.MonitorTree.{MonitorTree}
 use Rattle.lang_printer.specs.Canonical.{expression_text}
+use Rattle.logic_linear.specs.declared.substitution.Put.TheVariants as puts
 use Rattle.lang_base.specs.declared.kind.Kind.{Kind}
 use Rattle.lang_base.specs.declared.kind.Kind.TheVariants as kinds
 use Rattle.lang_forms.specs.declared.scope.Meaning.{Meaning}
@@ -71,8 +72,9 @@ methods_from number (method ∷ methods) =
 abbrev pub assignment : List Entry → Meaning → Sense → List Stmt
 assignment scope (meanings.Number number) value = []
 assignment scope (meanings.Int place) value =
-    statements.SetInt place (linear_of scope value.form) ∷ []
-assignment scope (meanings.Flag place) value = statements.SetBool place value.formula ∷ []
+    statements.Put (puts.Number place (linear_of scope value.form)) ∷ []
+assignment scope (meanings.Flag place) value =
+    statements.Put (puts.Truth place value.formula) ∷ []
 
 abbrev pub set_of : List Entry → Option Entry → Sense → List Stmt
 set_of scope None value = []

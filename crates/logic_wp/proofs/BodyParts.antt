@@ -9,20 +9,17 @@ use Rattle.logic_linear.specs.declared.formula.Formula.{Formula}
 use Rattle.logic_linear.specs.Measures.{MOST_NODES}
 use Rattle.logic_linear.specs.Negation.{negation}
 use Rattle.logic_linear.specs.Substitution.{is_formula_within}
-use Rattle.logic_linear.specs.Linear.{Linear}
-use Rattle.logic_linear.specs.declared.substitution.Put.TheVariants.{Number, Truth}
+use Rattle.logic_linear.specs.declared.substitution.Put.{Put as Assignment}
 use Rattle.lang_monitor.specs.declared.monitor.Stmt.{Stmt}
 use Rattle.lang_monitor.specs.declared.monitor.Stmt.TheVariants as statements
-use Rattle.lang_monitor.specs.declared.monitor.Stmt.TheOpen as layers
-use Rattle.lang_monitor.specs.declared.monitor.Stmt.TheFolds.{fold-roll-Stmt}
 use Rattle.logic_wp.specs.declared.step.Step.{Step}
 use Rattle.logic_wp.specs.declared.step.Step.TheVariants.{Put, Assume}
-use Rattle.logic_wp.specs.Paths.{assuming, body_paths, branch_paths, continued, paths_step, statement_paths}
+use Rattle.logic_wp.specs.Paths.{assuming, body_paths, branch_paths, continued, statement_paths}
 use Rattle.logic_wp.specs.NegatedQueries.{part_before, path_part}
 use Rattle.logic_wp.specs.Limits.{is_path_within}
 use Rattle.logic_wp.specs.inner.Backward.{AreBefore, AreBeyond, AreMade, ArePartsOf, IsStepped, is_within_after, nodes_after, nodes_of_part, nodes_of_parts}
 use Rattle.logic_wp.proofs.Parts.{both_hold, first_false, second_false}
-use Rattle.logic_wp.proofs.PathNumbers.{statement_has_paths}
+use Rattle.logic_wp.proofs.PathNumbers.{if_paths, put_paths, statement_has_paths}
 use Rattle.logic_wp.proofs.PathsMade.{dropped_at}
 use Rattle.logic_wp.proofs.StepNodes.{cons_le, step_no_fewer}
 
@@ -223,26 +220,11 @@ pub branches_before : (when : Formula) (bodies others : Paths) (parts : List For
 branches_before when bodies others parts body other made one two joined = λ post rests are.
     subst (λ (paths : Paths). AreMade post paths made) (sym (branches_continued when rests bodies others)) (joined post _ _ (one post rests are) (two post rests are))
 
-int_paths : (field : ℕ) (form : Linear) → statement_paths (statements.SetInt field form) ≡ (Put (Number field form) ∷ []) ∷ []
-int_paths field form = ap statement_paths (sym (statements.rolls-SetInt field form)) ∙ fold-roll-Stmt Paths paths_step (layers.SetInt field form)
-
-bool_paths : (field : ℕ) (is : Formula) → statement_paths (statements.SetBool field is) ≡ (Put (Truth field is) ∷ []) ∷ []
-bool_paths field is = ap statement_paths (sym (statements.rolls-SetBool field is)) ∙ fold-roll-Stmt Paths paths_step (layers.SetBool field is)
-
-if_paths : (when : Formula) (body other : List Stmt) → statement_paths (statements.If when body other) ≡ branch_paths when (body_paths body) (body_paths other)
-if_paths when body other = ap statement_paths (sym (statements.rolls-If when body other)) ∙ fold-roll-Stmt Paths paths_step (layers.If when body other)
-
-pub int_before : (statement : Stmt) (field : ℕ) (form copy : Linear) (parts : List Formula) (made : Option (List Formula)) → statement ≡ statements.SetInt field form → copy ≡ form
-    → IsStepped (Put (Number field copy)) parts made → AreBefore (statement_paths statement) parts made
-int_before statement field form copy parts made is same stepped =
-    subst (λ (paths : Paths). AreBefore paths parts made) (sym (ap statement_paths is ∙ int_paths field form))
-    (assignment_before (Put (Number field form)) parts made (subst (λ (f : Linear). IsStepped (Put (Number field f)) parts made) same stepped))
-
-pub bool_before : (statement : Stmt) (field : ℕ) (value copy : Formula) (parts : List Formula) (made : Option (List Formula)) → statement ≡ statements.SetBool field value → copy ≡ value
-    → IsStepped (Put (Truth field copy)) parts made → AreBefore (statement_paths statement) parts made
-bool_before statement field value copy parts made is same stepped =
-    subst (λ (paths : Paths). AreBefore paths parts made) (sym (ap statement_paths is ∙ bool_paths field value))
-    (assignment_before (Put (Truth field value)) parts made (subst (λ (f : Formula). IsStepped (Put (Truth field f)) parts made) same stepped))
+pub put_before : (statement : Stmt) (put copy : Assignment) (parts : List Formula) (made : Option (List Formula)) → statement ≡ statements.Put put → copy ≡ put
+    → IsStepped (Put copy) parts made → AreBefore (statement_paths statement) parts made
+put_before statement put copy parts made is same stepped =
+    subst (λ (paths : Paths). AreBefore paths parts made) (sym (ap statement_paths is ∙ put_paths put))
+    (assignment_before (Put put) parts made (subst (λ (one : Assignment). IsStepped (Put one) parts made) same stepped))
 
 pub if_before : (statement : Stmt) (when : Formula) (body other bodies others : List Stmt) (parts : List Formula) (one two made : Option (List Formula)) → statement ≡ statements.If when body other
     → bodies ≡ body → others ≡ other → AreBefore (body_paths bodies) parts one → AreBefore (body_paths others) parts two

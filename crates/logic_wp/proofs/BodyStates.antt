@@ -8,20 +8,21 @@ use Rattle.logic_linear.specs.declared.formula.Formula.{Formula}
 use Rattle.logic_linear.specs.declared.formula.Formula.TheOpen.{Formula-F, Row, Flag, All as Every, Any as Some_of}
 use Rattle.logic_linear.specs.declared.formula.Formula.TheViews.{roll-Formula}
 use Rattle.logic_linear.specs.declared.formula.Formula.TheFolds.{ind-Formula, map-Formula, fold-roll-Formula}
+use Rattle.logic_linear.specs.declared.substitution.Put.{Put}
+use Rattle.logic_linear.specs.declared.substitution.Put.TheVariants.{Number, Truth}
 use Rattle.logic_linear.specs.Linear.{Linear}
 use Rattle.logic_linear.specs.Truth.{Valuation, layer_truth, truth_of, value_of, sum_of}
 use Rattle.lang_base.specs.Numbers.{is_within}
 use Rattle.lang_base.specs.declared.kind.Kind.{Kind}
 use Rattle.lang_base.specs.declared.kind.Kind.TheVariants as kinds
-use Rattle.lang_monitor.specs.MonitorParts.{Places, IsOfKind, AreOfKinds, kind_at, target_at, is_kind, fits_term, fits_form, fits_formula_step, fits_formula, fits_statement_step, fits_statement}
-use Rattle.lang_monitor.specs.Bodies.{number_of_value, truth_of_value, reading, Memory, held_at, with_value, memory_of, inputs_from, Effect, in_turn, effect_step, effect_of, body_effect, after, values_from, number_or, truth_or, with_memory}
+use Rattle.lang_monitor.specs.MonitorParts.{Places, IsOfKind, AreOfKinds, kind_at, target_at, is_kind, fits_term, fits_form, fits_formula_step, fits_formula, fits_put, fits_statement}
+use Rattle.lang_monitor.specs.Bodies.{number_of_value, truth_of_value, fits_64, reading, Memory, held_at, with_value, memory_of, inputs_from, assigning, on_memory, body_effect, after, values_from, number_or, truth_or, with_memory}
+use Rattle.lang_monitor.specs.Changes.{body_change, changing, on_valuations}
+use Rattle.lang_monitor.specs.Statements.{run_body}
 use Rattle.lang_base.specs.declared.value.Value.{Value}
 use Rattle.lang_base.specs.declared.value.Value.TheVariants as values
 use Rattle.lang_monitor.specs.declared.monitor.Stmt.{Stmt}
-use Rattle.lang_monitor.specs.declared.monitor.Stmt.TheOpen.{Stmt-F, SetInt, SetBool, If}
-use Rattle.lang_monitor.specs.declared.monitor.Stmt.TheViews.{roll-Stmt}
-use Rattle.lang_monitor.specs.declared.monitor.Stmt.TheFolds.{ind-Stmt, map-Stmt, fold-roll-Stmt}
-use Rattle.logic_wp.proofs.PathTruth.{changes_in_turn, Change, change_step, change_of, body_change}
+use Rattle.lang_monitor.proofs.Statements.{Agree, RunAlike, simulated}
 
 -- ---- reading
 
@@ -399,86 +400,45 @@ truth_written places v memory i truth h e =
 
 -- ---- statements
 
-pub record Follows (places : Places) (v : Valuation) (change : Change) (memory next : Memory) : Type 0 where
-  pub held : HasKinds places next
-  pub reached : with_memory v next ≡ change (with_memory v memory)
+-- the values have their kinds, and the valuation with them is this one
+pub record Mirrors (places : Places) (v : Valuation) (memory : Memory) (now : Valuation) : Type 0 where
+  pub held : HasKinds places memory
+  pub reached : with_memory v memory ≡ now
 
-abbrev StatementFollows : Places → Valuation → Stmt → Type 0
-StatementFollows places v statement = fits_statement places statement ≡ true → (memory : Memory) → HasKinds places memory → Follows places v (change_of statement) memory ((effect_of (arguments_of places v) statement).next memory)
+abbrev SamePut : Places → Valuation → Put → Memory → Valuation → Type 0
+SamePut places v put memory now = RunAlike Memory Valuation (Mirrors places v) (assigning (arguments_of places v) put) (changing put) memory now
 
-body_follows : (places : Places) (v : Valuation)
-    (body : List ((statement : Stmt) × StatementFollows places v statement))
-    → list_all (λ inner. inner) (map (fits_statement places) (map (λ part. part.0) body)) ≡ true
-    → (memory : Memory) → HasKinds places memory
-    → Follows places v (changes_in_turn (map change_of (map (λ part. part.0) body))) memory
-    ((in_turn (map (effect_of (arguments_of places v)) (map (λ part. part.0) body))).next memory)
-body_follows places v [] e memory h = record { held = h; reached = refl }
-body_follows places v (part ∷ body) e memory h =
-    let both = and_parts (fits_statement places part.0) (list_all (λ inner. inner) (map (fits_statement places) (map (λ part. part.0) body))) e in
-    let first = part.1 both.0 memory h in
-    let rest = body_follows places v body both.1 _ first.held in
-    record { held = rest.held; reached = rest.reached ∙ ap (changes_in_turn (map change_of (map (λ part. part.0) body))) first.reached }
-
-abbrev LayerFollows : Places → Valuation → Stmt-F Stmt → Type 0
-LayerFollows places v layer = fits_statement_step places (map-Stmt _ Bool (fits_statement places) layer) ≡ true → (memory : Memory) → HasKinds places memory
-    → Follows places v (change_step (map-Stmt _ Change change_of layer)) memory ((effect_step (arguments_of places v) (map-Stmt _ Effect (effect_of (arguments_of places v)) layer)).next memory)
-
-chosen_follows : (places : Places) (v : Valuation) (one other : Change)
-    (memory next other_next : Memory) (held same : Bool) → held ≡ same
-    → Follows places v one memory next → Follows places v other memory other_next
-    → Follows places v (λ u. cond same (one u) (other u)) memory (cond held next other_next)
-chosen_follows places v one other memory next other_next true true e h g = record { held = h.held; reached = h.reached }
-chosen_follows places v one other memory next other_next false false e h g = record { held = g.held; reached = g.reached }
-chosen_follows places v one other memory next other_next true false e h g = absurd cc
-chosen_follows places v one other memory next other_next false true e h g = absurd cc
-
-layer_follows : (places : Places) (v : Valuation)
-    → (layer : Stmt-F ((statement : Stmt) × StatementFollows places v statement))
-    → LayerFollows places v (map-Stmt _ Stmt (λ part. part.0) layer)
-layer_follows places v (SetInt field form) e memory h =
-    let both = and_parts (is_kind kinds.Int (target_at places field)) (fits_form places form) e in
+put_follows : (places : Places) (v : Valuation) (put : Put) → fits_put places put ≡ true → (memory : Memory) → HasKinds places memory → SamePut places v put memory (with_memory v memory)
+put_follows places v (Number place form) e memory h =
+    let both = and_parts (is_kind kinds.Int (target_at places place)) (fits_form places form) e in
+    let read = form_read places v memory form h both.1 in
+    let number = value_of (reading (arguments_of places v) memory) form in
     record {
-      held = kinds_written places memory field _ kinds.Int h both.0 tt;
-      reached = number_written places v memory field _ h both.0 ∙ ap (λ n. record { number = λ at. cond (at == field) n ((with_memory v memory).number at); flag = (with_memory v memory).flag }) (form_read places v memory form h both.1);
+      reaches = record {
+        held = kinds_written places memory place (values.Int number) kinds.Int h both.0 tt;
+        reached = number_written places v memory place number h both.0 ∙ ap (λ n. record { number = λ at. cond (at == place) n ((with_memory v memory).number at); flag = (with_memory v memory).flag }) read;
+      };
+      overflows = ap (λ n. not (fits_64 (values.Int n))) read;
     }
-layer_follows places v (SetBool field is) e memory h =
-    let both = and_parts (is_kind kinds.Bool (target_at places field)) (fits_formula places is) e in
+put_follows places v (Truth place is) e memory h =
+    let both = and_parts (is_kind kinds.Bool (target_at places place)) (fits_formula places is) e in
+    let truth = truth_of (reading (arguments_of places v) memory) is in
     record {
-      held = kinds_written places memory field _ kinds.Bool h both.0 tt;
-      reached = truth_written places v memory field _ h both.0 ∙ ap (λ held. record { number = (with_memory v memory).number; flag = λ at. cond (at == field) held ((with_memory v memory).flag at) }) (formula_read places v memory h is both.1);
-    }
-layer_follows places v (If when body other) e memory h =
-    let both = and_parts (fits_formula places when) (list_all (λ inner. inner) (map (fits_statement places) (map (λ part. part.0) body)) && list_all (λ inner. inner) (map (fits_statement places) (map (λ part. part.0) other))) e in
-    let bodies = and_parts (list_all (λ inner. inner) (map (fits_statement places) (map (λ part. part.0) body))) (list_all (λ inner. inner) (map (fits_statement places) (map (λ part. part.0) other))) both.1 in
-    let made = chosen_follows places v (changes_in_turn (map change_of (map (λ part. part.0) body))) (changes_in_turn (map change_of (map (λ part. part.0) other))) memory _ _ _ (truth_of (with_memory v memory) when) (formula_read places v memory h when both.0) (body_follows places v body bodies.0 memory h) (body_follows places v other bodies.1 memory h) in
-    record { held = made.held; reached = made.reached }
-
-statement_follows : (places : Places) (v : Valuation) (layer : Stmt-F Stmt)
-    → LayerFollows places v layer → StatementFollows places v (roll-Stmt layer)
-statement_follows places v layer follows e memory h =
-    let made = follows (sym (fold-roll-Stmt Bool (fits_statement_step places) layer) ∙ e) memory h in
-    let effect = fold-roll-Stmt Effect (effect_step (arguments_of places v)) layer in
-    record {
-      held = subst (λ (effect : Effect). HasKinds places (effect.next memory)) (sym effect) made.held;
-      reached = ap (λ (effect : Effect). with_memory v (effect.next memory)) effect ∙ made.reached ∙ ap (λ (change : Change). change (with_memory v memory)) (sym (fold-roll-Stmt Change change_step layer));
+      reaches = record {
+        held = kinds_written places memory place (values.Bool truth) kinds.Bool h both.0 tt;
+        reached = truth_written places v memory place truth h both.0 ∙ ap (λ held. record { number = (with_memory v memory).number; flag = λ at. cond (at == place) held ((with_memory v memory).flag at) }) (formula_read places v memory h is both.1);
+      };
+      overflows = refl;
     }
 
-follow : (places : Places) (v : Valuation) → (statement : Stmt)
-    → StatementFollows places v statement
-follow places v = ind-Stmt (StatementFollows places v) (λ layer parts is. statement_follows places v layer (subst (LayerFollows places v) is (layer_follows places v parts)))
+-- statements do to a memory what they do to its valuation
+runs_agree : (places : Places) (v : Valuation) → Agree Memory Valuation (Mirrors places v) (on_memory (arguments_of places v)) on_valuations (fits_put places) (fits_formula places)
+runs_agree places v = record {
+  does = λ put fits memory now is. subst (SamePut places v put memory) is.reached (put_follows places v put fits memory is.held);
+  holds = λ when fits memory now is. formula_read places v memory is.held when fits ∙ ap (λ (u : Valuation). truth_of u when) is.reached;
+}
 
 -- ---- bodies
-
-whole_body : (places : Places) (v : Valuation) → (body : List Stmt)
-    → list_all (fits_statement places) body ≡ true → (memory : Memory) → HasKinds places memory
-    → Follows places v (body_change body) memory
-    ((body_effect (arguments_of places v) body).next memory)
-whole_body places v [] e memory h = record { held = h; reached = refl }
-whole_body places v (statement ∷ body) e memory h =
-    let both = and_parts (fits_statement places statement) (list_all (fits_statement places) body) e in
-    let first = follow places v statement both.0 memory h in
-    let rest = whole_body places v body both.1 _ first.held in
-    record { held = rest.held; reached = rest.reached ∙ ap (body_change body) first.reached }
 
 start_kinds : (v : Valuation) (base : ℕ) (fields : List Kind)
     → AreOfKinds fields (values_from v base fields)
@@ -523,11 +483,17 @@ start_memory places v = same_valuation _ _ (λ at. numbers at (nat_lt at 16) (na
     flags at false false is = let above : 22 ≤ at = grind arith in start_truth v 22 places.locals (at - 22) at (omega arith)
 
 -- The valuation with the state and the locals that a body reaches is what the body makes of the
--- valuation.
+-- valuation, and the body overflows on both or on neither.
+pub body_follows : (places : Places) (v : Valuation) (body : List Stmt)
+    → list_all (fits_statement places) body ≡ true
+    → RunAlike Memory Valuation (Mirrors places v) (body_effect (arguments_of places v) body) (run_body on_valuations body) (memory_of (values_from v 0 places.fields) (inputs_from v places)) v
+body_follows places v body e =
+    simulated Memory Valuation (Mirrors places v) (on_memory (arguments_of places v)) on_valuations (fits_put places) (fits_formula places) (runs_agree places v) body e
+    (memory_of (values_from v 0 places.fields) (inputs_from v places)) v
+    (record { held = record { state = start_kinds v 0 places.fields; locals = start_kinds v 22 places.locals }; reached = start_memory places v })
+
 pub body_reaches_memory : (places : Places) (v : Valuation) (body : List Stmt)
     → list_all (fits_statement places) body ≡ true
     → with_memory v (after (inputs_from v places) body (values_from v 0 places.fields))
     ≡ body_change body v
-body_reaches_memory places v body e =
-    (whole_body places v body e (memory_of (values_from v 0 places.fields) (inputs_from v places)) (record { state = start_kinds v 0 places.fields; locals = start_kinds v 22 places.locals })).reached
-    ∙ ap (body_change body) (start_memory places v)
+body_reaches_memory places v body e = (body_follows places v body e).reaches.reached

@@ -8,7 +8,7 @@ mod FormRanges
 mod Guards
 mod Negating
 mod Parts
-mod PathNumbers
+pub mod PathNumbers
 pub mod PathTruth
 mod PathsMade
 pub mod QueryLaws

@@ -3,6 +3,7 @@ use Rattle.std.proofs.Common.{◌≡◌, ◌^◌, ℤ, Bool, true, ◌&&◌, Lis
 use Rattle.std.specs.List.{list_all}
 use Rattle.std.proofs.lemmas.Bool.{and_parts}
 use Rattle.std.proofs.lemmas.Int.{ints}
+use Rattle.std.proofs.lemmas.List.Folds.{list_all-map}
 use Rattle.logic_linear.specs.declared.form.Term.{Term}
 use Rattle.logic_linear.specs.declared.formula.Formula.{Formula}
 use Rattle.logic_linear.specs.declared.formula.Formula.TheOpen.{Formula-F, Row, Flag, All as Every, Any as Some_of}
@@ -11,12 +12,10 @@ use Rattle.logic_linear.specs.declared.formula.Formula.TheFolds.{ind-Formula, ma
 use Rattle.logic_linear.specs.Negation.{can_negate_number, can_negate_term, can_negate_layer, can_negate}
 use Rattle.lang_base.specs.Numbers.{is_within}
 use Rattle.lang_base.specs.declared.kind.Kind.TheVariants as kinds
-use Rattle.lang_monitor.specs.MonitorParts.{Places, kind_at, is_kind, fits_term, fits_formula_step, fits_formula, fits_statement_step, fits_statement}
+use Rattle.lang_monitor.specs.MonitorParts.{Places, kind_at, is_kind, fits_term, fits_formula_step, fits_formula, fits_put, fits_statement}
 use Rattle.lang_monitor.specs.declared.monitor.Stmt.{Stmt}
-use Rattle.lang_monitor.specs.declared.monitor.Stmt.TheOpen.{Stmt-F, SetInt, SetBool, If}
-use Rattle.lang_monitor.specs.declared.monitor.Stmt.TheViews.{roll-Stmt}
-use Rattle.lang_monitor.specs.declared.monitor.Stmt.TheFolds.{ind-Stmt, map-Stmt, fold-roll-Stmt}
-use Rattle.logic_wp.specs.inner.Negatable.{negates_step, negates_statement, negates_body}
+use Rattle.lang_monitor.proofs.Statements.{every_weaker}
+use Rattle.logic_wp.specs.inner.Negatable.{negates_statement, negates_body}
 
 small_negates : (number : ℤ) → is_within (2 ^ 31) number ≡ true → can_negate_number number ≡ true
 small_negates number h = grind (arith, ints)
@@ -61,35 +60,8 @@ formula_negates places = ind-Formula (Negates places) (λ layer parts is. whole 
     whole : (layer : Formula-F Formula) → LayerNegates places layer → Negates places (roll-Formula layer)
     whole layer negates h = fold-roll-Formula Bool can_negate_layer layer ∙ negates (sym (fold-roll-Formula Bool (fits_formula_step places) layer) ∙ h)
 
-abbrev StatementNegates : Places → Stmt → Type 0
-StatementNegates places statement = fits_statement places statement ≡ true → negates_statement statement ≡ true
-
-body_negates : (places : Places) (body : List ((statement : Stmt) × StatementNegates places statement)) → list_all (λ inner. inner) (map (fits_statement places) (map (λ part. part.0) body)) ≡ true → list_all (λ inner. inner) (map negates_statement (map (λ part. part.0) body)) ≡ true
-body_negates places [] h = refl
-body_negates places (part ∷ body) h =
-    let both = and_parts (fits_statement places part.0) (list_all (λ inner. inner) (map (fits_statement places) (map (λ part. part.0) body))) h in
-    both_hold (negates_statement part.0) (list_all (λ inner. inner) (map negates_statement (map (λ part. part.0) body))) (part.1 both.0) (body_negates places body both.1)
-
-abbrev StepNegates : Places → Stmt-F Stmt → Type 0
-StepNegates places layer = fits_statement_step places (map-Stmt _ Bool (fits_statement places) layer) ≡ true → negates_step (map-Stmt _ Bool negates_statement layer) ≡ true
-
-step_negates : (places : Places) (layer : Stmt-F ((statement : Stmt) × StatementNegates places statement)) → StepNegates places (map-Stmt _ Stmt (λ part. part.0) layer)
-step_negates places (SetInt field form) h = refl
-step_negates places (SetBool field is) h = refl
-step_negates places (If when body other) h =
-    let both = and_parts (fits_formula places when) (list_all (λ inner. inner) (map (fits_statement places) (map (λ part. part.0) body)) && list_all (λ inner. inner) (map (fits_statement places) (map (λ part. part.0) other))) h in
-    let bodies = and_parts (list_all (λ inner. inner) (map (fits_statement places) (map (λ part. part.0) body))) (list_all (λ inner. inner) (map (fits_statement places) (map (λ part. part.0) other))) both.1 in
-    both_hold (can_negate when) _ (formula_negates places when both.0) (both_hold _ _ (body_negates places body bodies.0) (body_negates places other bodies.1))
-
-statement_negates : (places : Places) (statement : Stmt) → StatementNegates places statement
-statement_negates places = ind-Stmt (StatementNegates places) (λ layer parts is. whole layer (subst (StepNegates places) is (step_negates places parts)))
-  where
-    whole : (layer : Stmt-F Stmt) → StepNegates places layer → StatementNegates places (roll-Stmt layer)
-    whole layer negates h = fold-roll-Stmt Bool negates_step layer ∙ negates (sym (fold-roll-Stmt Bool (fits_statement_step places) layer) ∙ h)
-
 -- The conditions of a monitor's body can be negated.
 pub fitting_body_negates : (places : Places) (body : List Stmt) → list_all (fits_statement places) body ≡ true → negates_body body ≡ true
-fitting_body_negates places [] h = refl
-fitting_body_negates places (statement ∷ body) h =
-    let both = and_parts (fits_statement places statement) (list_all (fits_statement places) body) h in
-    both_hold (negates_statement statement) (negates_body body) (statement_negates places statement both.0) (fitting_body_negates places body both.1)
+fitting_body_negates places body h =
+    list_all-map (λ inner. inner) negates_statement body
+    ∙ every_weaker (fits_put places) (λ put. true) (fits_formula places) can_negate (λ put fits. refl) (formula_negates places) body h

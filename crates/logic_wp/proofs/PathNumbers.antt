@@ -5,14 +5,26 @@ use Rattle.std.proofs.lemmas.List.{length-append}
 use Rattle.logic_linear.specs.declared.formula.Formula.{Formula}
 use Rattle.logic_linear.specs.Negation.{negation}
 use Rattle.logic_linear.specs.Measures.{product}
+use Rattle.logic_linear.specs.declared.substitution.Put.{Put as Assignment}
 use Rattle.lang_monitor.specs.declared.monitor.Stmt.{Stmt}
-use Rattle.lang_monitor.specs.declared.monitor.Stmt.TheOpen.{Stmt-F, SetInt, SetBool, If}
+use Rattle.lang_monitor.specs.declared.monitor.Stmt.TheVariants as statements
+use Rattle.lang_monitor.specs.declared.monitor.Stmt.TheOpen.{Stmt-F, Put as Assign, If}
 use Rattle.lang_monitor.specs.declared.monitor.Stmt.TheViews.{roll-Stmt}
 use Rattle.lang_monitor.specs.declared.monitor.Stmt.TheFolds.{ind-Stmt, map-Stmt, fold-roll-Stmt}
 use Rattle.lang_monitor.specs.Paths.{count_step, statement_count, path_count}
 use Rattle.logic_wp.specs.declared.step.Step.{Step}
-use Rattle.logic_wp.specs.declared.step.Step.TheVariants.{Assume}
-use Rattle.logic_wp.specs.Paths.{joined, paths_step, statement_paths, body_paths}
+use Rattle.logic_wp.specs.declared.step.Step.TheVariants.{Put, Assume}
+use Rattle.logic_wp.specs.Paths.{joined, branch_paths, paths_step, statement_paths, body_paths}
+
+-- ---- each form of a statement
+
+pub put_paths : (put : Assignment) → statement_paths (statements.Put put) ≡ (Put put ∷ []) ∷ []
+put_paths put = ap statement_paths (sym (statements.rolls-Put put)) ∙ fold-roll-Stmt (List (List Step)) paths_step (Assign put)
+
+pub if_paths : (when : Formula) (body other : List Stmt) → statement_paths (statements.If when body other) ≡ branch_paths when (body_paths body) (body_paths other)
+if_paths when body other = ap statement_paths (sym (statements.rolls-If when body other)) ∙ fold-roll-Stmt (List (List Step)) paths_step (If when body other)
+
+-- ---- how many paths there are
 
 one_more : (f s n r : ℕ) → n ≡ s → r ≡ f * s → n + r ≡ suc f * s
 one_more f s n r e g = grind arith
@@ -45,8 +57,7 @@ abbrev LayerCounted : Stmt-F Stmt → Type 0
 LayerCounted layer = length (paths_step (map-Stmt _ (List (List Step)) statement_paths layer)) ≡ count_step (map-Stmt _ ℕ statement_count layer)
 
 layer_counted : (layer : Stmt-F ((statement : Stmt) × Counted statement)) → LayerCounted (map-Stmt _ Stmt (λ part. part.0) layer)
-layer_counted (SetInt field form) = refl
-layer_counted (SetBool field is) = refl
+layer_counted (Assign put) = refl
 layer_counted (If when body other) =
     let paths = joined (map statement_paths (map (λ part. part.0) body)) in
     let others = joined (map statement_paths (map (λ part. part.0) other)) in
@@ -90,8 +101,7 @@ some_left : (n a b c : ℕ) → n ≡ a + b → a ≡ c → 0 < c → 0 < n
 some_left n a b c e f g = omega arith
 
 layer_has_paths : (layer : Stmt-F ((statement : Stmt) × HasPaths statement)) → LayerHasPaths (map-Stmt _ Stmt (λ part. part.0) layer)
-layer_has_paths (SetInt field form) = omega arith
-layer_has_paths (SetBool field is) = omega arith
+layer_has_paths (Assign put) = omega arith
 layer_has_paths (If when body other) =
     let paths = joined (map statement_paths (map (λ part. part.0) body)) in
     let others = joined (map statement_paths (map (λ part. part.0) other)) in

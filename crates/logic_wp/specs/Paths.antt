@@ -1,11 +1,10 @@
 -- The paths of bodies: lists of assignments and assumptions.
 use Rattle.std.specs.Prelude.{ℕ, List, [], ◌∷◌, ◌++◌, map}
 use Rattle.std.specs.List.{flat_map}
-use Rattle.logic_linear.specs.declared.substitution.Put.TheVariants.{Number, Truth}
 use Rattle.logic_linear.specs.declared.formula.Formula.{Formula}
 use Rattle.logic_linear.specs.Negation.{negation}
 use Rattle.lang_monitor.specs.declared.monitor.Stmt.{Stmt}
-use Rattle.lang_monitor.specs.declared.monitor.Stmt.TheOpen.{Stmt-F, SetInt, SetBool, If}
+use Rattle.lang_monitor.specs.declared.monitor.Stmt.TheOpen.{Stmt-F, Put as Assign, If}
 use Rattle.lang_monitor.specs.declared.monitor.Stmt.TheFolds.{fold-Stmt}
 use Rattle.lang_monitor.specs.MonitorParts.{MonitorParts}
 use Rattle.lang_monitor.specs.Paths.{block_body}
@@ -30,8 +29,7 @@ abbrev pub branch_paths : Formula → List (List Step) → List (List Step) → 
 branch_paths when body other = assuming when body ++ assuming (negation when) other
 
 abbrev pub paths_step : Stmt-F (List (List Step)) → List (List Step)
-paths_step (SetInt field form) = (Put (Number field form) ∷ []) ∷ []
-paths_step (SetBool field is) = (Put (Truth field is) ∷ []) ∷ []
+paths_step (Assign put) = (Put put ∷ []) ∷ []
 paths_step (If when body other) = branch_paths when (joined body) (joined other)
 
 abbrev pub statement_paths : Stmt → List (List Step)

@@ -9,15 +9,16 @@ use Rattle.logic_linear.specs.declared.form.Term.{Term}
 use Rattle.logic_linear.specs.Differences.{has_difference_rows}
 use Rattle.logic_linear.specs.Measures.{cubes_of, MOST_CUBES}
 use Rattle.logic_linear.specs.declared.formula.Formula.{Formula}
+use Rattle.logic_linear.specs.declared.substitution.Put.{Put}
+use Rattle.logic_linear.specs.declared.substitution.Put.TheVariants.{Number, Truth}
 use Rattle.lang_monitor.specs.declared.claim.Claim.{Claim}
 use Rattle.lang_monitor.specs.declared.claim.Claim.TheVariants as claims
 use Rattle.lang_monitor.specs.declared.query.Query.{Query}
 use Rattle.lang_monitor.specs.declared.monitor.Block.{Block}
 use Rattle.lang_monitor.specs.declared.monitor.Stmt.{Stmt}
-use Rattle.lang_monitor.specs.declared.monitor.Stmt.TheOpen.{Stmt-F, SetInt, SetBool, If}
-use Rattle.lang_monitor.specs.declared.monitor.Stmt.TheFolds.{fold-Stmt}
 use Rattle.lang_monitor.specs.MonitorParts.{MonitorParts}
 use Rattle.lang_monitor.specs.Candidates.{candidates_of}
+use Rattle.lang_monitor.specs.Statements.{every_part}
 use Rattle.logic_wp.specs.Expressible.{is_expressible}
 use Rattle.logic_wp.specs.NegatedQueries.{negated_query}
 use Rattle.logic_wp.specs.Limits.{is_query_within}
@@ -45,15 +46,14 @@ are_simple_terms [] = true
 are_simple_terms (term ∷ []) = int_eq term.times (pos 1)
 are_simple_terms (term ∷ next ∷ more) = false
 
-abbrev pub simple_step : Stmt-F Bool → Bool
-simple_step (SetInt field form) = are_simple_terms form.terms
-simple_step (SetBool field is) = has_difference_rows is
-simple_step (If when body other) =
-    has_difference_rows when && (list_all (λ inner. inner) body && list_all (λ inner. inner) other)
+-- a simple form is assigned, or a formula that has difference rows alone
+abbrev pub is_simple_put : Put → Bool
+is_simple_put (Number place form) = are_simple_terms form.terms
+is_simple_put (Truth place is) = has_difference_rows is
 
--- simple forms are assigned, and conditions and bools that are assigned have difference rows alone
+-- assignments are simple, and conditions have difference rows alone
 abbrev pub is_simple_statement : Stmt → Bool
-is_simple_statement = fold-Stmt Bool simple_step
+is_simple_statement = every_part is_simple_put has_difference_rows
 
 abbrev pub is_simple_block : Block → Bool
 is_simple_block block = has_difference_rows block.guard && list_all is_simple_statement block.body

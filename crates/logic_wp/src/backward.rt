@@ -10,11 +10,11 @@ ghost use Rattle.logic_wp.specs.inner.Backward.{AreBefore, AreMade, IsStepped};
 ghost use Rattle.logic_wp.specs.inner.Negatable.{negates_body, negates_statement};
 
 use super::ranges::where_within;
-use super::step::Step;
+use super::step::{Step, copy_put};
 use super::triples::stepped;
 use base_list::Seq;
 use lang_monitor::Stmt;
-use logic_linear::{Formula, MOST_NODES, Put, copy_formula, negate, nodes};
+use logic_linear::{Formula, MOST_NODES, copy_formula, negate, nodes};
 use std::alloc::{AllocError, Global};
 
 /// What the step makes of each of the parts. It ends where a part leaves the limits, or all have
@@ -121,17 +121,9 @@ fn before_statement(
     ensures { IfOk result (AreBefore (statement_paths statement.now) parts.now) }
 {
     match statement {
-        Stmt::SetInt { field, form } => {
-            let form = form.clone()?;
-            let step = Step::Put(Put::Number {
-                place: *field,
-                form,
-            });
-            Ok(before_step(alloc, &step, parts)?)
-        }
-        Stmt::SetBool { field, is } => {
-            let is = copy_formula(alloc, is)?;
-            let step = Step::Put(Put::Truth { place: *field, is });
+        Stmt::Put(put) => {
+            let copy = copy_put(alloc, put)?;
+            let step = Step::Put(copy);
             Ok(before_step(alloc, &step, parts)?)
         }
         Stmt::If { when, then, other } => {

@@ -8,25 +8,10 @@ ghost use Rattle.logic_wp.specs.Paths.{statement_paths};
 ghost use Rattle.logic_wp.specs.inner.Negatable.{negates_body, negates_statement};
 
 use super::path::Path;
-use super::step::Step;
+use super::step::{Step, copy_put};
 use lang_monitor::Stmt;
-use logic_linear::{Formula, Put, copy_formula, negate};
+use logic_linear::{Formula, copy_formula, negate};
 use std::alloc::{AllocError, Global};
-
-fn copy_put(alloc: Global, put: &Put) -> Result<Put, AllocError>
-    ensures { IfOk result (λ copy. copy ≡ put.now) }
-{
-    match put {
-        Put::Number { place, form } => Ok(Put::Number {
-            place: *place,
-            form: form.clone()?,
-        }),
-        Put::Truth { place, is } => Ok(Put::Truth {
-            place: *place,
-            is: copy_formula(alloc, is)?,
-        }),
-    }
-}
 
 fn copy_step(alloc: Global, step: &Step) -> Result<Step, AllocError>
     ensures { IfOk result (λ copy. copy ≡ step.now) }
@@ -151,20 +136,7 @@ fn paths_of_statement(alloc: Global, statement: &Stmt) -> Result<Vec<Path>, Allo
     ensures { IfOk result (λ paths. paths.items ≡ statement_paths statement.now) }
 {
     match statement {
-        Stmt::SetInt { field, form } => {
-            let form = form.clone()?;
-            one_path(
-                alloc,
-                Step::Put(Put::Number {
-                    place: *field,
-                    form,
-                }),
-            )
-        }
-        Stmt::SetBool { field, is } => {
-            let is = copy_formula(alloc, is)?;
-            one_path(alloc, Step::Put(Put::Truth { place: *field, is }))
-        }
+        Stmt::Put(put) => one_path(alloc, Step::Put(copy_put(alloc, put)?)),
         Stmt::If { when, then, other } => {
             let bodies = paths_of_body(alloc, then.items())?;
             let others = paths_of_body(alloc, other.items())?;

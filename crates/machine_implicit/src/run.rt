@@ -1,8 +1,8 @@
 //! What statements do to a state and locals.
 
 ghost use Rattle.std.specs.Prelude.{◌≡◌, true, false, IsTrue, IfOk, OnOk, OnErr};
-ghost use Rattle.lang_monitor.specs.MonitorParts.{fits_form, fits_statement};
-ghost use Rattle.lang_monitor.specs.Bodies.{effect_of, body_effect};
+ghost use Rattle.lang_monitor.specs.MonitorParts.{fits_form, fits_put, fits_statement};
+ghost use Rattle.lang_monitor.specs.Bodies.{assigning, effect_of, body_effect};
 ghost use Rattle.machine_implicit.specs.inner.Held.{given, held, SameKinds};
 ghost use Rattle.machine_implicit.specs.inner.Held.{held_places, form_worth};
 ghost use Rattle.machine_implicit.specs.inner.Held.{is_short_worth, all_statements_fit, AreFew};
@@ -14,11 +14,43 @@ use super::places::put_at;
 use super::state::State;
 use lang_base::Value;
 use lang_monitor::Stmt;
-use logic_linear::Lin;
+use logic_linear::{Lin, Put};
 
 /// A value left 64 bits.
 #[derive(Clone, Copy)]
 pub struct Overflow;
+
+/// Makes an assignment. Where its value leaves 64 bits, the state and the locals stay.
+fn assign(
+    put: &Put,
+    inputs: &[Value],
+    state: &mut State,
+    locals: &mut Locals,
+) -> Result<(), Overflow>
+    requires few { AreFew state.old (given inputs.now locals.old) }
+    requires fits { IsTrue (fits_put
+        (held_places state.old (given inputs.now locals.old)) put.now) }
+    ensures ran { OnOk result
+        (RunsWhole (assigning inputs.now put.now) (held state.old locals.old)
+        (held state.new locals.new)) }
+    ensures overflowed { OnErr result
+        (Leaves64 (assigning inputs.now put.now) (held state.old locals.old)) }
+    ensures stays { OnErr result (held state.new locals.new ≡ held state.old locals.old) }
+    ensures kinds { SameKinds (held state.old locals.old) (held state.new locals.new) }
+{
+    match put {
+        Put::Number { place, form } => {
+            let number = form_value(form, state.values(), inputs, locals.values())?;
+            put_at(state, locals, *place, Value::Int(number));
+            Ok(())
+        }
+        Put::Truth { place, is } => {
+            let truth = formula_truth(is, state.values(), inputs, locals.values());
+            put_at(state, locals, *place, Value::Bool(truth));
+            Ok(())
+        }
+    }
+}
 
 /// Runs a statement. Where a value that it assigns leaves 64 bits, the state and the locals are of
 /// no further use.
@@ -40,16 +72,7 @@ pub fn run_statement(
     ensures kinds { SameKinds (held state.old locals.old) (held state.new locals.new) }
 {
     match statement {
-        Stmt::SetInt { field, form } => {
-            let number = form_value(form, state.values(), inputs, locals.values())?;
-            put_at(state, locals, *field, Value::Int(number));
-            Ok(())
-        }
-        Stmt::SetBool { field, is } => {
-            let truth = formula_truth(is, state.values(), inputs, locals.values());
-            put_at(state, locals, *field, Value::Bool(truth));
-            Ok(())
-        }
+        Stmt::Put(put) => assign(put, inputs, state, locals),
         Stmt::If { when, then, other } => {
             if formula_truth(when, state.values(), inputs, locals.values()) {
                 run_statements(then.items(), inputs, state, locals)
@@ -103,16 +126,7 @@ pub fn run_alone(
     ensures kinds { SameKinds (held state.old locals.old) (held state.new locals.new) }
 {
     match statement {
-        Stmt::SetInt { field, form } => {
-            let number = form_value(form, state.values(), inputs, locals.values())?;
-            put_at(state, locals, *field, Value::Int(number));
-            Ok(())
-        }
-        Stmt::SetBool { field, is } => {
-            let truth = formula_truth(is, state.values(), inputs, locals.values());
-            put_at(state, locals, *field, Value::Bool(truth));
-            Ok(())
-        }
+        Stmt::Put(put) => assign(put, inputs, state, locals),
         Stmt::If { .. } => run_over_copy(statement, inputs, state, locals),
     }
 }

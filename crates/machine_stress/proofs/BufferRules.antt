@@ -15,17 +15,17 @@ use Rattle.logic_linear.specs.declared.formula.Formula.{Formula}
 use Rattle.logic_linear.specs.declared.formula.Formula.TheVariants as formulas
 use Rattle.logic_linear.specs.declared.formula.Formula.TheOpen as rows
 use Rattle.logic_linear.specs.declared.formula.Formula.TheFolds.{fold-roll-Formula}
+use Rattle.logic_linear.specs.declared.substitution.Put.TheVariants as puts
 use Rattle.lang_monitor.specs.declared.monitor.Field.{Field}
 use Rattle.lang_monitor.specs.declared.monitor.Method.{Method}
 use Rattle.lang_monitor.specs.declared.monitor.Stmt.TheVariants as statements
-use Rattle.lang_monitor.specs.declared.monitor.Stmt.TheOpen as layers
-use Rattle.lang_monitor.specs.declared.monitor.Stmt.TheFolds.{fold-roll-Stmt}
 use Rattle.lang_monitor.specs.declared.monitor.Block.{Block}
 use Rattle.lang_monitor.specs.declared.monitor.Condition.{Condition}
 use Rattle.lang_monitor.specs.Bodies.{no_inputs, valuation}
 use Rattle.lang_monitor.specs.Conditions.{HasCondition, HasFirstBlock, IsDescribed}
 use Rattle.lang_monitor.specs.Inputs.{reads_inputs, reads_step, reads_term}
-use Rattle.lang_monitor.specs.MonitorParts.{IsBlockOf, IsMethod, IsMonitor, IsOfKind, IsOwned, Places, fits_block, fits_form, fits_formula, fits_formula_step, fits_statement, fits_statement_step, parts}
+use Rattle.lang_monitor.specs.MonitorParts.{IsBlockOf, IsMethod, IsMonitor, IsOfKind, IsOwned, Places, fits_block, fits_form, fits_formula, fits_formula_step, fits_put, fits_statement, parts}
+use Rattle.lang_monitor.proofs.Statements.{put_part}
 use Rattle.machine_stress.specs.LargeInput.{buffer_of, count_and, count_field, counting_block, has_room, has_some, less_count, plain_method, room_shown, shown_condition, some_shown}
 use Rattle.machine_stress.proofs.Buffers.{holding, room_needed, some_true}
 
@@ -68,8 +68,8 @@ fits_row : (form : Linear) → fits_formula places (formulas.Row form) ≡ fits_
 fits_row form = ap (fits_formula places) (sym (formulas.rolls-Row form)) ∙ fold-roll-Formula Bool (fits_formula_step places) (rows.Row form)
 
 fits_assignment : (form : Linear)
-    → fits_statement places (statements.SetInt 0 form) ≡ fits_form places form
-fits_assignment form = ap (fits_statement places) (sym (statements.rolls-SetInt 0 form)) ∙ fold-roll-Stmt Bool (fits_statement_step places) (layers.SetInt 0 form)
+    → fits_statement places (statements.Put (puts.Number 0 form)) ≡ fits_form places form
+fits_assignment form = put_part (fits_put places) (fits_formula places) (puts.Number 0 form)
 
 fits_both : (number : ℕ) (guard : Formula) (form : Linear) → fits_formula places guard ≡ true
     → fits_form places form ≡ true → fits_block places (counting_block number guard form) ≡ true

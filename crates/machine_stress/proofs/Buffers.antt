@@ -7,13 +7,14 @@ use Rattle.lang_base.specs.declared.value.Value.TheVariants as values
 use Rattle.logic_linear.specs.Linear.{Linear}
 use Rattle.logic_linear.specs.Truth.{Valuation, layer_truth, truth_of, value_of}
 use Rattle.logic_linear.specs.declared.formula.Formula.{Formula}
+use Rattle.logic_linear.specs.declared.substitution.Put.TheVariants as puts
 use Rattle.logic_linear.specs.declared.formula.Formula.TheVariants as formulas
 use Rattle.logic_linear.specs.declared.formula.Formula.TheOpen as rows
 use Rattle.logic_linear.specs.declared.formula.Formula.TheFolds.{fold-roll-Formula}
 use Rattle.lang_monitor.specs.declared.monitor.Stmt.TheVariants as statements
-use Rattle.lang_monitor.specs.declared.monitor.Stmt.TheOpen as layers
-use Rattle.lang_monitor.specs.declared.monitor.Stmt.TheFolds.{fold-roll-Stmt}
-use Rattle.lang_monitor.specs.Bodies.{Effect, Inputs, Memory, assigning, effect_of, effect_step, fits_64, form_value, in_turn, memory_of, valuation}
+use Rattle.lang_monitor.specs.Bodies.{Inputs, Memory, effect_of, fits_64, form_value, memory_of, on_memory, valuation}
+use Rattle.lang_monitor.specs.Statements.{Effect, in_turn}
+use Rattle.lang_monitor.proofs.Statements.{put_effect}
 use Rattle.machine_implicit.specs.declared.commit.Reply.{Reply}
 use Rattle.machine_implicit.specs.Steps.{BlockSteps, guard_truth}
 use Rattle.machine_stress.specs.LargeInput.{buffer_of, count_and, counting_block, has_room, has_some, less_count}
@@ -48,10 +49,6 @@ some_needed capacity count inputs holds =
 
 -- ---- bodies
 
-effect_SetInt : (arguments : List Value) (form : Linear)
-    → effect_of arguments (statements.SetInt 0 form) ≡ assigning 0 (form_value arguments form)
-effect_SetInt arguments form = ap (effect_of arguments) (sym (statements.rolls-SetInt 0 form)) ∙ fold-roll-Stmt Effect (effect_step arguments) (layers.SetInt 0 form)
-
 -- the state after an assignment that is within 64 bits
 assigned : (number : ℕ) (guard : Formula) (form : Linear) (inputs : Inputs) (count next : ℕ)
     (reply : Reply) (memory : Memory)
@@ -61,9 +58,9 @@ assigned : (number : ℕ) (guard : Formula) (form : Linear) (inputs : Inputs) (c
     → memory.state ≡ holding next
 assigned number guard form inputs count next reply memory worth fits steps =
     let before : Memory = memory_of (holding count) inputs in
-    let Does : Effect → Type 0 = λ effect. ((in_turn (effect ∷ [])).overflows before ≡ false) × (((in_turn (effect ∷ [])).next before).state ≡ holding next) in
-    let does : Does (effect_of inputs.arguments (statements.SetInt 0 form)) =
-    subst Does (sym (effect_SetInt inputs.arguments form))
+    let Does : Effect Memory → Type 0 = λ effect. ((in_turn (effect ∷ [])).overflows before ≡ false) × (((in_turn (effect ∷ [])).next before).state ≡ holding next) in
+    let does : Does (effect_of inputs.arguments (statements.Put (puts.Number 0 form))) =
+    subst Does (sym (put_effect (on_memory inputs.arguments) (puts.Number 0 form)))
     (ap (λ (value : Value). not (fits_64 value) || false) worth ∙ ap (λ (test : Bool). not test || false) fits, ap (λ (value : Value). value ∷ []) worth) in
     elim steps [
       | inl whole ↦ ap (λ (some : Memory). some.state) whole.2 ∙ does.1

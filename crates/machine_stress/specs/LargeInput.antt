@@ -7,6 +7,7 @@ use Rattle.lang_base.specs.declared.value.Value.TheVariants as values
 use Rattle.logic_linear.specs.Linear.{Linear}
 use Rattle.logic_linear.specs.declared.formula.Formula.{Formula}
 use Rattle.logic_linear.specs.declared.formula.Formula.TheVariants as formulas
+use Rattle.logic_linear.specs.declared.substitution.Put.TheVariants as puts
 use Rattle.lang_monitor.specs.declared.monitor.Field.{Field}
 use Rattle.lang_monitor.specs.declared.monitor.Method.{Method}
 use Rattle.lang_monitor.specs.declared.monitor.Stmt.TheVariants as statements
@@ -91,7 +92,7 @@ abbrev pub counting_block : ℕ → Formula → Linear → Block
 counting_block number guard form = record {
   method = number;
   guard = guard;
-  body = statements.SetInt 0 form ∷ [];
+  body = statements.Put (puts.Number 0 form) ∷ [];
   result = results.Nothing;
   condition = number + 1;
 }

@@ -12,14 +12,14 @@ ghost use Rattle.machine_stress.specs.LargeInput.{MOST_ROOM};
 use base_list::Seq;
 use lang_base::{Kind, Name, Value};
 use lang_monitor::{Block, Condition, Field, Method, Monitor, Ret, Stmt};
-use logic_linear::{Formula, Lin, Term};
+use logic_linear::{Formula, Lin, Put, Term};
 use std::alloc::{AllocError, Global};
 
 /// The number of the method `put`.
-pub(crate) const PUT: u32 = 0;
+pub(crate) const PUT_METHOD: u32 = 0;
 
 /// The number of the method `get`.
-pub(crate) const GET: u32 = 1;
+pub(crate) const GET_METHOD: u32 = 1;
 
 /// The number of the field `count`, which is its place too.
 const COUNT: u32 = 0;
@@ -58,8 +58,8 @@ fn methods(alloc: Global) -> Result<Vec<Method>, AllocError>
     ensures { IfOk result (λ methods. methods.items
         ≡ plain_method (codes "put") 0 ∷ plain_method (codes "get") 1 ∷ []) }
 {
-    let put = plain_method(alloc, b"put", PUT)?;
-    let get = plain_method(alloc, b"get", GET)?;
+    let put = plain_method(alloc, b"put", PUT_METHOD)?;
+    let get = plain_method(alloc, b"get", GET_METHOD)?;
     Ok(vec![in alloc; put, get]?)
 }
 
@@ -84,8 +84,8 @@ fn blocks(alloc: Global, capacity: u64) -> Result<Vec<Block>, AllocError>
         ≡ counting_block 0 (has_room capacity) (count_and (pos 1))
         ∷ counting_block 1 has_some (count_and (neg_ℤ (pos 1))) ∷ []) }
 {
-    let put = counting_block(alloc, PUT, has_room(alloc, capacity)?, 1)?;
-    let get = counting_block(alloc, GET, has_some(alloc)?, -1)?;
+    let put = counting_block(alloc, PUT_METHOD, has_room(alloc, capacity)?, 1)?;
+    let get = counting_block(alloc, GET_METHOD, has_some(alloc)?, -1)?;
     Ok(vec![in alloc; put, get]?)
 }
 
@@ -100,10 +100,10 @@ fn counting_block(
     requires more { is_within 1 more ≡ true }
     ensures { IfOk result (λ block. block ≡ counting_block method guard (count_and more)) }
 {
-    let assignment = Stmt::SetInt {
-        field: COUNT,
+    let assignment = Stmt::Put(Put::Number {
+        place: COUNT,
         form: count_form(alloc, 1, more)?,
-    };
+    });
     Ok(Block {
         method,
         guard,

@@ -5,7 +5,7 @@ ghost use Rattle.lang_base.specs.Limits.{CLIENTS};
 ghost use Rattle.machine_stress.specs.LargeInput.{caller, callers, clients_of, plain_call};
 ghost use Rattle.machine_stress.specs.LargeInput.{producers_and_consumers};
 
-use crate::buffer::{GET, PUT};
+use crate::buffer::{GET_METHOD, PUT_METHOD};
 use base_list::Seq;
 use lang_base::Name;
 use machine_implicit::{Call, Client, Scripts};
@@ -40,8 +40,8 @@ fn clients_of(
     ensures { IfOk result (λ clients. clients.items ≡ clients_of producers consumers calls) }
 {
     let mut clients = Vec::new(alloc);
-    push_callers(alloc, &mut clients, "P", PUT, calls, producers)?;
-    push_callers(alloc, &mut clients, "G", GET, calls, consumers)?;
+    push_callers(alloc, &mut clients, "P", PUT_METHOD, calls, producers)?;
+    push_callers(alloc, &mut clients, "G", GET_METHOD, calls, consumers)?;
     Ok(clients)
 }
 

@@ -1,10 +1,12 @@
 -- A block fits exactly where its question is true nowhere, and what the prover's answers say.
-use Rattle.std.proofs.Common.{◌≡◌, ℕ, ◌<◌, Bool, true, false, not, ◌&&◌, cond, List, [], ◌∷◌, map, Option, Some, None, refl, sym, ap, subst, ◌∙◌, arith, inl, inr}
+use Rattle.std.proofs.Common.{◌≡◌, ℕ, ◌<◌, Bool, true, false, not, ◌&&◌, cond, List, [], ◌∷◌, Option, Some, None, refl, sym, ap, subst, ◌∙◌, arith, inl, inr}
 use Rattle.std.specs.Prelude.{slice_get}
-use Rattle.std.specs.List.{list_any}
+use Rattle.std.specs.List.{list_all}
 use Rattle.std.proofs.lemmas.Bool.{and_left, and_right, and_parts, or_from, or_parts}
 use Rattle.logic_linear.specs.declared.formula.Formula.{Formula}
 use Rattle.logic_linear.specs.declared.formula.Formula.TheVariants as formulas
+use Rattle.logic_linear.specs.declared.substitution.Put.{Put}
+use Rattle.logic_linear.specs.declared.substitution.Put.TheVariants.{Number, Truth}
 use Rattle.logic_linear.specs.Measures.{MOST_CUBES, cubes_of}
 use Rattle.logic_linear.specs.Truth.{Valuation, truth_of}
 use Rattle.lang_base.specs.declared.value.Value.{Value}
@@ -13,13 +15,11 @@ use Rattle.lang_monitor.specs.declared.monitor.Block.{Block}
 use Rattle.lang_monitor.specs.declared.monitor.Ret.{Ret}
 use Rattle.lang_monitor.specs.declared.monitor.Ret.TheVariants as rets
 use Rattle.lang_monitor.specs.declared.monitor.Stmt.{Stmt}
-use Rattle.lang_monitor.specs.declared.monitor.Stmt.TheOpen.{Stmt-F, SetInt, SetBool, If}
-use Rattle.lang_monitor.specs.declared.monitor.Stmt.TheViews.{roll-Stmt}
-use Rattle.lang_monitor.specs.declared.monitor.Stmt.TheFolds.{ind-Stmt, map-Stmt, fold-roll-Stmt}
 use Rattle.lang_monitor.specs.MonitorParts.{MonitorParts, IsMonitor}
-use Rattle.lang_monitor.specs.Bodies.{Effect, Inputs, Memory, body_effect, effect_of, effect_step, fits_result_64, in_turn, memory_of, no_inputs, overflows_in, result_value, after, values_from}
+use Rattle.lang_monitor.specs.Bodies.{Inputs, Memory, assigning, body_effect, fits_result_64, memory_of, no_inputs, on_memory, overflows_in, result_value, after, values_from}
 use Rattle.lang_monitor.specs.Candidates.{candidates_of}
 use Rattle.lang_monitor.specs.Triples.{places_of}
+use Rattle.lang_monitor.proofs.Statements.{stays_whole}
 use Rattle.logic_cert.specs.declared.cert.Cert.{Cert}
 use Rattle.logic_cert.specs.Refutes.{Refutes}
 use Rattle.logic_solve.specs.Refutation.{IsAnswer, IsLeftOpen}
@@ -31,7 +31,7 @@ use Rattle.machine_events.specs.Running.{MayRun}
 use Rattle.machine_events.proofs.Valuations.{arguments_back, few_held, fields_back, joint, locals_back}
 use Rattle.plan_fits.specs.Answers.{IsFitAnswer, QuestionMayStayOpen, limits, undecided}
 use Rattle.plan_fits.specs.Fits.{Fits64, MayRunIn64, OverflowsAt}
-use Rattle.plan_fits.specs.Outside.{answers_number, assigns_number, assigns_step, block_question, has_numbers, outside_question, question_in}
+use Rattle.plan_fits.specs.Outside.{answers_number, block_question, has_numbers, is_number, is_numberless, outside_question, question_in}
 use Rattle.plan_fits.specs.States.{OverflowsBy}
 use Rattle.plan_fits.specs.Within.{is_asked_within, is_made_within}
 use Rattle.plan_fits.proofs.OutsideTruth.{any_truth}
@@ -39,46 +39,18 @@ use Rattle.plan_fits.proofs.Questions.{full_truth, inputs_at, own_state, runs_th
 
 -- ---- blocks without numbers
 
-abbrev Stays : Stmt → Type 0
-Stays statement = assigns_number statement ≡ false → (arguments : List Value) (memory : Memory) → (effect_of arguments statement).overflows memory ≡ false
+-- an assignment that is not of an int never overflows
+put_stays : (arguments : List Value) (put : Put) → not (is_number put) ≡ true → (memory : Memory) → (assigning arguments put).overflows memory ≡ false
+put_stays arguments (Number place form) none memory = absurd cc
+put_stays arguments (Truth place is) none memory = refl
 
-parts_stay : (body : List ((statement : Stmt) × Stays statement)) → list_any (λ inner. inner) (map assigns_number (map (λ part. part.0) body)) ≡ false
-    → (arguments : List Value) (memory : Memory) → (in_turn (map (effect_of arguments) (map (λ part. part.0) body))).overflows memory ≡ false
-parts_stay [] none arguments memory = refl
-parts_stay (part ∷ body) none arguments memory =
-    let both = or_parts (assigns_number part.0) (list_any (λ inner. inner) (map assigns_number (map (λ part. part.0) body))) none in
-    or_from ((effect_of arguments part.0).overflows memory) ((in_turn (map (effect_of arguments) (map (λ part. part.0) body))).overflows ((effect_of arguments part.0).next memory))
-    (part.1 both.0 arguments memory) (parts_stay body both.1 arguments ((effect_of arguments part.0).next memory))
+not_false : (a : Bool) → not a ≡ false → a ≡ true
+not_false true none = refl
+not_false false none = absurd cc
 
-abbrev LayerStays : Stmt-F Stmt → Type 0
-LayerStays layer = assigns_step (map-Stmt _ Bool assigns_number layer) ≡ false
-    → (arguments : List Value) (memory : Memory) → (effect_step arguments (map-Stmt _ Effect (effect_of arguments) layer)).overflows memory ≡ false
-
-chosen_false : (when a b : Bool) → a ≡ false → b ≡ false → cond when a b ≡ false
-chosen_false true a b e f = e
-chosen_false false a b e f = f
-
-layer_stays : (layer : Stmt-F ((statement : Stmt) × Stays statement)) → LayerStays (map-Stmt _ Stmt (λ part. part.0) layer)
-layer_stays (SetInt place form) none arguments memory = absurd cc
-layer_stays (SetBool place is) none arguments memory = refl
-layer_stays (If when body other) none arguments memory =
-    let both = or_parts (list_any (λ inner. inner) (map assigns_number (map (λ part. part.0) body))) (list_any (λ inner. inner) (map assigns_number (map (λ part. part.0) other))) none in
-    chosen_false _ _ _ (parts_stay body both.0 arguments memory) (parts_stay other both.1 arguments memory)
-
-rolled_stays : (layer : Stmt-F Stmt) → LayerStays layer → Stays (roll-Stmt layer)
-rolled_stays layer stays none arguments memory =
-    ap (λ (effect : Effect). effect.overflows memory) (fold-roll-Stmt Effect (effect_step arguments) layer)
-    ∙ stays (sym (fold-roll-Stmt Bool assigns_step layer) ∙ none) arguments memory
-
-statement_stays : (statement : Stmt) → Stays statement
-statement_stays = ind-Stmt Stays (λ layer parts is. rolled_stays layer (subst LayerStays is (layer_stays parts)))
-
-body_stays : (body : List Stmt) → list_any assigns_number body ≡ false → (arguments : List Value) (memory : Memory) → (body_effect arguments body).overflows memory ≡ false
-body_stays [] none arguments memory = refl
-body_stays (statement ∷ body) none arguments memory =
-    let both = or_parts (assigns_number statement) (list_any assigns_number body) none in
-    or_from ((effect_of arguments statement).overflows memory) ((body_effect arguments body).overflows ((effect_of arguments statement).next memory))
-    (statement_stays statement both.0 arguments memory) (body_stays body both.1 arguments ((effect_of arguments statement).next memory))
+body_stays : (body : List Stmt) → not (list_all is_numberless body) ≡ false → (arguments : List Value) (memory : Memory) → (body_effect arguments body).overflows memory ≡ false
+body_stays body none arguments =
+    stays_whole Memory (on_memory arguments) (λ put. not (is_number put)) (λ when. true) (put_stays arguments) body (not_false (list_all is_numberless body) none)
 
 answer_stays : (memory : Memory) (arguments : List Value) (result : Ret) → answers_number result ≡ false → not (fits_result_64 (result_value memory arguments result)) ≡ false
 answer_stays memory arguments rets.Nothing none = refl
@@ -87,7 +59,7 @@ answer_stays memory arguments (rets.Bool formula) none = refl
 
 pub numberless_stays : (block : Block) → has_numbers block ≡ false → (inputs : Inputs) (state : List Value) → overflows_in inputs block state ≡ false
 numberless_stays block none inputs state =
-    let both = or_parts (list_any assigns_number block.body) (answers_number block.result) none in
+    let both = or_parts (not (list_all is_numberless block.body)) (answers_number block.result) none in
     or_from ((body_effect inputs.arguments block.body).overflows (memory_of state inputs)) (not (fits_result_64 (result_value (after inputs block.body state) inputs.arguments block.result)))
     (body_stays block.body both.0 inputs.arguments (memory_of state inputs)) (answer_stays (after inputs block.body state) inputs.arguments block.result both.1)
 

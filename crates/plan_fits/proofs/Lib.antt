@@ -1,5 +1,5 @@
 mod ReadValues
-mod StatementMoves
+mod BodyMoves
 mod WayTruth
 mod OutsideTruth
 mod CandidateKinds

@@ -1,7 +1,7 @@
 -- Questions as the code makes them.
-use Rattle.std.proofs.Common.{◌≡◌, ℕ, zero, suc, ◌+◌, ◌-◌, ◌<◌, ◌≤◌, ◌^◌, ℤ, pos, neg_ℤ, ◌+ℤ◌, ◌≤ℤ◌, ◌<ℤ◌, Bool, true, false, cond, ◌&&◌, ◌||◌, List, [], ◌∷◌, ◌++◌, map, drop, get_or, length, Option, Some, None, arith, refl, sym, ap, subst, ◌∙◌}
+use Rattle.std.proofs.Common.{◌≡◌, ℕ, zero, suc, ◌+◌, ◌-◌, ◌<◌, ◌≤◌, ◌^◌, ℤ, pos, neg_ℤ, ◌+ℤ◌, ◌≤ℤ◌, ◌<ℤ◌, Bool, true, false, not, cond, ◌&&◌, List, [], ◌∷◌, ◌++◌, map, drop, get_or, length, Option, Some, None, arith, refl, sym, ap, subst, ◌∙◌}
 use Rattle.std.specs.Prelude.{slice_get}
-use Rattle.std.specs.List.{list_all, list_any}
+use Rattle.std.specs.List.{list_all}
 use Rattle.std.specs.Option.{is_some}
 use Rattle.std.proofs.lemmas.Bool.{and_from, and_left, and_parts, and_right}
 use Rattle.std.proofs.lemmas.Int.{ints}
@@ -27,9 +27,7 @@ use Rattle.lang_monitor.specs.declared.monitor.Method.{Method}
 use Rattle.lang_monitor.specs.declared.monitor.Ret.{Ret}
 use Rattle.lang_monitor.specs.declared.monitor.Stmt.{Stmt}
 use Rattle.lang_monitor.specs.declared.monitor.Stmt.TheVariants as statements
-use Rattle.lang_monitor.specs.declared.monitor.Stmt.TheOpen as layers
-use Rattle.lang_monitor.specs.declared.monitor.Stmt.TheViews.{rolls-If}
-use Rattle.lang_monitor.specs.declared.monitor.Stmt.TheFolds.{fold-roll-Stmt}
+use Rattle.lang_monitor.proofs.Statements.{if_parts, put_part}
 use Rattle.lang_monitor.specs.MonitorParts.{MonitorParts, IsMonitor, Places, kind_of, kinds_in, kinds_of, locals_in}
 use Rattle.lang_monitor.specs.Candidates.{AreSomeOf}
 use Rattle.lang_monitor.specs.Queries.{guard_in_block, hypotheses}
@@ -43,7 +41,7 @@ use Rattle.logic_wp.specs.NegatedQueries.{part_before}
 use Rattle.machine_implicit.proofs.Placed.{some_of}
 use Rattle.plan_candidates.proofs.SomeOf.{some_pass}
 use Rattle.plan_fits.specs.Answers.{IsFitAnswer, IsWhole}
-use Rattle.plan_fits.specs.Outside.{answers_outside, assigns_number, assigns_outside, assigns_step, bounds_from, bounds_of, hyps_of, outside_64, path_outside}
+use Rattle.plan_fits.specs.Outside.{answers_outside, assigns_outside, bounds_from, bounds_of, hyps_of, is_number, is_numberless, outside_64, path_outside}
 use Rattle.plan_fits.specs.Within.{has_room, has_room_at_end, is_step_within, is_way_within}
 use Rattle.plan_fits.specs.inner.Hypotheses.{places_in}
 
@@ -66,20 +64,16 @@ is_none test x e = rw e refl
 
 -- ---- whether a statement assigns a number
 
-any_inner : (body : List Stmt) → list_any (λ inner. inner) (map assigns_number body) ≡ list_any assigns_number body
-any_inner [] = refl
-any_inner (statement ∷ body) = ap (λ (rest : Bool). assigns_number statement || rest) (any_inner body)
+pub numberless_put : (statement : Stmt) (put : Assignment) (number : Bool) → statement ≡ statements.Put put → number ≡ is_number put → not number ≡ is_numberless statement
+numberless_put statement put number is same = ap not same ∙ sym (ap is_numberless is ∙ put_part (λ one. not (is_number one)) (λ when. true) put)
 
-or_same : (a b c d : Bool) → a ≡ b → c ≡ d → (a || c) ≡ (b || d)
-or_same a b c d e f = rw (e, f) refl
-
-if_assigns : (when : Formula) (body other : List Stmt) → assigns_number (statements.If when body other) ≡ (list_any assigns_number body || list_any assigns_number other)
-if_assigns when body other =
-    ap assigns_number (sym (rolls-If when body other)) ∙ fold-roll-Stmt Bool assigns_step (layers.If when body other) ∙ or_same _ _ _ _ (any_inner body) (any_inner other)
-
-pub assigns_parts : (statement : Stmt) (when : Formula) (body other : List Stmt) (a b : Bool) → statement ≡ statements.If when body other → a ≡ list_any assigns_number body → b ≡ list_any assigns_number other
-    → (a || b) ≡ assigns_number statement
-assigns_parts statement when body other a b is same_a same_b = or_same _ _ _ _ same_a same_b ∙ sym (ap assigns_number is ∙ if_assigns when body other)
+pub numberless_parts : (statement : Stmt) (when : Formula) (body other : List Stmt) (a b : Bool) → statement ≡ statements.If when body other → a ≡ list_all is_numberless body → b ≡ list_all is_numberless other
+    → (a && b) ≡ is_numberless statement
+numberless_parts statement when body other a b is same_a same_b =
+    and_same _ _ _ _ same_a same_b ∙ sym (ap is_numberless is ∙ if_parts (λ one. not (is_number one)) (λ some. true) when body other)
+  where
+    and_same : (a b c d : Bool) → a ≡ b → c ≡ d → (a && c) ≡ (b && d)
+    and_same a b c d e f = rw (e, f) refl
 
 -- ---- a form and a number more
 

@@ -2,7 +2,6 @@
 use Rattle.std.proofs.Common.{◌≡◌, ◌^◌, ℤ, pos, neg_ℤ, ◌+ℤ◌, ◌-ℤ◌, Bool, true, false, not, ◌&&◌, ◌||◌, List, [], ◌∷◌, ◌++◌, map, sym, arith, ap, refl, ◌∙◌}
 use Rattle.std.specs.Prelude.{int_le, int_lt}
 use Rattle.std.specs.List.{list_all, list_any}
-use Rattle.std.proofs.lemmas.Bool.{and_parts}
 use Rattle.std.proofs.lemmas.Int.{ints}
 use Rattle.std.proofs.lemmas.List.Folds.{list_all-append, list_all-map}
 use Rattle.lang_base.specs.declared.value.Value.TheVariants as values
@@ -21,8 +20,8 @@ use Rattle.logic_linear.proofs.SubstitutionLemmas.{substitution_keeps}
 use Rattle.lang_monitor.specs.declared.monitor.Block.{Block}
 use Rattle.lang_monitor.specs.declared.monitor.Ret.{Ret}
 use Rattle.lang_monitor.specs.declared.monitor.Ret.TheVariants as rets
-use Rattle.lang_monitor.specs.declared.monitor.Stmt.{Stmt}
 use Rattle.lang_monitor.specs.MonitorParts.{Places, fits_result, fits_statement}
+use Rattle.lang_monitor.specs.Changes.{body_change}
 use Rattle.lang_monitor.specs.Bodies.{body_effect, fits_64, fits_result_64, inputs_from, overflows_in, result_value, values_from}
 use Rattle.machine_implicit.specs.inner.Placed.{AreFewPlaces}
 use Rattle.machine_events.specs.CountClaims.{more_by}
@@ -30,11 +29,10 @@ use Rattle.logic_wp.specs.declared.step.Step.{Step}
 use Rattle.logic_wp.specs.declared.step.Step.TheVariants.{Put, Assume}
 use Rattle.logic_wp.specs.NegatedQueries.{both_of, part_before, query_of_parts, some_part}
 use Rattle.logic_wp.specs.Paths.{body_paths}
-use Rattle.logic_wp.proofs.PathTruth.{body_change, change_of}
 use Rattle.plan_fits.specs.Outside.{answers_outside, outside_64, path_outside}
 use Rattle.plan_fits.proofs.ReadValues.{form_read, memory_at, state_at}
-use Rattle.plan_fits.proofs.StatementMoves.{statement_moves}
-use Rattle.plan_fits.proofs.WayTruth.{body_ways, is_outside, some_way, way_truth}
+use Rattle.plan_fits.proofs.BodyMoves.{body_reached}
+use Rattle.plan_fits.proofs.WayTruth.{body_ways, is_outside, some_way_out, way_out}
 
 -- ---- formulas
 
@@ -90,7 +88,7 @@ outside_truth v form =
 abbrev pub ends_outside : Ret → Valuation → Bool
 ends_outside result v = truth_of v (answers_outside result)
 
-path_truth : (result : Ret) (v : Valuation) (steps : List Step) → truth_of v (path_outside result steps) ≡ way_truth (ends_outside result) v steps
+path_truth : (result : Ret) (v : Valuation) (steps : List Step) → truth_of v (path_outside result steps) ≡ way_out (ends_outside result) v steps
 path_truth result v [] = refl
 path_truth result v (Put (Number place form) ∷ steps) =
     any_truth v (outside_64 form ∷ part_before (Put (Number place form)) (path_outside result steps) ∷ [])
@@ -99,26 +97,11 @@ path_truth result v (Put (Number place form) ∷ steps) =
 path_truth result v (Put (Truth place is) ∷ steps) = substitution_keeps (Truth place is) v (path_outside result steps) ∙ path_truth result (assigned (Truth place is) v) steps
 path_truth result v (Assume formula ∷ steps) = both_truth v formula (path_outside result steps) ∙ ap (λ (held : Bool). truth_of v formula && held) (path_truth result v steps)
 
-paths_truth : (result : Ret) (v : Valuation) (paths : List (List Step)) → list_any (λ part. part) (map (truth_of v) (map (path_outside result) paths)) ≡ some_way (ends_outside result) v paths
+paths_truth : (result : Ret) (v : Valuation) (paths : List (List Step)) → list_any (λ part. part) (map (truth_of v) (map (path_outside result) paths)) ≡ some_way_out (ends_outside result) v paths
 paths_truth result v [] = refl
 paths_truth result v (path ∷ paths) = or_same _ _ _ _ (path_truth result v path) (paths_truth result v paths)
 
 -- ---- after a body
-
-pub record Reached (places : Places) (body : List Stmt) (v : Valuation) : Type 0 where
-  pub memory : memory_at places (body_change body v) ≡ (body_effect (values_from v 16 places.inputs) body).next (memory_at places v)
-  pub arguments : values_from (body_change body v) 16 places.inputs ≡ values_from v 16 places.inputs
-
-pub body_reached : (places : Places) → AreFewPlaces places → (body : List Stmt) → list_all (fits_statement places) body ≡ true → (v : Valuation) → Reached places body v
-body_reached places few [] fits v = record { memory = refl; arguments = refl }
-body_reached places few (statement ∷ body) fits v =
-    let both = and_parts (fits_statement places statement) (list_all (fits_statement places) body) fits in
-    let first = statement_moves places v statement few both.0 in
-    let rest = body_reached places few body both.1 (change_of statement v) in
-    record {
-      memory = rest.memory ∙ (λ i. (body_effect (first.arguments i) body).next (first.memory i));
-      arguments = rest.arguments ∙ first.arguments;
-    }
 
 answer_truth : (places : Places) (v : Valuation) (result : Ret) → fits_result places result ≡ true
     → ends_outside result v ≡ not (fits_result_64 (result_value (memory_at places v) (values_from v 16 places.inputs) result))
@@ -134,7 +117,7 @@ parts_truth places few block fits answers v =
     let arguments = values_from v 16 places.inputs in
     fold-roll-Formula Bool (layer_truth v) (Some_of (map (path_outside block.result) (body_paths block.body)))
     ∙ paths_truth block.result v (body_paths block.body)
-    ∙ body_ways places few block.body fits (ends_outside block.result) v
+    ∙ body_ways places block.body fits (ends_outside block.result) v
     ∙ ap (λ (held : Bool). (body_effect arguments block.body).overflows (memory_at places v) || held)
     (answer_truth places (body_change block.body v) block.result answers
     ∙ (λ i. not (fits_result_64 (result_value (reached.memory i) (reached.arguments i) block.result))))

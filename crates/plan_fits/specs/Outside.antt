@@ -1,13 +1,14 @@
 -- The question whether a block may leave 64 bits, as a formula.
-use Rattle.std.specs.Prelude.{ℕ, ◌+◌, ◌^◌, pos, neg_ℤ, ◌+ℤ◌, ◌-ℤ◌, Bool, true, false, ◌||◌}
+use Rattle.std.specs.Prelude.{ℕ, ◌+◌, ◌^◌, pos, neg_ℤ, ◌+ℤ◌, ◌-ℤ◌, Bool, true, false, not, ◌||◌}
 use Rattle.std.specs.Prelude.{List, [], ◌∷◌, ◌++◌, map, Option, Some, None, slice_get}
 use Rattle.std.specs.Prelude.{if◌then◌else◌}
-use Rattle.std.specs.List.{list_any}
+use Rattle.std.specs.List.{list_all}
 use Rattle.lang_base.specs.Limits.{FIRST_INPUT, FIRST_LOCAL}
 use Rattle.lang_base.specs.declared.kind.Kind.{Kind}
 use Rattle.lang_base.specs.declared.kind.Kind.TheVariants as kinds
 use Rattle.logic_linear.specs.Linear.{Linear}
 use Rattle.logic_linear.specs.Negation.{negation}
+use Rattle.logic_linear.specs.declared.substitution.Put.{Put as Assignment}
 use Rattle.logic_linear.specs.declared.substitution.Put.TheVariants.{Number, Truth}
 use Rattle.logic_linear.specs.declared.formula.Formula.{Formula}
 use Rattle.logic_linear.specs.declared.formula.Formula.TheVariants as formulas
@@ -17,10 +18,9 @@ use Rattle.lang_monitor.specs.declared.monitor.Block.{Block}
 use Rattle.lang_monitor.specs.declared.monitor.Ret.{Ret}
 use Rattle.lang_monitor.specs.declared.monitor.Ret.TheVariants as rets
 use Rattle.lang_monitor.specs.declared.monitor.Stmt.{Stmt}
-use Rattle.lang_monitor.specs.declared.monitor.Stmt.TheOpen.{Stmt-F, SetInt, SetBool, If}
-use Rattle.lang_monitor.specs.declared.monitor.Stmt.TheFolds.{fold-Stmt}
 use Rattle.lang_monitor.specs.MonitorParts.{MonitorParts, Places}
 use Rattle.lang_monitor.specs.Queries.{hypotheses}
+use Rattle.lang_monitor.specs.Statements.{every_part}
 use Rattle.lang_monitor.specs.Triples.{places_of}
 use Rattle.machine_events.specs.CountClaims.{more_by}
 use Rattle.logic_wp.specs.declared.step.Step.{Step}
@@ -75,15 +75,14 @@ bounds_of places =
 
 -- ---- the question
 
--- the statement assigns an int
-abbrev pub assigns_step : Stmt-F Bool → Bool
-assigns_step (SetInt place form) = true
-assigns_step (SetBool place is) = false
-assigns_step (If when body other) =
-    list_any (λ inner. inner) body || list_any (λ inner. inner) other
+-- an int is assigned
+abbrev pub is_number : Assignment → Bool
+is_number (Number place form) = true
+is_number (Truth place is) = false
 
-abbrev pub assigns_number : Stmt → Bool
-assigns_number = fold-Stmt Bool assigns_step
+-- no assignment of the statement is one of an int
+abbrev pub is_numberless : Stmt → Bool
+is_numberless = every_part (λ put. not (is_number put)) (λ when. true)
 
 abbrev pub answers_number : Ret → Bool
 answers_number rets.Nothing = false
@@ -92,7 +91,7 @@ answers_number (rets.Bool formula) = false
 
 -- some int is assigned or answered
 abbrev pub has_numbers : Block → Bool
-has_numbers block = list_any assigns_number block.body || answers_number block.result
+has_numbers block = not (list_all is_numberless block.body) || answers_number block.result
 
 -- that the block may run, and all numbers are within 64 bits
 abbrev pub hyps_of : MonitorParts → List Candidate → Block → List Formula

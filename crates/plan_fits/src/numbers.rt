@@ -1,10 +1,11 @@
 //! Whether a block assigns or answers a number.
 
-ghost use Rattle.std.specs.Prelude.{◌≡◌, ◌||◌};
-ghost use Rattle.std.specs.List.{list_any};
-ghost use Rattle.plan_fits.specs.Outside.{answers_number, assigns_number, has_numbers};
+ghost use Rattle.std.specs.Prelude.{◌≡◌, ◌&&◌, ◌||◌};
+ghost use Rattle.std.specs.List.{list_all};
+ghost use Rattle.plan_fits.specs.Outside.{answers_number, has_numbers, is_number, is_numberless};
 
 use lang_monitor::{Block, Ret, Stmt};
+use logic_linear::Put;
 
 fn either(first: bool, second: bool) -> bool
     ensures { result ≡ (first || second) }
@@ -12,31 +13,45 @@ fn either(first: bool, second: bool) -> bool
     first || second
 }
 
+fn both(first: bool, second: bool) -> bool
+    ensures { result ≡ (first && second) }
+{
+    first && second
+}
+
+fn is_number(put: &Put) -> bool
+    ensures { result ≡ is_number put.now }
+{
+    match put {
+        Put::Number { .. } => true,
+        Put::Truth { .. } => false,
+    }
+}
+
 #[cycle(numbers)]
-fn assigns_number(statement: &Stmt) -> bool
-    ensures { result ≡ assigns_number statement.now }
+fn is_numberless(statement: &Stmt) -> bool
+    ensures { result ≡ is_numberless statement.now }
 {
     match statement {
-        Stmt::SetInt { .. } => true,
-        Stmt::SetBool { .. } => false,
+        Stmt::Put(put) => !is_number(put),
         Stmt::If { then, other, .. } => {
-            let body = assign_numbers(then.items());
-            let rest = assign_numbers(other.items());
-            either(body, rest)
+            let body = are_numberless(then.items());
+            let rest = are_numberless(other.items());
+            both(body, rest)
         }
     }
 }
 
 #[cycle(numbers)]
-fn assign_numbers(body: &[Stmt]) -> bool
-    ensures { result ≡ list_any assigns_number body.now }
+fn are_numberless(body: &[Stmt]) -> bool
+    ensures { result ≡ list_all is_numberless body.now }
 {
     for statement in body {
-        if assigns_number(statement) {
-            return true;
+        if !is_numberless(statement) {
+            return false;
         }
     }
-    false
+    true
 }
 
 fn answers_number(answer: &Ret) -> bool
@@ -53,7 +68,7 @@ fn answers_number(answer: &Ret) -> bool
 pub(crate) fn has_numbers(block: &Block) -> bool
     ensures { result ≡ has_numbers block.now }
 {
-    let assigns = assign_numbers(block.body.items());
+    let numberless = are_numberless(block.body.items());
     let answers = answers_number(&block.result);
-    either(assigns, answers)
+    either(!numberless, answers)
 }

@@ -1,19 +1,19 @@
 -- Which rows a formula has, and which statements are simple, by their form.
 use Rattle.std.proofs.Common.{◌≡◌, ℕ, Bool, true, false, ◌&&◌, List, [], ◌∷◌, map, refl, sym, ap, ◌∙◌}
 use Rattle.std.specs.List.{flat_map, list_all}
-use Rattle.std.proofs.lemmas.List.Folds.{list_all-append, list_all-map}
+use Rattle.std.proofs.lemmas.List.Folds.{list_all-append}
 use Rattle.logic_linear.specs.declared.formula.Formula.{Formula}
 use Rattle.logic_linear.specs.declared.formula.Formula.TheVariants as formulas
 use Rattle.logic_linear.specs.declared.formula.Formula.TheOpen as formula_layers
 use Rattle.logic_linear.specs.declared.formula.Formula.TheFolds.{fold-roll-Formula}
+use Rattle.logic_linear.specs.declared.substitution.Put.{Put}
 use Rattle.logic_linear.specs.Differences.{has_difference_rows, is_difference}
 use Rattle.logic_linear.specs.Linear.{Linear}
 use Rattle.logic_linear.specs.Places.{rows_layer, rows_of}
 use Rattle.lang_monitor.specs.declared.monitor.Stmt.{Stmt}
 use Rattle.lang_monitor.specs.declared.monitor.Stmt.TheVariants as statements
-use Rattle.lang_monitor.specs.declared.monitor.Stmt.TheOpen as layers
-use Rattle.lang_monitor.specs.declared.monitor.Stmt.TheFolds.{fold-roll-Stmt}
-use Rattle.logic_wp.specs.PlainClaims.{is_simple_statement, simple_step}
+use Rattle.lang_monitor.proofs.Statements.{if_parts, put_part}
+use Rattle.logic_wp.specs.PlainClaims.{is_simple_put, is_simple_statement}
 
 -- ---- the rows of a formula
 
@@ -43,18 +43,11 @@ any_differs parts =
 
 -- ---- the form of a statement
 
-each_simple : (body : List Stmt) → list_all (λ inner. inner) (map is_simple_statement body) ≡ list_all is_simple_statement body
-each_simple body = list_all-map (λ inner. inner) is_simple_statement body
-
-pub if_simple : (when : Formula) (body other : List Stmt)
-    → is_simple_statement (statements.If when body other) ≡ (has_difference_rows when && (list_all is_simple_statement body && list_all is_simple_statement other))
-if_simple when body other =
-    ap is_simple_statement (sym (statements.rolls-If when body other)) ∙ fold-roll-Stmt Bool simple_step (layers.If when body other)
-    ∙ ap (λ (rest : Bool). has_difference_rows when && (rest && list_all (λ inner. inner) (map is_simple_statement other))) (each_simple body)
-    ∙ ap (λ (rest : Bool). has_difference_rows when && (list_all is_simple_statement body && rest)) (each_simple other)
+pub put_simple : (statement : Stmt) (put : Put) (test : Bool) → statement ≡ statements.Put put → test ≡ is_simple_put put → test ≡ is_simple_statement statement
+put_simple statement put test is same = same ∙ sym (ap is_simple_statement is ∙ put_part is_simple_put has_difference_rows put)
 
 pub simple_parts : (statement : Stmt) (when : Formula) (body other : List Stmt) (a b c : Bool) → statement ≡ statements.If when body other
     → a ≡ has_difference_rows when → b ≡ list_all is_simple_statement body → c ≡ list_all is_simple_statement other → (a && (b && c)) ≡ is_simple_statement statement
 simple_parts statement when body other a b c is same_a same_b same_c =
     ap (λ (test : Bool). test && (b && c)) same_a ∙ ap (λ (test : Bool). has_difference_rows when && (test && c)) same_b
-    ∙ ap (λ (test : Bool). has_difference_rows when && (list_all is_simple_statement body && test)) same_c ∙ sym (ap is_simple_statement is ∙ if_simple when body other)
+    ∙ ap (λ (test : Bool). has_difference_rows when && (list_all is_simple_statement body && test)) same_c ∙ sym (ap is_simple_statement is ∙ if_parts is_simple_put has_difference_rows when body other)

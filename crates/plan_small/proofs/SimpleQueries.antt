@@ -24,20 +24,19 @@ use Rattle.lang_monitor.specs.declared.claim.Claim.TheVariants as claims
 use Rattle.lang_monitor.specs.declared.monitor.Block.{Block}
 use Rattle.lang_monitor.specs.declared.monitor.Condition.{Condition}
 use Rattle.lang_monitor.specs.declared.monitor.Stmt.{Stmt}
-use Rattle.lang_monitor.specs.declared.monitor.Stmt.TheOpen.{Stmt-F, SetInt, SetBool, If}
-use Rattle.lang_monitor.specs.declared.monitor.Stmt.TheViews.{roll-Stmt}
-use Rattle.lang_monitor.specs.declared.monitor.Stmt.TheFolds.{fold-roll-Stmt, ind-Stmt, map-Stmt}
+use Rattle.lang_monitor.specs.declared.monitor.Stmt.TheVariants as statements
 use Rattle.lang_monitor.specs.Candidates.{candidate_formula, candidates_of, once, opposite as minus_once}
 use Rattle.lang_monitor.specs.Conditions.{HasCondition, HasFirstBlock}
 use Rattle.lang_monitor.specs.MonitorParts.{MonitorParts, IsMonitor}
 use Rattle.lang_monitor.specs.Paths.{block_body, body_in}
+use Rattle.lang_monitor.proofs.Statements.{by_bodies, if_passes, put_passes}
 use Rattle.lang_monitor.specs.Queries.{block_guard, for_waiting, guard_in_block, guard_in_condition, hypotheses, query_of, waiting_guard, waiting_step}
 use Rattle.logic_wp.specs.declared.step.Step.{Step}
 use Rattle.logic_wp.specs.declared.step.Step.TheVariants.{Assume, Put as Assign}
 use Rattle.logic_wp.specs.NegatedQueries.{negated_query, path_part, some_part}
-use Rattle.logic_wp.specs.Paths.{assuming, body_paths, continued}
-use Rattle.logic_wp.specs.Paths.{joined, paths_step, statement_paths}
-use Rattle.logic_wp.specs.PlainClaims.{IsClaimOf, IsConditionNumber, are_simple_terms, is_simple_block, is_simple_statement, is_within_limits, simple_step}
+use Rattle.logic_wp.specs.Paths.{assuming, body_paths, continued, statement_paths}
+use Rattle.logic_wp.proofs.PathNumbers.{if_paths, put_paths}
+use Rattle.logic_wp.specs.PlainClaims.{IsClaimOf, IsConditionNumber, is_simple_block, is_simple_put, is_simple_statement, is_within_limits}
 use Rattle.plan_prune.specs.Hardness.{IsSmall, beyond_limits}
 use Rattle.plan_small.specs.Plain.{IsPlain, IsPlainClaim}
 use Rattle.plan_small.proofs.DifferenceRows.{all_differs, flag_differs, parts_differ, row_differs}
@@ -118,8 +117,7 @@ waiting_differs = kept waiting_step (record {
 -- ---- assignments
 
 abbrev IsSimplePut : Put → Type 0
-IsSimplePut (Number place form) = are_simple_terms form.terms ≡ true
-IsSimplePut (Truth place is) = Differs is
+IsSimplePut put = is_simple_put put ≡ true
 
 put_keeps : (put : Put) → IsSimplePut put → KeepsLayers (put_in_layer put)
 put_keeps (Number place by) simple = record {
@@ -174,41 +172,25 @@ assuming_simple : (formula : Formula) (paths : List (List Step)) → Differs for
 assuming_simple formula [] e are = tt
 assuming_simple formula (path ∷ paths) e are = ((e, are.0), assuming_simple formula paths e are.1)
 
-abbrev HasSimplePaths : Stmt → Type 0
-HasSimplePaths statement = is_simple_statement statement ≡ true → AreSimple (statement_paths statement)
-
-body_simple : (body : List ((statement : Stmt) × HasSimplePaths statement)) → list_all (λ inner. inner) (map is_simple_statement (map (λ part. part.0) body)) ≡ true
-    → AreSimple (joined (map statement_paths (map (λ part. part.0) body)))
-body_simple [] e = (tt, tt)
-body_simple (part ∷ body) e =
-    let both = and_parts (is_simple_statement part.0) (list_all (λ inner. inner) (map is_simple_statement (map (λ one. one.0) body))) e in
-    joined_with (joined (map statement_paths (map (λ one. one.0) body))) (statement_paths part.0) (body_simple body both.1) (part.1 both.0)
-
-abbrev LayerSimple : Stmt-F Stmt → Type 0
-LayerSimple layer = simple_step (map-Stmt _ Bool is_simple_statement layer) ≡ true → AreSimple (paths_step (map-Stmt _ (List (List Step)) statement_paths layer))
-
-layer_simple : (layer : Stmt-F ((statement : Stmt) × HasSimplePaths statement)) → LayerSimple (map-Stmt _ Stmt (λ part. part.0) layer)
-layer_simple (SetInt field form) e = ((e, tt), tt)
-layer_simple (SetBool field is) e = ((e, tt), tt)
-layer_simple (If when body other) e =
-    let both = and_parts (has_difference_rows when) (list_all (λ inner. inner) (map is_simple_statement (map (λ part. part.0) body)) && list_all (λ inner. inner) (map is_simple_statement (map (λ part. part.0) other))) e in
-    let bodies = and_parts (list_all (λ inner. inner) (map is_simple_statement (map (λ part. part.0) body))) (list_all (λ inner. inner) (map is_simple_statement (map (λ part. part.0) other))) both.1 in
-    let paths = joined (map statement_paths (map (λ part. part.0) body)) in
-    let others = joined (map statement_paths (map (λ part. part.0) other)) in
-    paths_append (assuming when paths) (assuming (negation when) others) (assuming_simple when paths both.0 (body_simple body bodies.0))
-    (assuming_simple (negation when) others (negation_differs when both.0) (body_simple other bodies.1))
-
-statement_simple : (statement : Stmt) → HasSimplePaths statement
-statement_simple = ind-Stmt HasSimplePaths (λ layer parts is. whole layer (subst LayerSimple is (layer_simple parts)))
-  where
-    whole : (layer : Stmt-F Stmt) → LayerSimple layer → HasSimplePaths (roll-Stmt layer)
-    whole layer simple e = subst AreSimple (sym (fold-roll-Stmt (List (List Step)) paths_step layer)) (simple (sym (fold-roll-Stmt Bool simple_step layer) ∙ e))
-
 paths_simple : (body : List Stmt) → list_all is_simple_statement body ≡ true → AreSimple (body_paths body)
-paths_simple [] e = (tt, tt)
-paths_simple (statement ∷ body) e =
-    let both = and_parts (is_simple_statement statement) (list_all is_simple_statement body) e in
-    joined_with (body_paths body) (statement_paths statement) (paths_simple body both.1) (statement_simple statement both.0)
+paths_simple = by_bodies Simple (λ e. (tt, tt)) assigns chooses
+  where
+    Simple : List Stmt → Type 0
+    Simple body = list_all is_simple_statement body ≡ true → AreSimple (body_paths body)
+
+    assigns : (put : Put) (rest : List Stmt) → Simple rest → Simple (statements.Put put ∷ rest)
+    assigns put rest later e =
+        let both = put_passes is_simple_put has_difference_rows put rest e in
+        joined_with (body_paths rest) (statement_paths (statements.Put put)) (later both.1) (subst AreSimple (sym (put_paths put)) ((both.0, tt), tt))
+
+    chooses : (when : Formula) (body other rest : List Stmt) → Simple body → Simple other → Simple rest → Simple (statements.If when body other ∷ rest)
+    chooses when body other rest first second later e =
+        let has = if_passes is_simple_put has_difference_rows when body other rest e in
+        let against = negation_differs when has.when_passes in
+        joined_with (body_paths rest) (statement_paths (statements.If when body other)) (later has.rest_passes)
+        (subst AreSimple (sym (if_paths when body other))
+        (paths_append (assuming when (body_paths body)) (assuming (negation when) (body_paths other)) (assuming_simple when (body_paths body) has.when_passes (first has.body_passes))
+        (assuming_simple (negation when) (body_paths other) against (second has.other_passes))))
 
 part_differs : (post : Formula) (path : List Step) → Differs post → IsSimplePath path → Differs (path_part post path)
 part_differs post [] e is = negation_differs post e

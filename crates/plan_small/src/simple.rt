@@ -4,11 +4,11 @@
 ghost use Rattle.std.specs.Prelude.{◌≡◌, ◌&&◌};
 ghost use Rattle.std.specs.List.{list_all};
 ghost use Rattle.logic_linear.specs.Differences.{has_difference_rows};
-ghost use Rattle.logic_wp.specs.PlainClaims.{are_simple_terms, is_simple_block};
+ghost use Rattle.logic_wp.specs.PlainClaims.{are_simple_terms, is_simple_block, is_simple_put};
 ghost use Rattle.logic_wp.specs.PlainClaims.{is_simple_statement};
 
 use lang_monitor::{Block, Stmt};
-use logic_linear::{Formula, Term, is_difference};
+use logic_linear::{Formula, Put, Term, is_difference};
 
 /// Whether each row of the formula is a difference row.
 #[cycle(differences)]
@@ -52,13 +52,22 @@ fn all_three(first: bool, second: bool, third: bool) -> bool
     first && second && third
 }
 
+/// Whether a simple form is assigned, or a formula that has difference rows alone.
+fn is_simple_put(put: &Put) -> bool
+    ensures { result ≡ is_simple_put put.now }
+{
+    match put {
+        Put::Number { form, .. } => are_simple_terms(form.terms()),
+        Put::Truth { is, .. } => has_difference_rows(is),
+    }
+}
+
 #[cycle(simple)]
 fn is_simple_statement(statement: &Stmt) -> bool
     ensures { result ≡ is_simple_statement statement.now }
 {
     match statement {
-        Stmt::SetInt { form, .. } => are_simple_terms(form.terms()),
-        Stmt::SetBool { is, .. } => has_difference_rows(is),
+        Stmt::Put(put) => is_simple_put(put),
         Stmt::If { when, then, other } => {
             let condition = has_difference_rows(when);
             let body = are_simple_statements(then.items());

@@ -1,35 +1,21 @@
 -- What statements make of valuations, and parts of formulas one after the other.
-use Rattle.std.proofs.Common.{◌≡◌, ℕ, ◌+◌, ◌<◌, ◌≤◌, ℤ, Bool, true, false, cond, List, [], ◌∷◌, ◌++◌, length, map, take, get_or, sym, ap, refl, arith, ◌∙◌}
+use Rattle.std.proofs.Common.{◌≡◌, ℕ, ◌+◌, ◌<◌, ◌≤◌, Bool, true, false, cond, List, [], ◌∷◌, ◌++◌, length, map, take, get_or, sym, ap, refl, arith, ◌∙◌}
 use Rattle.std.specs.List.{list_all, list_any}
 use Rattle.std.proofs.lemmas.List.{take_all, take_more}
 use Rattle.std.proofs.lemmas.List.Folds.{list_all-map, list_all_at, list_any_at}
 use Rattle.logic_linear.specs.declared.formula.Formula.{Formula}
-use Rattle.logic_linear.specs.Linear.{Linear}
-use Rattle.logic_linear.specs.Truth.{Valuation, truth_of, value_of}
+use Rattle.logic_linear.specs.Truth.{Valuation, truth_of}
 use Rattle.lang_monitor.specs.declared.monitor.Stmt.{Stmt}
 use Rattle.lang_monitor.specs.declared.monitor.Stmt.TheVariants as statements
-use Rattle.lang_monitor.specs.declared.monitor.Stmt.TheOpen as layers
-use Rattle.lang_monitor.specs.declared.monitor.Stmt.TheFolds.{fold-roll-Stmt}
-use Rattle.plan_why.specs.inner.Running.{Change, in_turn, change_step, change_of, body_change, with_number, with_truth, all_true, any_true}
+use Rattle.lang_monitor.specs.Changes.{on_valuations}
+use Rattle.lang_monitor.specs.Statements.{Effect, in_turn, run_of}
+use Rattle.lang_monitor.proofs.Statements.{if_effect}
+use Rattle.plan_why.specs.inner.Running.{change_of, body_change, all_true, any_true}
 
 -- ---- statements
 
-change_SetInt : (place : ℕ) (form : Linear) (v : Valuation) → change_of (statements.SetInt place form) v ≡ with_number place (value_of v form) v
-change_SetInt place form v = ap (λ (change : Change). change v) (ap change_of (sym (statements.rolls-SetInt place form)) ∙ fold-roll-Stmt Change change_step (layers.SetInt place form))
-
-change_SetBool : (place : ℕ) (is : Formula) (v : Valuation) → change_of (statements.SetBool place is) v ≡ with_truth place (truth_of v is) v
-change_SetBool place is v = ap (λ (change : Change). change v) (ap change_of (sym (statements.rolls-SetBool place is)) ∙ fold-roll-Stmt Change change_step (layers.SetBool place is))
-
 change_If : (when : Formula) (body other : List Stmt) (v : Valuation) → change_of (statements.If when body other) v ≡ cond (truth_of v when) (body_change body v) (body_change other v)
-change_If when body other v = ap (λ (change : Change). change v) (ap change_of (sym (statements.rolls-If when body other)) ∙ fold-roll-Stmt Change change_step (layers.If when body other))
-
-pub sets_int : (statement : Stmt) (place : ℕ) (form : Linear) (v next : Valuation) (number : ℤ) → statement ≡ statements.SetInt place form → number ≡ value_of v form → next ≡ with_number place number v → next ≡ change_of statement v
-sets_int statement place form v next number is worth put =
-    put ∙ ap (λ (one : ℤ). with_number place one v) worth ∙ sym (ap (λ (some : Stmt). change_of some v) is ∙ change_SetInt place form v)
-
-pub sets_bool : (statement : Stmt) (place : ℕ) (formula : Formula) (v next : Valuation) (truth : Bool) → statement ≡ statements.SetBool place formula → truth ≡ truth_of v formula → next ≡ with_truth place truth v → next ≡ change_of statement v
-sets_bool statement place formula v next truth is worth put =
-    put ∙ ap (λ (one : Bool). with_truth place one v) worth ∙ sym (ap (λ (some : Stmt). change_of some v) is ∙ change_SetBool place formula v)
+change_If when body other v = ap (λ (effect : Effect Valuation). effect.next v) (if_effect on_valuations when body other)
 
 pub takes_then : (statement : Stmt) (when : Formula) (body other : List Stmt) (v next : Valuation) → statement ≡ statements.If when body other → true ≡ truth_of v when → next ≡ body_change body v → next ≡ change_of statement v
 takes_then statement when body other v next is held runs =
@@ -39,13 +25,13 @@ pub takes_other : (statement : Stmt) (when : Formula) (body other : List Stmt) (
 takes_other statement when body other v next is held runs =
     runs ∙ ap (λ (test : Bool). cond test (body_change body v) (body_change other v)) held ∙ sym (ap (λ (some : Stmt). change_of some v) is ∙ change_If when body other v)
 
-turn_push : (changes : List Change) (last : Change) (v : Valuation) → in_turn (changes ++ last ∷ []) v ≡ last (in_turn changes v)
+turn_push : (effects : List (Effect Valuation)) (last : Effect Valuation) (v : Valuation) → (in_turn (effects ++ last ∷ [])).next v ≡ last.next ((in_turn effects).next v)
 turn_push [] last v = refl
-turn_push (first ∷ changes) last v = turn_push changes last (first v)
+turn_push (first ∷ effects) last v = turn_push effects last (first.next v)
 
-map_push : (body : List Stmt) (statement : Stmt) → map change_of (body ++ statement ∷ []) ≡ map change_of body ++ change_of statement ∷ []
+map_push : (body : List Stmt) (statement : Stmt) → map (run_of on_valuations) (body ++ statement ∷ []) ≡ map (run_of on_valuations) body ++ run_of on_valuations statement ∷ []
 map_push [] statement = refl
-map_push (first ∷ body) statement = ap (λ (rest : List Change). change_of first ∷ rest) (map_push body statement)
+map_push (first ∷ body) statement = ap (λ (rest : List (Effect Valuation)). run_of on_valuations first ∷ rest) (map_push body statement)
 
 taken_one : {X : Type 0} (xs : List X) (i : ℕ) (x : X) → i < length xs → x ≡ get_or xs i x → take (i + 1) xs ≡ take i xs ++ x ∷ []
 taken_one xs i x h is = take_more xs i x h ∙ ap (λ y. take i xs ++ y ∷ []) (sym is)
@@ -54,7 +40,7 @@ taken_one xs i x h is = take_more xs i x h ∙ ap (λ y. take i xs ++ y ∷ []) 
 pub ran_more : (body : List Stmt) (i : ℕ) (statement : Stmt) (v now next : Valuation) → i < length body → statement ≡ get_or body i statement → now ≡ body_change (take i body) v → next ≡ change_of statement now → next ≡ body_change (take (i + 1) body) v
 ran_more body i statement v now next h is so ran =
     ran ∙ ap (change_of statement) so
-    ∙ sym (ap (λ (some : List Stmt). body_change some v) (taken_one body i statement h is) ∙ ap (λ (some : List Change). in_turn some v) (map_push (take i body) statement) ∙ turn_push (map change_of (take i body)) (change_of statement) v)
+    ∙ sym (ap (λ (some : List Stmt). body_change some v) (taken_one body i statement h is) ∙ ap (λ (some : List (Effect Valuation)). (in_turn some).next v) (map_push (take i body) statement) ∙ turn_push (map (run_of on_valuations) (take i body)) (run_of on_valuations statement) v)
 
 pub ran_none : (body : List Stmt) (v now : Valuation) → now ≡ v → now ≡ body_change (take 0 body) v
 ran_none [] v now is = is

@@ -1,5 +1,5 @@
 -- What a solution of a negated query says, and what it says that there is none.
-use Rattle.std.proofs.Common.{◌≡◌, ℕ, ◌<◌, ◌≤◌, Bool, true, false, not, cond, ◌&&◌, List, [], ◌∷◌, length, map, get_or, Option, Some, None, sym, subst, arith, ap, refl, ◌∙◌}
+use Rattle.std.proofs.Common.{◌≡◌, ℕ, ◌<◌, ◌≤◌, Bool, true, false, not, ◌&&◌, List, length, get_or, Option, Some, None, sym, subst, arith, ap, refl, ◌∙◌}
 use Rattle.std.specs.Prelude.{nat_le, slice_get}
 use Rattle.std.specs.List.{list_all}
 use Rattle.std.specs.Option.{IsSomeAnd}
@@ -10,9 +10,6 @@ use Rattle.logic_linear.specs.Measures.{cubes_of}
 use Rattle.logic_linear.specs.Truth.{Valuation, truth_of}
 use Rattle.lang_monitor.specs.declared.monitor.Block.{Block}
 use Rattle.lang_monitor.specs.declared.monitor.Stmt.{Stmt}
-use Rattle.lang_monitor.specs.declared.monitor.Stmt.TheOpen.{Stmt-F}
-use Rattle.lang_monitor.specs.declared.monitor.Stmt.TheOpen as layers
-use Rattle.lang_monitor.specs.declared.monitor.Stmt.TheFolds.{fold-Stmt}
 use Rattle.lang_monitor.specs.declared.query.Query.{Query}
 use Rattle.lang_monitor.specs.Bodies.{valuation_after}
 use Rattle.lang_monitor.specs.MonitorParts.{MonitorParts, IsMonitor}
@@ -23,14 +20,12 @@ use Rattle.logic_solve.specs.Solutions.{valuation_of, IsSolution}
 use Rattle.logic_wp.specs.Limits.{is_query_within, query_within, value_if}
 use Rattle.logic_wp.specs.NegatedQueries.{negated_query, query_fails, fails_in}
 use Rattle.logic_wp.specs.PlainClaims.{is_plain, has_few_cubes}
-use Rattle.logic_wp.proofs.PathTruth as paths
 use Rattle.logic_wp.proofs.BodyStates.{body_reaches_memory}
 use Rattle.logic_wp.proofs.Fitting.{block_fits}
 use Rattle.logic_wp.proofs.QueryLaws.{all_truth}
 use Rattle.plan_why.specs.Failures.{Breaks, IsAfter, IsFailure, IsFailureOf}
 use Rattle.plan_why.specs.WideNumbers.{IsWideBody}
-use Rattle.plan_why.specs.inner.Running.{Change, in_turn, change_step}
-use Rattle.plan_why.specs.inner.Running.{change_of, body_change, IsRun}
+use Rattle.plan_why.specs.inner.Running.{IsRun}
 
 -- ---- a solution of a negated query
 
@@ -68,29 +63,13 @@ is_negated monitor query formula e = within_value (is_query_within monitor query
 abbrev pub NegatedIsExact : Type 0
 NegatedIsExact = (monitor : MonitorParts) (query : Query) (v : Valuation) → IsMonitor monitor → query.block < length monitor.blocks → truth_of v (negated_query monitor query) ≡ query_fails monitor query v
 
--- ---- bodies, as the laws of paths have them
-
-turn_is : (body : List Change) → paths.changes_in_turn body ≡ in_turn body
-turn_is [] = refl
-turn_is (first ∷ more) = λ i. λ v. turn_is more i (first v)
-
-change_step_is : (layer : Stmt-F Change) → paths.change_step layer ≡ change_step layer
-change_step_is (layers.SetInt place form) = refl
-change_step_is (layers.SetBool place formula) = refl
-change_step_is (layers.If when body other) = λ i. λ v. cond (truth_of v when) (turn_is body i v) (turn_is other i v)
-
-change_is : (statement : Stmt) → paths.change_of statement ≡ change_of statement
-change_is statement = λ i. fold-Stmt Change (λ layer. change_step_is layer i) statement
-
-body_is : (body : List Stmt) (v : Valuation) → paths.body_change body v ≡ body_change body v
-body_is [] v = refl
-body_is (statement ∷ rest) v = body_is rest (paths.change_of statement v) ∙ ap (λ (change : Change). in_turn (map change_of rest) (change v)) (change_is statement)
+-- ---- what a body reaches
 
 ends_at : (monitor : MonitorParts) (block : ℕ) (held : Block) (before : Valuation) (after : Option Solution) → IsMonitor monitor → slice_get monitor.blocks block ≡ Some held → IsRun held.body before after → IsAfter monitor block before after
 ends_at monitor block held before None rule is wide = subst (λ (found : Option Block). IsSomeAnd found (λ one. IsWideBody one.body before)) (sym is) wide
 ends_at monitor block held before (Some last) rule is ran =
     subst (λ (found : Option Block). IsSomeAnd found (λ one. valuation_of last ≡ valuation_after (places_of monitor one) one.body before)) (sym is)
-    (ran ∙ sym (body_is held.body before) ∙ sym (body_reaches_memory (places_of monitor held) before held.body (block_fits monitor block held rule is).body))
+    (ran ∙ sym (body_reaches_memory (places_of monitor held) before held.body (block_fits monitor block held rule is).body))
 
 pub failed_at : (monitor : MonitorParts) (query : Query) (formula : Formula) (before : Solution) (after : Option Solution) (held : Block) (body : List Stmt) → NegatedIsExact → IsMonitor monitor → query.block < length monitor.blocks
     → formula ≡ negated_query monitor query → truth_of (valuation_of before) formula ≡ true → slice_get monitor.blocks query.block ≡ Some held → body ≡ held.body

@@ -11,16 +11,22 @@ use Rattle.logic_linear.specs.declared.formula.Formula.TheVariants as formulas
 use Rattle.logic_linear.specs.declared.formula.Formula.TheOpen as layers
 use Rattle.logic_linear.specs.declared.formula.Formula.TheFolds.{fold-roll-Formula}
 use Rattle.logic_linear.specs.Linear.{Linear}
+use Rattle.logic_linear.specs.declared.substitution.Put.{Put}
+use Rattle.logic_linear.specs.declared.substitution.Put.TheVariants as puts
 use Rattle.logic_linear.specs.Places.{rows_of, rows_layer}
+use Rattle.logic_linear.specs.Substitution.{assigned}
 use Rattle.logic_linear.specs.Sums.{fits_128}
 use Rattle.logic_linear.specs.Truth.{Valuation, layer_truth, sum_of, truth_of, value_of}
 use Rattle.logic_linear.proofs.MergeLemmas.{fits_answer}
 use Rattle.lang_monitor.specs.declared.monitor.Stmt.{Stmt}
 use Rattle.lang_monitor.specs.declared.monitor.Stmt.TheVariants as statements
+use Rattle.lang_monitor.specs.Changes.{on_valuations}
+use Rattle.lang_monitor.specs.Statements.{Effect}
+use Rattle.lang_monitor.proofs.Statements.{put_effect}
 use Rattle.logic_solve.specs.declared.valuation.Solution.{Solution}
 use Rattle.logic_solve.specs.Solutions.{valuation_of}
-use Rattle.plan_why.specs.WideNumbers.{HasWideSum, IsWideBody, IsWideForm, IsWideFormula, product, front, number, truth, test, taken, left, later}
-use Rattle.plan_why.specs.inner.Running.{all_true, any_true, body_change, change_of, HasWidePart, IsComputed, IsRun}
+use Rattle.plan_why.specs.WideNumbers.{HasWideSum, IsWideBody, IsWideForm, IsWideFormula, IsWidePut, product, front, assigns, test, taken, left, later}
+use Rattle.plan_why.specs.inner.Running.{all_true, any_true, body_change, change_of, with_number, with_truth, HasWidePart, IsAssigned, IsComputed, IsRun}
 use Rattle.plan_why.proofs.Bodies.{takes_then, takes_other}
 
 pub computed : (found : Option ℤ) (x : ℤ) → SomeIff found (FitsSigned w128 x) x → IsComputed x (fits_128 x ≡ false) found
@@ -85,8 +91,7 @@ wide_part v parts i part h is wide = record { part = part; there = subst (Contai
 -- ---- bodies
 
 pub wide_more : {body : List Stmt} {v : Valuation} → IsWideBody body v → (more : List Stmt) → IsWideBody (body ++ more) v
-wide_more (number place form rest v wide) more = number place form (rest ++ more) v wide
-wide_more (truth place formula rest v wide) more = truth place formula (rest ++ more) v wide
+wide_more (assigns it rest v wide) more = assigns it (rest ++ more) v wide
 wide_more (test when body other rest v wide) more = test when body other (rest ++ more) v wide
 wide_more (taken when body other rest v held wide) more = taken when body other (rest ++ more) v held wide
 wide_more (left when body other rest v held wide) more = left when body other (rest ++ more) v held wide
@@ -98,11 +103,23 @@ wide_at [] i statement v now h is so wide = absurd (omega arith)
 wide_at (first ∷ rest) zero statement v now h is so wide = wide_more (subst (λ (one : Stmt). IsWideBody (one ∷ []) v) is (subst (IsWideBody (statement ∷ [])) so wide)) rest
 wide_at (first ∷ rest) (suc i) statement v now h is so wide = later first rest v (wide_at rest i statement (change_of first v) now (omega arith) is so wide)
 
-pub wide_number : (statement : Stmt) (place : ℕ) (form : Linear) (v : Valuation) → statement ≡ statements.SetInt place form → IsWideForm v form → IsWideBody (statement ∷ []) v
-wide_number statement place form v is wide = subst (λ (one : Stmt). IsWideBody (one ∷ []) v) (sym is) (number place form [] v wide)
+-- what an assignment makes of a valuation
+pub sets_number : (it : Put) (place : ℕ) (form : Linear) (v next : Valuation) (number : ℤ) → it ≡ puts.Number place form → number ≡ value_of v form → next ≡ with_number place number v → next ≡ assigned it v
+sets_number it place form v next number is worth made = made ∙ ap (λ (one : ℤ). with_number place one v) worth ∙ ap (λ (one : Put). assigned one v) (sym is)
 
-pub wide_truth : (statement : Stmt) (place : ℕ) (formula : Formula) (v : Valuation) → statement ≡ statements.SetBool place formula → IsWideFormula v formula → IsWideBody (statement ∷ []) v
-wide_truth statement place formula v is wide = subst (λ (one : Stmt). IsWideBody (one ∷ []) v) (sym is) (truth place formula [] v wide)
+pub sets_truth : (it : Put) (place : ℕ) (formula : Formula) (v next : Valuation) (truth : Bool) → it ≡ puts.Truth place formula → truth ≡ truth_of v formula → next ≡ with_truth place truth v → next ≡ assigned it v
+sets_truth it place formula v next truth is worth made = made ∙ ap (λ (one : Bool). with_truth place one v) worth ∙ ap (λ (one : Put). assigned one v) (sym is)
+
+pub wide_number : (it : Put) (place : ℕ) (form : Linear) (v : Valuation) → it ≡ puts.Number place form → IsWideForm v form → IsWidePut it v
+wide_number it place form v is wide = subst (λ (one : Put). IsWidePut one v) (sym is) wide
+
+pub wide_truth : (it : Put) (place : ℕ) (formula : Formula) (v : Valuation) → it ≡ puts.Truth place formula → IsWideFormula v formula → IsWidePut it v
+wide_truth it place formula v is wide = subst (λ (one : Put). IsWidePut one v) (sym is) wide
+
+pub put_ran : (statement : Stmt) (it : Put) (v : Valuation) (last : Option Solution) → statement ≡ statements.Put it → IsAssigned it v last → IsRun (statement ∷ []) v last
+put_ran statement it v (Some last) is ran =
+    ran ∙ sym (ap (λ (some : Stmt). change_of some v) is ∙ ap (λ (effect : Effect Valuation). effect.next v) (put_effect on_valuations it))
+put_ran statement it v None is wide = subst (λ (one : Stmt). IsWideBody (one ∷ []) v) (sym is) (assigns it [] v wide)
 
 pub wide_test : (statement : Stmt) (when : Formula) (body other : List Stmt) (v : Valuation) → statement ≡ statements.If when body other → IsWideFormula v when → IsWideBody (statement ∷ []) v
 wide_test statement when body other v is wide = subst (λ (one : Stmt). IsWideBody (one ∷ []) v) (sym is) (test when body other [] v wide)

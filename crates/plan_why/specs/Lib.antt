@@ -1,5 +1,4 @@
 pub mod Things
-pub mod Changes
 pub mod WideNumbers
 pub mod Failures
 pub mod Reasons

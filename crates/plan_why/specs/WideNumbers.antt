@@ -3,13 +3,15 @@ use Rattle.std.specs.Prelude.{◌≡◌, ℕ, ℤ, ◌*ℤ◌, ◌⊎◌, true, 
 use Rattle.std.specs.List.{Contains}
 use Rattle.logic_linear.specs.declared.form.Term.{Term}
 use Rattle.logic_linear.specs.declared.formula.Formula.{Formula}
+use Rattle.logic_linear.specs.declared.substitution.Put.{Put}
+use Rattle.logic_linear.specs.declared.substitution.Put.TheVariants.{Number, Truth}
 use Rattle.logic_linear.specs.Linear.{Linear}
 use Rattle.logic_linear.specs.Places.{rows_of}
 use Rattle.logic_linear.specs.Sums.{fits_128}
 use Rattle.logic_linear.specs.Truth.{Valuation, sum_of, truth_of, value_of}
 use Rattle.lang_monitor.specs.declared.monitor.Stmt.{Stmt}
 use Rattle.lang_monitor.specs.declared.monitor.Stmt.TheVariants as statements
-use Rattle.plan_why.specs.Changes.{change_of}
+use Rattle.lang_monitor.specs.Changes.{change_of}
 
 -- on the way to the sum of terms: the product of each, and the sum of each front of them
 pub data IsOnTheWay (v : Valuation) (terms : List Term) : ℤ → Type 0 where
@@ -36,13 +38,16 @@ pub record HasWideRow (v : Valuation) (rows : List Linear) : Type 0 where
 abbrev pub IsWideFormula : Valuation → Formula → Type 0
 IsWideFormula v formula = HasWideRow v (rows_of formula)
 
+-- a number of what is assigned is outside 128 bits
+abbrev pub IsWidePut : Put → Valuation → Type 0
+IsWidePut (Number place form) v = IsWideForm v form
+IsWidePut (Truth place is) v = IsWideFormula v is
+
 -- a number of a form or a formula that the body comes to, from the valuation on, is outside 128
 -- bits
 pub data IsWideBody : List Stmt → Valuation → Type 0 where
-  number : (place : ℕ) (form : Linear) (rest : List Stmt) (v : Valuation)
-      → IsWideForm v form → IsWideBody (statements.SetInt place form ∷ rest) v
-  truth : (place : ℕ) (formula : Formula) (rest : List Stmt) (v : Valuation)
-      → IsWideFormula v formula → IsWideBody (statements.SetBool place formula ∷ rest) v
+  assigns : (put : Put) (rest : List Stmt) (v : Valuation)
+      → IsWidePut put v → IsWideBody (statements.Put put ∷ rest) v
   test : (when : Formula) (body other rest : List Stmt) (v : Valuation)
       → IsWideFormula v when → IsWideBody (statements.If when body other ∷ rest) v
   taken : (when : Formula) (body other rest : List Stmt) (v : Valuation)

@@ -4,11 +4,12 @@ ghost use Rattle.std.specs.Prelude.{◌≡◌, ◌++◌, ◌∷◌, [], IfOk, if
 ghost use Rattle.std.specs.List.{filter};
 ghost use Rattle.logic_solve.specs.Solutions.{valuation_of};
 ghost use Rattle.plan_why.specs.inner.Running.{flags_with, is_other, with_number};
-ghost use Rattle.plan_why.specs.inner.Running.{with_truth, IsRun};
+ghost use Rattle.plan_why.specs.inner.Running.{with_truth, IsAssigned, IsRun};
 
 use super::evaluate::{form_value, formula_truth};
 use base_list::Seq;
 use lang_monitor::Stmt;
+use logic_linear::Put;
 use logic_solve::{NumberAt, Solution};
 use std::alloc::{AllocError, Global};
 
@@ -109,6 +110,22 @@ fn with_truth(alloc: Global, place: u32, truth: bool, at: &Solution) -> Result<S
     })
 }
 
+/// The solution after an assignment, where each number on the way fits.
+fn after_put(alloc: Global, at: &Solution, put: &Put) -> Result<Option<Solution>, AllocError>
+    ensures { IfOk result (IsAssigned put.now (valuation_of at.now)) }
+{
+    match put {
+        Put::Number { place, form } => match form_value(at, form) {
+            None => Ok(None),
+            Some(number) => Ok(Some(with_number(alloc, *place, number, at)?)),
+        },
+        Put::Truth { place, is } => match formula_truth(at, is) {
+            None => Ok(None),
+            Some(truth) => Ok(Some(with_truth(alloc, *place, truth, at)?)),
+        },
+    }
+}
+
 /// The solution after a statement, where each number on the way fits.
 #[cycle(run)]
 fn after_statement(
@@ -119,14 +136,7 @@ fn after_statement(
     ensures { IfOk result (IsRun (statement.now ∷ []) (valuation_of at.now)) }
 {
     match statement {
-        Stmt::SetInt { field, form } => match form_value(at, form) {
-            None => Ok(None),
-            Some(number) => Ok(Some(with_number(alloc, *field, number, at)?)),
-        },
-        Stmt::SetBool { field, is } => match formula_truth(at, is) {
-            None => Ok(None),
-            Some(truth) => Ok(Some(with_truth(alloc, *field, truth, at)?)),
-        },
+        Stmt::Put(put) => Ok(after_put(alloc, at, put)?),
         Stmt::If { when, then, other } => match formula_truth(at, when) {
             None => Ok(None),
             Some(true) => Ok(after_body(alloc, at, then.items())?),

@@ -17,6 +17,7 @@ use lang_base::Kind;
 use lang_forms::{Entry, Meaning, find, form_of, formula_of, kind_of};
 use lang_monitor::{Ret, Stmt};
 use lang_tree::{Expr, StmtTree};
+use logic_linear::Put;
 use std::alloc::{AllocError, Global};
 
 /// The statements of these trees.
@@ -109,12 +110,12 @@ fn push_assignment(
         Meaning::Number(_) => Ok(()),
         Meaning::Int { place } => {
             let form = form_of(alloc, scope, value)?;
-            to.push(Stmt::SetInt { field: place, form })?;
+            to.push(Stmt::Put(Put::Number { place, form }))?;
             Ok(())
         }
         Meaning::Flag { place } => {
             let is = formula_of(alloc, scope, value)?;
-            to.push(Stmt::SetBool { field: place, is })?;
+            to.push(Stmt::Put(Put::Truth { place, is }))?;
             Ok(())
         }
     }

@@ -13,8 +13,9 @@ use Rattle.lang_monitor.specs.declared.monitor.Ret.{Ret}
 use Rattle.lang_monitor.specs.declared.monitor.Block.{Block}
 use Rattle.lang_monitor.specs.MonitorParts.{MonitorParts, Places, kind_of, fits_block, fits_formula}
 use Rattle.lang_monitor.specs.MonitorParts.{fits_statement, method_places}
-use Rattle.lang_monitor.specs.Bodies.{Inputs, Memory, Effect, fits_64, fits_result_64}
+use Rattle.lang_monitor.specs.Bodies.{Inputs, Memory, fits_64, fits_result_64}
 use Rattle.lang_monitor.specs.Bodies.{number_of_value, result_value, valuation, value_at}
+use Rattle.lang_monitor.specs.Statements.{Effect}
 use Rattle.machine_implicit.specs.declared.commit.Reply.{Reply}
 use Rattle.machine_implicit.specs.Steps.{reply_of}
 pub use Rattle.machine_implicit.specs.Steps.{given, held, SameKinds}
@@ -67,11 +68,11 @@ any_true v parts = list_any (λ part. part) (map (truth_of v) parts)
 -- ---- statements
 
 -- the statements run from a state to the next one, and no value that they assign is outside 64 bits
-pub record RunsWhole (effect : Effect) (before next : Memory) : Type 0 where
+pub record RunsWhole (effect : Effect Memory) (before next : Memory) : Type 0 where
   pub fits : effect.overflows before ≡ false
   pub reaches : next ≡ effect.next before
 
-abbrev pub Leaves64 : Effect → Memory → Type 0
+abbrev pub Leaves64 : Effect Memory → Memory → Type 0
 Leaves64 effect before = effect.overflows before ≡ true
 
 abbrev pub all_statements_fit : Places → List Stmt → Bool

@@ -3,12 +3,14 @@ use Rattle.std.specs.Prelude.{◌≡◌, ℕ, ℤ, ◌==◌, Bool, not, List, []
 use Rattle.std.specs.Prelude.{Some, None, if◌then◌else◌}
 use Rattle.std.specs.List.{filter, list_all, list_any, Contains}
 use Rattle.logic_linear.specs.declared.formula.Formula.{Formula}
+use Rattle.logic_linear.specs.declared.substitution.Put.{Put}
+use Rattle.logic_linear.specs.Substitution.{assigned}
 use Rattle.logic_linear.specs.Truth.{Valuation, truth_of}
 use Rattle.lang_monitor.specs.declared.monitor.Stmt.{Stmt}
 use Rattle.logic_solve.specs.declared.valuation.Solution.{Solution}
 use Rattle.logic_solve.specs.Solutions.{valuation_of}
-pub use Rattle.plan_why.specs.Changes.{Change, in_turn, change_step, change_of, body_change}
-use Rattle.plan_why.specs.WideNumbers.{IsWideBody, IsWideFormula}
+pub use Rattle.lang_monitor.specs.Changes.{change_of, body_change}
+use Rattle.plan_why.specs.WideNumbers.{IsWideBody, IsWideFormula, IsWidePut}
 
 -- ---- one value changed
 
@@ -53,6 +55,12 @@ pub record HasWidePart (v : Valuation) (parts : List Formula) : Type 0 where
   pub part : Formula
   pub there : Contains parts part
   pub wide : IsWideFormula v part
+
+-- the valuation that is found is that after the assignment; there is none only where a number is
+-- wide
+abbrev pub IsAssigned : Put → Valuation → Option Solution → Type 0
+IsAssigned put v (Some next) = valuation_of next ≡ assigned put v
+IsAssigned put v None = IsWidePut put v
 
 -- the valuation that is found is that after the body; there is none only where a number is wide
 abbrev pub IsRun : List Stmt → Valuation → Option Solution → Type 0

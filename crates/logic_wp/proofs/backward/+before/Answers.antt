@@ -2,7 +2,7 @@ use Rattle.std.proofs.Common.{◌-◌, arith, rules, refl}
 use Rattle.lang_monitor.specs.declared.monitor.Stmt.TheViews.{the_lemmas}
 use Rattle.logic_linear.proofs.LinearLemmas.{mapped_at}
 use Rattle.logic_wp.specs.inner.Negatable.{negates_statement}
-use Rattle.logic_wp.proofs.BodyParts.{body_begins, body_stops, body_turns, bool_before, if_before, int_before}
+use Rattle.logic_wp.proofs.BodyParts.{body_begins, body_stops, body_turns, if_before, put_before}
 use Rattle.logic_wp.proofs.backward.+before.Goals as goal
 
 pub before_body-loop-left-init : goal.before_body-loop-left-init
@@ -23,15 +23,10 @@ before_body-loop-left-preserved t c =
     (body_turns c.args.body.now c.args.parts.now c.loop-left.left (c.loop-left.left - 1) c.index-body-left.result c.loop-left.made.items c.deref.result.now c.in-Some.next c.in_ok-next.field-0
     c.loop-left.invariant c.loop-left-test.true refl c.index-body-left.is c.deref.ensures.value c.in_ok-next.ensures c.in-Some.is)
 
-pub before_statement-returns-in_ok-before_step-in-SetInt : goal.before_statement-returns-in_ok-before_step-in-SetInt
-before_statement-returns-in_ok-before_step-in-SetInt t c =
-    int_before c.args.statement.now c.in-SetInt.field c.in-SetInt.form c.in_ok-form-in-SetInt.form c.args.parts.now c.in_ok-before_step-in-SetInt.field-0
-    c.in-SetInt.is c.in_ok-form-in-SetInt.ensures.cases c.in_ok-before_step-in-SetInt.ensures
-
-pub before_statement-returns-in_ok-before_step-in-SetBool : goal.before_statement-returns-in_ok-before_step-in-SetBool
-before_statement-returns-in_ok-before_step-in-SetBool t c =
-    bool_before c.args.statement.now c.in-SetBool.field c.in-SetBool.is' c.in_ok-is-in-SetBool.is' c.args.parts.now c.in_ok-before_step-in-SetBool.field-0
-    c.in-SetBool.is c.in_ok-is-in-SetBool.ensures c.in_ok-before_step-in-SetBool.ensures
+pub before_statement-returns-in_ok-before_step-in-Put : goal.before_statement-returns-in_ok-before_step-in-Put
+before_statement-returns-in_ok-before_step-in-Put t c =
+    put_before c.args.statement.now c.in-Put.put c.in_ok-copy-in-Put.copy c.args.parts.now c.in_ok-before_step-in-Put.field-0
+    c.in-Put.is c.in_ok-copy-in-Put.ensures c.in_ok-before_step-in-Put.ensures
 
 pub before_statement-returns-in_ok-before_branches-in-If : goal.before_statement-returns-in_ok-before_branches-in-If
 before_statement-returns-in_ok-before_branches-in-If t c =

@@ -1,38 +1,28 @@
-use Rattle.std.proofs.Common.{refl, rules, sym, ◌∙◌}
+use Rattle.std.proofs.Common.{OnErr, OnOk, rules, subst, sym, ◌∙◌}
 use Rattle.std.proofs.lemmas.Result.{IfOk-weaker}
-use Rattle.lang_base.specs.declared.kind.Kind.TheVariants as kinds
 use Rattle.lang_monitor.specs.declared.monitor.Stmt.TheViews.{the_lemmas}
-use Rattle.machine_implicit.specs.inner.Held.{given, held, held_places}
-use Rattle.machine_implicit.proofs.Running.{few_kept, has_target, same_set, left_more, left_fails, statement_fits}
-use Rattle.machine_implicit.proofs.StatementForms.{int_field, bool_field, bool_runs, branch_runs, other_runs, on_any_err}
+use Rattle.lang_monitor.specs.Bodies.{Memory}
+use Rattle.lang_monitor.specs.Statements.{Effect}
+use Rattle.machine_implicit.specs.inner.Held.{given, held, held_places, Leaves64, RunsWhole}
+use Rattle.machine_implicit.proofs.Running.{few_kept, left_more, left_fails, statement_fits}
+use Rattle.machine_implicit.proofs.StatementForms.{branch_runs, on_any_err, other_runs, put_fits, put_is}
 use Rattle.machine_implicit.proofs.run.+run_statement.Goals as goal
 
 -- ---- assignments
 
-pub run_statement-put_at-requires : goal.run_statement-put_at-requires
-run_statement-put_at-requires t c =
-    has_target kinds.Int (held c.args.state.now c.args.locals.now) c.args.inputs.now c.in-SetInt.field
-    (int_field (held_places c.args.state.now (given c.args.inputs.now c.args.locals.now)) c.args.statement.now c.in-SetInt.field c.in-SetInt.form c.in-SetInt.is c.requires.fits)
+pub run_statement-assign-requires-clause-fits : goal.run_statement-assign-requires-clause-fits
+run_statement-assign-requires-clause-fits t c =
+    put_fits (held_places c.args.state.now (given c.args.inputs.now c.args.locals.now)) c.args.statement.now c.in-Put.put c.in-Put.is c.requires.fits
 
-pub run_statement-put_at-requires-in-SetBool : goal.run_statement-put_at-requires-in-SetBool
-run_statement-put_at-requires-in-SetBool t c =
-    has_target kinds.Bool (held c.args.state.now c.args.locals.now) c.args.inputs.now c.in-SetBool.field
-    (bool_field (held_places c.args.state.now (given c.args.inputs.now c.args.locals.now)) c.args.statement.now c.in-SetBool.field c.in-SetBool.is' c.in-SetBool.is c.requires.fits)
+pub run_statement-returns-in-Put-clause-ran : goal.run_statement-returns-in-Put-clause-ran
+run_statement-returns-in-Put-clause-ran t c =
+    subst (λ (effect : Effect Memory). OnOk c.assign.result (RunsWhole effect (held c.args.state.now c.args.locals.now) (held c.assign.new.state c.assign.new.locals)))
+    (put_is c.args.inputs.now c.args.statement.now c.in-Put.put c.in-Put.is) c.assign.ensures.ran
 
-pub run_statement-returns-in_ok-number-in-SetInt-clause-kinds : goal.run_statement-returns-in_ok-number-in-SetInt-clause-kinds
-run_statement-returns-in_ok-number-in-SetInt-clause-kinds t c =
-    same_set kinds.Int (held c.args.state.now c.args.locals.now) _ c.args.inputs.now c.in-SetInt.field _ refl c.put_at.ensures
-    (int_field (held_places c.args.state.now (given c.args.inputs.now c.args.locals.now)) c.args.statement.now c.in-SetInt.field c.in-SetInt.form c.in-SetInt.is c.requires.fits)
-
-pub run_statement-returns-in-SetBool-clause-ran : goal.run_statement-returns-in-SetBool-clause-ran
-run_statement-returns-in-SetBool-clause-ran t c =
-    bool_runs c.args.inputs.now (held c.args.state.now c.args.locals.now) (held c.put_at-in-SetBool.new.state c.put_at-in-SetBool.new.locals) c.args.statement.now c.in-SetBool.field c.in-SetBool.is' c.formula_truth-truth.result c.in-SetBool.is
-    (rw (c.values-in-SetBool.ensures.values, c.values-in-SetBool-2.ensures.values) at c.formula_truth-truth.ensures) c.put_at-in-SetBool.ensures
-
-pub run_statement-returns-in-SetBool-clause-kinds : goal.run_statement-returns-in-SetBool-clause-kinds
-run_statement-returns-in-SetBool-clause-kinds t c =
-    same_set kinds.Bool (held c.args.state.now c.args.locals.now) _ c.args.inputs.now c.in-SetBool.field _ refl c.put_at-in-SetBool.ensures
-    (bool_field (held_places c.args.state.now (given c.args.inputs.now c.args.locals.now)) c.args.statement.now c.in-SetBool.field c.in-SetBool.is' c.in-SetBool.is c.requires.fits)
+pub run_statement-returns-in-Put-clause-overflowed : goal.run_statement-returns-in-Put-clause-overflowed
+run_statement-returns-in-Put-clause-overflowed t c =
+    subst (λ (effect : Effect Memory). OnErr c.assign.result (Leaves64 effect (held c.args.state.now c.args.locals.now)))
+    (put_is c.args.inputs.now c.args.statement.now c.in-Put.put c.in-Put.is) c.assign.ensures.overflowed
 
 -- ---- branches
 
@@ -40,14 +30,14 @@ pub run_statement-returns-then-formula_truth-clause-ran : goal.run_statement-ret
 run_statement-returns-then-formula_truth-clause-ran t c =
     IfOk-weaker c.run_statements.result _ _
     (λ x runs. branch_runs c.args.inputs.now (held c.args.state.now c.args.locals.now) (held c.run_statements.new.state c.run_statements.new.locals) c.args.statement.now c.in-If.when c.in-If.«then» c.in-If.other c.in-If.is
-    (sym (rw (c.values-in-If.ensures.values, c.values-in-If-2.ensures.values) at c.formula_truth.ensures) ∙ c.if-formula_truth.true) runs)
+    (sym (rw (c.values.ensures.values, c.values-in-If.ensures.values) at c.formula_truth.ensures) ∙ c.if-formula_truth.true) runs)
     (rw c.items.ensures at c.run_statements.ensures.ran)
 
 pub run_statement-returns-else-formula_truth-clause-ran : goal.run_statement-returns-else-formula_truth-clause-ran
 run_statement-returns-else-formula_truth-clause-ran t c =
     IfOk-weaker c.run_statements-else-formula_truth.result _ _
     (λ x runs. other_runs c.args.inputs.now (held c.args.state.now c.args.locals.now) (held c.run_statements-else-formula_truth.new.state c.run_statements-else-formula_truth.new.locals) c.args.statement.now c.in-If.when c.in-If.«then» c.in-If.other c.in-If.is
-    (sym (rw (c.values-in-If.ensures.values, c.values-in-If-2.ensures.values) at c.formula_truth.ensures) ∙ c.if-formula_truth.false) runs)
+    (sym (rw (c.values.ensures.values, c.values-in-If.ensures.values) at c.formula_truth.ensures) ∙ c.if-formula_truth.false) runs)
     (rw c.items-else-formula_truth.ensures at c.run_statements-else-formula_truth.ensures.ran)
 
 -- ---- one after the other

@@ -3,7 +3,7 @@ use Rattle.lang_monitor.specs.declared.monitor.Stmt.{Stmt}
 use Rattle.logic_solve.specs.Solutions.{valuation_of}
 use Rattle.plan_why.specs.inner.Running.{IsRun}
 use Rattle.plan_why.proofs.Bodies.{ran_more}
-use Rattle.plan_why.proofs.Wide.{ran_then, ran_other, wide_at, wide_number, wide_test, wide_truth}
+use Rattle.plan_why.proofs.Wide.{put_ran, ran_then, ran_other, wide_at, wide_test}
 use Rattle.plan_why.proofs.running.+run.Goals as goal
 
 pub after_body-loop-statement-preserved : goal.after_body-loop-statement-preserved
@@ -16,14 +16,12 @@ after_body-returns-in-None t c =
     wide_at c.args.body.now c.loop-statement.statement-index c.statement-item.result (valuation_of c.args.at.now) (valuation_of c.loop-statement.now) c.loop-statement-test.true c.statement-item.is c.loop-statement.invariant
     (subst (IsRun (c.statement-item.result ∷ []) (valuation_of c.loop-statement.now)) c.in-None.is c.in_ok-after_statement.ensures)
 
+pub after_statement-returns-in_ok-after_put-in-Put : goal.after_statement-returns-in_ok-after_put-in-Put
+after_statement-returns-in_ok-after_put-in-Put t c =
+    put_ran c.args.statement.now c.in-Put.put (valuation_of c.args.at.now) c.in_ok-after_put-in-Put.field-0 c.in-Put.is c.in_ok-after_put-in-Put.ensures
+
 pub after_statement-returns-in-None : goal.after_statement-returns-in-None
-after_statement-returns-in-None t c = wide_number c.args.statement.now c.in-SetInt.field c.in-SetInt.form (valuation_of c.args.at.now) c.in-SetInt.is c.in-None.ensures
-
-pub after_statement-returns-in-None-formula_truth : goal.after_statement-returns-in-None-formula_truth
-after_statement-returns-in-None-formula_truth t c = wide_truth c.args.statement.now c.in-SetBool.field c.in-SetBool.is' (valuation_of c.args.at.now) c.in-SetBool.is c.in-None-formula_truth.ensures
-
-pub after_statement-returns-in-None-formula_truth-2 : goal.after_statement-returns-in-None-formula_truth-2
-after_statement-returns-in-None-formula_truth-2 t c = wide_test c.args.statement.now c.in-If.when c.in-If.then c.in-If.other (valuation_of c.args.at.now) c.in-If.is c.in-None-formula_truth-2.ensures
+after_statement-returns-in-None t c = wide_test c.args.statement.now c.in-If.when c.in-If.then c.in-If.other (valuation_of c.args.at.now) c.in-If.is c.in-None.ensures
 
 pub after_statement-returns-in_ok-after_body-in-Some-true : goal.after_statement-returns-in_ok-after_body-in-Some-true
 after_statement-returns-in_ok-after_body-in-Some-true t c =

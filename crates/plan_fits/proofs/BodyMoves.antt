@@ -1,28 +1,21 @@
--- What a statement does to the values of a valuation is what it does to the valuation.
-use Rattle.std.proofs.Common.{◌≡◌, ℕ, suc, ◌+◌, ◌-◌, ◌<◌, ℤ, Bool, true, cond, ◌&&◌, List, [], ◌∷◌, length, None, ap, arith, refl, sym, ◌∙◌}
+-- What a body does to the values of a valuation is what it does to the valuation.
+use Rattle.std.proofs.Common.{◌≡◌, ℕ, suc, ◌+◌, ◌-◌, ◌<◌, ℤ, Bool, true, cond, List, [], ◌∷◌, length, None, ap, arith, refl, sym, ◌∙◌}
 use Rattle.std.specs.Prelude.{nat_lt, slice_get}
 use Rattle.std.specs.List.{list_all}
-use Rattle.std.proofs.lemmas.Bool.{and_from, lt-ltb, le-ltb}
+use Rattle.std.proofs.lemmas.Bool.{lt-ltb, le-ltb}
 use Rattle.lang_base.specs.declared.kind.Kind.{Kind}
 use Rattle.lang_base.specs.declared.kind.Kind.TheVariants as kinds
 use Rattle.lang_base.specs.declared.value.Value.{Value}
 use Rattle.lang_base.specs.declared.value.Value.TheVariants as values
-use Rattle.logic_linear.specs.declared.formula.Formula.TheOpen.{All as Every}
-use Rattle.logic_linear.specs.declared.formula.Formula.TheViews.{roll-Formula}
-use Rattle.logic_linear.specs.declared.formula.Formula.TheFolds.{fold-roll-Formula}
 use Rattle.logic_linear.specs.Truth.{Valuation}
-use Rattle.lang_monitor.specs.declared.monitor.Block.{Block}
-use Rattle.lang_monitor.specs.declared.monitor.Ret.TheVariants as rets
 use Rattle.lang_monitor.specs.declared.monitor.Stmt.{Stmt}
-use Rattle.lang_monitor.specs.MonitorParts.{AreOfKinds, Places, fits_formula, fits_formula_step, fits_statement}
-use Rattle.lang_monitor.specs.Bodies.{Memory, effect_of, held_at, inputs_from, number_or, truth_or, values_from, with_memory}
+use Rattle.lang_monitor.specs.MonitorParts.{AreOfKinds, Places, fits_statement}
+use Rattle.lang_monitor.specs.Bodies.{Memory, body_effect, held_at, number_or, truth_or, values_from, with_memory}
+use Rattle.lang_monitor.specs.Changes.{body_change}
 use Rattle.machine_implicit.specs.inner.Placed.{AreFewPlaces}
-use Rattle.machine_implicit.proofs.Bodies.{after_keeps_kinds}
-use Rattle.machine_implicit.proofs.Held.{held_from_kinds, kinds_held}
 use Rattle.machine_events.proofs.Valuations.{few_held}
-use Rattle.logic_wp.proofs.PathTruth.{change_of}
-use Rattle.logic_wp.proofs.BodyStates.{body_reaches_memory}
-use Rattle.plan_fits.proofs.ReadValues.{are_kinds, memory_at, state_at}
+use Rattle.logic_wp.proofs.BodyStates.{body_follows}
+use Rattle.plan_fits.proofs.ReadValues.{memory_at}
 
 -- ---- what is held at a place
 
@@ -113,41 +106,17 @@ arguments_back places v next few =
     (λ i below. ap (number_or (v.number (16 + i))) (input_place next i (omega (arith, below, few.inputs))))
     (λ i below. ap (truth_or (v.flag (16 + i))) (input_place next i (omega (arith, below, few.inputs))))
 
--- ---- a statement
+-- ---- a body
 
-abbrev alone : Stmt → Block
-alone statement = record {
-  method = 0;
-  guard = roll-Formula (Every []);
-  body = statement ∷ [];
-  result = rets.Nothing;
-  condition = 0;
-}
+pub record Reached (places : Places) (body : List Stmt) (v : Valuation) : Type 0 where
+  pub memory : memory_at places (body_change body v) ≡ (body_effect (values_from v 16 places.inputs) body).next (memory_at places v)
+  pub arguments : values_from (body_change body v) 16 places.inputs ≡ values_from v 16 places.inputs
 
-abbrev pub next_of : Places → Valuation → Stmt → Memory
-next_of places v statement = (effect_of (values_from v 16 places.inputs) statement).next (memory_at places v)
-
-one_fits : (places : Places) (statement : Stmt) → fits_statement places statement ≡ true
-    → list_all (fits_statement places) (statement ∷ []) ≡ true
-one_fits places statement fits = and_from (fits_statement places statement) true fits refl
-
-pub record Moves (places : Places) (v : Valuation) (statement : Stmt) : Type 0 where
-  pub memory : memory_at places (change_of statement v) ≡ next_of places v statement
-  pub arguments : values_from (change_of statement v) 16 places.inputs ≡ values_from v 16 places.inputs
-
-pub statement_moves : (places : Places) (v : Valuation) (statement : Stmt) → AreFewPlaces places
-    → fits_statement places statement ≡ true → Moves places v statement
-statement_moves places v statement few fits =
-    let body = one_fits places statement fits in
-    let block = and_from (fits_formula places (roll-Formula (Every []))) (list_all (fits_statement places) (statement ∷ []) && true)
-    (fold-roll-Formula Bool (fits_formula_step places) (Every [])) (and_from (list_all (fits_statement places) (statement ∷ [])) true body refl) in
-    let next = next_of places v statement in
-    let has = after_keeps_kinds places (inputs_from v places) (state_at places v) (alone statement) block (record {
-      state = kinds_held places.fields (state_at places v) (are_kinds v 0 places.fields);
-      locals = kinds_held places.locals (values_from v 22 places.locals) (are_kinds v 22 places.locals);
-    }) in
-    let reached : with_memory v next ≡ change_of statement v = body_reaches_memory places v (statement ∷ []) body in
+pub body_reached : (places : Places) → AreFewPlaces places → (body : List Stmt) → list_all (fits_statement places) body ≡ true → (v : Valuation) → Reached places body v
+body_reached places few body fits v =
+    let run = (body_follows places v body fits).reaches in
+    let next = (body_effect (values_from v 16 places.inputs) body).next (memory_at places v) in
     record {
-      memory = ap (memory_at places) (sym reached) ∙ memory_back places v next few (held_from_kinds places.fields next.state has.state) (held_from_kinds places.locals next.locals has.locals);
-      arguments = ap (λ (u : Valuation). values_from u 16 places.inputs) (sym reached) ∙ arguments_back places v next few;
+      memory = ap (memory_at places) (sym run.reached) ∙ memory_back places v next few run.held.state run.held.locals;
+      arguments = ap (λ (u : Valuation). values_from u 16 places.inputs) (sym run.reached) ∙ arguments_back places v next few;
     }
