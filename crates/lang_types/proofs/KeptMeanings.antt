@@ -26,76 +26,82 @@ use Rattle.lang_types.specs.KeptMeaning.{BodyKeepsMeaning, KeepsMeaning, express
 use Rattle.lang_types.proofs.FineTrees.{IsFinePlaced, append_none, no_fault, tree_blocks_fine}
 use Rattle.lang_types.proofs.PlacedBlocks.{belong}
 
--- ---- faults
+-- ---- the expressions of statements that break no rule
 
-expected_fine : (wanted : Option Kind) (value : Sense) → expected wanted value ≡ [] → value.faults ≡ []
+abbrev pub IsFaultless : List Entry → Expr → Type 0
+IsFaultless scope expression = (sense scope expression).faults ≡ []
+
+pub expected_fine : (wanted : Option Kind) (value : Sense) → expected wanted value ≡ [] → value.faults ≡ []
 expected_fine None value none = none
 expected_fine (Some wanted) value none = (or_else_none value.faults (wrong_type wanted value) none).0
 
--- ---- expressions
+alone : (scope : List Entry) (expression : Expr) → IsFaultless scope expression → All (IsFaultless scope) (expression ∷ [])
+alone scope expression none = All-cons (IsFaultless scope) expression [] none (All-nil (IsFaultless scope))
 
-keeps_meaning : (scope : List Entry) (expression : Expr) → (sense scope expression).faults ≡ [] → KeepsMeaning scope expression
+abbrev AllFine : List Entry → StmtTree → Type 0
+AllFine scope statement = (finding scope statement).faults ≡ [] → All (IsFaultless scope) (expressions_of statement)
+
+abbrev Known : List Entry → Type 0
+Known scope = (statement : StmtTree) × AllFine scope statement
+
+abbrev inner_faults : (scope : List Entry) → List (Known scope) → List SourceFault
+inner_faults scope body = flat_map (λ inner. inner.faults ++ misplaced inner.returns) (map (finding scope) (map (λ e. e.0) body))
+
+abbrev inner_expressions : (scope : List Entry) → List (Known scope) → List Expr
+inner_expressions scope body = flat_map (λ inner. inner) (map expressions_of (map (λ e. e.0) body))
+
+inner_fine : (scope : List Entry) (body : List (Known scope)) → inner_faults scope body ≡ [] → All (IsFaultless scope) (inner_expressions scope body)
+inner_fine scope [] none = All-nil (IsFaultless scope)
+inner_fine scope (statement ∷ body) none =
+    let found = finding scope statement.0 in
+    let both = append_none (found.faults ++ misplaced found.returns) (inner_faults scope body) none in
+    let here = append_none found.faults (misplaced found.returns) both.0 in
+    All-append (IsFaultless scope) (expressions_of statement.0) (inner_expressions scope body) (statement.1 here.0) (inner_fine scope body both.1)
+
+abbrev bare_layer : (scope : List Entry) → StmtTree-F (Known scope) → StmtTree-F StmtTree
+bare_layer scope = map-StmtTree (Known scope) StmtTree (λ e. e.0)
+
+abbrev LayerFine : List Entry → StmtTree-F StmtTree → Type 0
+LayerFine scope layer =
+    (finding_step scope (map-StmtTree StmtTree Finding (finding scope) layer)).faults ≡ [] → All (IsFaultless scope) (expressions_step (map-StmtTree StmtTree (List Expr) expressions_of layer))
+
+layer_fine : (scope : List Entry) (layer : StmtTree-F (Known scope)) → LayerFine scope (bare_layer scope layer)
+layer_fine scope (Set at name value) none =
+    let both = append_none (target_faults at (entry_named scope name)) (expected (entry_kind (entry_named scope name)) (sense scope value)) none in
+    alone scope value (expected_fine (entry_kind (entry_named scope name)) (sense scope value) both.1)
+layer_fine scope (If at when body other) none =
+    let outer = append_none (expected (Some kinds.Bool) (sense scope when)) (inner_faults scope body ++ inner_faults scope other) none in
+    let both = append_none (inner_faults scope body) (inner_faults scope other) outer.1 in
+    let inner = All-append (IsFaultless scope) (inner_expressions scope body) (inner_expressions scope other) (inner_fine scope body both.0) (inner_fine scope other both.1) in
+    All-cons (IsFaultless scope) when (inner_expressions scope body ++ inner_expressions scope other) (expected_fine (Some kinds.Bool) (sense scope when) outer.0) inner
+layer_fine scope (Return at value) none = alone scope value none
+
+roll_fine : (scope : List Entry) (layer : StmtTree-F StmtTree) → LayerFine scope layer → AllFine scope (roll-StmtTree layer)
+roll_fine scope layer fine none =
+    subst (All (IsFaultless scope)) (sym (fold-roll-StmtTree (List Expr) expressions_step layer))
+    (fine (sym (ap (λ (f : Finding). f.faults) (fold-roll-StmtTree Finding (finding_step scope) layer)) ∙ none))
+
+statement_fine : (scope : List Entry) (statement : StmtTree) → AllFine scope statement
+statement_fine scope = ind-StmtTree (AllFine scope) (λ x y is. subst (λ (z : StmtTree-F StmtTree). AllFine scope (roll-StmtTree z)) is (roll_fine scope (bare_layer scope y) (layer_fine scope y)))
+
+-- Each expression of a body that breaks no rule breaks none.
+pub body_faultless : (scope : List Entry) (body : List StmtTree) → flat_map (λ statement. (finding scope statement).faults) body ≡ [] → All (IsFaultless scope) (expressions_in body)
+body_faultless scope [] none = All-nil (IsFaultless scope)
+body_faultless scope (statement ∷ body) none =
+    let both = append_none (finding scope statement).faults (flat_map (λ statement. (finding scope statement).faults) body) none in
+    All-append (IsFaultless scope) (expressions_of statement) (expressions_in body) (statement_fine scope statement both.0) (body_faultless scope body both.1)
+
+-- ---- what they mean
+
+keeps_meaning : (scope : List Entry) (expression : Expr) → IsFaultless scope expression → KeepsMeaning scope expression
 keeps_meaning scope expression none = record {
   value = λ valuation kind. ints_keep_meaning scope valuation expression none (ap (is_other kinds.Int) kind);
   holds = λ valuation kind. bools_keep_meaning scope valuation expression none (ap (is_other kinds.Bool) kind);
 }
 
-one_keeps : (scope : List Entry) (expression : Expr) → (sense scope expression).faults ≡ [] → All (KeepsMeaning scope) (expression ∷ [])
-one_keeps scope expression none = All-cons (KeepsMeaning scope) expression [] (keeps_meaning scope expression none) (All-nil (KeepsMeaning scope))
-
--- ---- statements
-
-abbrev Keeps : List Entry → StmtTree → Type 0
-Keeps scope statement = (finding scope statement).faults ≡ [] → All (KeepsMeaning scope) (expressions_of statement)
-
-abbrev Kept : List Entry → Type 0
-Kept scope = (statement : StmtTree) × Keeps scope statement
-
-abbrev inner_faults : (scope : List Entry) → List (Kept scope) → List SourceFault
-inner_faults scope body = flat_map (λ inner. inner.faults ++ misplaced inner.returns) (map (finding scope) (map (λ e. e.0) body))
-
-abbrev inner_expressions : (scope : List Entry) → List (Kept scope) → List Expr
-inner_expressions scope body = flat_map (λ inner. inner) (map expressions_of (map (λ e. e.0) body))
-
-inner_keep : (scope : List Entry) (body : List (Kept scope)) → inner_faults scope body ≡ [] → All (KeepsMeaning scope) (inner_expressions scope body)
-inner_keep scope [] none = All-nil (KeepsMeaning scope)
-inner_keep scope (statement ∷ body) none =
-    let found = finding scope statement.0 in
-    let both = append_none (found.faults ++ misplaced found.returns) (inner_faults scope body) none in
-    let here = append_none found.faults (misplaced found.returns) both.0 in
-    All-append (KeepsMeaning scope) (expressions_of statement.0) (inner_expressions scope body) (statement.1 here.0) (inner_keep scope body both.1)
-
-abbrev bare_layer : (scope : List Entry) → StmtTree-F (Kept scope) → StmtTree-F StmtTree
-bare_layer scope = map-StmtTree (Kept scope) StmtTree (λ e. e.0)
-
-abbrev LayerKeeps : List Entry → StmtTree-F StmtTree → Type 0
-LayerKeeps scope layer = (finding_step scope (map-StmtTree StmtTree Finding (finding scope) layer)).faults ≡ [] → All (KeepsMeaning scope) (expressions_step (map-StmtTree StmtTree (List Expr) expressions_of layer))
-
-layer_keeps : (scope : List Entry) (layer : StmtTree-F (Kept scope)) → LayerKeeps scope (bare_layer scope layer)
-layer_keeps scope (Set at name value) none =
-    let both = append_none (target_faults at (entry_named scope name)) (expected (entry_kind (entry_named scope name)) (sense scope value)) none in
-    one_keeps scope value (expected_fine (entry_kind (entry_named scope name)) (sense scope value) both.1)
-layer_keeps scope (If at when body other) none =
-    let outer = append_none (expected (Some kinds.Bool) (sense scope when)) (inner_faults scope body ++ inner_faults scope other) none in
-    let both = append_none (inner_faults scope body) (inner_faults scope other) outer.1 in
-    let inner = All-append (KeepsMeaning scope) (inner_expressions scope body) (inner_expressions scope other) (inner_keep scope body both.0) (inner_keep scope other both.1) in
-    let here = keeps_meaning scope when (expected_fine (Some kinds.Bool) (sense scope when) outer.0) in
-    All-cons (KeepsMeaning scope) when (inner_expressions scope body ++ inner_expressions scope other) here inner
-layer_keeps scope (Return at value) none = one_keeps scope value none
-
-roll_keeps : (scope : List Entry) (layer : StmtTree-F StmtTree) → LayerKeeps scope layer → Keeps scope (roll-StmtTree layer)
-roll_keeps scope layer keeps none =
-    subst (All (KeepsMeaning scope)) (sym (fold-roll-StmtTree (List Expr) expressions_step layer))
-    (keeps (sym (ap (λ (f : Finding). f.faults) (fold-roll-StmtTree Finding (finding_step scope) layer)) ∙ none))
-
-statement_keeps : (scope : List Entry) (statement : StmtTree) → Keeps scope statement
-statement_keeps scope = ind-StmtTree (Keeps scope) (λ x y is. subst (λ (z : StmtTree-F StmtTree). Keeps scope (roll-StmtTree z)) is (roll_keeps scope (bare_layer scope y) (layer_keeps scope y)))
-
 statements_keep : (scope : List Entry) (body : List StmtTree) → flat_map (λ statement. (finding scope statement).faults) body ≡ [] → All (KeepsMeaning scope) (expressions_in body)
-statements_keep scope [] none = All-nil (KeepsMeaning scope)
-statements_keep scope (statement ∷ body) none =
-    let both = append_none (finding scope statement).faults (flat_map (λ statement. (finding scope statement).faults) body) none in
-    All-append (KeepsMeaning scope) (expressions_of statement) (expressions_in body) (statement_keeps scope statement both.0) (statements_keep scope body both.1)
+statements_keep scope body none =
+    All-weaker (IsFaultless scope) (KeepsMeaning scope) (keeps_meaning scope) (expressions_in body) (body_faultless scope body none)
 
 -- ---- blocks
 
