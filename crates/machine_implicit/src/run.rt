@@ -127,7 +127,7 @@ pub fn run_alone(
 {
     match statement {
         Stmt::Put(put) => assign(put, inputs, state, locals),
-        Stmt::If { .. } => run_over_copy(statement, inputs, state, locals),
+        _ => run_over_copy(statement, inputs, state, locals),
     }
 }
 
