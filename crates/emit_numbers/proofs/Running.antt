@@ -33,6 +33,7 @@ use Rattle.lang_types.specs.Typed.{assignment, set_of, statement_of, statement_o
 use Rattle.lang_types.proofs.FineTrees.{append_none, no_fault, no_places}
 use Rattle.lang_types.proofs.NamedPlaces.{named_is_found}
 use Rattle.lang_types.proofs.PlainExpressions.{bool_value, has_kind, int_value}
+use Rattle.lang_types.proofs.PlainStatements.{is_a_variable, known_bool, known_int}
 use Rattle.emit_expressions.specs.Scopes.{ScopeParts}
 use Rattle.emit_expressions.specs.Expressions.{written}
 use Rattle.emit_numbers.specs.Calls.{Outcome, and_then, assigned, as_value, call_step, entries, in_order, keeps_64, plain_now, statement_call, tested, value_now, with_meaning}
@@ -180,16 +181,6 @@ made_in it memory value = value_now it.scope it.arguments memory value
 
 -- ---- values
 
-known_int : (kind : Option Kind) → is_other kinds.Int kind ≡ false → (kind ≡ None → ⊥) → kind ≡ Some kinds.Int
-known_int None fine known = absurd (known refl)
-known_int (Some kinds.Int) fine known = refl
-known_int (Some kinds.Bool) fine known = absurd (true≢false fine)
-
-known_bool : (kind : Option Kind) → is_other kinds.Bool kind ≡ false → (kind ≡ None → ⊥) → kind ≡ Some kinds.Bool
-known_bool None fine known = absurd (known refl)
-known_bool (Some kinds.Bool) fine known = refl
-known_bool (Some kinds.Int) fine known = absurd (true≢false fine)
-
 pub int_made : (it : Setting) (memory : Memory) (value : Expr) → (sensed it value).faults ≡ [] → is_other kinds.Int (sensed it value).kind ≡ false
     → values.Int (value_of (reading it.arguments memory) (linear_of (entries it.scope) (sensed it value).form)) ≡ value_now it.scope it.arguments memory value
 int_made it memory value none fine =
@@ -245,10 +236,6 @@ meaning_follows it memory short value variable (meanings.Flag place) is plain no
     kept_follows it memory short value none (body_effect it.arguments (statements.Put (puts.Truth place formula) ∷ [])) (with_value memory place made)
     (tested_follows (body_effect it.arguments (statements.Put (puts.Truth place formula) ∷ [])) memory (with_value memory place made) (written it.scope value).narrows (fits_64 made)
     (value_short (read_in it memory short) value none) (truth_effect it.arguments memory place formula made (bool_made it memory value none fine)) short (assigned_short target made memory short))
-
-is_a_variable : (test : Bool) (fault : SourceFault) → (if test then [] else fault ∷ []) ≡ [] → test ≡ true
-is_a_variable true fault none = refl
-is_a_variable false fault none = absurd cc
 
 set_follows : (it : Setting) (memory : Memory) (short : HasShort memory) (at : ℕ) (value : Expr) (entry : Option Entry) → FoundPlain entry
     → target_faults at entry ≡ [] → expected (entry_kind entry) (sensed it value) ≡ [] → SetFollows it memory value entry

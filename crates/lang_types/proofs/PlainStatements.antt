@@ -230,12 +230,12 @@ after_both arguments (first ∷ these) those memory = after_both arguments these
 
 -- ---- values of checked expressions
 
-known_int : (kind : Option Kind) → is_other kinds.Int kind ≡ false → (kind ≡ None → ⊥) → kind ≡ Some kinds.Int
+pub known_int : (kind : Option Kind) → is_other kinds.Int kind ≡ false → (kind ≡ None → ⊥) → kind ≡ Some kinds.Int
 known_int None fine known = absurd (known refl)
 known_int (Some kinds.Int) fine known = refl
 known_int (Some kinds.Bool) fine known = absurd cc
 
-known_bool : (kind : Option Kind) → is_other kinds.Bool kind ≡ false → (kind ≡ None → ⊥) → kind ≡ Some kinds.Bool
+pub known_bool : (kind : Option Kind) → is_other kinds.Bool kind ≡ false → (kind ≡ None → ⊥) → kind ≡ Some kinds.Bool
 known_bool None fine known = absurd (known refl)
 known_bool (Some kinds.Bool) fine known = refl
 known_bool (Some kinds.Int) fine known = absurd cc
@@ -306,7 +306,7 @@ meaning_set given memory names target value entry (meanings.Int place) agrees na
 meaning_set given memory names target value entry (meanings.Flag place) agrees named means placed none right =
     bool_set given memory names target value entry place agrees named means placed none (no_fault (is_other kinds.Bool (sense given.scope value).kind) _ right)
 
-is_a_variable : (test : Bool) (fault : SourceFault) → (if test then [] else fault ∷ []) ≡ [] → test ≡ true
+pub is_a_variable : (test : Bool) (fault : SourceFault) → (if test then [] else fault ∷ []) ≡ [] → test ≡ true
 is_a_variable true fault none = refl
 is_a_variable false fault none = absurd cc
 
